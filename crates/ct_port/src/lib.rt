@@ -19,3 +19,6 @@ pub use folders::FolderMem;
 pub use outside::{Folder, Sink};
 pub use sinks::SinkMem;
 pub use steady::{SteadyFolder, SteadySink};
+
+#[cfg(test)]
+mod tests;
