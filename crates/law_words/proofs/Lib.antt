@@ -1,0 +1,4 @@
+pub mod Fields
+pub mod Leasts
+pub mod Back
+pub mod Exacts

@@ -1,0 +1,8 @@
+//! Laws over the definitions of capability words. Each is a public function with an empty body,
+//! whose contract is the law; the lemmas stand in proofs/ and are cited from there by the laws of
+//! the machine.
+#![tactic(auto)]
+
+mod rounding;
+
+pub use rounding::{exact_where_short, least_exponent, rounding_holds};
