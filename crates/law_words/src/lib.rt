@@ -4,5 +4,7 @@
 #![tactic(auto)]
 
 mod rounding;
+mod sets;
 
 pub use rounding::{exact_where_short, least_exponent, rounding_holds};
+pub use sets::{normal_holds, spelling_holds, within_holds};
