@@ -1,0 +1,4 @@
+pub mod Told
+pub mod Bytes
+pub mod Reads
+pub mod Writes

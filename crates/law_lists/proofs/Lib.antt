@@ -1,0 +1,5 @@
+pub mod Sets
+pub mod Maps
+pub mod Tests
+pub mod Leasts
+pub mod Added

@@ -1,0 +1,26 @@
+-- Tests that tell: what a Bool test says of numbers, and a test by cases.
+use Rattle.std.proofs.Common.{◌≡◌, ℕ, ◌<◌, ◌≤◌, Bool, true, false, ◌&&◌, cond, nat_lt, nat_le, nat_eq, ◌⊎◌, inl, inr, refl}
+use Rattle.std.proofs.lemmas.Bool.{ltb-true, ltb-false, leb-true, leb-false, eqb-true, eqb-false, cases_Bool, and_parts}
+
+pub bool_tells : (b : Bool) → (b ≡ true) ⊎ (b ≡ false)
+bool_tells b = cases_Bool b
+
+pub lt_tells : (a b : ℕ) → ((nat_lt a b ≡ true) × (a < b)) ⊎ ((nat_lt a b ≡ false) × (b ≤ a))
+lt_tells a b = elim (cases_Bool (nat_lt a b)) [ inl e ↦ inl (e, ltb-true a b e) | inr e ↦ inr (e, ltb-false a b e) ]
+
+pub le_tells : (a b : ℕ) → ((nat_le a b ≡ true) × (a ≤ b)) ⊎ ((nat_le a b ≡ false) × (b < a))
+le_tells a b = elim (cases_Bool (nat_le a b)) [ inl e ↦ inl (e, leb-true a b e) | inr e ↦ inr (e, leb-false a b e) ]
+
+pub eq_tells : (a b : ℕ) → ((nat_eq a b ≡ true) × (a ≡ b)) ⊎ ((nat_eq a b ≡ false) × (a ≡ b → ⊥))
+eq_tells a b = elim (cases_Bool (nat_eq a b)) [ inl e ↦ inl (e, eqb-true a b e) | inr e ↦ inr (e, eqb-false a b e) ]
+
+pub both_left : (x y : Bool) → (x && y) ≡ true → x ≡ true
+both_left x y h = (and_parts x y h).0
+
+pub both_right : (x y : Bool) → (x && y) ≡ true → y ≡ true
+both_right x y h = (and_parts x y h).1
+
+-- a property of a choice, by its two cases
+pub chosen : {A : Type 0} (P : A → Type 0) (b : Bool) (x y : A) → (b ≡ true → P x) → (b ≡ false → P y) → P (cond b x y)
+chosen P true x y yes_case no_case = yes_case refl
+chosen P false x y yes_case no_case = no_case refl
