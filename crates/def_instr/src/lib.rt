@@ -1,6 +1,7 @@
 //! The instructions of the machine, as plain data. The written definitions over them stand in
 //! specs/: which numbers an instruction's fields may hold and which word each instruction has
-//! (Table), and what the integer instructions give (Results). Nothing here computes.
+//! (Table), the instruction of a word as a function (Reading), and what the integer instructions
+//! give (Results). Nothing here computes.
 //!
 //! The base and M instructions are those of the RISC-V Unprivileged ISA (RV32E with M), the others
 //! follow the CHERIoT Architecture Specification in this project's encoding (docs/machine.md).
@@ -457,4 +458,16 @@ pub enum Instr {
         rd: u32,
         rs1: u32,
     },
+}
+
+/// A word in the six fields into which format R cuts it, of 7, 5, 3, 5, 5 and 7 bits from the lowest
+/// on (RISC-V Unprivileged ISA, "Base Instruction Formats").
+#[derive(Clone, Copy, Debug, PartialEq, Eq, Drop)]
+pub struct Fields {
+    pub opcode: u32,
+    pub rd: u32,
+    pub funct3: u32,
+    pub rs1: u32,
+    pub rs2: u32,
+    pub funct7: u32,
 }
