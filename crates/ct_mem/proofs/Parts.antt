@@ -1,4 +1,4 @@
-use Rattle.std.proofs.Common.{ℕ, ◌≡◌, ◌+◌, ◌-◌, ◌*◌, ◌/◌, ◌%◌, ◌^◌, ◌<◌, ◌≤◌, refl, sym, ap, ◌∙◌, arith, lit<, subst}
+use Rattle.std.proofs.Common.{ℕ, ◌≡◌, ◌+◌, ◌-◌, ◌*◌, ◌/◌, ◌%◌, ◌^◌, ◌<◌, ◌≤◌, sym, ap, ◌∙◌, arith, lit<, subst}
 use Rattle.std.proofs.Math.Nat.{div-div-eq-div-mul, mul_assoc, mul_comm, div-add-mod', pow-le-pow_right, add-mul, div-lt_iff_lt-mul, mul-le-mul_right, mod-eq_of_lt}
 use Rattle.std.proofs.lemmas.Nat.{pow-add, mod_below, pow_pos}
 
@@ -51,7 +51,7 @@ replaced_is w from width new =
     let e = eights from width in
     let whole : w ≡ w / (2 ^ (8 * from) * 2 ^ (8 * width)) * (2 ^ (8 * from) * 2 ^ (8 * width)) + w / 2 ^ (8 * from) % 2 ^ (8 * width) * 2 ^ (8 * from) + w % 2 ^ (8 * from) = split w (2 ^ (8 * from)) (2 ^ (8 * width)) in
     let here : w ≡ w / 2 ^ (8 * (from + width)) * 2 ^ (8 * (from + width)) + w / 2 ^ (8 * from) % 2 ^ (8 * width) * 2 ^ (8 * from) + w % 2 ^ (8 * from) =
-        let P : ℕ → Type 0 = λ n. w ≡ w / n * n + w / 2 ^ (8 * from) % 2 ^ (8 * width) * 2 ^ (8 * from) + w % 2 ^ (8 * from) in subst P (sym e) whole in
+    let P : ℕ → Type 0 = λ n. w ≡ w / n * n + w / 2 ^ (8 * from) % 2 ^ (8 * width) * 2 ^ (8 * from) + w % 2 ^ (8 * from) in subst P (sym e) whole in
     omega arith
 
 pub part_within : (w from width : ℕ) → w / 2 ^ (8 * from) % 2 ^ (8 * width) * 2 ^ (8 * from) ≤ w
@@ -61,8 +61,8 @@ pub replaced_fits : (w from width new : ℕ) → w < 2 ^ 64 → from + width ≤
 replaced_fits w from width new small inside below =
     let e = eights from width in
     let total : 2 ^ (64 - 8 * (from + width)) * 2 ^ (8 * (from + width)) ≡ 2 ^ 64 =
-        let sum : (64 - 8 * (from + width)) + 8 * (from + width) ≡ 64 = omega arith in
-        sym (pow-add 2 (64 - 8 * (from + width)) (8 * (from + width))) ∙ ap (λ n. 2 ^ n) sum in
+    let sum : (64 - 8 * (from + width)) + 8 * (from + width) ≡ 64 = omega arith in
+    sym (pow-add 2 (64 - 8 * (from + width)) (8 * (from + width))) ∙ ap (λ n. 2 ^ n) sum in
     let P : ℕ → Type 0 = λ n. n ≡ 2 ^ 64 → w / 2 ^ (8 * (from + width)) * 2 ^ (8 * (from + width)) + new * 2 ^ (8 * from) + w % 2 ^ (8 * from) < n in
     let Q : ℕ → Type 0 = λ n. 2 ^ (64 - 8 * (from + width)) * n ≡ 2 ^ 64 → w / n * n + new * 2 ^ (8 * from) + w % 2 ^ (8 * from) < 2 ^ (64 - 8 * (from + width)) * n in
     let split_up : Q (2 ^ (8 * from) * 2 ^ (8 * width)) = λ t. fits w (2 ^ (8 * from)) (2 ^ (8 * width)) (2 ^ (64 - 8 * (from + width))) new (pow_pos (8 * from)) (pow_pos (8 * width)) (omega arith) below in

@@ -10,3 +10,6 @@ mod plain;
 pub use def_memory::Granule;
 pub use memory::Memory;
 pub use plain::Plain;
+
+#[cfg(test)]
+mod tests;

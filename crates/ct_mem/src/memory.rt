@@ -1,12 +1,12 @@
 //! The trait that everything above stands on.
 
-use def_words::Cap;
-
 ghost use Rattle.std.specs.Prelude.{◌≡◌, ◌*◌, ◌/◌, ◌<◌, List, length, MatchOption};
 ghost use Rattle.def_memory.specs.declared.Granule.{Granule};
 ghost use Rattle.def_memory.specs.Granules.{granule_at};
 ghost use Rattle.def_memory.specs.Accesses.{IsAccess, IsPlace, loaded, stored, loaded_cap, stored_cap};
 ghost use Rattle.def_memory.specs.Ranges.{IsRange, IsZeroed, IsMarked, IsNextTagged, NoneTagged};
+
+use def_words::Cap;
 
 /// RAM with a tag, a shadow and a mark for each granule of eight bytes.
 ///

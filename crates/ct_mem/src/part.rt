@@ -15,17 +15,7 @@ pub(crate) fn part(word: u64, from: u32, width: u32) -> u32
 }
 
 /// The word with the low `width` bytes of a value in place of its own, from byte `from` on.
-#[tactic(
-    auto,
-    using(
-        crate::proofs::Parts::part_small,
-        crate::proofs::Parts::unit_fits,
-        crate::proofs::Parts::span_fits,
-        crate::proofs::Parts::part_within,
-        crate::proofs::Parts::replaced_fits,
-        crate::proofs::Parts::replaced_is
-    )
-)]
+#[tactic(auto, using(crate::proofs::Parts::part_small, crate::proofs::Parts::unit_fits, crate::proofs::Parts::span_fits, crate::proofs::Parts::part_within, crate::proofs::Parts::replaced_fits, crate::proofs::Parts::replaced_is))]
 pub(crate) fn replace(word: u64, from: u32, width: u32, value: u32) -> u64
     requires width { width ≤ 4 }
     requires inside { from + width ≤ 8 }

@@ -1,17 +1,16 @@
 //! The list of granules, kept as it is defined.
 
-use std::alloc::Global;
-use std::marker::Model;
+ghost use Rattle.std.specs.Prelude.{◌≡◌, ◌+◌, ◌*◌, ◌/◌, ◌%◌, ◌≤◌, ◌<◌, ◌^◌, ◌⊎◌, List, length, replicate, slice_set, IfOk, ℕ};
+ghost use Rattle.def_memory.specs.declared.Granule.{Granule};
+ghost use Rattle.def_memory.specs.Granules.{plain, nothing, granule_at, blank};
 
 use crate::memory::Memory;
 use crate::part::{part, replace};
 use def_memory::Granule;
 use def_refusals::NoMemory;
 use def_words::{Cap, Shadow};
-
-ghost use Rattle.std.specs.Prelude.{◌≡◌, ◌+◌, ◌*◌, ◌/◌, ◌%◌, ◌≤◌, ◌<◌, ◌^◌, ◌⊎◌, List, length, replicate, slice_set, IfOk, ℕ};
-ghost use Rattle.def_memory.specs.declared.Granule.{Granule};
-ghost use Rattle.def_memory.specs.Granules.{plain, nothing, granule_at, blank};
+use std::alloc::Global;
+use std::marker::Model;
 
 /// RAM as a list of granules.
 #[derive(Drop)]
@@ -22,16 +21,35 @@ pub struct Plain {
 impl Model for Plain {
     ghost use Rattle.std.specs.Prelude.{List, length, ◌<◌, ◌^◌};
     ghost use Rattle.def_memory.specs.declared.Granule.{Granule};
+
     ghost Value = { List Granule };
+
     ghost view = { λ m. m.rows.items };
+
     ghost invariant = { λ m. length m.rows.items < 2 ^ 29 };
 }
 
-/// A granule that reads as zero, is untagged and isn't marked.
-const NOTHING: Granule = Granule {
-    cap: Cap { tag: false, word: 0, shadow: Shadow { root: 0, source: 0 } },
-    mark: false,
-};
+/// A plain word: untagged, and so without a shadow.
+fn untagged(word: u64) -> Cap
+    ensures { result ≡ plain word }
+{
+    let shadow = Shadow { root: 0, source: 0 };
+    Cap {
+        tag: false,
+        word,
+        shadow,
+    }
+}
+
+/// The granule with another capability; the mark stays.
+fn holding(old: Granule, cap: Cap) -> Granule
+    ensures { result ≡ record { cap = cap; mark = old.mark } }
+{
+    Granule {
+        cap,
+        mark: old.mark,
+    }
+}
 
 impl Plain {
     /// RAM of this many bytes, all zero, untagged and unmarked. The size is a multiple of 16.
@@ -41,7 +59,11 @@ impl Plain {
         requires { size % 16 ≡ 0 }
         ensures { IfOk result (λ memory. memory ≡ replicate (size / 8) nothing) }
     {
-        let rows = vec![in alloc; NOTHING; (size / 8) as usize]?;
+        let nothing = Granule {
+            cap: untagged(0),
+            mark: false,
+        };
+        let rows = vec![in alloc; nothing; (size / 8) as usize]?;
         Ok(Plain { rows })
     }
 }
@@ -61,24 +83,22 @@ impl Memory for Plain {
         let i = (at / 8) as usize;
         let old = self.rows[i];
         let word = replace(old.cap.word, at % 8, width, value);
-        let cap = Cap { tag: false, word, shadow: Shadow { root: 0, source: 0 } };
-        self.rows[i] = Granule { cap, mark: old.mark };
+        self.rows[i] = holding(old, untagged(word));
     }
 
     fn load_cap(&self, at: u32) -> Cap {
-        self.rows[(at / 8) as usize].cap
+        let granule = self.rows[(at / 8) as usize];
+        granule.cap
     }
 
     fn store_cap(&mut self, at: u32, cap: Cap) {
         let i = (at / 8) as usize;
-        let mark = self.rows[i].mark;
-        self.rows[i] = Granule { cap, mark };
+        self.rows[i] = holding(self.rows[i], cap);
     }
 
     fn zero(&mut self, from: u32, to: u32) {
         for i in (from / 8) as usize..(to / 8) as usize {
-            let mark = self.rows[i].mark;
-            self.rows[i] = Granule { cap: NOTHING.cap, mark };
+            self.rows[i] = holding(self.rows[i], untagged(0));
         }
     }
 

@@ -1,6 +1,6 @@
 -- A number with one digit replaced: a is the weight of the digit, b the base that it is below.
-use Rattle.std.proofs.Common.{ℕ, ◌≡◌, ◌+◌, ◌*◌, ◌/◌, ◌%◌, ◌<◌, ◌≤◌, refl, sym, ap, ◌∙◌, arith, subst}
-use Rattle.std.proofs.Math.Nat.{div-div-eq-div-mul, mul_assoc, mul_comm, div-add-mod', add-mul, mul-le-mul_right}
+use Rattle.std.proofs.Common.{ℕ, ◌≡◌, ◌+◌, ◌*◌, ◌/◌, ◌%◌, ◌<◌, ◌≤◌, sym, ap, ◌∙◌, arith}
+use Rattle.std.proofs.Math.Nat.{div-div-eq-div-mul, mul_assoc, mul_comm, add-mul, mul-le-mul_right}
 use Rattle.std.proofs.Math.Arith.{mod-mul}
 use Rattle.std.proofs.lemmas.Nat.{mod_below, div-mul-add, mod-mul-add}
 
@@ -37,7 +37,7 @@ put_above w k c d v pk pc =
     let group : k * c * d ≡ c * d * k = mul_assoc k c d ∙ mul_comm k (c * d) in
     let high : w / (k * c * d) ≡ w / k / (c * d) = ap (λ n. w / n) (mul_assoc k c d) ∙ sym (div-div-eq-div-mul w k (c * d)) in
     let first : w / (k * c * d) * (k * c * d) ≡ w / k / (c * d) * (c * d) * k =
-        ap (λ n. n * (k * c * d)) high ∙ ap (λ n. w / k / (c * d) * n) group ∙ sym (mul_assoc (w / k / (c * d)) (c * d) k) in
+    ap (λ n. n * (k * c * d)) high ∙ ap (λ n. w / k / (c * d) * n) group ∙ sym (mul_assoc (w / k / (c * d)) (c * d) k) in
     let second : v * (k * c) ≡ v * c * k = ap (λ n. v * n) (mul_comm k c) ∙ sym (mul_assoc v c k) in
     let spread : put (w / k) c d v * k ≡ (w / k / (c * d) * (c * d) + v * c) * k + w / k % c * k = add-mul (w / k / (c * d) * (c * d) + v * c) (w / k % c) k in
     let spread_more : (w / k / (c * d) * (c * d) + v * c) * k ≡ w / k / (c * d) * (c * d) * k + v * c * k = add-mul (w / k / (c * d) * (c * d)) (v * c) k in
@@ -59,7 +59,7 @@ part_below w a b c d v pa pb pc =
     let of_old : w % (a * b) ≡ w / a % b * a + w % a = ap (λ n. w % n) (mul_comm a b) ∙ mod-mul w pb pa in
     let joined : put w (a * b * c) d v / a % b * a + put w (a * b * c) d v % a ≡ w / a % b * a + w % a = sym of_new ∙ same ∙ of_old in
     sym (div-mul-add (put w (a * b * c) d v / a % b) a (put w (a * b * c) d v % a) (mod_below (put w (a * b * c) d v) a pa))
-        ∙ ap (λ n. n / a) joined ∙ div-mul-add (w / a % b) a (w % a) (mod_below w a pa)
+    ∙ ap (λ n. n / a) joined ∙ div-mul-add (w / a % b) a (w % a) (mod_below w a pa)
 
 -- a digit above is read as it was
 pub part_above : (w a b c d v : ℕ) → 0 < a → v < b → put w a b v / (a * b * c) % d ≡ w / (a * b * c) % d
@@ -74,20 +74,20 @@ put_comm w a b c d v u pa pc small =
     let first : put (put w a b v) (a * b * c) d u ≡ put (put w a b v / (a * b)) c d u * (a * b) + put w a b v % (a * b) = put_above (put w a b v) (a * b) c d u pk pc in
     let high : put w a b v / (a * b) ≡ w / (a * b) = high_same w a b v pa small in
     let low_fits : v * a + w % a < a * b =
-        let next : v + 1 ≤ b = omega arith in
-        let wide : (v + 1) * a ≤ b * a = mul-le-mul_right a next in
-        let turned : b * a ≡ a * b = mul_comm b a in
-        let opened : (v + 1) * a ≡ v * a + 1 * a = add-mul v 1 a in
-        omega (arith, mod_below w a pa) in
+    let next : v + 1 ≤ b = omega arith in
+    let wide : (v + 1) * a ≤ b * a = mul-le-mul_right a next in
+    let turned : b * a ≡ a * b = mul_comm b a in
+    let opened : (v + 1) * a ≡ v * a + 1 * a = add-mul v 1 a in
+    omega (arith, mod_below w a pa) in
     let low : put w a b v % (a * b) ≡ v * a + w % a =
-        let group : put w a b v ≡ w / (a * b) * (a * b) + (v * a + w % a) = omega arith in
-        rw group (mod-mul-add (w / (a * b)) (a * b) (v * a + w % a) low_fits) in
+    let group : put w a b v ≡ w / (a * b) * (a * b) + (v * a + w % a) = omega arith in
+    rw group (mod-mul-add (w / (a * b)) (a * b) (v * a + w % a) low_fits) in
     let up : put w (a * b * c) d u / (a * b) ≡ put (w / (a * b)) c d u = above_same w (a * b) c d u pk pc in
     let down : put w (a * b * c) d u % a ≡ w % a =
-        let as_two : put w (a * b * c) d u ≡ put w (a * (b * c)) d u = ap (λ n. put w n d u) (mul_assoc a b c) in
-        rw as_two (below_same w a (b * c) d u pa (positive b c pb pc)) in
+    let as_two : put w (a * b * c) d u ≡ put w (a * (b * c)) d u = ap (λ n. put w n d u) (mul_assoc a b c) in
+    rw as_two (below_same w a (b * c) d u pa (positive b c pb pc)) in
     let left : put (put w a b v) (a * b * c) d u ≡ put (w / (a * b)) c d u * (a * b) + (v * a + w % a) =
-        first ∙ ap (λ n. put n c d u * (a * b) + put w a b v % (a * b)) high ∙ ap (λ n. put (w / (a * b)) c d u * (a * b) + n) low in
+    first ∙ ap (λ n. put n c d u * (a * b) + put w a b v % (a * b)) high ∙ ap (λ n. put (w / (a * b)) c d u * (a * b) + n) low in
     let right : put (put w (a * b * c) d u) a b v ≡ put (w / (a * b)) c d u * (a * b) + v * a + w % a =
-        ap (λ n. n * (a * b) + v * a + put w (a * b * c) d u % a) up ∙ ap (λ n. put (w / (a * b)) c d u * (a * b) + v * a + n) down in
+    ap (λ n. n * (a * b) + v * a + put w (a * b * c) d u % a) up ∙ ap (λ n. put (w / (a * b)) c d u * (a * b) + v * a + n) down in
     omega arith

@@ -1,5 +1,5 @@
 -- Some bytes of a word, read and written.
-use Rattle.std.proofs.Common.{ℕ, ◌≡◌, ◌+◌, ◌-◌, ◌*◌, ◌/◌, ◌%◌, ◌^◌, ◌<◌, ◌≤◌, refl, sym, ap, ◌∙◌, arith, subst, lit<}
+use Rattle.std.proofs.Common.{ℕ, ◌≡◌, ◌+◌, ◌-◌, ◌*◌, ◌/◌, ◌%◌, ◌^◌, ◌<◌, ◌≤◌, sym, ap, ◌∙◌, arith, lit<}
 use Rattle.std.proofs.lemmas.Nat.{pow-add, mod_below, pow_pos}
 use Rattle.std.proofs.Math.Nat.{div-div-eq-div-mul}
 use Rattle.std.proofs.Math.Arith.{mod-mul}
@@ -35,9 +35,9 @@ words_comm w p n v q m u le =
     let y = u % 2 ^ (8 * m) in
     let e : 2 ^ (8 * q) ≡ A * B * C = further p n q le in
     let left : with_part (with_part w p n v) q m u ≡ put (put w A B x) (A * B * C) D y =
-        as_put (with_part w p n v) q m u ∙ ap (λ k. put (with_part w p n v) k D y) e ∙ ap (λ k. put k (A * B * C) D y) (as_put w p n v) in
+    as_put (with_part w p n v) q m u ∙ ap (λ k. put (with_part w p n v) k D y) e ∙ ap (λ k. put k (A * B * C) D y) (as_put w p n v) in
     let right : with_part (with_part w q m u) p n v ≡ put (put w (A * B * C) D y) A B x =
-        as_put (with_part w q m u) p n v ∙ ap (λ k. put k A B x) (as_put w q m u ∙ ap (λ k. put w k D y) e) in
+    as_put (with_part w q m u) p n v ∙ ap (λ k. put k A B x) (as_put w q m u ∙ ap (λ k. put w k D y) e) in
     left ∙ put_comm w A B C D x y (pow_pos (8 * p)) (pow_pos (8 * (q - (p + n)))) (below v n) ∙ sym right
 
 pub words_same : (w p n v : ℕ) → part_of (with_part w p n v) p n ≡ v % 2 ^ (8 * n)
@@ -47,15 +47,15 @@ words_same w p n v = ap (λ k. k / 2 ^ (8 * p) % 2 ^ (8 * n)) (as_put w p n v) �
 pub words_below : (w p n q m u : ℕ) → p + n ≤ q → part_of (with_part w q m u) p n ≡ part_of w p n
 words_below w p n q m u le =
     ap (λ k. k / 2 ^ (8 * p) % 2 ^ (8 * n)) (as_put w q m u ∙ ap (λ k. put w k (2 ^ (8 * m)) (u % 2 ^ (8 * m))) (further p n q le))
-        ∙ part_below w (2 ^ (8 * p)) (2 ^ (8 * n)) (2 ^ (8 * (q - (p + n)))) (2 ^ (8 * m)) (u % 2 ^ (8 * m)) (pow_pos (8 * p)) (pow_pos (8 * n)) (pow_pos (8 * (q - (p + n))))
+    ∙ part_below w (2 ^ (8 * p)) (2 ^ (8 * n)) (2 ^ (8 * (q - (p + n)))) (2 ^ (8 * m)) (u % 2 ^ (8 * m)) (pow_pos (8 * p)) (pow_pos (8 * n)) (pow_pos (8 * (q - (p + n))))
 
 -- what was written below leaves what is read above
 pub words_above : (w p n v q m : ℕ) → p + n ≤ q → part_of (with_part w p n v) q m ≡ part_of w q m
 words_above w p n v q m le =
     ap (λ k. with_part w p n v / k % 2 ^ (8 * m)) (further p n q le)
-        ∙ ap (λ k. k / (2 ^ (8 * p) * 2 ^ (8 * n) * 2 ^ (8 * (q - (p + n)))) % 2 ^ (8 * m)) (as_put w p n v)
-        ∙ part_above w (2 ^ (8 * p)) (2 ^ (8 * n)) (2 ^ (8 * (q - (p + n)))) (2 ^ (8 * m)) (v % 2 ^ (8 * n)) (pow_pos (8 * p)) (below v n)
-        ∙ ap (λ k. w / k % 2 ^ (8 * m)) (sym (further p n q le))
+    ∙ ap (λ k. k / (2 ^ (8 * p) * 2 ^ (8 * n) * 2 ^ (8 * (q - (p + n)))) % 2 ^ (8 * m)) (as_put w p n v)
+    ∙ part_above w (2 ^ (8 * p)) (2 ^ (8 * n)) (2 ^ (8 * (q - (p + n)))) (2 ^ (8 * m)) (v % 2 ^ (8 * n)) (pow_pos (8 * p)) (below v n)
+    ∙ ap (λ k. w / k % 2 ^ (8 * m)) (sym (further p n q le))
 
 byte_next : (w p : ℕ) → w / 2 ^ (8 * (p + 1)) ≡ w / 2 ^ (8 * p) / 256
 byte_next w p = ap (λ k. w / k) (eights p 1) ∙ sym (div-div-eq-div-mul w (2 ^ (8 * p)) 256)

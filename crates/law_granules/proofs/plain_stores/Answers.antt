@@ -3,11 +3,11 @@ use Rattle.law_granules.proofs.plain_stores.Goals as goal
 
 pub returns : goal.returns
 returns c = record {
-    inside = in_list;
-    untagged = store_untags;
-    rest = store_rest;
-    marks = store_marks;
-    back = load_back;
-    elsewhere = load_rest;
-    commute = store_comm;
+  inside = in_list;
+  untagged = store_untags;
+  rest = store_rest;
+  marks = store_marks;
+  back = load_back;
+  elsewhere = load_rest;
+  commute = store_comm;
 }

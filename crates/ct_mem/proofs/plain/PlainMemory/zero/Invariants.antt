@@ -1,4 +1,4 @@
-use Rattle.std.proofs.Common.{ℕ, ◌*◌}
+use Rattle.std.proofs.Common.{◌*◌}
 use Rattle.def_memory.specs.Ranges.{IsZeroed}
 use Rattle.ct_mem.proofs.plain.PlainMemory.zero.Given as goal
 
