@@ -1,11 +1,11 @@
 -- What a sink's bytes are after a write, where it tells them, and when a count of faults has risen.
 use Rattle.std.specs.Prelude.{◌≡◌, ℕ, ◌+◌, ◌-◌, ◌^◌, ◌≤◌, min, List, ◌++◌, Option, Some, None}
 
--- the count rose in a call; it stands still at 2^64 - 1, and counts as risen there
+-- The count rose in a call. It never falls, stands still at 2^64 - 1, and counts as risen there.
 abbrev pub Rose : ℕ → ℕ → Type 0
-Rose before now = min (before + 1) (2 ^ 64 - 1) ≤ now
+Rose before now = (before ≤ now) × (min (before + 1) (2 ^ 64 - 1) ≤ now)
 
--- the whole text was added
+-- the whole text was added; of a sink that doesn't tell its bytes this says nothing
 abbrev pub Appends : Option (List ℕ) → Option (List ℕ) → List ℕ → Type 0
 Appends None new text = Unit {0}
 Appends (Some before) new text = new ≡ Some (before ++ text)
@@ -17,7 +17,7 @@ pub record AppendsPart (old new : Option (List ℕ)) (text : List ℕ) : Type 0 
   pub whole : part ++ rest ≡ text
   pub added : Appends old new part
 
--- a part of a text was added, so that this is left of it
+-- the beginning of a text was added, and this is left of it
 pub record AppendsBefore (old new : Option (List ℕ)) (left text : List ℕ) : Type 0 where
   pub part : List ℕ
   pub whole : part ++ left ≡ text

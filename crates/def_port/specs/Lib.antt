@@ -1,2 +1,5 @@
 pub mod Told
 pub mod Bytes
+pub mod Reads
+pub mod Writes
+pub mod Forms

@@ -1,13 +1,14 @@
 -- What a folder tells of a name, and its list of calls.
 use Rattle.std.specs.Prelude.{◌≡◌, ℕ, ◌+◌, List, take, Bool}
 
--- of a name a folder tells nothing, or that no file has it, or the file's bytes
+-- Of a name a folder tells nothing, or that no file has it, or the file's bytes.
 pub data Told : Type 0 where
   Silent : Told
   Absent : Told
   File : List ℕ → Told
 
--- what a read with this limit may give
+-- What a read with this limit gives: the whole file where it has at most that many bytes, else its
+-- first limit + 1. A name that is told to be absent gives nothing.
 abbrev pub Gives : Told → ℕ → List ℕ → Type 0
 Gives Silent limit bytes = Unit {0}
 Gives Absent limit bytes = ⊥

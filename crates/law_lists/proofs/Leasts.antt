@@ -1,6 +1,6 @@
 -- The least number of a range that passes a test.
-use Rattle.std.proofs.Common.{◌≡◌, ℕ, zero, suc, ◌+◌, ◌<◌, ◌≤◌, Bool, true, false, cond, Option, Some, None, if◌then◌else◌, ◌⊎◌, inl, inr, refl, sym, ◌∙◌, arith}
-use Rattle.std.proofs.lemmas.Bool.{cases_Bool, cases_order}
+use Rattle.std.proofs.Common.{◌≡◌, ℕ, zero, suc, ◌+◌, ◌<◌, ◌≤◌, Bool, true, false, Some, None, inl, inr, refl, arith}
+use Rattle.std.proofs.lemmas.Bool.{cases_order}
 use Rattle.law_lists.specs.Least.{least}
 
 pub least_none : (passes : ℕ → Bool) (b n : ℕ) → ((k : ℕ) → b ≤ k → k < b + n → passes k ≡ false) → least passes b n ≡ None
@@ -14,4 +14,5 @@ least_some passes b (suc n) p lo hi yes_here none =
     elim (cases_order b p) [
       | inl e ↦ let here : passes b ≡ true = rw e yes_here in rw (here, e) refl
       | inr (inl lt) ↦ rw (none b (omega arith) lt) (least_some passes (b + 1) n p (omega (arith, lt)) (omega (arith, hi)) yes_here (λ k l r. none k (omega (arith, l)) r))
-      | inr (inr gt) ↦ absurd (omega (arith, lo, gt)) ]
+      | inr (inr gt) ↦ absurd (omega (arith, lo, gt))
+    ]

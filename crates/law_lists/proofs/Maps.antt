@@ -1,5 +1,5 @@
 -- What holds of every place of a list after a map, and a list that is mapped one element after another.
-use Rattle.std.proofs.Common.{◌≡◌, ℕ, zero, suc, ◌+◌, ◌<◌, List, [], ◌∷◌, ◌++◌, refl, ap, sym, ◌∙◌, arith, map, length, take, drop}
+use Rattle.std.proofs.Common.{◌≡◌, ℕ, zero, suc, ◌+◌, ◌<◌, List, [], ◌∷◌, ◌++◌, refl, ap, arith, map, length, take, drop}
 use Rattle.std.proofs.Math.ListN.{get_or, set}
 
 pub after_map : {A : Type 0} (P : A → Type 0) (f : A → A) (xs : List A) (k : ℕ) (z : A) → P z → ((x : A) → P x → P (f x)) → P (get_or xs k z) → P (get_or (map f xs) k z)

@@ -1,18 +1,18 @@
 -- Tests that tell: what a Bool test says of numbers, and a test by cases.
-use Rattle.std.proofs.Common.{◌≡◌, ℕ, zero, suc, ◌<◌, ◌≤◌, Bool, true, false, not, ◌&&◌, ◌||◌, cond, nat_lt, nat_le, nat_eq, ◌⊎◌, inl, inr, refl, arith}
-use Rattle.std.proofs.lemmas.Bool.{ltb-true, ltb-false, leb-true, leb-false, eqb-true, eqb-false, lt-ltb, le-ltb, le-leb, lt-leb, eq-eqb, ne_eqb, cases_Bool, and_parts}
+use Rattle.std.proofs.Common.{◌≡◌, ℕ, ◌<◌, ◌≤◌, Bool, true, false, ◌&&◌, cond, nat_lt, nat_le, nat_eq, ◌⊎◌, inl, inr, refl}
+use Rattle.std.proofs.lemmas.Bool.{ltb-true, ltb-false, leb-true, leb-false, eqb-true, eqb-false, cases_Bool, and_parts}
 
 pub bool_tells : (b : Bool) → (b ≡ true) ⊎ (b ≡ false)
 bool_tells b = cases_Bool b
 
 pub lt_tells : (a b : ℕ) → ((nat_lt a b ≡ true) × (a < b)) ⊎ ((nat_lt a b ≡ false) × (b ≤ a))
-lt_tells a b = elim (cases_Bool (nat_lt a b)) [ | inl e ↦ inl (e, ltb-true a b e) | inr e ↦ inr (e, ltb-false a b e) ]
+lt_tells a b = elim (cases_Bool (nat_lt a b)) [ inl e ↦ inl (e, ltb-true a b e) | inr e ↦ inr (e, ltb-false a b e) ]
 
 pub le_tells : (a b : ℕ) → ((nat_le a b ≡ true) × (a ≤ b)) ⊎ ((nat_le a b ≡ false) × (b < a))
-le_tells a b = elim (cases_Bool (nat_le a b)) [ | inl e ↦ inl (e, leb-true a b e) | inr e ↦ inr (e, leb-false a b e) ]
+le_tells a b = elim (cases_Bool (nat_le a b)) [ inl e ↦ inl (e, leb-true a b e) | inr e ↦ inr (e, leb-false a b e) ]
 
 pub eq_tells : (a b : ℕ) → ((nat_eq a b ≡ true) × (a ≡ b)) ⊎ ((nat_eq a b ≡ false) × (a ≡ b → ⊥))
-eq_tells a b = elim (cases_Bool (nat_eq a b)) [ | inl e ↦ inl (e, eqb-true a b e) | inr e ↦ inr (e, eqb-false a b e) ]
+eq_tells a b = elim (cases_Bool (nat_eq a b)) [ inl e ↦ inl (e, eqb-true a b e) | inr e ↦ inr (e, eqb-false a b e) ]
 
 pub both_left : (x y : Bool) → (x && y) ≡ true → x ≡ true
 both_left x y h = (and_parts x y h).0

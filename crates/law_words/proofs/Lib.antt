@@ -1,0 +1,6 @@
+pub mod Fields
+pub mod Leasts
+pub mod Back
+pub mod Exacts
+pub mod Bits
+pub mod Spellings

@@ -1,0 +1,1 @@
+-- The laws cite the definitions of def_words alone.
