@@ -15,6 +15,7 @@ mod placing;
 mod refer;
 mod repeats;
 mod rows;
+mod sizes;
 mod walk;
 
 ghost use Rattle.std.specs.Prelude.{◌≡◌, MatchResult};
@@ -26,6 +27,8 @@ use std::alloc::{AllocError, AllocFailed, Global};
 use thiserror::Error;
 
 pub use parts::{Code, Compartment, Desc, Export, Import, Thread};
+pub use refer::is_call;
+pub use sizes::{code_size, globals_size, table_size, text_size};
 
 /// Why a description is not read.
 #[derive(Debug, Drop, PartialEq, Error)]

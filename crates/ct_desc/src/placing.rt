@@ -6,16 +6,9 @@ ghost use Rattle.def_desc.specs.Placing as spec;
 
 use crate::parts::{Compartment, Desc, Export, Thread};
 use crate::refer::meets;
+use crate::sizes::{code_size, globals_size, table_size, text_size};
 use def_desc::{Ram, Region};
 use std::alloc::{AllocError, Global};
-
-fn rounded(n: u32) -> u32
-    requires { n ≤ 65536 }
-    ensures value { result ≡ spec.rounded n }
-    ensures small { result ≤ n + 16 }
-{
-    if n < 16 { 16 } else { (n + 15) / 16 * 16 }
-}
 
 fn is_small(compartment: &Compartment) -> bool
     ensures value { result ≡ spec.is_small compartment.now }
@@ -28,29 +21,6 @@ fn is_small(compartment: &Compartment) -> bool
         && compartment.exports.len() <= 64
         && compartment.code.words.len() <= 1024
         && compartment.globals <= 8176
-}
-
-fn text_size(compartment: &Compartment) -> u32
-    requires { length compartment.now.code.words ≤ 1024 }
-    ensures { result ≡ spec.text_size compartment.now }
-{
-    4 * compartment.code.words.len() as u32
-}
-
-fn code_size(compartment: &Compartment) -> u32
-    requires imports { length compartment.now.imports ≤ 128 }
-    requires words { length compartment.now.code.words ≤ 1024 }
-    ensures { result ≡ spec.code_size compartment.now }
-{
-    let slots = 1 + compartment.imports.len() as u32;
-    rounded(8 * slots + text_size(compartment))
-}
-
-fn table_size(compartment: &Compartment) -> u32
-    requires { length compartment.now.exports ≤ 64 }
-    ensures { result ≡ spec.table_size compartment.now }
-{
-    16 + 16 * compartment.exports.len() as u32
 }
 
 fn all_begin(size: u32, exports: &[Export]) -> bool
@@ -77,7 +47,7 @@ fn add_compartment(regions: &mut Vec<Region>, compartment: &Compartment) -> Resu
     }
     regions.push(Region { base: compartment.codebase, length: code_size(compartment) })?;
     regions.push(Region { base: compartment.tablebase, length: table_size(compartment) })?;
-    regions.push(Region { base: compartment.globalsbase, length: rounded(compartment.globals) })?;
+    regions.push(Region { base: compartment.globalsbase, length: globals_size(compartment) })?;
     Ok(true)
 }
 
@@ -169,7 +139,8 @@ fn is_few(desc: &Desc) -> bool
     ensures value { result ≡ spec.is_few desc.now }
     ensures threads { IsTrue result → length desc.now.threads ≤ 1 }
 {
-    desc.compartments.len() <= 64
+    desc.devices.len() <= 16
+        && desc.compartments.len() <= 64
         && desc.threads.len() <= 1
         && desc.ram.base as u64 + desc.ram.size as u64 <= 4294967280
 }

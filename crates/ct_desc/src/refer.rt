@@ -19,9 +19,9 @@ fn is_member(text: &[u8], export: &[u8]) -> bool
     }
 }
 
-/// Whether an entry is `compartment.export`.
+/// Whether an entry is `compartment.export`: the two names with a point between them.
 #[tactic(auto, using(crate::proofs::Calls::split_call))]
-fn is_call(entry: &[u8], compartment: &[u8], export: &[u8]) -> bool
+pub fn is_call(entry: &[u8], compartment: &[u8], export: &[u8]) -> bool
     ensures { result ≡ spec.is_call entry.now compartment.now export.now }
 {
     match entry.strip_prefix(compartment) {

@@ -91,9 +91,9 @@ thread_is_small t = nat_le t.stack 8176 && nat_le t.frames 96
 abbrev pub heap_is_placed : DescRow → Bool
 heap_is_placed r = r.heapbase % 16 == 0 && nat_le r.heapbase (r.ram.base + r.ram.size)
 
--- few compartments and threads, and RAM ends where the limits say
+-- few devices, compartments and threads, and RAM ends where the limits say
 abbrev pub is_few : DescRow → Bool
-is_few r = nat_le (length r.compartments) 64 && nat_le (length r.threads) 1 && nat_le (r.ram.base + r.ram.size) 4294967280
+is_few r = nat_le (length r.devices) 16 && nat_le (length r.compartments) 64 && nat_le (length r.threads) 1 && nat_le (r.ram.base + r.ram.size) 4294967280
 
 abbrev pub is_placed : DescRow → Bool
 is_placed r = is_few r && list_all compartment_is_placed r.compartments && list_all thread_is_small r.threads && heap_is_placed r

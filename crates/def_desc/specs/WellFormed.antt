@@ -37,13 +37,17 @@ abbrev pub fault_or : Rule → Option Place → Option Fault → Option Fault
 fault_or r (Some p) rest = Some (fault r p)
 fault_or r None rest = rest
 
--- the first rule that fails anywhere, at the first place where it does
+-- the first of some rules that fails anywhere, at the first place where it does
 abbrev pub first_fault : (Rule → Place → Bool) → List Rule → List Place → Option Fault
 first_fault fails [] ps = None
 first_fault fails (r ∷ rs) ps = fault_or r (find (fails r) ps) (first_fault fails rs ps)
 
+unfoldable pub judged : Data → DescRow → List Place → Option Fault
+judged d r ps = first_fault (fails d r) rules ps
+
+-- over the places of the value, and the rows that it stands for
 abbrev pub fault_of : Data → Option Fault
-fault_of d = first_fault (fails d (rows_of d)) rules (places_of d)
+fault_of d = judged d (rows_of d) (places_of d)
 
 -- the bytes are the JSON text of this value
 abbrev pub IsText : List ℕ → Data → Type 0

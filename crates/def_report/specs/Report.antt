@@ -106,17 +106,25 @@ heap_data r = object
     (member (codes "length") (num (r.ram.base + r.ram.size - r.heapbase)) no_members))
 
 -- no compartment shares anything with another yet, so there is no edge, and there is no library
-unfoldable pub report_data : DescRow → Data
-report_data r = object
-    (member (codes "compartments") (list (map name_data r.compartments))
-    (member (codes "devices") (list (map device_data r.devices))
+abbrev pub object_of : DescRow → Data → Data → Data → Data → Data → Data
+object_of r names devices entries heap threads = object
+    (member (codes "compartments") names
+    (member (codes "devices") devices
     (member (codes "edges") (list [])
-    (member (codes "entries") (list (numbered 1 (lines_of r)))
+    (member (codes "entries") entries
     (member (codes "firmware") (string r.firmware)
-    (member (codes "heap") (heap_data r)
+    (member (codes "heap") heap
     (member (codes "libraries") (list [])
     (member (codes "quantum") (num r.quantum)
-    (member (codes "threads") (list (map (thread_data r.compartments) r.threads)) no_members)))))))))
+    (member (codes "threads") threads no_members)))))))))
+
+unfoldable pub report_data : DescRow → Data
+report_data r = object_of r
+    (list (map name_data r.compartments))
+    (list (map device_data r.devices))
+    (list (numbered 1 (lines_of r)))
+    (heap_data r)
+    (list (map (thread_data r.compartments) r.threads))
 
 -- the report line: the value's compact text, and a line feed
 unfoldable pub report_line : DescRow → List ℕ
