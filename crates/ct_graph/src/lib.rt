@@ -1,0 +1,5 @@
+//! Reach and its certificate.
+#![tactic(auto)]
+
+mod distances;
+mod walk;
