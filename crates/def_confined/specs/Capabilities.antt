@@ -5,7 +5,7 @@ use Rattle.def_words.specs.Authority.{cap_address, cap_base, cap_top}
 use Rattle.def_words.specs.Permissions.{IsLegal, Within, cap_perms, has, global, store_local, execute}
 use Rattle.def_words.specs.Seals.{cap_seal}
 use Rattle.ct_entry.specs.declared.rows.Kind.TheVariants.{Call, Service}
-use Rattle.def_reach.specs.Roots.{Origin, TrustedPart, Listing, is_quota, is_stack, is_native, is_root}
+use Rattle.def_reach.specs.Roots.{TrustedPart, Listing, is_quota, is_stack, is_native, is_root}
 use Rattle.def_machine.specs.Image.{Image, root, made_cap}
 use Rattle.def_machine.specs.Heap.{object_rights}
 

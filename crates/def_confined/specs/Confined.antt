@@ -1,7 +1,6 @@
 -- *Confined*: the invariant of the machine.
-use Rattle.std.specs.Prelude.{ℕ, ◌≡◌, ◌+◌, ◌*◌, ◌%◌, ◌≤◌, ◌<◌, ◌≢◌, ◌⊎◌, Bool, true, false, List, [], ◌∷◌, length, Option, Some}
+use Rattle.std.specs.Prelude.{ℕ, ◌≡◌, ◌+◌, ◌*◌, ◌%◌, ◌≤◌, ◌<◌, ◌≢◌, Bool, true, false, List, [], ◌∷◌, length, Some}
 use Rattle.def_words.specs.declared.Cap.{Cap}
-use Rattle.def_words.specs.Authority.{cap_base, cap_top}
 use Rattle.def_words.specs.Permissions.{has, execute}
 use Rattle.def_words.specs.Seals.{cap_seal}
 use Rattle.ct_entry.specs.declared.rows.Kind.TheVariants.{Stack}

@@ -1,5 +1,5 @@
 -- Calls, returns and unwinds, whole.
-use Rattle.std.specs.Prelude.{ℕ, ◌+◌, ◌-◌, Bool, true, false, List, [], ◌∷◌, Option, cond, nat_lt, slice_set}
+use Rattle.std.specs.Prelude.{ℕ, ◌+◌, ◌-◌, true, List, [], ◌∷◌, Option, cond, nat_lt, slice_set}
 use Rattle.def_words.specs.declared.Cap.{Cap}
 use Rattle.def_words.specs.declared.Posture.{Posture}
 use Rattle.def_words.specs.Capability.{untagged, with_address}
@@ -8,10 +8,9 @@ use Rattle.def_words.specs.Seals.{cap_seal, posture_through}
 use Rattle.def_words.specs.Jumped.{opened}
 use Rattle.def_memory.specs.Granules.{plain}
 use Rattle.def_memory.specs.Ranges.{zeroed_from}
-use Rattle.ct_entry.specs.declared.rows.Gate.{Gate}
 use Rattle.def_reach.specs.Roots.{gate_for}
-use Rattle.def_machine.specs.Image.{Image, root, made_cap, code_entry, globals_entry, stack_base, stack_entry}
-use Rattle.def_machine.specs.State.{State, Thread, Frame, Status, register, thread, nobody, interrupts_on}
+use Rattle.def_machine.specs.Image.{Image, root, made_cap, code_entry, globals_entry, stack_base}
+use Rattle.def_machine.specs.State.{State, Thread, Frame, register, thread, nobody, interrupts_on}
 use Rattle.def_machine.specs.Memory.{filtered}
 
 -- a thread changes whole, and its stack from its base up to an address is zeroed

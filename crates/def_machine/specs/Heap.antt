@@ -1,16 +1,14 @@
 -- *Heap*: places, allocation, free and the sweep.
-use Rattle.std.specs.Prelude.{ℕ, ◌+◌, ◌-◌, ◌*◌, ◌/◌, ◌%◌, ◌≡◌, ◌≤◌, ◌<◌, ◌&&◌, Bool, true, false, not, cond, nat_le, nat_lt, List, [], ◌∷◌, map, Option, Some, None, slice_set}
+use Rattle.std.specs.Prelude.{ℕ, ◌+◌, ◌-◌, ◌*◌, ◌/◌, ◌%◌, ◌≡◌, ◌≤◌, ◌<◌, ◌&&◌, Bool, true, false, cond, nat_le, List, [], ◌∷◌, map, Option, Some, None}
 use Rattle.def_words.specs.declared.Cap.{Cap}
 use Rattle.def_words.specs.LeastBounds.{round_length_of, alignment_of}
 use Rattle.def_words.specs.Derive.{derive, memory_root}
-use Rattle.def_memory.specs.declared.Granule.{Granule}
-use Rattle.def_memory.specs.Granules.{plain}
 use Rattle.def_memory.specs.Ranges.{zeroed_from, marked_from}
 use Rattle.def_machine.specs.Image.{Image}
 use Rattle.def_machine.specs.State.{State, Thread, Frame, Object, thread}
 use Rattle.def_machine.specs.Memory.{filtered}
 use Rattle.def_machine.specs.Registers.{with_registers}
-use Rattle.def_machine.specs.Objects.{Each, ApartFrom, charges, quarantine, only_live}
+use Rattle.def_machine.specs.Objects.{Each, ApartFrom, quarantine, only_live}
 
 -- the length of an object of this size, and what it takes from its quota
 abbrev pub length_for : ℕ → ℕ

@@ -6,9 +6,9 @@ use Rattle.def_memory.specs.Granules.{plain, nothing}
 use Rattle.ct_entry.specs.Listed.{Listed}
 use Rattle.def_reach.specs.Roots.{Root, root_of}
 
--- What a granule of RAM is part of. Fixed granules, which hold code, export tables or the return sentry,
--- stay as boot made them. Bare ones never hold a capability: sealed objects, libraries' text, the trusted
--- region past its first granule, and what no region covers.
+-- What a granule of RAM is part of. Fixed granules, which hold code of compartments and libraries, export
+-- tables or the return sentry, stay as boot made them. Bare ones never hold a capability: sealed objects,
+-- the trusted region past its first granule, and what no region covers.
 pub data Region : Type 0 where
   Fixed : Region
   Globals : ℕ → Region

@@ -1,5 +1,5 @@
 -- What stores do, and the load filter.
-use Rattle.std.specs.Prelude.{ℕ, ◌-◌, ◌&&◌, nat_le, Bool, List, cond}
+use Rattle.std.specs.Prelude.{ℕ, ◌-◌, ◌&&◌, nat_le, Bool, cond}
 use Rattle.def_words.specs.declared.Cap.{Cap}
 use Rattle.def_words.specs.Authority.{cap_base}
 use Rattle.def_words.specs.Capability.{untagged}

@@ -1,5 +1,5 @@
 -- Objects of the heap as rows: what is live, what is quarantined, what a quota is charged with.
-use Rattle.std.specs.Prelude.{ℕ, ◌+◌, ◌≤◌, ◌<◌, ◌≡◌, ◌⊎◌, ◌&&◌, Bool, true, false, List, [], ◌∷◌, cond, nat_eq}
+use Rattle.std.specs.Prelude.{ℕ, ◌+◌, ◌≤◌, ◌<◌, ◌⊎◌, ◌&&◌, false, List, [], ◌∷◌, cond, nat_eq}
 use Rattle.def_machine.specs.State.{Object}
 
 -- one of the elements

@@ -1,5 +1,5 @@
 -- *State*: everything that an event may change.
-use Rattle.std.specs.Prelude.{ℕ, Bool, true, false, List, [], Option, slice_index_or}
+use Rattle.std.specs.Prelude.{ℕ, Bool, false, List, [], Option, slice_index_or}
 use Rattle.def_words.specs.declared.Cap.{Cap}
 use Rattle.def_words.specs.declared.Posture.{Posture}
 use Rattle.def_memory.specs.declared.Granule.{Granule}

@@ -1,11 +1,11 @@
 -- Changes of one thread that leave its frames and RAM as they are, and turns of threads.
-use Rattle.std.specs.Prelude.{ℕ, Bool, List, Option, Some, None, map, slice_set}
+use Rattle.std.specs.Prelude.{ℕ, Bool, List, Option, map, slice_set}
 use Rattle.def_words.specs.declared.Cap.{Cap}
 use Rattle.def_words.specs.declared.Posture.{Posture}
 use Rattle.def_words.specs.Seals.{cap_seal, posture_through}
 use Rattle.def_words.specs.Jumped.{opened}
 use Rattle.def_machine.specs.Image.{Image}
-use Rattle.def_machine.specs.State.{State, Thread, Status, DeviceState, Counts, thread}
+use Rattle.def_machine.specs.State.{State, Thread, Status, DeviceState, Counts}
 use Rattle.def_machine.specs.Memory.{filtered}
 use Rattle.def_machine.specs.Registers.{written}
 

@@ -3,12 +3,11 @@
 use Rattle.std.specs.Prelude.{ℕ, ◌≡◌, ◌⊎◌, true, List, [], ◌∷◌}
 use Rattle.ct_entry.specs.declared.rows.Owner.{Owner}
 use Rattle.ct_entry.specs.declared.rows.Owner.TheVariants.{Compartment}
-use Rattle.ct_entry.specs.declared.rows.Owner.TheVariants as owner
 use Rattle.ct_entry.specs.declared.rows.Kind.TheVariants.{Shared, Call}
 use Rattle.ct_entry.specs.declared.rows.Kind.TheVariants as kind
 use Rattle.ct_entry.specs.Listed.{Listed}
 use Rattle.def_words.specs.Permissions.{bit, memory_capability}
-use Rattle.def_reach.specs.Roots.{Origin, Listing, root_of}
+use Rattle.def_reach.specs.Roots.{Listing, root_of}
 
 -- compartment a imports an export of compartment b that passes capabilities
 pub record Calls (e : Listed) (a b : ℕ) : Type 0 where
