@@ -1,7 +1,6 @@
 -- Lists of places.
-use Rattle.std.proofs.Common.{◌≡◌, ℕ, zero, suc, ◌+◌, ◌<◌, ◌≤◌, Bool, true, false, cond, nat_eq, List, [], ◌∷◌, ◌++◌, length, refl, ap, sym, ◌∙◌, arith, inl, inr, slice_index_or, slice_set, map}
-use Rattle.std.proofs.lemmas.Bool.{ne_eqb, eq-eqb}
-use Rattle.law_lists.proofs.Tests.{eq_tells}
+use Rattle.std.proofs.Common.{◌≡◌, ℕ, zero, suc, ◌+◌, ◌<◌, ◌≤◌, Bool, true, false, cond, nat_eq, List, [], ◌∷◌, length, refl, arith, slice_index_or, slice_set}
+use Rattle.std.proofs.lemmas.Bool.{eq-eqb}
 use Rattle.ct_graph.specs.Cells.{unknown, cell, far}
 
 pub unknown_set : (n : ℕ) (ds : List ℕ) (v d : ℕ) → v < length ds → unknown n (slice_set ds v d) + cond (nat_eq (slice_index_or ds v n) n) 1 0 ≡ unknown n ds + cond (nat_eq d n) 1 0

@@ -1,5 +1,5 @@
 -- A walk that takes the least nearer place each time is the path that comes before all others.
-use Rattle.std.proofs.Common.{◌≡◌, ℕ, zero, suc, ◌+◌, ◌<◌, ◌≤◌, Bool, true, List, [], ◌∷◌, ◌++◌, length, refl, ap, sym, ◌∙◌, arith, inl, inr, ◌⊎◌}
+use Rattle.std.proofs.Common.{◌≡◌, ℕ, ◌+◌, ◌<◌, ◌≤◌, Bool, true, List, [], ◌∷◌, ◌++◌, length, refl, sym, arith, inl, inr}
 use Rattle.std.proofs.lemmas.Bool.{cases_order, cases_lt}
 use Rattle.ct_graph.specs.Cells.{Links, LowLeft, Shorter, far, IsDistance, IsNext, Walks}
 
@@ -32,7 +32,8 @@ low_left j n b ds h v (x ∷ xs) (y ∷ ys) walks leads same =
     elim (cases_order x y) [
       | inl e ↦ let from : Links j x ys b = rw e leads.1 in inr (e, low_left j n b ds h x xs ys walks.1 from (omega (arith, same)))
       | inr (inl lt) ↦ inl lt
-      | inr (inr gt) ↦ absurd (walks.0.least y gt leads.0 nearer) ]
+      | inr (inr gt) ↦ absurd (walks.0.least y gt leads.0 nearer)
+    ]
 
 pub walk_first : (j : ℕ → ℕ → Bool) (n b : ℕ) (ds : List ℕ) → IsDistance j n b ds → (v : ℕ) (xs : List ℕ) → Walks j n ds v xs b → (ys : List ℕ) → Links j v ys b → Shorter xs ys
 walk_first j n b ds h v xs walks ys leads =
@@ -40,7 +41,8 @@ walk_first j n b ds h v xs walks ys leads =
     let least : (far n ds v < n) × (far n ds v ≤ length ys) = at_least j n b ds h v ys leads in
     elim (cases_lt (length xs) (length ys)) [
       | inl lt ↦ inl lt
-      | inr ge ↦ let same : length ys ≡ length xs = omega (arith, ge, long, least.1) in inr (sym same, low_left j n b ds h v xs ys walks leads same) ]
+      | inr ge ↦ let same : length ys ≡ length xs = omega (arith, ge, long, least.1) in inr (sym same, low_left j n b ds h v xs ys walks leads same)
+    ]
 
 -- a walk goes on by the next place
 pub walk_on : (j : ℕ → ℕ → Bool) (n : ℕ) (ds : List ℕ) (v : ℕ) (xs : List ℕ) (w y : ℕ) → Walks j n ds v xs w → IsNext j n ds w y → Walks j n ds v (xs ++ y ∷ []) y

@@ -1,5 +1,5 @@
 -- The graph by places: place i stands for the i-th owner, a row of Bools says where it goes.
-use Rattle.std.specs.Prelude.{ℕ, zero, suc, ◌≡◌, ◌≢◌, ◌+◌, ◌<◌, ◌≤◌, ◌⊎◌, Bool, true, false, nat_eq, cond, List, [], ◌∷◌, length, slice_index_or}
+use Rattle.std.specs.Prelude.{ℕ, ◌≡◌, ◌+◌, ◌<◌, ◌≤◌, ◌⊎◌, Bool, true, false, nat_eq, cond, List, [], ◌∷◌, length, slice_index_or}
 
 abbrev pub cell : List (List Bool) → ℕ → ℕ → Bool
 cell rows v x = slice_index_or (slice_index_or rows v []) x false

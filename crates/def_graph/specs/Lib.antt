@@ -1,4 +1,2 @@
-pub mod Rows
-pub mod Sharing
 pub mod Reach
 pub mod Route

@@ -1,6 +1,6 @@
-use Rattle.std.proofs.Common.{◌≡◌, ◌∙◌, ap, sym, arith, ℕ, ◌<◌, length, map, slice_set, List, Bool, replicate, true}
+use Rattle.std.proofs.Common.{◌≡◌, ap, arith, ℕ, length, map, slice_set, List, Bool}
 use Rattle.std.proofs.lemmas.List.{length-map}
-use Rattle.ct_graph.specs.Cells.{cell, IsLoose, NoneLoose, IsDistance}
+use Rattle.ct_graph.specs.Cells.{cell}
 use Rattle.ct_graph.proofs.Lists.{goes_inside}
 use Rattle.ct_graph.proofs.Relaxing.{relax_one, at_start, closed_now}
 use Rattle.ct_graph.proofs.distances.distances.Goals as goal

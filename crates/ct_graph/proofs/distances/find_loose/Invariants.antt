@@ -1,4 +1,4 @@
-use Rattle.std.proofs.Common.{◌≡◌, ℕ, ◌+◌, ◌<◌, ◌≤◌, true, false, length, slice_index_or, map}
+use Rattle.std.proofs.Common.{◌≡◌, ℕ, ◌+◌, ◌<◌, ◌≤◌, true, length, map}
 use Rattle.ct_graph.specs.Cells.{far, cell}
 use Rattle.ct_graph.proofs.distances.find_loose.Given as goal
 

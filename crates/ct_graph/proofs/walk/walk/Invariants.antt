@@ -1,4 +1,4 @@
-use Rattle.std.proofs.Common.{◌≡◌, ℕ, ◌+◌, ◌<◌, length, map, slice_index_or}
+use Rattle.std.proofs.Common.{◌<◌, length, map}
 use Rattle.ct_graph.specs.Cells.{cell, far, Walks}
 use Rattle.ct_graph.proofs.walk.walk.Given as goal
 
