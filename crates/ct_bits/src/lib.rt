@@ -42,5 +42,9 @@ pub fn align_up(value: u64, to: u64) -> u64
     ensures fits { result < value + to }
 {
     let over = value % to;
-    if over == 0 { value } else { value + (to - over) }
+    if over == 0 {
+        value
+    } else {
+        value + (to - over)
+    }
 }

@@ -77,7 +77,11 @@ fn least_exponent(base: u64, top: u64) -> u32
     ensures small { result ≤ 24 }
 {
     let first = first_candidate(top - base);
-    let exponent = if ceil(top, first) - (base >> first) <= 511 { first } else { first + 1 };
+    let exponent = if ceil(top, first) - (base >> first) <= 511 {
+        first
+    } else {
+        first + 1
+    };
     if exponent <= 14 { exponent } else { 24 }
 }
 
