@@ -57,26 +57,26 @@ found_next base top e order h fails = found base top (e + 1)
     ])
     (next_serves base top e order h)
 
--- ---- from leading zeros
+-- ---- from leading leading
 
-pub record Bits (length zeros : ℕ) : Type 0 where
+pub record Bits (length leading : ℕ) : Type 0 where
   pub bits : ℕ
-  pub whole : zeros + bits ≡ 64
+  pub whole : leading + bits ≡ 64
   pub above : length < 2 ^ bits
   pub below : 2 ^ bits ≤ 2 * length + 1
 
-pub first_above : (length zeros e : ℕ) → Bits length zeros → e ≡ 64 - zeros - 9 → length < 2 ^ (e + 9)
-first_above length zeros e b is =
+pub first_above : (length leading e : ℕ) → Bits length leading → e ≡ 64 - leading - 9 → length < 2 ^ (e + 9)
+first_above length leading e b is =
     let grows : 2 ^ b.bits ≤ 2 ^ (e + 9) = (let far : b.bits ≤ e + 9 = omega (arith, b.whole, is) in pow-le-pow_right (lit< tt) far) in
     omega (arith, b.above, grows)
 
-pub first_below : (length zeros e : ℕ) → Bits length zeros → e ≡ 64 - zeros - 9 → 1 ≤ e → 2 ^ (e + 9) ≤ 2 * length + 1
-first_below length zeros e b is some =
+pub first_below : (length leading e : ℕ) → Bits length leading → e ≡ 64 - leading - 9 → 1 ≤ e → 2 ^ (e + 9) ≤ 2 * length + 1
+first_below length leading e b is some =
     let same : e + 9 ≡ b.bits = omega (arith, b.whole, is, some) in
     rw same b.below
 
-pub first_small : (length zeros e : ℕ) → Bits length zeros → e ≡ 64 - zeros - 9 → length ≤ 2 ^ 32 → e ≤ 24
-first_small length zeros e b is fits = elim (le_tells b.bits 33) [
+pub first_small : (length leading e : ℕ) → Bits length leading → e ≡ 64 - leading - 9 → length ≤ 2 ^ 32 → e ≤ 24
+first_small length leading e b is fits = elim (le_tells b.bits 33) [
   | inl t ↦ omega (arith, b.whole, is, t.1)
   | inr t ↦ absurd (let grows : 2 ^ 34 ≤ 2 ^ b.bits = pow-le-pow_right (lit< tt) t.1 in omega (arith, grows, b.below, fits))
 ]
