@@ -8,6 +8,7 @@
 mod bounding;
 mod comparing;
 mod live;
+mod passing;
 mod pointing;
 mod rights;
 mod seals;
@@ -19,6 +20,7 @@ pub use ct_bounds::Bounds;
 pub use ct_perm::{Permission, Perms};
 pub use def_words::{Cap, Posture, Shadow, Trap};
 pub use live::{Live, expand, shrink};
+pub use passing::{attenuate, derive, link, open};
 pub use pointing::{add_address, set_address};
 pub use rights::{and_perms, clear_tag};
 pub use seals::{seal, unseal};
