@@ -1,0 +1,5 @@
+pub mod DigitValues
+pub mod LineEnds
+pub mod NamedRows
+pub mod PiecesOf
+pub mod RowsOf
