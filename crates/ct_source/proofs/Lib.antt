@@ -2,4 +2,5 @@ pub mod DigitValues
 pub mod LineEnds
 pub mod NamedRows
 pub mod PiecesOf
+pub mod ProgramsOf
 pub mod RowsOf

@@ -2,6 +2,7 @@
 -- with the bytes of each name.
 use Rattle.std.specs.Prelude.{◌≡◌, ℕ, List, map, Option, option_map, Result, Ok, Err, Bool, true, false}
 use denote.Ref.{Bor}
+use Rattle.ct_source.specs.declared.Program.{Program}
 use Rattle.def_source.specs.Source.{Name, Statements}
 use Rattle.def_source.specs.declared.parts.Token.{Token}
 use Rattle.def_source.specs.declared.parts.Token.TheVariants as token
@@ -88,6 +89,10 @@ statement_view s = record { line = s.line; part = part_view s.part }
 
 abbrev pub statements_view : List (Statement (Bor (List ℕ))) → Statements
 statements_view ss = map statement_view ss
+
+-- the statements that a program holds
+abbrev pub program_view : Program → Statements
+program_view p = statements_view p.statements.items
 
 -- a fault of a line, with the line's number
 abbrev pub at_line : {A : Type 0} → ℕ → Result A ℕ → Result A AsmFault
