@@ -2,7 +2,7 @@
 -- existence of a list of edges.
 use Rattle.std.specs.Prelude.{ℕ, ◌≡◌, ◌⊎◌, true, List, [], ◌∷◌}
 use Rattle.ct_entry.specs.declared.rows.Owner.{Owner}
-use Rattle.ct_entry.specs.declared.rows.Owner.TheVariants.{Compartment}
+use Rattle.ct_entry.specs.declared.rows.Owner.TheVariants.{Compartment, Library}
 use Rattle.ct_entry.specs.declared.rows.Kind.TheVariants.{Shared, Call}
 use Rattle.ct_entry.specs.declared.rows.Kind.TheVariants as kind
 use Rattle.ct_entry.specs.Listed.{Listed}
@@ -39,8 +39,13 @@ pub record Joined (e : Listed) (a b : ℕ) : Type 0 where
   pub members : List ℕ
   pub leads : Leads e a members b
 
+abbrev pub IsLibrary : Owner → Type 0
+IsLibrary (Library l) = Unit {0}
+IsLibrary _ = ⊥
+
 -- an owner imports a library
 pub record Brings (e : Listed) (o library : Owner) : Type 0 where
+  pub is_library : IsLibrary library
   pub import : ℕ
   pub kind_is : (root_of e import).origin ≡ Listing kind.Library
   pub importer : (root_of e import).owner ≡ o
