@@ -1,0 +1,2 @@
+-- What the three calls of this crate give.
+pub mod Bits

@@ -1,0 +1,72 @@
+//! Bits of words by arithmetic: a field, sign extension, the least multiple.
+//!
+//! Everything that decodes or encodes words stands on these three calls. Their contracts speak of
+//! division and remainder (specs/Bits.antt), the code shifts and masks.
+#![tactic(auto)]
+
+ghost use Rattle.std.specs.Prelude.{◌≡◌, ◌+◌, ◌≤◌, ◌<◌, ◌^◌};
+ghost use Rattle.ct_bits.specs.Bits.{IsLeastMultiple, field_of, signed_of};
+
+/// The `width` bits of `word` from bit `low` on, as a number.
+pub fn field(word: u32, low: u32, width: u32) -> u32
+    requires some { 1 ≤ width }
+    requires fits { low + width ≤ 32 }
+    ensures { result ≡ field_of word low width }
+{
+    ((word >> low) as u64 % (1u64 << width)) as u32
+}
+
+/// The low `width` bits of `value`, read in two's complement.
+pub fn sign(value: u32, width: u32) -> i32
+    requires some { 1 ≤ width }
+    requires fits { width ≤ 32 }
+    ensures { result ≡ signed_of value width }
+{
+    let low = field(value, 0, width);
+    if (low as u64) < 1u64 << (width - 1) {
+        low as i32
+    } else {
+        let gap = (1u64 << width) - low as u64;
+        -1 - (gap - 1) as i32
+    }
+}
+
+/// The least multiple of `to` at or above `value`.
+///
+/// Sizes and addresses stay below 2^33, so that the answer fits.
+pub fn align_up(value: u64, to: u64) -> u64
+    requires some { 1 ≤ to }
+    requires to_fits { to ≤ 2 ^ 32 }
+    requires value_fits { value ≤ 2 ^ 33 }
+    ensures least { IsLeastMultiple value to result }
+    ensures fits { result < value + to }
+{
+    let over = value % to;
+    if over == 0 {
+        value
+    } else {
+        value + (to - over)
+    }
+}
+
+#[cfg(test)]
+mod tests {
+    use super::*;
+
+    #[test]
+    fn worked_values(rt: HostRuntime) {
+        // The fields of the memory root's high word.
+        assert_eq!(rt; field(0x7E3C0100, 25, 6), 63);
+        assert_eq!(rt; field(0x7E3C0100, 18, 4), 15);
+        assert_eq!(rt; field(0x7E3C0100, 0, 9), 256);
+        assert_eq!(rt; field(0xFFFFFFFF, 0, 32), 0xFFFFFFFF);
+        assert_eq!(rt; sign(0x800, 12), -2048);
+        assert_eq!(rt; sign(0x7FF, 12), 2047);
+        assert_eq!(rt; sign(0xFFFFFFFF, 32), -1);
+        assert_eq!(rt; sign(0x1E, 5), -2);
+        assert_eq!(rt; align_up(0, 8), 0);
+        assert_eq!(rt; align_up(1, 8), 8);
+        assert_eq!(rt; align_up(8, 8), 8);
+        assert_eq!(rt; align_up(0xFFFFFFFF, 4096), 0x100000000);
+    }
+}

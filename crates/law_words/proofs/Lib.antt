@@ -1,0 +1,12 @@
+pub mod Fields
+pub mod Leasts
+pub mod Back
+pub mod Exacts
+pub mod Bits
+pub mod Spellings
+pub mod Words
+pub mod Narrowing
+pub mod Sealed
+pub mod Passing
+pub mod Making
+pub mod Away
