@@ -1,0 +1,5 @@
+pub mod Givens
+pub mod Pushes
+pub mod Pops
+pub mod Cleans
+pub mod Grounds

@@ -1,0 +1,2 @@
+//! Laws of calls.
+#![tactic(auto)]
