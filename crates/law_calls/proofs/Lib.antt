@@ -2,4 +2,3 @@ pub mod Givens
 pub mod Pushes
 pub mod Pops
 pub mod Cleans
-pub mod Grounds

@@ -33,7 +33,7 @@ pub record Jumps (i : Image) (s : State) (t : ℕ) (pcc : Cap) (posture : Postur
   pub link_kept : Kept i link
   pub link_live : HasLive i s.objects link
 
-fits_as : (i : Image) (a b : Thread) (fs : List Frame) → b.posture ≡ a.posture → PostureFits i a fs → PostureFits i b fs
+pub fits_as : (i : Image) (a b : Thread) (fs : List Frame) → b.posture ≡ a.posture → PostureFits i a fs → PostureFits i b fs
 fits_as i a b [] e h = tt
 fits_as i a b (f ∷ fs) e h =
     let P : Posture → Type 0 = λ p. p.off ≡ true → ((root i p.source).disabled ≡ true) × Reaches i.entries (root i p.source).owner f.actor in
@@ -53,7 +53,7 @@ jumps_confined i s t to pcc posture link w j = changed_confined i s t (jumped (t
 
 -- ---- postures
 
-return_fits : (i : Image) (objects : List Object) (t : ℕ) (th : Thread) (fs : List Frame) (c : Cap) (named : ℕ) → InFrames i objects t fs c → c.tag ≡ true → IsReturnType (cap_seal c)
+pub return_fits : (i : Image) (objects : List Object) (t : ℕ) (th : Thread) (fs : List Frame) (c : Cap) (named : ℕ) → InFrames i objects t fs c → c.tag ≡ true → IsReturnType (cap_seal c)
     → PostureFits i (record th { posture = posture_through th.posture (cap_seal c) named c.shadow.source }) fs
 return_fits i objects t th [] c named h tagged is = tt
 return_fits i objects t th (f ∷ fs) c named h tagged (inl four) =
