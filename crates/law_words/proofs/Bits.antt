@@ -76,7 +76,7 @@ and_where n m small =
   same_set (bit_and n m) (set_where (λ p. bit n p && bit m p)) below (where_small (λ p. bit n p && bit m p))
     (λ p low. bit_common n m p ∙ sym (bit_where (λ q. bit n q && bit m q) p low))
 
-apart : (a b : ℕ) → a ≢ b → (a == b) ≡ false
+pub apart : (a b : ℕ) → a ≢ b → (a == b) ≡ false
 apart a b ne = elim (eq_tells a b) [ inl t ↦ absurd (ne t.1) | inr t ↦ t.0 ]
 
 -- the test of one permission

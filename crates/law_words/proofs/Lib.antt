@@ -4,3 +4,5 @@ pub mod Back
 pub mod Exacts
 pub mod Bits
 pub mod Spellings
+pub mod Words
+pub mod Narrowing
