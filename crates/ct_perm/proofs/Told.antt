@@ -1,5 +1,5 @@
 -- What six bits spell, as the code adds it up, by trying all of them.
-use Rattle.std.proofs.Common.{ℕ, ◌+◌, ◌*◌, ◌/◌, ◌%◌, ◌<◌, ◌≡◌, ◌==◌, nat_eq, Bool, true, ◌&&◌, refl, arith, if◌then◌else◌}
+use Rattle.std.proofs.Common.{ℕ, ◌+◌, ◌*◌, ◌/◌, ◌%◌, ◌<◌, ◌≡◌, ◌==◌, Bool, true, refl, if◌then◌else◌}
 use Rattle.std.proofs.lemmas.Bool.{eqb-true}
 use Rattle.std.proofs.Common.{eq-eqb, ◌≢◌}
 use Rattle.law_words.proofs.Bits.{apart}
@@ -11,12 +11,12 @@ placed_as bits high middle low = bits / 4 % 2 * high + bits / 2 % 2 * middle + b
 
 abbrev pub told_as : ℕ → ℕ
 told_as bits =
-  if bits / 8 == 1 then 352 + placed_as bits 128 8 2
-  else if bits / 8 == 3 then 100 + placed_as bits 16 8 2
-  else if bits / 4 == 5 then 96 + placed_as bits 0 8 2
-  else if bits == 16 then 68
-  else if bits / 4 == 4 then placed_as bits 0 32 4
-  else placed_as bits 2048 1024 512
+    if bits / 8 == 1 then 352 + placed_as bits 128 8 2
+    else if bits / 8 == 3 then 100 + placed_as bits 16 8 2
+    else if bits / 4 == 5 then 96 + placed_as bits 0 8 2
+    else if bits == 16 then 68
+    else if bits / 4 == 4 then placed_as bits 0 32 4
+    else placed_as bits 2048 1024 512
 
 told_test : ℕ → Bool
 told_test bits = told_as bits == unpacked bits

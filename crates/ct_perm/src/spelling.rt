@@ -14,8 +14,20 @@ pub fn packed(set: Perms) -> u8
     ensures six { result < 64 }
 {
     let low = match form(set) {
-        Shape::Executable => 8 + three(set, Permission::SystemRegisters, Permission::LoadMutable, Permission::LoadGlobal),
-        Shape::ReadWrite => 24 + three(set, Permission::StoreLocal, Permission::LoadMutable, Permission::LoadGlobal),
+        Shape::Executable => 8
+            + three(
+                set,
+                Permission::SystemRegisters,
+                Permission::LoadMutable,
+                Permission::LoadGlobal,
+            ),
+        Shape::ReadWrite => 24
+            + three(
+                set,
+                Permission::StoreLocal,
+                Permission::LoadMutable,
+                Permission::LoadGlobal,
+            ),
         Shape::ReadOnly => 20 + two(set, Permission::LoadMutable, Permission::LoadGlobal),
         Shape::WriteOnly => 16,
         Shape::Plain => 16 + two(set, Permission::LoadData, Permission::StoreData),

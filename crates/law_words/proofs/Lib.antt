@@ -6,3 +6,7 @@ pub mod Bits
 pub mod Spellings
 pub mod Words
 pub mod Narrowing
+pub mod Sealed
+pub mod Passing
+pub mod Making
+pub mod Away

@@ -1,13 +1,12 @@
 -- One field of a word changed: the others stay, and what they decode to stays.
-use Rattle.std.proofs.Common.{ℕ, ◌+◌, ◌-◌, ◌*◌, ◌/◌, ◌%◌, ◌^◌, ◌<◌, ◌≤◌, ◌≡◌, ◌==◌, Bool, true, false, cond, if◌then◌else◌, nat_eq, refl, ap, sym, ◌∙◌, inl, inr, arith, subst}
+use Rattle.std.proofs.Common.{ℕ, ◌+◌, ◌/◌, ◌%◌, ◌^◌, ◌<◌, ◌≡◌, ◌==◌, Bool, true, false, if◌then◌else◌, refl, ap, sym, ◌∙◌, inl, inr, arith}
 use Rattle.law_lists.proofs.Tests.{eq_tells}
 use Rattle.def_words.specs.declared.Cap.{Cap}
-use Rattle.def_words.specs.declared.Shadow.{Shadow}
 use Rattle.def_words.specs.declared.Bounds.{Bounds}
-use Rattle.def_words.specs.Authority.{word_of, cap_address, cap_high, cap_bounds, cap_base, cap_top, bounds_of, base_of, top_of, exponent_of, exponent_field, base_field, top_field, seal_field, permission_bits, corner_of, middle, one_if_less}
-use Rattle.def_words.specs.Permissions.{cap_perms, has, unpacked, bit, execute}
+use Rattle.def_words.specs.Authority.{word_of, cap_address, cap_high, cap_bounds, bounds_of, exponent_field, base_field, top_field, seal_field, permission_bits, corner_of, middle, one_if_less}
+use Rattle.def_words.specs.Permissions.{cap_perms, unpacked, bit, execute}
 use Rattle.def_words.specs.Seals.{cap_seal, seal_type}
-use Rattle.def_words.specs.Capability.{cap_of, with_permission_bits, with_seal_field, with_fields}
+use Rattle.def_words.specs.Capability.{with_permission_bits, with_seal_field, with_fields}
 
 -- ---- word and high word
 
@@ -62,7 +61,7 @@ fields_bounds : ℕ → ℕ → ℕ → ℕ → Bounds
 fields_bounds e b t a = record {
   exponent = if e == 15 then 24 else e;
   base = corner_of a (if e == 15 then 24 else e) b 0 (one_if_less (middle a (if e == 15 then 24 else e)) b) % 2 ^ 32;
-  top = corner_of a (if e == 15 then 24 else e) t (one_if_less t b) (one_if_less (middle a (if e == 15 then 24 else e)) b) % 2 ^ 33
+  top = corner_of a (if e == 15 then 24 else e) t (one_if_less t b) (one_if_less (middle a (if e == 15 then 24 else e)) b) % 2 ^ 33;
 }
 
 by_fields : (h a : ℕ) → bounds_of h a ≡ fields_bounds (exponent_field h) (base_field h) (top_field h) a
@@ -71,10 +70,10 @@ by_fields h a = refl
 
 pub same_bounds : (h k a : ℕ) → h % 2 ^ 22 ≡ k % 2 ^ 22 → bounds_of h a ≡ bounds_of k a
 same_bounds h k a same =
-  let es : exponent_field h ≡ exponent_field k = exponent_low h ∙ ap (λ n. n / 2 ^ 18) same ∙ sym (exponent_low k) in
-  let bs : base_field h ≡ base_field k = base_low h ∙ ap (λ n. n / 2 ^ 9 % 512) same ∙ sym (base_low k) in
-  let ts : top_field h ≡ top_field k = top_low h ∙ ap (λ n. n % 512) same ∙ sym (top_low k) in
-  by_fields h a ∙ (rw (es, bs, ts) refl) ∙ sym (by_fields k a)
+    let es : exponent_field h ≡ exponent_field k = exponent_low h ∙ ap (λ n. n / 2 ^ 18) same ∙ sym (exponent_low k) in
+    let bs : base_field h ≡ base_field k = base_low h ∙ ap (λ n. n / 2 ^ 9 % 512) same ∙ sym (base_low k) in
+    let ts : top_field h ≡ top_field k = top_low h ∙ ap (λ n. n % 512) same ∙ sym (top_low k) in
+    by_fields h a ∙ (rw (es, bs, ts) refl) ∙ sym (by_fields k a)
 
 -- ---- of capabilities
 
@@ -82,9 +81,9 @@ same_bounds h k a same =
 pub bounds_is : (c : Cap) (h a : ℕ) → a < 2 ^ 32 → c.word ≡ word_of h a → cap_bounds c ≡ bounds_of h a
 unfolding cap_bounds
 bounds_is c h a small is =
-  let hs : cap_high c ≡ h = ap (λ n. n / 2 ^ 32) is ∙ high_back h a small in
-  let at_a : cap_address c ≡ a = ap (λ n. n % 2 ^ 32) is ∙ address_back h a small in
-  ap (λ n. bounds_of n (cap_address c)) hs ∙ ap (λ n. bounds_of h n) at_a
+    let hs : cap_high c ≡ h = ap (λ n. n / 2 ^ 32) is ∙ high_back h a small in
+    let at_a : cap_address c ≡ a = ap (λ n. n % 2 ^ 32) is ∙ address_back h a small in
+    ap (λ n. bounds_of n (cap_address c)) hs ∙ ap (λ n. bounds_of h n) at_a
 
 pub high_is : (c : Cap) (h a : ℕ) → a < 2 ^ 32 → c.word ≡ word_of h a → cap_high c ≡ h
 high_is c h a small is = ap (λ n. n / 2 ^ 32) is ∙ high_back h a small
@@ -106,14 +105,14 @@ word_whole c = omega arith
 -- what a capability has in common with one of its address: the bounds, where the low bits are the same
 pub bounds_same : (c d : Cap) (h : ℕ) → d.word ≡ word_of h (cap_address c) → h % 2 ^ 22 ≡ cap_high c % 2 ^ 22 → cap_bounds d ≡ cap_bounds c
 bounds_same c d h is low =
-  bounds_is d h (cap_address c) (address_small c) is ∙ same_bounds h (cap_high c) (cap_address c) low ∙ sym (bounds_is c (cap_high c) (cap_address c) (address_small c) (word_whole c))
+    bounds_is d h (cap_address c) (address_small c) is ∙ same_bounds h (cap_high c) (cap_address c) low ∙ sym (bounds_is c (cap_high c) (cap_address c) (address_small c) (word_whole c))
 
 pub perms_same : (c d : Cap) (h a : ℕ) → a < 2 ^ 32 → d.word ≡ word_of h a → permission_bits h ≡ permission_bits (cap_high c) → cap_perms d ≡ cap_perms c
 perms_same c d h a small is bits = perms_is d h a small is ∙ ap unpacked bits ∙ sym (perms_is c (cap_high c) (cap_address c) (address_small c) (word_whole c))
 
 pub seal_same : (c d : Cap) (h a : ℕ) → a < 2 ^ 32 → d.word ≡ word_of h a → permission_bits h ≡ permission_bits (cap_high c) → seal_field h ≡ seal_field (cap_high c) → cap_seal d ≡ cap_seal c
 seal_same c d h a small is bits field =
-  seal_is d h a small is
+    seal_is d h a small is
     ∙ ap (λ n. seal_type (bit (unpacked n) execute) (seal_field h)) bits
     ∙ ap (λ n. seal_type (bit (unpacked (permission_bits (cap_high c))) execute) n) field
     ∙ sym (seal_is c (cap_high c) (cap_address c) (address_small c) (word_whole c))

@@ -1,5 +1,5 @@
-use Rattle.std.proofs.Common.{◌≡◌, ◌∙◌, ap, sym, bit_and, ◌<◌, ◌&&◌}
-use Rattle.def_words.specs.Permissions.{normal_set, set_where, bit, holds, form_of}
+use Rattle.std.proofs.Common.{◌∙◌, ap, ◌&&◌}
+use Rattle.def_words.specs.Permissions.{normal_set, set_where, bit, holds}
 use Rattle.law_words.proofs.Spellings.{normal_small}
 use Rattle.ct_perm.proofs.Perms.normal.Goals as goal
 

@@ -1,6 +1,6 @@
-use Rattle.std.proofs.Common.{◌≡◌, ◌∙◌, ap, ◌==◌, sym, bit_and, true, IsTrue}
+use Rattle.std.proofs.Common.{◌∙◌, ap, ◌==◌}
 use Rattle.std.proofs.lemmas.Nat.{and_comm}
-use Rattle.def_words.specs.Permissions.{is_within, Within}
+use Rattle.def_words.specs.Permissions.{is_within}
 use Rattle.law_words.proofs.Bits.{within_is, is_within_from}
 use Rattle.ct_perm.proofs.Perms.within.Goals as goal
 

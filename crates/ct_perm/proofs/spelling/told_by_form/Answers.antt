@@ -1,4 +1,3 @@
-use Rattle.std.proofs.Common.{◌≡◌, ◌+◌, ◌%◌, ◌/◌, ◌*◌}
 use Rattle.ct_perm.proofs.Told.{executable, read_write, read_only, write_only, plain, sealing}
 use Rattle.ct_perm.proofs.spelling.told_by_form.Goals as goal
 

@@ -1,4 +1,4 @@
-use Rattle.std.proofs.Common.{◌≡◌, ◌∙◌, sym, refl, lit<, ℕ, bit_and, ◌&&◌}
+use Rattle.std.proofs.Common.{◌≡◌, lit<, ℕ, bit_and, ◌&&◌}
 use Rattle.def_words.specs.Permissions.{set_where, bit, holds, executable_form, read_write_form, read_only_form, write_only_form, plain_form, sealing_form}
 use Rattle.law_words.proofs.Bits.{and_where}
 use Rattle.ct_perm.proofs.forms.Shape.held.Goals as goal
