@@ -1,0 +1,149 @@
+//! Words and instructions: `decode` reads a word, `encode` writes one. Both agree with the table of
+//! def_instr, both ways, and a word belongs to at most one instruction.
+#![tactic(auto)]
+
+mod capability;
+mod fields;
+mod flow;
+mod formats;
+mod integer;
+mod memory;
+mod rows;
+mod system;
+#[cfg(test)]
+mod tests;
+
+ghost use Rattle.std.specs.Prelude.{◌≡◌, ℕ, IsNone, IfSome, Some};
+ghost use Rattle.def_instr.specs.Table.{EncodesTo, InRange, word_of};
+ghost use Rattle.def_instr.specs.Reading.{instruction_in};
+ghost use Rattle.def_instr.specs.declared.Instr.{Instr};
+
+pub use def_instr::Instr;
+
+/// The instruction of a word; None exactly where no instruction has the word. Registers 16 and
+/// above, and fields that no row of the table lists, make a word no instruction.
+///
+/// The clause `only` is decode(encode i) = i, `found` that the instruction encodes to the word
+/// again.
+pub fn decode(word: u32) -> Option<Instr>
+    ensures found { IfSome result (λ i. EncodesTo i word) }
+    ensures only { (i : Instr) → EncodesTo i word → result ≡ Some i }
+    ensures none { IsNone result → (i : Instr) → ¬ EncodesTo i word }
+    ensures value { result ≡ instruction_in word }
+{
+    by_opcode(word)
+}
+
+/// The instruction by the word's opcode, and then by a class's own fields.
+fn by_opcode(word: u32) -> Option<Instr>
+    ensures found { IfSome result (λ i. EncodesTo i word) }
+    ensures value { result ≡ instruction_in word }
+{
+    let fields = fields::cut(word);
+    match fields.opcode {
+        0x13 => integer::immediate(fields),
+        0x33 => integer::register(fields),
+        0x03 => memory::load(fields),
+        0x23 => memory::store(fields),
+        0x63 => flow::branch(fields),
+        0x5B => capability::capability(fields),
+        0x37 | 0x17 | 0x7B => system::upper(fields),
+        0x6F => flow::jump(fields),
+        0x67 => flow::register_jump(fields),
+        0x0F => system::fence(fields),
+        0x73 => system::system(fields),
+        _ => None,
+    }
+}
+
+/// The word of an instruction whose fields are in range.
+pub fn encode(instruction: Instr) -> u32
+    requires { InRange instruction }
+    ensures word { result ≡ word_of instruction }
+    ensures table { EncodesTo instruction result }
+{
+    match instruction {
+        Instr::Lui { .. }
+        | Instr::AuiPcc { .. }
+        | Instr::AuiCgp { .. }
+        | Instr::Jal { .. }
+        | Instr::CJalr { .. }
+        | Instr::Beq { .. }
+        | Instr::Bne { .. }
+        | Instr::Blt { .. }
+        | Instr::Bge { .. }
+        | Instr::Bltu { .. }
+        | Instr::Bgeu { .. } => rows::flow_row(instruction),
+        Instr::Lb { .. }
+        | Instr::Lh { .. }
+        | Instr::Lw { .. }
+        | Instr::Clc { .. }
+        | Instr::Lbu { .. }
+        | Instr::Lhu { .. }
+        | Instr::Sb { .. }
+        | Instr::Sh { .. }
+        | Instr::Sw { .. }
+        | Instr::Csc { .. } => rows::memory_row(instruction),
+        Instr::Addi { .. }
+        | Instr::Slti { .. }
+        | Instr::Sltiu { .. }
+        | Instr::Xori { .. }
+        | Instr::Ori { .. }
+        | Instr::Andi { .. }
+        | Instr::Slli { .. }
+        | Instr::Srli { .. }
+        | Instr::Srai { .. } => rows::immediate_row(instruction),
+        Instr::Add { .. }
+        | Instr::Sub { .. }
+        | Instr::Sll { .. }
+        | Instr::Slt { .. }
+        | Instr::Sltu { .. }
+        | Instr::Xor { .. }
+        | Instr::Srl { .. }
+        | Instr::Sra { .. }
+        | Instr::Or { .. }
+        | Instr::And { .. }
+        | Instr::Mul { .. }
+        | Instr::Mulh { .. }
+        | Instr::Mulhsu { .. }
+        | Instr::Mulhu { .. }
+        | Instr::Div { .. }
+        | Instr::Divu { .. }
+        | Instr::Rem { .. }
+        | Instr::Remu { .. } => rows::register_row(instruction),
+        Instr::Fence { .. } | Instr::Ecall | Instr::Ebreak | Instr::Csr { .. } => rows::system_row(
+            instruction,
+        ),
+        Instr::CIncAddrImm { .. }
+        | Instr::CSetBoundsImm { .. }
+        | Instr::CSpecialRw { .. }
+        | Instr::CSetBounds { .. }
+        | Instr::CSetBoundsExact { .. }
+        | Instr::CSeal { .. }
+        | Instr::CUnseal { .. }
+        | Instr::CAndPerm { .. }
+        | Instr::CSetAddr { .. }
+        | Instr::CIncAddr { .. }
+        | Instr::CSub { .. }
+        | Instr::CSetHigh { .. }
+        | Instr::CTestSubset { .. }
+        | Instr::CSetEqualExact { .. } => rows::capability_row(instruction),
+        Instr::CGetPerm { .. }
+        | Instr::CGetType { .. }
+        | Instr::CGetBase { .. }
+        | Instr::CGetLen { .. }
+        | Instr::CGetTag { .. }
+        | Instr::Crrl { .. }
+        | Instr::Cram { .. }
+        | Instr::CMove { .. }
+        | Instr::CClearTag { .. }
+        | Instr::CGetAddr { .. }
+        | Instr::CGetHigh { .. }
+        | Instr::CGetTop { .. } => rows::one_source_row(instruction),
+    }
+}
+
+/// A word belongs to at most one instruction.
+pub fn one_instruction()
+    ensures { (i j : Instr) (word : ℕ) → EncodesTo i word → EncodesTo j word → i ≡ j }
+{}
