@@ -1,5 +1,9 @@
 //! Why a read or a write didn't do its work.
 
+ghost use Rattle.std.specs.Prelude.{◌≡◌};
+ghost use Rattle.def_port.specs.declared.faults.ReadError.TheVariants.{NoMemory};
+
+use std::alloc::AllocError;
 use thiserror::Error;
 
 /// Why a read gave no bytes.
@@ -11,6 +15,14 @@ pub enum ReadError {
     /// Want of memory. The call isn't recorded, and nothing changes.
     #[error("out of memory")]
     NoMemory,
+}
+
+impl From<AllocError> for ReadError {
+    ghost from_gives = { λ _ e. e ≡ NoMemory };
+
+    fn from(_error: AllocError) -> ReadError {
+        ReadError::NoMemory
+    }
 }
 
 /// A write that didn't take the whole piece. It comes only where the sink's count of faults rose.
