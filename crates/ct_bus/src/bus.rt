@@ -1,6 +1,6 @@
 //! All devices, each at its base.
 
-ghost use Rattle.std.specs.Prelude.{◌≡◌, ◌<◌, ◌≤◌, ◌+◌, ◌⊎◌, ◌^◌, length, map, IfOk, IfSome, true, is_some};
+ghost use Rattle.std.specs.Prelude.{◌≡◌, ◌<◌, ◌≤◌, ◌*◌, ◌⊎◌, ◌^◌, length, map, IfOk, IfSome, true, is_some};
 ghost use Rattle.def_step.specs.Boot.{fresh_device};
 ghost use Rattle.def_step.specs.Devices.{is_of, base_of, found, bank_value, bank_read, bank_written, bank_input};
 
@@ -84,6 +84,7 @@ impl Bus {
     pub fn read(&mut self, address: u32, width: u32, time: u64) -> u64
         requires { (width ≤ 4) ⊎ (width ≡ 8) }
         ensures value { result ≡ bank_value self.old address width time }
+        ensures small { (width ≤ 4) → result < 2 ^ (8 * width) }
         ensures left { self.new ≡ bank_read self.old address width }
     {
         match find(&self.bases, address) {

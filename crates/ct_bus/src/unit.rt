@@ -112,6 +112,7 @@ impl Unit {
     fn read_part(&mut self, offset: u32, width: u32, time: u64) -> u32
         requires { width ≤ 4 }
         ensures value { result ≡ part_read self.old offset width time }
+        ensures small { result < 2 ^ (8 * width) }
         ensures left { self.new ≡ after_read self.old (offset / 4) }
     {
         let value = cut(self.register(offset / 4, time), offset % 4, width);
@@ -133,6 +134,7 @@ impl Unit {
         requires width { (width ≤ 4) ⊎ (width ≡ 8) }
         requires offset { offset < 16 }
         ensures value { result ≡ value_read self.old offset width time }
+        ensures small { (width ≤ 4) → result < 2 ^ (8 * width) }
         ensures left { self.new ≡ left_by_read self.old offset width }
     {
         if width == 8 {
@@ -201,7 +203,8 @@ fn pins_value(output: u32, input: u32, number: u32) -> u32
 fn cut(value: u32, from: u32, width: u32) -> u32
     requires from { from < 4 }
     requires width { width ≤ 4 }
-    ensures { result ≡ value / 2 ^ (8 * from) % 2 ^ (8 * width) }
+    ensures cut { result ≡ value / 2 ^ (8 * from) % 2 ^ (8 * width) }
+    ensures small { result < 2 ^ (8 * width) }
 {
     ((value as u64 >> (8 * from)) % (1u64 << (8 * width))) as u32
 }

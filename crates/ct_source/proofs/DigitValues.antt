@@ -1,5 +1,5 @@
 -- The value of digits, one more digit at a time.
-use Rattle.std.proofs.Common.{◌≡◌, ℕ, ◌+◌, ◌*◌, ◌-◌, ◌<◌, ◌≤◌, ◌^◌, List, [], ◌∷◌, length, drop, get_or, Bool, cond, nat_le, Option, Some, None, refl, drop-cons, add-one, arith, suc, sym, ◌∙◌, if◌then◌else◌, nat_lt}
+use Rattle.std.proofs.Common.{◌≡◌, ℕ, ◌+◌, ◌*◌, ◌-◌, ◌<◌, ◌≤◌, ◌^◌, List, [], ◌∷◌, length, drop, get_or, nat_le, Some, None, refl, drop-cons, add-one, arith, sym, ◌∙◌, if◌then◌else◌, nat_lt}
 use Rattle.std.proofs.Math.Nat.{le-mul_of_pos_right}
 use Rattle.std.proofs.lemmas.List.{drop_all}
 use Rattle.def_source.specs.Source.{value_from, digit}

@@ -1,5 +1,5 @@
 -- A table of words, row by row.
-use Rattle.std.proofs.Common.{◌≡◌, ℕ, ◌+◌, ◌<◌, List, ◌∷◌, length, drop, get_or, Bool, true, false, cond, Option, Some, refl, sym, ap, ◌∙◌, drop-cons, add-one, suc}
+use Rattle.std.proofs.Common.{◌≡◌, ℕ, ◌+◌, ◌<◌, List, ◌∷◌, length, drop, get_or, true, false, cond, Some, refl, sym, ap, ◌∙◌, drop-cons, add-one, suc}
 use Rattle.std.specs.Str.{bytes_eq}
 use Rattle.def_source.specs.Source.{first_named}
 

@@ -1,5 +1,5 @@
 -- A text's first piece, and the pieces after it.
-use Rattle.std.proofs.Common.{◌≡◌, ℕ, zero, suc, ◌+◌, ◌<◌, ◌≤◌, List, [], ◌∷◌, length, take, drop, Bool, true, false, ◌&&◌, not, cond, refl, sym, ap, ◌∙◌, arith}
+use Rattle.std.proofs.Common.{◌≡◌, ℕ, suc, ◌<◌, ◌≤◌, List, [], ◌∷◌, length, take, drop, Bool, true, false, ◌&&◌, not, cond, refl, sym, ap, ◌∙◌, arith}
 use Rattle.def_source.specs.Source.{pieces, is_blank, is_mark, is_inner, begins_inner, before}
 use Rattle.ct_source.specs.Runs.{run, begins_blank}
 

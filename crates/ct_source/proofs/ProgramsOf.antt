@@ -1,15 +1,13 @@
 -- What a text stands for is lawful.
-use Rattle.std.proofs.Common.{◌≡◌, ℕ, ◌+◌, List, [], ◌∷◌, ◌++◌, Option, Some, None, Result, Ok, Err, Bool, true, false, ◌&&◌, not, cond, refl, sym, ap, ◌∙◌, subst}
+use Rattle.std.proofs.Common.{◌≡◌, ℕ, ◌+◌, List, [], ◌∷◌, ◌++◌, Option, Some, None, Result, Ok, Err, Bool, true, false, ◌&&◌, not, cond, refl, subst}
 use Rattle.def_source.specs.declared.AsmFault.{AsmFault}
 use Rattle.def_source.specs.declared.parts.Line.{Line}
 use Rattle.def_source.specs.declared.parts.Part.{Part}
 use Rattle.def_source.specs.declared.parts.Section.{Section}
-use Rattle.def_source.specs.declared.parts.Section.TheVariants as section
-use Rattle.def_source.specs.declared.parts.Token.{Token}
 use Rattle.def_source.specs.declared.parts.Token.TheVariants as token
 use Rattle.def_source.specs.declared.words.Head.{Head}
 use Rattle.def_source.specs.declared.words.Directive.{Directive}
-use Rattle.def_source.specs.Source.{Name, Row, Statements, with_front, goes_on, program_from, program_of, lines_of, line_of, line_tokens, tokens_line, row_line, label_of, after_label, line_statements, label_statements, part_statements, section_after, lawful_from, is_lawful, in_section, numbers_fit, registers_exist, lawful_or_fault, formed, headed, directed, statement_of, head_of, directive_of, form_of, directive_form, result_map, IsLawful}
+use Rattle.def_source.specs.Source.{Name, Row, Statements, with_front, goes_on, program_from, line_of, line_tokens, tokens_line, row_line, label_of, after_label, line_statements, label_statements, part_statements, section_after, lawful_from, is_lawful, in_section, numbers_fit, registers_exist, lawful_or_fault, formed, headed, directed, statement_of, head_of, directive_of, form_of, directive_form, result_map}
 
 -- what stands on a line, if anything does, is lawful
 abbrev PartLawful : Section → Option (Part Name) → Type 0
@@ -93,6 +91,7 @@ program_lawful s n (l ∷ ls) ss e = by_line s n l ss (line_of s l) (λ t. progr
     by_rest s n x ss (Ok rest) later here e =
         let same : line_statements n x ++ rest ≡ ss = cc e in
         subst (λ y. lawful_from s y ≡ true) same (front_lawful s n x.label x.part rest here (later rest refl))
+
     by_line : (s : Section) (n : ℕ) (l : List ℕ) (ss : Statements) (r : Result (Line Name) ℕ) (rest : Section → Result Statements AsmFault) → ((t : Section) (xs : Statements) → rest t ≡ Ok xs → lawful_from t xs ≡ true) → ((x : Line Name) → r ≡ Ok x → PartLawful s x.part) → goes_on n s r rest ≡ Ok ss → lawful_from s ss ≡ true
     by_line s n l ss (Err k) rest later here e = cc e
     by_line s n l ss (Ok x) rest later here e = by_rest s n x ss (rest (section_after s x.part)) (later (section_after s x.part)) (here x refl) e

@@ -1,5 +1,5 @@
 -- What the reader of tokens keeps in mind of the bytes ahead.
-use Rattle.std.specs.Prelude.{ℕ, zero, suc, Bool, false, List, [], ◌∷◌, if◌then◌else◌, Option, option_map, ◌++◌, ◌==◌}
+use Rattle.std.specs.Prelude.{ℕ, suc, Bool, false, List, [], ◌∷◌, if◌then◌else◌, Option, option_map, ◌++◌, ◌==◌}
 use Rattle.def_source.specs.Source.{is_blank, is_inner, Row}
 
 -- how many bytes that are neither blanks nor marks stand at the front

@@ -1,6 +1,6 @@
 -- What a contract sees of tokens, statements and lines whose names are slices or texts: the same
 -- with the bytes of each name.
-use Rattle.std.specs.Prelude.{◌≡◌, ℕ, List, map, Option, option_map, Result, Ok, Err, Bool, true, false}
+use Rattle.std.specs.Prelude.{ℕ, List, map, option_map, Result, Ok, Err, Bool, true, false}
 use denote.Ref.{Bor}
 use Rattle.ct_source.specs.declared.Program.{Program}
 use Rattle.def_source.specs.Source.{Name, Statements}

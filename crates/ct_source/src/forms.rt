@@ -8,17 +8,16 @@ ghost use Rattle.def_source.specs.declared.words.Head.TheVariants as head;
 ghost use Rattle.def_source.specs.declared.parts.Part.TheVariants as part;
 ghost use Rattle.def_source.specs.declared.operations.LoadOperation.TheVariants as load;
 
+use crate::operands::{
+    one_number, one_register, one_target, register_address, register_name, register_number,
+    register_target, three_registers, two_registers, two_registers_number, two_registers_target,
+};
 use def_source::operations::{
     BranchOperation, ImmediateOperation, LoadOperation, RegisterOperation, SourceOperation,
     StoreOperation, UpperOperation,
 };
 use def_source::parts::{Part, Token};
 use def_source::words::{Directive, Head};
-
-use crate::operands::{
-    one_number, one_register, one_target, register_address, register_name, register_number,
-    register_target, three_registers, two_registers, two_registers_number, two_registers_target,
-};
 
 /// A statement of one word.
 fn alone<'a>(row: &[Token<&'a [u8]>], part: Part<&'a [u8]>) -> Option<Part<&'a [u8]>>
@@ -31,35 +30,59 @@ fn registers<'a>(operation: RegisterOperation, row: &[Token<&'a [u8]>]) -> Optio
     ensures { option_map part_view result ≡ source.form_of (head.Registers operation) (row_view row.now) }
 {
     let (rd, rs1, rs2) = three_registers(row)?;
-    Some(Part::Registers { operation, rd, rs1, rs2 })
+    Some(Part::Registers {
+        operation,
+        rd,
+        rs1,
+        rs2,
+    })
 }
 
 fn immediate<'a>(operation: ImmediateOperation, row: &[Token<&'a [u8]>]) -> Option<Part<&'a [u8]>>
     ensures { option_map part_view result ≡ source.form_of (head.Immediate operation) (row_view row.now) }
 {
     let (rd, rs1, number) = two_registers_number(row)?;
-    Some(Part::Immediate { operation, rd, rs1, number })
+    Some(Part::Immediate {
+        operation,
+        rd,
+        rs1,
+        number,
+    })
 }
 
 fn upper<'a>(operation: UpperOperation, row: &[Token<&'a [u8]>]) -> Option<Part<&'a [u8]>>
     ensures { option_map part_view result ≡ source.form_of (head.Upper operation) (row_view row.now) }
 {
     let (rd, number) = register_number(row)?;
-    Some(Part::Upper { operation, rd, number })
+    Some(Part::Upper {
+        operation,
+        rd,
+        number,
+    })
 }
 
 fn store<'a>(operation: StoreOperation, row: &[Token<&'a [u8]>]) -> Option<Part<&'a [u8]>>
     ensures { option_map part_view result ≡ source.form_of (head.Store operation) (row_view row.now) }
 {
     let (rs2, number, rs1) = register_address(row)?;
-    Some(Part::Store { operation, rs2, number, rs1 })
+    Some(Part::Store {
+        operation,
+        rs2,
+        number,
+        rs1,
+    })
 }
 
 fn branch<'a>(operation: BranchOperation, row: &[Token<&'a [u8]>]) -> Option<Part<&'a [u8]>>
     ensures { option_map part_view result ≡ source.form_of (head.Branch operation) (row_view row.now) }
 {
     let (rs1, rs2, target) = two_registers_target(row)?;
-    Some(Part::Branch { operation, rs1, rs2, target })
+    Some(Part::Branch {
+        operation,
+        rs1,
+        rs2,
+        target,
+    })
 }
 
 fn source<'a>(operation: SourceOperation, row: &[Token<&'a [u8]>]) -> Option<Part<&'a [u8]>>
@@ -151,7 +174,12 @@ fn address_load<'a>(operation: LoadOperation, row: &[Token<&'a [u8]>]) -> Option
     ensures { option_map part_view result ≡ option_map (λ o. part.Load operation o.0 o.1 o.2) (source.register_address (row_view row.now)) }
 {
     let (rd, number, rs1) = register_address(row)?;
-    Some(Part::Load { operation, rd, number, rs1 })
+    Some(Part::Load {
+        operation,
+        rd,
+        number,
+        rs1,
+    })
 }
 
 /// `cjalr rd, rs1`

@@ -9,6 +9,8 @@ mod numbers;
 mod operands;
 mod ranges;
 mod tables;
+#[cfg(test)]
+mod tests;
 mod tokens;
 
 ghost use Rattle.std.specs.Prelude.{◌≡◌, ◌++◌, ◌+◌, ◌<◌, ◌^◌, length, option_map, OnOk, IfOk};
@@ -17,11 +19,10 @@ ghost use Rattle.def_source.specs.declared.parts.Section.TheVariants as section;
 ghost use Rattle.def_source.specs.Source.{Gives, IsLawful, program_of};
 ghost use Rattle.ct_source.specs.Views.{part_view, line_view, statements_view, program_view};
 
+use crate::lines::{first_line, line};
 use def_source::AsmFault;
 use def_source::parts::{Line, Part, Section, Statement};
 use std::alloc::{AllocError, Global};
-
-use crate::lines::{first_line, line};
 
 /// The labels and statements of a source, in order. Names are slices of the source.
 #[derive(Debug, Drop)]
@@ -48,10 +49,7 @@ pub fn statements<'a>(alloc: Global, text: &'a [u8]) -> Result<Program<'a>, AsmF
 }
 
 /// The statements, line by line.
-fn all_statements<'a>(
-    alloc: Global,
-    text: &'a [u8],
-) -> Result<Vec<Statement<&'a [u8]>>, AsmFault>
+fn all_statements<'a>(alloc: Global, text: &'a [u8]) -> Result<Vec<Statement<&'a [u8]>>, AsmFault>
     requires { length text.now < 2 ^ 32 }
     ensures { Gives (λ v. statements_view v.items) result (source.program_from section.Text 1 (source.lines_of text.now)) }
 {
@@ -84,7 +82,10 @@ fn add<'a>(
     ensures { OnOk result (statements_view all.new.items ≡ statements_view all.old.items ++ source.line_statements line (line_view read.entry)) }
 {
     if let Some(name) = read.label {
-        all.push(Statement { line, part: Part::Label { name } })?;
+        all.push(Statement {
+            line,
+            part: Part::Label { name },
+        })?;
     }
     if let Some(part) = read.part {
         all.push(Statement { line, part })?;

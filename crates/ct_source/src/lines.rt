@@ -6,15 +6,14 @@ ghost use Rattle.def_source.specs.Source.{result_map, Gives};
 ghost use Rattle.ct_source.specs.Views.{row_view, part_view, line_view, at_line};
 ghost use Rattle.ct_source.specs.Runs.{len_before};
 
-use def_source::AsmFault;
-use def_source::parts::{Line, Part, Section, Token};
-use std::alloc::{AllocError, Global};
-
 use crate::characters::are_ascii;
 use crate::forms::{directive_form, form};
 use crate::ranges::{in_section, numbers_fit, registers_exist};
 use crate::tables;
 use crate::tokens::row;
+use def_source::AsmFault;
+use def_source::parts::{Line, Part, Section, Token};
+use std::alloc::{AllocError, Global};
 
 /// A statement that has its form, or the least number of what it breaks.
 fn lawful<'a>(section: Section, part: Part<&'a [u8]>) -> Result<Part<&'a [u8]>, u32>
@@ -33,10 +32,7 @@ fn lawful<'a>(section: Section, part: Part<&'a [u8]>) -> Result<Part<&'a [u8]>, 
 }
 
 /// The statement of a form, if it has one.
-fn formed<'a>(
-    section: Section,
-    part: Option<Part<&'a [u8]>>,
-) -> Result<Option<Part<&'a [u8]>>, u32>
+fn formed<'a>(section: Section, part: Option<Part<&'a [u8]>>) -> Result<Option<Part<&'a [u8]>>, u32>
     ensures { result_map (λ o. option_map part_view o) result ≡ source.formed section (option_map part_view part.entry) }
 {
     match part {
@@ -49,10 +45,7 @@ fn formed<'a>(
 }
 
 /// The statement of a row of tokens, which may be none.
-fn statement<'a>(
-    section: Section,
-    row: &[Token<&'a [u8]>],
-) -> Result<Option<Part<&'a [u8]>>, u32>
+fn statement<'a>(section: Section, row: &[Token<&'a [u8]>]) -> Result<Option<Part<&'a [u8]>>, u32>
     ensures { result_map (λ o. option_map part_view o) result ≡ source.statement_of section (row_view row.now) }
 {
     match row {
@@ -95,7 +88,10 @@ fn row_line<'a>(section: Section, row: &[Token<&'a [u8]>]) -> Result<Line<&'a [u
     ensures { result_map line_view result ≡ source.row_line section (row_view row.now) }
 {
     match statement(section, after_label(row)) {
-        Ok(part) => Ok(Line { label: label(row), part }),
+        Ok(part) => Ok(Line {
+            label: label(row),
+            part,
+        }),
         Err(number) => Err(number),
     }
 }
@@ -148,9 +144,15 @@ pub(crate) fn line<'a>(
     match line_tokens(alloc, text) {
         Ok(Some(tokens)) => match row_line(section, tokens.as_slice()) {
             Ok(line) => Ok(line),
-            Err(fault) => Err(AsmFault::At { number: fault, line: number }),
+            Err(fault) => Err(AsmFault::At {
+                number: fault,
+                line: number,
+            }),
         },
-        Ok(None) => Err(AsmFault::At { number: 1, line: number }),
+        Ok(None) => Err(AsmFault::At {
+            number: 1,
+            line: number,
+        }),
         Err(_) => Err(AsmFault::NoMemory),
     }
 }

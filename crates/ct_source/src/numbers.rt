@@ -3,9 +3,8 @@
 ghost use Rattle.std.specs.Prelude.{◌≡◌, ◌≤◌, ◌+◌, ◌*◌, ◌-◌, ◌^◌, nat_le, nat_lt, if◌then◌else◌, Some, None};
 ghost use Rattle.def_source.specs.Source as source;
 
-use def_source::parts::Number;
-
 use crate::characters::{are_digits, are_hexadecimal, digit};
+use def_source::parts::Number;
 
 /// A number with one more digit, if it fits 128 bits.
 fn with_digit(base: u8, value: u128, c: u8) -> Option<u128>
@@ -58,13 +57,19 @@ fn hexadecimal(digits: &[u8]) -> Option<u128>
 fn positive(magnitude: u128) -> Number
     ensures { result ≡ source.positive magnitude }
 {
-    Number { negative: false, magnitude }
+    Number {
+        negative: false,
+        magnitude,
+    }
 }
 
 fn negative(magnitude: u128) -> Number
     ensures { result ≡ source.negative magnitude }
 {
-    Number { negative: true, magnitude }
+    Number {
+        negative: true,
+        magnitude,
+    }
 }
 
 /// The number that a piece is: decimal, hexadecimal after `0x`, or decimal after a minus.

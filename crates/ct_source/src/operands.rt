@@ -4,9 +4,8 @@ ghost use Rattle.std.specs.Prelude.{◌≡◌, option_map, Some, None};
 ghost use Rattle.def_source.specs.Source as source;
 ghost use Rattle.ct_source.specs.Views.{row_view, target_view};
 
-use def_source::parts::{Number, Target, Token};
-
 use crate::tables;
+use def_source::parts::{Number, Target, Token};
 
 /// A comma.
 fn comma_at<'a, 'b>(row: &'b [Token<&'a [u8]>]) -> Option<&'b [Token<&'a [u8]>]>
@@ -59,7 +58,9 @@ fn number_at<'a, 'b>(row: &'b [Token<&'a [u8]>]) -> Option<(Number, &'b [Token<&
 }
 
 /// A label, or an offset.
-fn target_at<'a, 'b>(row: &'b [Token<&'a [u8]>]) -> Option<(Target<&'a [u8]>, &'b [Token<&'a [u8]>])>
+fn target_at<'a, 'b>(
+    row: &'b [Token<&'a [u8]>],
+) -> Option<(Target<&'a [u8]>, &'b [Token<&'a [u8]>])>
     ensures { option_map (λ p. (target_view p.0, row_view p.1.now)) result ≡ source.target_at (row_view row.now) }
 {
     match row {
@@ -144,7 +145,9 @@ pub(crate) fn two_registers_number<'a>(row: &[Token<&'a [u8]>]) -> Option<(u32, 
 
 /// `rs1, rs2, target`, and nothing after it.
 #[tactic(auto, unfolding(def_source::specs::Source::two_registers_target))]
-pub(crate) fn two_registers_target<'a>(row: &[Token<&'a [u8]>]) -> Option<(u32, u32, Target<&'a [u8]>)>
+pub(crate) fn two_registers_target<'a>(
+    row: &[Token<&'a [u8]>],
+) -> Option<(u32, u32, Target<&'a [u8]>)>
     ensures { option_map (λ o. (o.0, o.1, target_view o.2)) result ≡ source.two_registers_target (row_view row.now) }
 {
     let (a, rest) = register_comma(row)?;

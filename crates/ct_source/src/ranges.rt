@@ -42,7 +42,11 @@ fn is_data(section: Section) -> bool
 fn within(low: u128, high: u128, number: Number) -> bool
     ensures { result ≡ source.within low high number }
 {
-    if number.negative { number.magnitude <= low } else { number.magnitude <= high }
+    if number.negative {
+        number.magnitude <= low
+    } else {
+        number.magnitude <= high
+    }
 }
 
 fn fits_immediate(operation: ImmediateOperation, number: Number) -> bool
@@ -86,12 +90,16 @@ pub(crate) fn numbers_fit(part: Part<&[u8]>) -> bool
         Part::Byte { number } => within(128, 255, number),
         Part::Zero { number } => within(0, 1048576, number),
         Part::Align { number } => fits_align(number),
-        Part::Immediate { operation, number, .. } => fits_immediate(operation, number),
+        Part::Immediate {
+            operation,
+            number,
+            ..
+        } => fits_immediate(operation, number),
         Part::Upper { number, .. } => within(524288, 1048575, number),
         Part::Load { number, .. } | Part::Store { number, .. } => within(2048, 2047, number),
-        Part::Branch { target, .. } | Part::IfZero { target, .. } | Part::IfNotZero { target, .. } => {
-            fits_target(4096, target)
-        }
+        Part::Branch { target, .. }
+        | Part::IfZero { target, .. }
+        | Part::IfNotZero { target, .. } => { fits_target(4096, target) }
         Part::Jal { target, .. } | Part::Go { target } | Part::Link { target, .. } => {
             fits_target(1048576, target)
         }
@@ -139,7 +147,9 @@ pub(crate) fn registers_exist(part: Part<&[u8]>) -> bool
         | Part::Import { rd, .. }
         | Part::TextAddress { rd, .. }
         | Part::GlobalAddress { rd, .. } => exists(rd),
-        Part::JumpRegister { rs } | Part::IfZero { rs, .. } | Part::IfNotZero { rs, .. } => exists(rs),
+        Part::JumpRegister { rs } | Part::IfZero { rs, .. } | Part::IfNotZero { rs, .. } => exists(
+            rs,
+        ),
         _ => true,
     }
 }

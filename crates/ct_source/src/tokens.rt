@@ -5,11 +5,10 @@ ghost use Rattle.ct_source.specs.Runs.{run, begins_blank};
 ghost use Rattle.def_source.specs.Source as source;
 ghost use Rattle.ct_source.specs.Views.{token_view, row_view};
 
-use def_source::parts::Token;
-use std::alloc::{AllocError, Global};
-
 use crate::characters::{is_blank, is_inner, is_letter, is_name};
 use crate::numbers::number;
+use def_source::parts::Token;
+use std::alloc::{AllocError, Global};
 
 /// The token that a piece is: a mark, a directive word, a name or a number.
 fn token(piece: &[u8]) -> Option<Token<&[u8]>>

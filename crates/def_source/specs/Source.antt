@@ -1,7 +1,7 @@
 -- Which statements a text stands for: *Source and object*, its first half (docs/assembler.md).
 -- A text is a list of lines, a line a row of tokens before its comment, and each statement has one
 -- of the written forms. The answer is the first line's fault, and on it the least number.
-use Rattle.std.specs.Prelude.{◌≡◌, ℕ, ◌+◌, ◌*◌, ◌-◌, ◌/◌, ◌%◌, ◌^◌, Bool, true, false, ◌==◌, ◌&&◌, ◌||◌, not, nat_lt, nat_le, if◌then◌else◌, List, [], ◌∷◌, ◌++◌, length, map, option_and_then, option_map, Option, Some, None, Result, Ok, Err, IsTrue}
+use Rattle.std.specs.Prelude.{◌≡◌, ℕ, ◌+◌, ◌*◌, ◌-◌, ◌%◌, ◌^◌, Bool, true, false, ◌==◌, ◌&&◌, ◌||◌, not, nat_lt, nat_le, if◌then◌else◌, List, [], ◌∷◌, ◌++◌, length, option_and_then, option_map, Option, Some, None, Result, Ok, Err, IsTrue}
 use Rattle.std.specs.List.{list_all}
 use Rattle.std.specs.Str.{bytes_eq}
 use Rattle.def_source.specs.declared.words.TheConstants.{HEADS, DIRECTIVES, REGISTERS}
@@ -99,25 +99,25 @@ negative n = record { negative = true; magnitude = n }
 abbrev pub number_of : List ℕ → Option Number
 number_of [] = None
 number_of (c ∷ cs) =
-  if c == 45 then option_map negative (digits_of is_digit 10 (2 ^ 127) cs) else hexadecimal_or_decimal c cs
+    if c == 45 then option_map negative (digits_of is_digit 10 (2 ^ 127) cs) else hexadecimal_or_decimal c cs
   where
     hexadecimal_or_decimal : ℕ → List ℕ → Option Number
     hexadecimal_or_decimal c [] = option_map positive (digits_of is_digit 10 (2 ^ 128 - 1) (c ∷ []))
     hexadecimal_or_decimal c (d ∷ ds) =
-      if c == 48 && d == 120 then option_map positive (digits_of is_hexadecimal 16 (2 ^ 128 - 1) ds)
-      else option_map positive (digits_of is_digit 10 (2 ^ 128 - 1) (c ∷ d ∷ ds))
+        if c == 48 && d == 120 then option_map positive (digits_of is_hexadecimal 16 (2 ^ 128 - 1) ds)
+        else option_map positive (digits_of is_digit 10 (2 ^ 128 - 1) (c ∷ d ∷ ds))
 
 -- the token that a piece is: a mark, a directive word, a name or a number
 abbrev pub token_of : List ℕ → Option (Token Name)
 token_of [] = None
 token_of (c ∷ cs) =
-  if c == 44 then Some token.Comma else
-  if c == 58 then Some token.Colon else
-  if c == 40 then Some token.Open else
-  if c == 41 then Some token.Close else
-  if c == 46 then (if is_name cs then Some (token.Directive cs) else None) else
-  if is_letter c then (if is_name (c ∷ cs) then Some (token.Name (c ∷ cs)) else None) else
-  option_map (λ n. token.Number n) (number_of (c ∷ cs))
+    if c == 44 then Some token.Comma else
+    if c == 58 then Some token.Colon else
+    if c == 40 then Some token.Open else
+    if c == 41 then Some token.Close else
+    if c == 46 then (if is_name cs then Some (token.Directive cs) else None) else
+    if is_letter c then (if is_name (c ∷ cs) then Some (token.Name (c ∷ cs)) else None) else
+    option_map (λ n. token.Number n) (number_of (c ∷ cs))
 
 -- a row of tokens, if each piece is one
 abbrev pub row_of : List (List ℕ) → Option (List (Token Name))
@@ -415,10 +415,10 @@ is_lawful s p = in_section s p && numbers_fit p && registers_exist p
 -- a statement that has its form, or the least number of what it breaks
 abbrev pub lawful_or_fault : Section → Part Name → Result (Part Name) ℕ
 lawful_or_fault s p =
-  if not (in_section s p) then Err 3 else
-  if not (numbers_fit p) then Err 4 else
-  if not (registers_exist p) then Err 7 else
-  Ok p
+    if not (in_section s p) then Err 3 else
+    if not (numbers_fit p) then Err 4 else
+    if not (registers_exist p) then Err 7 else
+    Ok p
 
 abbrev pub formed : Section → Option (Part Name) → Result (Option (Part Name)) ℕ
 formed s None = Err 3

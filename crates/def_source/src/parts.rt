@@ -44,63 +44,142 @@ pub enum Target<N> {
 #[derive(Clone, Copy, Debug, Drop)]
 pub enum Part<N> {
     /// `name:`
-    Label { name: N },
+    Label {
+        name: N,
+    },
     /// `.text`
     Text,
     /// `.data`
     Data,
     /// `.word number`: four bytes.
-    Word { number: Number },
+    Word {
+        number: Number,
+    },
     /// `.byte number`: one byte.
-    Byte { number: Number },
+    Byte {
+        number: Number,
+    },
     /// `.zero number`: so many zero bytes.
-    Zero { number: Number },
+    Zero {
+        number: Number,
+    },
     /// `.align number`: zero bytes to a multiple.
-    Align { number: Number },
+    Align {
+        number: Number,
+    },
     /// `rd, rs1, rs2`
-    Registers { operation: RegisterOperation, rd: u32, rs1: u32, rs2: u32 },
+    Registers {
+        operation: RegisterOperation,
+        rd: u32,
+        rs1: u32,
+        rs2: u32,
+    },
     /// `rd, rs1, number`
-    Immediate { operation: ImmediateOperation, rd: u32, rs1: u32, number: Number },
+    Immediate {
+        operation: ImmediateOperation,
+        rd: u32,
+        rs1: u32,
+        number: Number,
+    },
     /// `rd, number`
-    Upper { operation: UpperOperation, rd: u32, number: Number },
+    Upper {
+        operation: UpperOperation,
+        rd: u32,
+        number: Number,
+    },
     /// `rd, number(rs1)`
-    Load { operation: LoadOperation, rd: u32, number: Number, rs1: u32 },
+    Load {
+        operation: LoadOperation,
+        rd: u32,
+        number: Number,
+        rs1: u32,
+    },
     /// `cjalr rd, rs1`, whose immediate is 0.
-    JumpCapability { rd: u32, rs1: u32 },
+    JumpCapability {
+        rd: u32,
+        rs1: u32,
+    },
     /// `rs2, number(rs1)`
-    Store { operation: StoreOperation, rs2: u32, number: Number, rs1: u32 },
+    Store {
+        operation: StoreOperation,
+        rs2: u32,
+        number: Number,
+        rs1: u32,
+    },
     /// `rs1, rs2, target`
-    Branch { operation: BranchOperation, rs1: u32, rs2: u32, target: Target<N> },
+    Branch {
+        operation: BranchOperation,
+        rs1: u32,
+        rs2: u32,
+        target: Target<N>,
+    },
     /// `jal rd, target`
-    Jal { rd: u32, target: Target<N> },
+    Jal {
+        rd: u32,
+        target: Target<N>,
+    },
     /// `rd, rs1`
-    Source { operation: SourceOperation, rd: u32, rs1: u32 },
+    Source {
+        operation: SourceOperation,
+        rd: u32,
+        rs1: u32,
+    },
     /// No operand.
-    Bare { operation: BareOperation },
+    Bare {
+        operation: BareOperation,
+    },
     /// `nop`
     Nop,
     /// `mv rd, rs`
-    Move { rd: u32, rs: u32 },
+    Move {
+        rd: u32,
+        rs: u32,
+    },
     /// `j target`
-    Go { target: Target<N> },
+    Go {
+        target: Target<N>,
+    },
     /// `cjal rd, target`
-    Link { rd: u32, target: Target<N> },
+    Link {
+        rd: u32,
+        target: Target<N>,
+    },
     /// `cret`
     Return,
     /// `cjr rs`
-    JumpRegister { rs: u32 },
+    JumpRegister {
+        rs: u32,
+    },
     /// `beqz rs, target`
-    IfZero { rs: u32, target: Target<N> },
+    IfZero {
+        rs: u32,
+        target: Target<N>,
+    },
     /// `bnez rs, target`
-    IfNotZero { rs: u32, target: Target<N> },
+    IfNotZero {
+        rs: u32,
+        target: Target<N>,
+    },
     /// `li rd, number`
-    Number { rd: u32, number: Number },
+    Number {
+        rd: u32,
+        number: Number,
+    },
     /// `cimport rd, name`: the capability in the slot of that name.
-    Import { rd: u32, name: N },
+    Import {
+        rd: u32,
+        name: N,
+    },
     /// `cla rd, label`: the address of a text label.
-    TextAddress { rd: u32, label: N },
+    TextAddress {
+        rd: u32,
+        label: N,
+    },
     /// `clg rd, label`: the address of a label of the initial bytes.
-    GlobalAddress { rd: u32, label: N },
+    GlobalAddress {
+        rd: u32,
+        label: N,
+    },
 }
 
 /// What stands on one line.

@@ -1,5 +1,5 @@
 -- Loads and stores: their checks, what they give and what they leave.
-use Rattle.std.specs.Prelude.{ℕ, ◌+◌, ◌-◌, ◌*◌, ◌/◌, ◌%◌, ◌^◌, ◌==◌, ◌&&◌, ◌||◌, Bool, true, false, not, nat_le, List, [], ◌∷◌, length, Option, Some, None, Result, Ok, Err, if◌then◌else◌}
+use Rattle.std.specs.Prelude.{ℕ, ◌+◌, ◌-◌, ◌*◌, ◌/◌, ◌%◌, ◌^◌, ◌==◌, ◌&&◌, ◌||◌, Bool, true, false, not, nat_le, List, [], ◌∷◌, length, Option, Some, None, is_some, Result, Ok, Err, if◌then◌else◌}
 use Rattle.ct_entry.specs.declared.acts.Act.{Act}
 use Rattle.ct_entry.specs.declared.acts.Act.TheVariants.{Load, Store}
 use Rattle.def_words.specs.declared.Cap.{Cap}
@@ -17,7 +17,7 @@ use Rattle.def_instr.specs.declared.Instr.TheVariants.{Lb, Lh, Lw, Clc, Lbu, Lhu
 use Rattle.def_instr.specs.Reading.{extended}
 use Rattle.def_step.specs.declared.Access.{Access}
 use Rattle.def_step.specs.Checks.{Check, capability_trap, plain_trap, first_failed, not_tagged, wrong_seal, no_load, no_store, no_store_capability, out_of_bounds, misaligned_load, misaligned_store}
-use Rattle.def_step.specs.Devices.{Bank, found, bank_value_at, bank_read_at, bank_written_at}
+use Rattle.def_step.specs.Devices.{Bank, found, bank_value, bank_read, bank_written}
 
 -- ---- the instructions
 
@@ -111,11 +111,11 @@ filtered_in ram gs c = if c.tag && is_marked_in ram gs (cap_base c) then untagge
 abbrev pub widened : Access → ℕ → ℕ
 widened a n = if a.signed then extended (8 * a.width) n else n
 
-abbrev pub ram_value : Access → Cap → ℕ → Space → Cap
-ram_value a x at p =
+abbrev pub ram_value : Access → Cap → ℕ → ℕ → List Granule → Cap
+ram_value a x at ram gs =
     if a.whole
-    then filtered_in p.ram p.granules (attenuated x (loaded_cap p.granules (at - p.ram)))
-    else integer (widened a (loaded p.granules (at - p.ram) a.width))
+    then filtered_in ram gs (attenuated x (loaded_cap gs (at - ram)))
+    else integer (widened a (loaded gs (at - ram) a.width))
 
 -- what comes from a device is a plain word, attenuated like any other
 abbrev pub device_value : Access → Cap → ℕ → Cap
@@ -125,39 +125,41 @@ device_value a x n = if a.whole then attenuated x (integer n) else integer (wide
 abbrev pub stored_value : Access → Cap → ℕ
 stored_value a y = if a.whole then y.word else cap_address y % 2 ^ (8 * a.width)
 
-abbrev pub ram_stored : Access → Cap → Cap → ℕ → Space → List Granule
-ram_stored a x y at p =
+abbrev pub ram_stored : Access → Cap → Cap → ℕ → ℕ → List Granule → List Granule
+ram_stored a x y at ram gs =
     if a.whole
-    then stored_cap p.granules (at - p.ram) (stored_through x y)
-    else stored p.granules (at - p.ram) a.width (cap_address y)
+    then stored_cap gs (at - ram) (stored_through x y)
+    else stored gs (at - ram) a.width (cap_address y)
 
 abbrev pub in_ram : Access → Cap → Cap → ℕ → Space → Accessed
 in_ram a x y at p =
     if a.loads
-    then record { value = Some (ram_value a x at p); act = None; granules = p.granules; bank = p.bank }
-    else record { value = None; act = None; granules = ram_stored a x y at p; bank = p.bank }
+    then record { value = Some (ram_value a x at p.ram p.granules); act = None; granules = p.granules; bank = p.bank }
+    else record { value = None; act = None; granules = ram_stored a x y at p.ram p.granules; bank = p.bank }
 
 -- An access that reaches a device is a deed. One that reached neither RAM nor a device would give 0 and
 -- leave all as it is: no capability of the machine has such an authority.
-abbrev pub on_device : Access → Cap → Cap → ℕ → Space → Option ℕ → Accessed
-on_device a x y at p None = record { value = if a.loads then Some (device_value a x 0) else None; act = None; granules = p.granules; bank = p.bank }
-on_device a x y at p (Some n) =
+abbrev pub deed_at : Space → ℕ → Act → Option Act
+deed_at p at act = if is_some (found p.bank.bases at) then Some act else None
+
+abbrev pub on_device : Access → Cap → Cap → ℕ → Space → Accessed
+on_device a x y at p =
     if a.loads
     then record {
-      value = Some (device_value a x (bank_value_at p.bank (Some n) at a.width p.time));
-      act = Some (Load at a.width (bank_value_at p.bank (Some n) at a.width p.time));
+      value = Some (device_value a x (bank_value p.bank at a.width p.time));
+      act = deed_at p at (Load at a.width (bank_value p.bank at a.width p.time));
       granules = p.granules;
-      bank = bank_read_at p.bank (Some n) at a.width;
+      bank = bank_read p.bank at a.width;
     }
     else record {
       value = None;
-      act = Some (Store at a.width (stored_value a y));
+      act = deed_at p at (Store at a.width (stored_value a y));
       granules = p.granules;
-      bank = bank_written_at p.bank (Some n) at a.width (stored_value a y);
+      bank = bank_written p.bank at a.width (stored_value a y);
     }
 
 abbrev pub accessed : Access → Cap → Cap → ℕ → Space → Accessed
-accessed a x y at p = if is_ram p at a.width then in_ram a x y at p else on_device a x y at p (found p.bank.bases at)
+accessed a x y at p = if is_ram p at a.width then in_ram a x y at p else on_device a x y at p
 
 -- ---- whole
 

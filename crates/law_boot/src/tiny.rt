@@ -27,12 +27,10 @@ pub fn tiny_boots()
     ensures c1 { register (thread (boot_state tiny) 0) 1 ≡ of_entry 0 5854714803033014288 }
     ensures c2 { register (thread (boot_state tiny) 0) 2 ≡ of_entry 6 4467783450560037216 }
     ensures c3 { register (thread (boot_state tiny) 0) 3 ≡ of_entry 2 8502972432800284752 }
-{
-}
+{}
 
 /// What its steps do: the fourth stores, and after the sixth its thread has ended.
 pub fn tiny_runs()
     ensures trace { told (board_of tiny) (boot_state tiny) six_steps ≡ tiny_trace }
     ensures ended { end_of (run (board_of tiny) (boot_state tiny) six_steps) ≡ Some Finished }
-{
-}
+{}

@@ -1,4 +1,4 @@
-use Rattle.std.proofs.Common.{rules, arith, ◌≡◌, length, sym, ap, ◌∙◌, ◌∷◌}
+use Rattle.std.proofs.Common.{rules, sym, ap, ◌∙◌, ◌∷◌}
 use Rattle.def_source.specs.Source.{lines_of}
 use Rattle.ct_source.proofs.LineEnds.{first_of_lines, last_of_lines}
 use Rattle.ct_source.proofs.lines.first_line.Goals as goal

@@ -1,5 +1,5 @@
-use Rattle.std.proofs.Common.{sym, ◌∙◌, get_or}
-use Rattle.ct_source.proofs.DigitValues.{value_at, too_great, all_read, not_small, small}
+use Rattle.std.proofs.Common.{sym}
+use Rattle.ct_source.proofs.DigitValues.{too_great, all_read, not_small}
 use Rattle.ct_source.proofs.numbers.value.Goals as goal
 
 pub returns-in-None : goal.returns-in-None

@@ -1,6 +1,5 @@
-use Rattle.std.proofs.Common.{arith, sym, ap, ◌∙◌, ◌<◌, ◌∷◌, take, drop}
-use Rattle.def_source.specs.Source.{pieces}
-use Rattle.ct_source.proofs.PiecesOf.{run_piece, mark_piece, run_within}
+use Rattle.std.proofs.Common.{arith, ◌<◌}
+use Rattle.ct_source.proofs.PiecesOf.{run_piece, run_within}
 use Rattle.ct_source.proofs.tokens.first_piece.Goals as goal
 
 pub split_at-requires-2 : goal.split_at-requires-2
