@@ -96,3 +96,4 @@ pub record Partitioned (i : Image) : Type 0 where
   pub sentry : (made_cap i 0).tag ≡ true → cap_seal (made_cap i 0) ≡ 5
   pub boot_rooted : (k : ℕ) → region i k ≡ Fixed → (booted i k).cap.tag ≡ true → Rooted i (booted i k).cap
   pub boot_away : (k : ℕ) → region i k ≡ Fixed → (booted i k).cap.tag ≡ true → AwayFromHeap i (cap_base (booted i k).cap)
+  pub boot_no_heap : (k : ℕ) → region i k ≡ Fixed → (booted i k).cap.tag ≡ true → heap_cap i (booted i k).cap ≡ false

@@ -10,7 +10,7 @@ use Rattle.def_machine.specs.Memory.{is_marked, filtered}
 use Rattle.def_machine.specs.Objects.{Any, Each}
 use Rattle.def_confined.specs.Capabilities.{Kept}
 use Rattle.def_confined.specs.Places.{InFrames, Covers, HasObject, HasLive, LiveCovers}
-use Rattle.def_confined.specs.Confined.{Confined, ObjectFits, MarksAt}
+use Rattle.def_confined.specs.Confined.{Confined, ObjectFits, MarksAt, MarksFit}
 use Rattle.def_confined.specs.Partitioned.{Partitioned}
 use Rattle.law_places.proofs.Rows.{each_take}
 use Rattle.law_places.proofs.Places.{plain_in}
@@ -33,9 +33,10 @@ base_in i next objects c fits some covers = each_take (ObjectFits i next) (Cover
 pub granule_near : (i : Image) (x : ℕ) → i.ram ≤ x → (address_of i (granule_of i x) ≤ x) × (x < address_of i (granule_of i x) + 8)
 granule_near i x le = (omega (arith, le), omega (arith, le))
 
-pub covers_live : (i : Image) (s : State) (c : Cap) → Partitioned i → Confined i s → cap_base c < cap_top c → is_marked i s (cap_base c) ≡ false → Any (Covers c) s.objects → Any (LiveCovers c) s.objects
-covers_live i s c p h some none covers =
-    let place = base_in i s.next s.objects c h.fits some covers in
+-- an object that covers a capability whose base isn't marked is live, where marks and objects fit
+pub covers_live_at : (i : Image) (s : State) (next : ℕ) (c : Cap) → Partitioned i → ((k : ℕ) → MarksFit i s.objects k (granule s k).mark) → Each (ObjectFits i next) s.objects → cap_base c < cap_top c → is_marked i s (cap_base c) ≡ false → Any (Covers c) s.objects → Any (LiveCovers c) s.objects
+covers_live_at i s next c p marks fits some none covers =
+    let place = base_in i next s.objects c fits some covers in
     let inside : i.ram ≤ cap_base c = (p.heap (cap_base c) place.0 place.1).0 in
     let near = granule_near i (cap_base c) inside in
     elim (any_both (Covers c) (LiveCovers c) (MarksAt (address_of i (granule_of i (cap_base c)))) s.objects
@@ -45,19 +46,25 @@ covers_live i s c p h some none covers =
     ])
     covers) [
       | inl found ↦ found
-      | inr marks ↦
-          let mark : (granule s (granule_of i (cap_base c))).mark ≡ true = (h.marks (granule_of i (cap_base c))).all marks in
+      | inr there ↦
+          let mark : (granule s (granule_of i (cap_base c))).mark ≡ true = (marks (granule_of i (cap_base c))).all there in
           let reads : is_marked i s (cap_base c) ≡ true = elim (le_tells i.ram (cap_base c)) [ inl e ↦ ap (λ b. b && (granule s (granule_of i (cap_base c))).mark) e.0 ∙ mark | inr e ↦ absurd (omega (arith, e.1, inside)) ] in
           absurd (let clash : true ≡ false = sym reads ∙ none in cc)
     ]
 
-untagged_says : (b m : Bool) → b ≡ true → (b && m) ≡ false → m ≡ false
+pub covers_live : (i : Image) (s : State) (c : Cap) → Partitioned i → Confined i s → cap_base c < cap_top c → is_marked i s (cap_base c) ≡ false → Any (Covers c) s.objects → Any (LiveCovers c) s.objects
+covers_live i s c p h some none covers = covers_live_at i s s.next c p h.marks h.fits some none covers
+
+pub untagged_says : (b m : Bool) → b ≡ true → (b && m) ≡ false → m ≡ false
 untagged_says b m e h = ap (λ x. x && m) (sym e) ∙ h
 
-pub filter_live : (i : Image) (s : State) (c : Cap) → Partitioned i → Confined i s → (c.tag ≡ true → HasObject i s.objects c) → HasLive i s.objects (filtered i s c)
-filter_live i s c p h has_object = filter_case (HasLive i s.objects) i s c
+pub filter_live_at : (i : Image) (s : State) (next : ℕ) (c : Cap) → Partitioned i → ((k : ℕ) → MarksFit i s.objects k (granule s k).mark) → Each (ObjectFits i next) s.objects → (c.tag ≡ true → HasObject i s.objects c) → HasLive i s.objects (filtered i s c)
+filter_live_at i s next c p marks fits has_object = filter_case (HasLive i s.objects) i s c
     (λ tagged. absurd (let clash : false ≡ true = tagged in cc))
-    (λ not tagged heap some. covers_live i s c p h some (untagged_says c.tag (is_marked i s (cap_base c)) tagged not) (has_object tagged heap some))
+    (λ not tagged heap some. covers_live_at i s next c p marks fits some (untagged_says c.tag (is_marked i s (cap_base c)) tagged not) (has_object tagged heap some))
+
+pub filter_live : (i : Image) (s : State) (c : Cap) → Partitioned i → Confined i s → (c.tag ≡ true → HasObject i s.objects c) → HasLive i s.objects (filtered i s c)
+filter_live i s c p h has_object = filter_live_at i s s.next c p h.marks h.fits has_object
 
 pub filter_in : (i : Image) (s : State) (objects : List Object) (t : ℕ) (fs : List Frame) (c : Cap) → InFrames i objects t fs c → InFrames i objects t fs (filtered i s c)
 filter_in i s objects t fs c h = filter_case (InFrames i objects t fs) i s c (plain_in i objects t fs (untagged c) refl) (λ not. h)
