@@ -10,7 +10,10 @@ use crate::live::Live;
 pub fn subset(l: Live, of: Live) -> bool
     ensures { result ≡ is_subset l of }
 {
-    (l.cap.tag == of.cap.tag) & (of.bounds.base <= l.bounds.base) & (l.bounds.top <= of.bounds.top) & l.perms.within(of.perms)
+    (l.cap.tag == of.cap.tag)
+        & (of.bounds.base <= l.bounds.base)
+        & (l.bounds.top <= of.bounds.top)
+        & l.perms.within(of.perms)
 }
 
 /// Whether tag and word are equal.

@@ -6,13 +6,12 @@ ghost use Rattle.def_words.specs.Capability.{cap_of};
 ghost use Rattle.def_words.specs.Permissions.{cap_perms};
 ghost use Rattle.def_words.specs.Seals.{cap_seal, seal_type};
 
-use std::marker::Model;
-
 use crate::words::{address_of, cap_of, high_of};
 use ct_bits::field;
 use ct_bounds::{Bounds, decode};
 use ct_perm::{Permission, Perms};
 use def_words::{Cap, Shadow};
+use std::marker::Model;
 
 /// A capability as a register holds it.
 ///
@@ -33,10 +32,15 @@ impl Model for Live {
     ghost use Rattle.def_words.specs.Authority.{cap_bounds};
     ghost use Rattle.def_words.specs.Permissions.{cap_perms};
     ghost use Rattle.def_words.specs.Seals.{cap_seal};
+
     ghost Value = { Cap };
+
     ghost view = { λ l. l.cap };
+
     ghost invariant = { λ l. (l.bounds ≡ cap_bounds l.cap) × (l.perms ≡ record { 0 = cap_perms l.cap }) × (l.seal ≡ cap_seal l.cap) };
+
     ghost inverse = { λ c. record { cap = c; bounds = cap_bounds c; perms = record { 0 = cap_perms c }; seal = cap_seal c } };
+
     ghost inverse_ok = { λ a h. ap (λ b. record { cap = a.cap; bounds = b; perms = record { 0 = cap_perms a.cap }; seal = cap_seal a.cap }) (sym h.0) ∙ ap (λ p. record { cap = a.cap; bounds = a.bounds; perms = p; seal = cap_seal a.cap }) (sym h.1) ∙ ap (λ s. record { cap = a.cap; bounds = a.bounds; perms = a.perms; seal = s }) (sym h.2) };
 }
 

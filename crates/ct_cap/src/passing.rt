@@ -25,18 +25,24 @@ use def_words::{Posture, Shadow};
 pub fn attenuate(by: Live, l: Live) -> Live
     ensures { result ≡ attenuated by l }
 {
-    let mask = passed(l.seal == 0, by.perms.has(Permission::LoadMutable), by.perms.has(Permission::LoadGlobal));
+    let mask = passed(
+        l.seal == 0,
+        by.perms.has(Permission::LoadMutable),
+        by.perms.has(Permission::LoadGlobal),
+    );
     let bits = l.perms.masked(mask).normal().pack();
-    made(l.cap.tag & by.perms.has(Permission::MemoryCapability), with_bits(l.cap.word, bits), l.cap.shadow)
+    made(
+        l.cap.tag & by.perms.has(Permission::MemoryCapability),
+        with_bits(l.cap.word, bits),
+        l.cap.shadow,
+    )
 }
 
 /// The permissions that a load lets pass.
 fn passed(unsealed: bool, mutable: bool, globals: bool) -> u32
-    ensures {
-        (set : ℕ) → bit_and set result ≡ removed set (if unsealed
-            then (if mutable then [] else store_data ∷ load_mutable ∷ []) ++ (if globals then [] else global ∷ load_global ∷ [])
-            else (if globals then [] else global ∷ []))
-    }
+    ensures { (set : ℕ) → bit_and set result ≡ removed set (if unsealed
+        then (if mutable then [] else store_data ∷ load_mutable ∷ []) ++ (if globals then [] else global ∷ load_global ∷ [])
+        else (if globals then [] else global ∷ [])) }
 {
     if unsealed {
         if mutable {
@@ -57,7 +63,14 @@ fn passed(unsealed: bool, mutable: bool, globals: bool) -> u32
 pub fn open(l: Live) -> Live
     ensures { result ≡ opened l }
 {
-    made(l.cap.tag, resealed(l.cap.word, 0), Shadow { root: l.cap.shadow.root, source: 0 })
+    made(
+        l.cap.tag,
+        resealed(l.cap.word, 0),
+        Shadow {
+            root: l.cap.shadow.root,
+            source: 0,
+        },
+    )
 }
 
 /// A jump's link: the program counter capability after the instruction as a return sentry, of type 4
@@ -68,13 +81,28 @@ pub fn link(pcc: Live, before: Posture) -> Live
     let next = add_address(pcc, 4);
     let field = if before.off { 4 } else { 5 };
     let source = if before.off { before.source } else { 0 };
-    made(next.cap.tag, resealed(next.cap.word, field), Shadow { root: pcc.cap.shadow.root, source })
+    made(
+        next.cap.tag,
+        resealed(next.cap.word, field),
+        Shadow {
+            root: pcc.cap.shadow.root,
+            source,
+        },
+    )
 }
 
 /// A capability made from a root's high word: exact bounds, a part of the root's permissions, an
 /// address, and a type where that isn't 0.
 #[tactic(auto, unfolding(def_words::specs::Derive::derive))]
-pub fn derive(high: u32, base: u32, length: u32, set: u32, address: u32, kind: u32, from: Shadow) -> Live
+pub fn derive(
+    high: u32,
+    base: u32,
+    length: u32,
+    set: u32,
+    address: u32,
+    kind: u32,
+    from: Shadow,
+) -> Live
     ensures { result ≡ derive high base length set address kind from }
 {
     let root = made(true, words::word_of(high, 0), from);
@@ -83,7 +111,11 @@ pub fn derive(high: u32, base: u32, length: u32, set: u32, address: u32, kind: u
     if kind == 0 {
         placed
     } else {
-        made(placed.cap.tag, resealed(placed.cap.word, kind % 8), placed.cap.shadow)
+        made(
+            placed.cap.tag,
+            resealed(placed.cap.word, kind % 8),
+            placed.cap.shadow,
+        )
     }
 }
 
@@ -92,5 +124,8 @@ fn resealed(word: u64, field: u32) -> u64
     requires { field < 8 }
     ensures { result ≡ word_of (with_seal_field (word / 2 ^ 32) field) (word % 2 ^ 32) }
 {
-    words::word_of(words::with_seal_field(high_of(word), field), address_of(word))
+    words::word_of(
+        words::with_seal_field(high_of(word), field),
+        address_of(word),
+    )
 }

@@ -16,7 +16,9 @@ pub fn set_address(l: Live, address: u32) -> Live
 {
     let high = high_of(l.cap.word);
     let bounds = decode(high, address);
-    let keeps = l.cap.tag & (l.seal == 0) & ((bounds.base == l.bounds.base) & (bounds.top == l.bounds.top));
+    let keeps = l.cap.tag
+        & (l.seal == 0)
+        & ((bounds.base == l.bounds.base) & (bounds.top == l.bounds.top));
     Live {
         cap: cap_of(keeps, word_of(high, address), l.cap.shadow),
         bounds,

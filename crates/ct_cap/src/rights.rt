@@ -18,7 +18,11 @@ pub fn and_perms(l: Live, mask: u32) -> Live
     ensures { result ≡ masked l mask }
 {
     let bits = l.perms.masked(mask).normal().pack();
-    made(l.cap.tag & (l.seal == 0), with_bits(l.cap.word, bits), l.cap.shadow)
+    made(
+        l.cap.tag & (l.seal == 0),
+        with_bits(l.cap.word, bits),
+        l.cap.shadow,
+    )
 }
 
 /// The same word untagged, from nowhere.
@@ -33,5 +37,8 @@ pub fn with_bits(word: u64, bits: u8) -> u64
     requires { bits < 64 }
     ensures { result ≡ word_of (with_permission_bits (word / 2 ^ 32) bits) (word % 2 ^ 32) }
 {
-    words::word_of(words::with_permission_bits(high_of(word), bits), address_of(word))
+    words::word_of(
+        words::with_permission_bits(high_of(word), bits),
+        address_of(word),
+    )
 }

@@ -23,7 +23,13 @@ pub fn seal(l: Live, key: Live) -> Live
 {
     let kind = address_of(key.cap.word);
     let lawful = is_key_type(l.perms.has(Permission::Execute), kind);
-    let keeps = l.cap.tag & key.cap.tag & (l.seal == 0) & (key.seal == 0) & key.perms.has(Permission::Seal) & holds(key.bounds, kind) & lawful;
+    let keeps = l.cap.tag
+        & key.cap.tag
+        & (l.seal == 0)
+        & (key.seal == 0)
+        & key.perms.has(Permission::Seal)
+        & holds(key.bounds, kind)
+        & lawful;
     made(keeps, sealed_word(l.cap.word, lawful, kind), l.cap.shadow)
 }
 
@@ -37,8 +43,18 @@ pub fn unseal(l: Live, key: Live) -> Live
     ensures { result ≡ unsealed_by l key }
 {
     let kind = address_of(key.cap.word);
-    let keeps = l.cap.tag & key.cap.tag & !(l.seal == 0) & (key.seal == 0) & key.perms.has(Permission::Unseal) & holds(key.bounds, kind) & (l.seal == kind);
-    made(keeps, opened_word(l.cap.word, key.perms.has(Permission::Global)), l.cap.shadow)
+    let keeps = l.cap.tag
+        & key.cap.tag
+        & !(l.seal == 0)
+        & (key.seal == 0)
+        & key.perms.has(Permission::Unseal)
+        & holds(key.bounds, kind)
+        & (l.seal == kind);
+    made(
+        keeps,
+        opened_word(l.cap.word, key.perms.has(Permission::Global)),
+        l.cap.shadow,
+    )
 }
 
 /// Whether an address lies in bounds.
@@ -64,7 +80,10 @@ fn sealed_word(word: u64, lawful: bool, kind: u32) -> u64
     ensures { result ≡ (if lawful then word_of (with_seal_field (word / 2 ^ 32) (kind % 8)) (word % 2 ^ 32) else word) }
 {
     if lawful {
-        words::word_of(words::with_seal_field(high_of(word), kind % 8), address_of(word))
+        words::word_of(
+            words::with_seal_field(high_of(word), kind % 8),
+            address_of(word),
+        )
     } else {
         word
     }
@@ -77,5 +96,8 @@ fn opened_word(word: u64, keeps_global: bool) -> u64
     let high = high_of(word);
     let all = field(high, 25, 6) as u8;
     let bits = if keeps_global { all } else { all % 32 };
-    words::word_of(words::with_permission_bits(words::with_seal_field(high, 0), bits), address_of(word))
+    words::word_of(
+        words::with_permission_bits(words::with_seal_field(high, 0), bits),
+        address_of(word),
+    )
 }

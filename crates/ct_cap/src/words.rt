@@ -13,7 +13,11 @@ pub fn cap_of(tag: bool, word: u64, shadow: Shadow) -> Cap
     if tag {
         Cap { tag, word, shadow }
     } else {
-        Cap { tag, word, shadow: Shadow { root: 0, source: 0 } }
+        Cap {
+            tag,
+            word,
+            shadow: Shadow { root: 0, source: 0 },
+        }
     }
 }
 

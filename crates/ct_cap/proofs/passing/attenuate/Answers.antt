@@ -1,5 +1,3 @@
-use Rattle.std.proofs.Common.{◌<◌, ◌≡◌, ◌^◌}
-use Rattle.def_words.specs.Permissions.{cap_perms}
 use Rattle.law_words.proofs.Narrowing.{perms_small}
 use Rattle.ct_cap.proofs.passing.attenuate.Goals as goal
 
