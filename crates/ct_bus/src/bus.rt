@@ -65,11 +65,10 @@ impl Bus {
     }
 
     /// How many devices there are.
-    pub fn count(&self) -> u32
-        requires { length self.now.states < 2 ^ 32 }
+    pub fn count(&self) -> usize
         ensures { result ≡ length self.now.states }
     {
-        self.units.len() as u32
+        self.units.len()
     }
 
     /// Whether a device has the address.

@@ -99,22 +99,26 @@ received s n byte = record s {
 
 -- ---- an event
 
--- whether this thread ran, with interrupts off by this source
-abbrev pub held_off : State → ℕ → ℕ → Option ℕ → Bool
-held_off s t source None = false
-held_off s t source (Some u) = (u == t) && (thread s t).posture.off && ((thread s t).posture.source == source)
+-- the running thread where it holds interrupts off, and the source by which it does
+abbrev pub holder_by : State → Option ℕ → Option (ℕ × ℕ)
+holder_by s None = None
+holder_by s (Some t) = if (thread s t).posture.off then Some (t, (thread s t).posture.source) else None
+
+abbrev pub holder : State → Option (ℕ × ℕ)
+holder s = holder_by s s.running
+
+abbrev pub is_holder : Option (ℕ × ℕ) → ℕ → ℕ → Bool
+is_holder None t source = false
+is_holder (Some h) t source = (h.0 == t) && (h.1 == source)
 
 -- A span with interrupts off begins where after the event the running thread holds them off, and before it
 -- another thread ran, or none, or they were on, or the source was another.
-abbrev pub begun_by : State → State → Option ℕ → Option Owned
-begun_by before after None = None
-begun_by before after (Some t) =
-    if (thread after t).posture.off && not (held_off before t (thread after t).posture.source before.running)
-    then Some (record { thread = t; actor = actor_of (thread after t).frames; export = (thread after t).posture.source })
-    else None
+abbrev pub begun_since : Option (ℕ × ℕ) → State → Option (ℕ × ℕ) → Option Owned
+begun_since before after None = None
+begun_since before after (Some h) = if is_holder before h.0 h.1 then None else Some (record { thread = h.0; actor = actor_of (thread after h.0).frames; export = h.1 })
 
 abbrev pub begun : State → State → Option Owned
-begun before after = begun_by before after after.running
+begun before after = begun_since (holder before) after (holder after)
 
 abbrev pub told_of : State → State × Option Deed → State × Happened
 told_of before r = (r.0, record { deed = r.1; off = begun before r.0 })

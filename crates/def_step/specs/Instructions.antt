@@ -23,6 +23,8 @@ use Rattle.def_machine.specs.Threads.{jumped}
 use Rattle.def_machine.specs.Frames.{returned, unwound}
 use Rattle.def_step.specs.declared.Class.{Class}
 use Rattle.def_step.specs.declared.Class.TheVariants as class
+use Rattle.def_step.specs.declared.Next.{Next}
+use Rattle.def_step.specs.declared.Next.TheVariants.{Returning, Instruction, Nothing}
 use Rattle.def_step.specs.Checks.{Check, capability_trap, plain_trap, first_failed, not_tagged, wrong_seal, no_execute, out_of_bounds, no_system_registers, program_counter, illegal_instruction, breakpoint, environment_call}
 use Rattle.def_step.specs.Devices.{Bank}
 use Rattle.def_step.specs.Accesses.{Space, Accessed, access_result}
@@ -103,11 +105,6 @@ abbrev pub is_native_entry : ℕ → Bool
 is_native_entry x = nat_le native_base x && nat_lt x (native_base + 16 * 9) && (x % 16 == 0)
 
 -- what stands at the program counter: the return, an instruction, or nothing that is carried out
-pub data Next : Type 0 where
-  Returning : Next
-  Instruction : Instr → Next
-  Nothing : Next
-
 abbrev pub next_word : Option Instr → Next
 next_word None = Nothing
 next_word (Some i) = Instruction i

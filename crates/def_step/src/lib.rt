@@ -3,6 +3,8 @@
 //! state at boot. Definitions alone, in specs/; docs/machine.md tells the same in prose.
 #![tactic(auto)]
 
+use def_instr::Instr;
+
 /// What happens at the machine, one at a time.
 #[derive(Clone, Copy, Debug, PartialEq, Eq, Drop)]
 pub enum Event {
@@ -57,4 +59,16 @@ pub struct Access {
     pub whole: bool,
     pub by: u32,
     pub immediate: u32,
+}
+
+/// What stands at the program counter.
+#[derive(Clone, Copy, Debug, PartialEq, Eq, Drop)]
+pub enum Next {
+    /// The native routine that returns.
+    Returning,
+    Instruction {
+        instruction: Instr,
+    },
+    /// Nothing that is carried out: no instruction, or another native routine.
+    Nothing,
 }
