@@ -2,6 +2,9 @@
 //! status has its cause, and the text that is due. The definitions stand in specs/.
 #![tactic(auto)]
 
+ghost use Rattle.std.specs.Prelude.{◌≡◌};
+ghost use Rattle.def_output.specs.Codes.{code_of};
+
 /// How a call of the program ended.
 #[derive(Clone, Copy, Debug, PartialEq, Eq, Drop)]
 pub enum Status {
@@ -19,4 +22,21 @@ pub enum Status {
     WriteFault,
     /// Memory was wanted. Nothing is written.
     NoMemory,
+}
+
+impl Status {
+    /// The number that the process ends with.
+    pub fn code(self) -> u8
+        ensures { result ≡ code_of self }
+    {
+        match self {
+            Status::Done => 0,
+            Status::Usage => 1,
+            Status::ReadFault => 2,
+            Status::TooLarge => 3,
+            Status::Description => 4,
+            Status::WriteFault => 9,
+            Status::NoMemory => 10,
+        }
+    }
 }
