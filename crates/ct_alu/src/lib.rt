@@ -4,6 +4,8 @@
 
 mod products;
 mod signed;
+#[cfg(test)]
+mod tests;
 
 ghost use Rattle.std.specs.Prelude.{◌≡◌, IsTrue};
 ghost use Rattle.def_instr.specs.Results.{is_integer, integer_result};

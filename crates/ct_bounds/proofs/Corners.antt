@@ -1,5 +1,5 @@
 -- The corner of bounds fits 64 bits, over plain numbers.
-use Rattle.std.proofs.Common.{ℕ, ◌+◌, ◌-◌, ◌*◌, ◌/◌, ◌%◌, ◌^◌, ◌<◌, ◌≤◌, ◌≡◌, refl, arith, lit<}
+use Rattle.std.proofs.Common.{ℕ, ◌+◌, ◌-◌, ◌*◌, ◌/◌, ◌%◌, ◌^◌, ◌<◌, ◌≤◌, ◌≡◌, arith, lit<}
 use Rattle.std.proofs.lemmas.Nat.{mul-le, div-add-mod', one_shl}
 use Rattle.std.proofs.Math.Nat.{pow-le-pow_right}
 

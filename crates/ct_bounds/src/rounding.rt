@@ -5,6 +5,12 @@ ghost use Rattle.def_words.specs.LeastBounds.{align_mask_of, ceil_units, exponen
 
 use def_words::Rounded;
 
+/// B and T tell at most this many units apart.
+const MOST_UNITS: u64 = 511;
+
+/// The greatest exponent that E spells by itself.
+const GREATEST_SMALL: u32 = 14;
+
 /// The bounds with the least exponent that hold `[base, base + length)`, with their fields E, B and T
 /// in place.
 ///
@@ -77,8 +83,16 @@ fn least_exponent(base: u64, top: u64) -> u32
     ensures small { result ≤ 24 }
 {
     let first = first_candidate(top - base);
-    let exponent = if ceil(top, first) - (base >> first) <= 511 { first } else { first + 1 };
-    if exponent <= 14 { exponent } else { 24 }
+    let exponent = if ceil(top, first) - (base >> first) <= MOST_UNITS {
+        first
+    } else {
+        first + 1
+    };
+    if exponent <= GREATEST_SMALL {
+        exponent
+    } else {
+        24
+    }
 }
 
 /// The least exponent at which a length has nine bits.

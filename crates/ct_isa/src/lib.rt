@@ -10,6 +10,8 @@ mod integer;
 mod memory;
 mod rows;
 mod system;
+#[cfg(test)]
+mod tests;
 
 ghost use Rattle.std.specs.Prelude.{◌≡◌, ℕ, IsNone, IfSome, Some};
 ghost use Rattle.def_instr.specs.Table.{EncodesTo, InRange, word_of};

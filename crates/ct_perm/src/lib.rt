@@ -1,13 +1,219 @@
-// A library with one function.
+//! Permission sets: the twelve permissions, and the six forms that a word can spell.
+//!
+//! The contracts are *Permission sets* of def_words, which speaks of sets and of the first form whose
+//! condition holds; the code works on the bits of a `u16` and on six packed bits.
+//! docs/capabilities.md tells the rules.
 #![tactic(auto)]
 
-ghost use Rattle.std.specs.Prelude.{◌≡◌};
-ghost use Rattle.ct_perm.specs.Echo.{echo_of};
+mod forms;
+mod spelling;
 
-// The `ensures` clause is the contract: what `echo` returns is `echo_of` of its argument, a definition
-// in `specs/Echo.antt`, which a caller's clause can cite too.
-pub fn echo(x: usize) -> usize
-    ensures { result ≡ echo_of x }
-{
-    x
+ghost use Rattle.std.specs.Prelude.{⊤, ◌<◌, ◌≡◌, ◌^◌, ◌↔◌, [], ◌∷◌, codes, IsTrue, bit_and};
+ghost use Rattle.ct_perm.specs.Named.{number_of};
+ghost use Rattle.def_words.specs.Permissions.{Within, bit, is_within, normal_set, packed, unpacked};
+
+use bitflags::{Flag, Flags, bitflag_items};
+
+/// One of the twelve permissions.
+#[derive(Clone, Copy, Debug, PartialEq, Eq, Drop)]
+pub enum Permission {
+    /// GL: the capability may be stored anywhere that takes capabilities.
+    Global,
+    /// LG: what is loaded keeps GL and LG.
+    LoadGlobal,
+    /// SD: stores.
+    StoreData,
+    /// LM: what is loaded keeps SD and LM.
+    LoadMutable,
+    /// SL: capabilities without GL may be stored.
+    StoreLocal,
+    /// LD: loads.
+    LoadData,
+    /// MC: loads and stores of capabilities keep their tags.
+    MemoryCapability,
+    /// SR: system registers, which this profile has none of.
+    SystemRegisters,
+    /// EX: instructions may be fetched.
+    Execute,
+    /// US: unseals.
+    Unseal,
+    /// SE: seals.
+    Seal,
+    /// U0: for software.
+    User,
+}
+
+impl Permission {
+    /// The number of its bit.
+    fn number(self) -> u32
+        ensures value { result ≡ number_of self }
+        ensures small { result < 12 }
+    {
+        match self {
+            Permission::Global => 0,
+            Permission::LoadGlobal => 1,
+            Permission::StoreData => 2,
+            Permission::LoadMutable => 3,
+            Permission::StoreLocal => 4,
+            Permission::LoadData => 5,
+            Permission::MemoryCapability => 6,
+            Permission::SystemRegisters => 7,
+            Permission::Execute => 8,
+            Permission::Unseal => 9,
+            Permission::Seal => 10,
+            Permission::User => 11,
+        }
+    }
+}
+
+/// A set of permissions: bit p is set where permission p is in it. Bits above the twelve count for
+/// nothing but inclusion.
+#[derive(Clone, Copy, Debug, PartialEq, Eq)]
+pub struct Perms(pub u16);
+
+bitflag_items! {
+    impl Perms: u16 {
+        const GL = 1;
+        const LG = 2;
+        const SD = 4;
+        const LM = 8;
+        const SL = 16;
+        const LD = 32;
+        const MC = 64;
+        const SR = 128;
+        const EX = 256;
+        const US = 512;
+        const SE = 1024;
+        const U0 = 2048;
+    }
+}
+
+impl Flags for Perms {
+    type Bits = u16;
+
+    ghost exact = { ⊤ };
+
+    ghost table = { (codes "GL", 1) ∷ (codes "LG", 2) ∷ (codes "SD", 4) ∷ (codes "LM", 8) ∷ (codes "SL", 16) ∷ (codes "LD", 32) ∷ (codes "MC", 64) ∷ (codes "SR", 128) ∷ (codes "EX", 256) ∷ (codes "US", 512) ∷ (codes "SE", 1024) ∷ (codes "U0", 2048) ∷ [] };
+
+    ghost set_of = { λ p. p.0 };
+
+    fn flags<'a>() -> &'a [Flag<Perms>] {
+        Perms::FLAGS
+    }
+
+    fn bits(&self) -> u16 {
+        self.0
+    }
+
+    fn from_bits_retain(bits: u16) -> Perms {
+        Perms(bits)
+    }
+}
+
+impl Perms {
+    /// Whether a permission is in the set.
+    #[tactic(auto, unfolding(def_words::specs::Permissions::bit))]
+    pub fn has(self, permission: Permission) -> bool
+        ensures { result ≡ bit self.0 (number_of permission) }
+    {
+        (self.0 >> permission.number()) % 2 == 1
+    }
+
+    /// The permissions of the set that a mask has; the mask's bits above the twelve don't count.
+    #[tactic(auto, using(crate::proofs::Masks::mask_low, crate::proofs::Masks::mask_small))]
+    pub fn masked(self, mask: u32) -> Perms
+        requires { self.0 < 2 ^ 12 }
+        ensures value { result.0 ≡ bit_and self.0 mask }
+        ensures small { result.0 < 2 ^ 12 }
+    {
+        Perms(self.0 & (mask % 4096) as u16)
+    }
+
+    /// What the first form whose condition holds can spell of the set.
+    pub fn normal(self) -> Perms
+        ensures value { result.0 ≡ normal_set self.0 }
+        ensures small { result.0 < 2 ^ 12 }
+    {
+        Perms(self.0 & forms::form(self).held())
+    }
+
+    /// Whether each permission of the set is in the other.
+    pub fn within(self, other: Perms) -> bool
+        ensures value { result ≡ is_within self.0 other.0 }
+        ensures inclusion { IsTrue result ↔ Within self.0 other.0 }
+    {
+        other.contains(self)
+    }
+
+    /// The six bits that spell the set, or its normal where it isn't normal.
+    pub fn pack(self) -> u8
+        ensures value { result ≡ packed self.0 }
+        ensures six { result < 64 }
+    {
+        spelling::packed(self)
+    }
+
+    /// The set that six bits spell.
+    pub fn unpack(bits: u8) -> Perms
+        requires { bits < 64 }
+        ensures value { result.0 ≡ unpacked bits }
+        ensures small { result.0 < 2 ^ 12 }
+    {
+        spelling::told(bits)
+    }
+}
+
+#[cfg(test)]
+mod tests {
+    use super::*;
+
+    /// A form by what it needs, one of what it needs, and what it can hold.
+    fn slow_normal(set: u16) -> u16 {
+        let forms = [
+            (0x160u16, 0u16, 0x1EBu16),
+            (0x64, 0, 0x7F),
+            (0x60, 0, 0x6B),
+            (0x44, 0, 0x45),
+            (0, 0x24, 0x25),
+        ];
+        for (needed, one_of, held) in forms {
+            if set & needed == needed && (one_of == 0 || set & one_of != 0) {
+                return set & held;
+            }
+        }
+        set & 0xE01
+    }
+
+    #[test]
+    fn each_set_and_each_spelling(rt: HostRuntime) {
+        for set in 0..4096u16 {
+            let perms = Perms(set);
+            assert_eq!(rt; perms.normal(), Perms(slow_normal(set)), "at {set}");
+            let bits = perms.pack();
+            assert_eq!(rt; Perms::unpack(bits), perms.normal(), "at {set}");
+            assert!(rt; perms.normal().within(perms), "at {set}");
+        }
+        for bits in 0..64u8 {
+            assert_eq!(rt; Perms::unpack(bits).pack(), bits);
+        }
+    }
+
+    #[test]
+    fn worked_sets(rt: HostRuntime) {
+        let code = Perms::GL
+            .union(Perms::LG)
+            .union(Perms::LM)
+            .union(Perms::LD)
+            .union(Perms::MC)
+            .union(Perms::EX);
+        assert_eq!(rt; code.normal(), code);
+        assert_eq!(rt; code.difference(Perms::LD).normal(), Perms::GL);
+        assert!(rt; code.has(Permission::Execute) && !code.has(Permission::StoreData));
+        assert_eq!(rt; Perms(0xFFF).masked(0xFFFFF021), Perms(0x021));
+        assert!(rt; Perms::LD.within(code) && !Perms::SD.within(code));
+        // The roots' permission bits.
+        assert_eq!(rt; Perms::unpack(63), Perms(127));
+        assert_eq!(rt; Perms::unpack(47), Perms(491));
+        assert_eq!(rt; Perms::unpack(39), Perms(3585));
+    }
 }

@@ -1,5 +1,5 @@
 -- Sets as numbers: one permission of a set, of a set by a test, of what two sets have in common.
-use Rattle.std.proofs.Common.{ℕ, zero, suc, ◌+◌, ◌-◌, ◌*◌, ◌/◌, ◌%◌, ◌^◌, ◌<◌, ◌≤◌, ◌≡◌, ◌≢◌, ◌==◌, ◌⊎◌, Bool, true, false, ◌&&◌, ◌||◌, not, cond, if◌then◌else◌, min, nat_eq, refl, ap, sym, ◌∙◌, inl, inr, arith, subst}
+use Rattle.std.proofs.Common.{ℕ, zero, suc, ◌+◌, ◌-◌, ◌*◌, ◌^◌, ◌<◌, ◌≤◌, ◌≡◌, ◌≢◌, ◌==◌, Bool, true, false, ◌&&◌, if◌then◌else◌, min, refl, ap, sym, ◌∙◌, inl, inr, arith}
 use Rattle.std.specs.Int.{bit_at}
 use Rattle.std.specs.Int.RustNames.{bit_and}
 use Rattle.std.proofs.lemmas.Nat.{pow_pos, and_le_r}
@@ -7,7 +7,7 @@ use Rattle.std.proofs.lemmas.Nat.Bits.{bit_at_and, bit_at-lt, bit_at_cat_low, bi
 use Rattle.std.proofs.lemmas.Bool.{eqb-true, and_parts}
 use Rattle.std.proofs.Common.{eq-eqb}
 use Rattle.std.proofs.Math.Nat.{pow-suc}
-use Rattle.law_lists.proofs.Tests.{le_tells, lt_tells, eq_tells, bool_tells}
+use Rattle.law_lists.proofs.Tests.{le_tells, eq_tells, bool_tells}
 use Rattle.def_words.specs.Permissions.{bit, gathered, set_where, Within, is_within}
 
 -- a Bool as a bit
@@ -27,22 +27,22 @@ bit_from n p false e = rw e refl
 pub gathered_small : (f : ℕ → Bool) (n : ℕ) → gathered f n < 2 ^ n
 gathered_small f zero = omega arith
 gathered_small f (suc n) =
-  let before : gathered f n < 2 ^ n = gathered_small f n in
-  let grows : 2 ^ suc n ≡ 2 ^ n * 2 = pow-suc 2 n in
-  elim (bool_tells (f n)) [ inl t ↦ rw (t, grows) (omega (arith, before)) | inr t ↦ rw (t, grows) (omega (arith, before)) ]
+    let before : gathered f n < 2 ^ n = gathered_small f n in
+    let grows : 2 ^ suc n ≡ 2 ^ n * 2 = pow-suc 2 n in
+    elim (bool_tells (f n)) [ inl t ↦ rw (t, grows) (omega (arith, before)) | inr t ↦ rw (t, grows) (omega (arith, before)) ]
 
 pub gathered_at : (f : ℕ → Bool) (n p : ℕ) → p < n → bit_at (gathered f n) p ≡ (if f p then 1 else 0)
 gathered_at f zero p low = absurd (omega (arith, low))
 gathered_at f (suc n) p low =
-  let before : gathered f n < 2 ^ n = gathered_small f n in
-  let shape : gathered f n + (if f n then 2 ^ n else 0) ≡ (if f n then 1 else 0) * 2 ^ n + gathered f n = elim (bool_tells (f n)) [ inl t ↦ rw t (omega arith) | inr t ↦ rw t (omega arith) ] in
-  rw shape (elim (le_tells n p) [
-      inl t ↦ (
-        let same : p ≡ n = omega (arith, t.1, low) in
-        let high : bit_at ((if f n then 1 else 0) * 2 ^ n + gathered f n) n ≡ bit_at (if f n then 1 else 0) (n - n) = bit_at_cat_high (if f n then 1 else 0) n (gathered f n) n before (omega arith) in
-        let none : n - n ≡ 0 = omega arith in
-        rw (same, high, none) (elim (bool_tells (f n)) [ inl u ↦ rw u refl | inr u ↦ rw u refl ]))
-    | inr t ↦ bit_at_cat_low (if f n then 1 else 0) n (gathered f n) p t.1 ∙ gathered_at f n p t.1
+    let before : gathered f n < 2 ^ n = gathered_small f n in
+    let shape : gathered f n + (if f n then 2 ^ n else 0) ≡ (if f n then 1 else 0) * 2 ^ n + gathered f n = elim (bool_tells (f n)) [ inl t ↦ rw t (omega arith) | inr t ↦ rw t (omega arith) ] in
+    rw shape (elim (le_tells n p) [
+      | inl t ↦ (
+          let same : p ≡ n = omega (arith, t.1, low) in
+          let high : bit_at ((if f n then 1 else 0) * 2 ^ n + gathered f n) n ≡ bit_at (if f n then 1 else 0) (n - n) = bit_at_cat_high (if f n then 1 else 0) n (gathered f n) n before (omega arith) in
+          let none : n - n ≡ 0 = omega arith in
+          rw (same, high, none) (elim (bool_tells (f n)) [ inl u ↦ rw u refl | inr u ↦ rw u refl ]))
+      | inr t ↦ bit_at_cat_low (if f n then 1 else 0) n (gathered f n) p t.1 ∙ gathered_at f n p t.1
     ])
 
 pub where_small : (f : ℕ → Bool) → set_where f < 2 ^ 12
@@ -64,7 +64,7 @@ both_bits false false = refl
 
 pub bit_common : (a b p : ℕ) → bit (bit_and a b) p ≡ (bit a p && bit b p)
 bit_common a b p = bit_from (bit_and a b) p (bit a p && bit b p)
-  (bit_at_and a b p ∙ (rw (bit_at_is a p (bit a p) refl, bit_at_is b p (bit b p) refl) (both_bits (bit a p) (bit b p))))
+    (bit_at_and a b p ∙ (rw (bit_at_is a p (bit a p) refl, bit_at_is b p (bit b p) refl) (both_bits (bit a p) (bit b p))))
 
 pub same_set : (a b : ℕ) → a < 2 ^ 12 → b < 2 ^ 12 → ((p : ℕ) → p < 12 → bit a p ≡ bit b p) → a ≡ b
 same_set a b small_a small_b same = same_from_bits_below 12 a b small_a small_b (λ p low. bit_at_is a p (bit b p) (same p low) ∙ sym (bit_at_is b p (bit b p) refl))
@@ -72,20 +72,20 @@ same_set a b small_a small_b same = same_from_bits_below 12 a b small_a small_b 
 -- a mask is the set of the permissions that it has
 pub and_where : (n m : ℕ) → m < 2 ^ 12 → bit_and n m ≡ set_where (λ p. bit n p && bit m p)
 and_where n m small =
-  let below : bit_and n m < 2 ^ 12 = (let le : bit_and n m ≤ m = and_le_r n m in omega (arith, le, small)) in
-  same_set (bit_and n m) (set_where (λ p. bit n p && bit m p)) below (where_small (λ p. bit n p && bit m p))
+    let below : bit_and n m < 2 ^ 12 = (let le : bit_and n m ≤ m = and_le_r n m in omega (arith, le, small)) in
+    same_set (bit_and n m) (set_where (λ p. bit n p && bit m p)) below (where_small (λ p. bit n p && bit m p))
     (λ p low. bit_common n m p ∙ sym (bit_where (λ q. bit n q && bit m q) p low))
 
-apart : (a b : ℕ) → a ≢ b → (a == b) ≡ false
+pub apart : (a b : ℕ) → a ≢ b → (a == b) ≡ false
 apart a b ne = elim (eq_tells a b) [ inl t ↦ absurd (ne t.1) | inr t ↦ t.0 ]
 
 -- the test of one permission
 pub test_one : (n p : ℕ) → (bit_and n (2 ^ p) == 2 ^ p) ≡ bit n p
 test_one n p =
-  let positive : 0 < 2 ^ p = pow_pos p in
-  elim (bool_tells (bit n p)) [
-      inl t ↦ rw t (eq-eqb (bit_and n (2 ^ p)) (2 ^ p) (and_pow n p ∙ rw (bit_at_is n p true t) (omega arith)))
-    | inr t ↦ rw t (apart (bit_and n (2 ^ p)) (2 ^ p) (λ e. (let none : bit_and n (2 ^ p) ≡ 0 = and_pow n p ∙ rw (bit_at_is n p false t) (omega arith) in omega (arith, none, e, positive))))
+    let positive : 0 < 2 ^ p = pow_pos p in
+    elim (bool_tells (bit n p)) [
+      | inl t ↦ rw t (eq-eqb (bit_and n (2 ^ p)) (2 ^ p) (and_pow n p ∙ rw (bit_at_is n p true t) (omega arith)))
+      | inr t ↦ rw t (apart (bit_and n (2 ^ p)) (2 ^ p) (λ e. (let none : bit_and n (2 ^ p) ≡ 0 = and_pow n p ∙ rw (bit_at_is n p false t) (omega arith) in omega (arith, none, e, positive))))
     ]
 
 -- ---- inclusion
@@ -93,9 +93,9 @@ test_one n p =
 pub within_is : (a b : ℕ) → is_within a b ≡ true → Within a b
 unfolding is_within
 within_is a b h p there =
-  let same : bit_and a b ≡ a = eqb-true (bit_and a b) a h in
-  let has : (bit a p && bit b p) ≡ true = sym (bit_common a b p) ∙ ap (λ n. bit n p) same ∙ there in
-  (and_parts (bit a p) (bit b p) has).1
+    let same : bit_and a b ≡ a = eqb-true (bit_and a b) a h in
+    let has : (bit a p && bit b p) ≡ true = sym (bit_common a b p) ∙ ap (λ n. bit n p) same ∙ there in
+    (and_parts (bit a p) (bit b p) has).1
 
 under : (x y : Bool) → (x ≡ true → y ≡ true) → (x && y) ≡ x
 under true y h = h refl
@@ -104,4 +104,4 @@ under false y h = refl
 pub is_within_from : (a b : ℕ) → Within a b → is_within a b ≡ true
 unfolding is_within
 is_within_from a b h = eq-eqb (bit_and a b) a (same_from_bits (bit_and a b) a (λ p.
-  bit_at_is (bit_and a b) p (bit a p) (bit_common a b p ∙ under (bit a p) (bit b p) (h p)) ∙ sym (bit_at_is a p (bit a p) refl)))
+    bit_at_is (bit_and a b) p (bit a p) (bit_common a b p ∙ under (bit a p) (bit b p) (h p)) ∙ sym (bit_at_is a p (bit a p) refl)))

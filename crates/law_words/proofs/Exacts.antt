@@ -1,15 +1,15 @@
 -- What needs no rounding: a range of at most 511 addresses.
-use Rattle.std.proofs.Common.{ℕ, zero, suc, ◌+◌, ◌-◌, ◌*◌, ◌/◌, ◌%◌, ◌^◌, ◌<◌, ◌≤◌, ◌≡◌, ◌==◌, ◌&&◌, Bool, true, nat_eq, refl, ap, arith, inl, inr}
+use Rattle.std.proofs.Common.{ℕ, ◌+◌, ◌<◌, ◌≤◌, ◌≡◌, ◌==◌, ◌&&◌, true, refl, arith, inl, inr}
 use Rattle.std.proofs.Common.{eq-eqb}
 use Rattle.law_lists.proofs.Tests.{le_tells}
-use Rattle.def_words.specs.LeastBounds.{floor_units, ceil_units, units, exponent_for, IsLeastExponent, rounded_of, rounded_at}
-use Rattle.law_words.proofs.Leasts.{exponent_is, floor_under, ceil_above}
+use Rattle.def_words.specs.LeastBounds.{floor_units, ceil_units, units, exponent_for, rounded_of}
+use Rattle.law_words.proofs.Leasts.{exponent_is}
 
 pub no_larger : (base top e : ℕ) → e ≤ 14 → units base top e ≤ 511 → exponent_for base top ≤ e
 no_larger base top e small serves = elim (le_tells (exponent_for base top) e) [
-    inl t ↦ t.1
+  | inl t ↦ t.1
   | inr t ↦ absurd (let fails : 511 < units base top e = (exponent_is base top).least e t.1 small in omega (arith, fails, serves))
-  ]
+]
 
 floor_one : (b : ℕ) → floor_units b 0 ≡ b
 floor_one b = omega arith
@@ -19,9 +19,9 @@ ceil_one t = omega arith
 
 pub exponent_zero : (base length : ℕ) → length ≤ 511 → exponent_for base (base + length) ≡ 0
 exponent_zero base length few =
-  let serves : units base (base + length) 0 ≤ 511 = rw (floor_one base, ceil_one (base + length)) (omega (arith, few)) in
-  let small : exponent_for base (base + length) ≤ 0 = no_larger base (base + length) 0 (omega arith) serves in
-  omega (arith, small)
+    let serves : units base (base + length) 0 ≤ 511 = rw (floor_one base, ceil_one (base + length)) (omega (arith, few)) in
+    let small : exponent_for base (base + length) ≤ 0 = no_larger base (base + length) 0 (omega arith) serves in
+    omega (arith, small)
 
 pub record IsExact (base top : ℕ) : Type 0 where
   pub exact : (rounded_of base top).exact ≡ true

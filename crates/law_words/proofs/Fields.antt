@@ -1,11 +1,10 @@
 -- Decoding in units: an address within 511 units of a low unit gives that unit back, and the fields of
 -- least bounds give their parts back.
-use Rattle.std.proofs.Common.{ℕ, ◌+◌, ◌-◌, ◌*◌, ◌/◌, ◌%◌, ◌^◌, ◌<◌, ◌≤◌, ◌≡◌, ◌⊎◌, ◌==◌, if◌then◌else◌, nat_lt, nat_eq, refl, ap, sym, ◌∙◌, inl, inr, arith}
-use Rattle.std.proofs.lemmas.Nat.{pow_pos, pow-add, shr-shr, mod-mul-add, div-mul-add, le-div, div_below, mul-le}
-use Rattle.std.proofs.Math.Nat.{div-mul-le_self}
+use Rattle.std.proofs.Common.{ℕ, ◌+◌, ◌-◌, ◌*◌, ◌/◌, ◌%◌, ◌^◌, ◌<◌, ◌≤◌, ◌≡◌, ◌⊎◌, ◌==◌, if◌then◌else◌, refl, sym, inl, inr, arith}
+use Rattle.std.proofs.lemmas.Nat.{pow_pos, pow-add, shr-shr, mod-mul-add, le-div, div_below}
 use Rattle.law_lists.proofs.Tests.{lt_tells, eq_tells}
 use Rattle.def_words.specs.Authority.{one_if_less, corner_of, middle, base_of, top_of, exponent_of, exponent_field, base_field, top_field}
-use Rattle.def_words.specs.LeastBounds.{coded, floor_units, ceil_units}
+use Rattle.def_words.specs.LeastBounds.{coded}
 
 -- the whole of decoding: how many blocks lie between two units that are at most 511 apart
 pub block : (lo x : ℕ) → lo ≤ x → x ≤ lo + 511 → x / 512 ≡ lo / 512 + one_if_less (x % 512) (lo % 512)
@@ -13,10 +12,10 @@ block lo x low high = elim (lt_tells (x % 512) (lo % 512)) [ inl t ↦ rw t.0 (o
 
 pub corner_sum : (a e field up down s : ℕ) → a / 2 ^ e / 512 + 2 ^ 24 + up - down ≡ s → corner_of a e field up down ≡ (s * 512 + field) * 2 ^ e
 corner_sum a e field up down s sum =
-  let split : 2 ^ (e + 9) ≡ 2 ^ e * 512 = pow-add 2 e 9 in
-  let blocks : a / 2 ^ e / 512 ≡ a / 2 ^ (e + 9) = shr-shr a e 9 in
-  let there : a / 2 ^ (e + 9) + 2 ^ 24 + up - down ≡ s = rw (← blocks) sum in
-  rw (there, split) (omega arith)
+    let split : 2 ^ (e + 9) ≡ 2 ^ e * 512 = pow-add 2 e 9 in
+    let blocks : a / 2 ^ e / 512 ≡ a / 2 ^ (e + 9) = shr-shr a e 9 in
+    let there : a / 2 ^ (e + 9) + 2 ^ 24 + up - down ≡ s = rw (← blocks) sum in
+    rw (there, split) (omega arith)
 
 -- the unit of an address between two multiples of a unit
 pub unit_low : (a e lo : ℕ) → lo * 2 ^ e ≤ a → lo ≤ a / 2 ^ e
@@ -24,44 +23,44 @@ unit_low a e lo low = le-div lo a (2 ^ e) (pow_pos e) low
 
 pub unit_high : (a e hi : ℕ) → a ≤ hi * 2 ^ e → a / 2 ^ e ≤ hi
 unit_high a e hi high =
-  let positive : 0 < 2 ^ e = pow_pos e in
-  let under : a < (hi + 1) * 2 ^ e = omega (arith, high, positive) in
-  let below : a / 2 ^ e < hi + 1 = div_below a (2 ^ e) (hi + 1) positive under in
-  omega (arith, below)
+    let positive : 0 < 2 ^ e = pow_pos e in
+    let under : a < (hi + 1) * 2 ^ e = omega (arith, high, positive) in
+    let below : a / 2 ^ e < hi + 1 = div_below a (2 ^ e) (hi + 1) positive under in
+    omega (arith, below)
 
 -- a multiple of 2^32 of units more makes no difference
 pub wrap_32 : (x p : ℕ) → x * p < 2 ^ 32 → (x + 2 ^ 33) * p % 2 ^ 32 ≡ x * p
 wrap_32 x p small =
-  let split : (x + 2 ^ 33) * p ≡ (2 * p) * 2 ^ 32 + x * p = omega arith in
-  rw split (mod-mul-add (2 * p) (2 ^ 32) (x * p) small)
+    let split : (x + 2 ^ 33) * p ≡ (2 * p) * 2 ^ 32 + x * p = omega arith in
+    rw split (mod-mul-add (2 * p) (2 ^ 32) (x * p) small)
 
 pub wrap_33 : (x p : ℕ) → x * p < 2 ^ 33 → (x + 2 ^ 33) * p % 2 ^ 33 ≡ x * p
 wrap_33 x p small =
-  let split : (x + 2 ^ 33) * p ≡ p * 2 ^ 33 + x * p = omega arith in
-  rw split (mod-mul-add p (2 ^ 33) (x * p) small)
+    let split : (x + 2 ^ 33) * p ≡ p * 2 ^ 33 + x * p = omega arith in
+    rw split (mod-mul-add p (2 ^ 33) (x * p) small)
 
 pub base_back : (a e lo hi : ℕ) → lo * 2 ^ e ≤ a → a ≤ hi * 2 ^ e → hi ≤ lo + 511 → lo * 2 ^ e < 2 ^ 32
-  → corner_of a e (lo % 512) 0 (one_if_less (middle a e) (lo % 512)) % 2 ^ 32 ≡ lo * 2 ^ e
+    → corner_of a e (lo % 512) 0 (one_if_less (middle a e) (lo % 512)) % 2 ^ 32 ≡ lo * 2 ^ e
 base_back a e lo hi low high near small =
-  let from : lo ≤ a / 2 ^ e = unit_low a e lo low in
-  let to : a / 2 ^ e ≤ hi = unit_high a e hi high in
-  let blocks : a / 2 ^ e / 512 ≡ lo / 512 + one_if_less (a / 2 ^ e % 512) (lo % 512) = block lo (a / 2 ^ e) from (omega (arith, to, near)) in
-  let sum : a / 2 ^ e / 512 + 2 ^ 24 + 0 - one_if_less (a / 2 ^ e % 512) (lo % 512) ≡ lo / 512 + 2 ^ 24 = rw blocks (omega arith) in
-  let corner : corner_of a e (lo % 512) 0 (one_if_less (a / 2 ^ e % 512) (lo % 512)) ≡ ((lo / 512 + 2 ^ 24) * 512 + lo % 512) * 2 ^ e = corner_sum a e (lo % 512) 0 (one_if_less (a / 2 ^ e % 512) (lo % 512)) (lo / 512 + 2 ^ 24) sum in
-  let whole : (lo / 512 + 2 ^ 24) * 512 + lo % 512 ≡ lo + 2 ^ 33 = omega arith in
-  rw (corner, whole) (wrap_32 lo (2 ^ e) small)
+    let from : lo ≤ a / 2 ^ e = unit_low a e lo low in
+    let to : a / 2 ^ e ≤ hi = unit_high a e hi high in
+    let blocks : a / 2 ^ e / 512 ≡ lo / 512 + one_if_less (a / 2 ^ e % 512) (lo % 512) = block lo (a / 2 ^ e) from (omega (arith, to, near)) in
+    let sum : a / 2 ^ e / 512 + 2 ^ 24 + 0 - one_if_less (a / 2 ^ e % 512) (lo % 512) ≡ lo / 512 + 2 ^ 24 = rw blocks (omega arith) in
+    let corner : corner_of a e (lo % 512) 0 (one_if_less (a / 2 ^ e % 512) (lo % 512)) ≡ ((lo / 512 + 2 ^ 24) * 512 + lo % 512) * 2 ^ e = corner_sum a e (lo % 512) 0 (one_if_less (a / 2 ^ e % 512) (lo % 512)) (lo / 512 + 2 ^ 24) sum in
+    let whole : (lo / 512 + 2 ^ 24) * 512 + lo % 512 ≡ lo + 2 ^ 33 = omega arith in
+    rw (corner, whole) (wrap_32 lo (2 ^ e) small)
 
 pub top_back : (a e lo hi : ℕ) → lo * 2 ^ e ≤ a → a ≤ hi * 2 ^ e → lo ≤ hi → hi ≤ lo + 511 → hi * 2 ^ e ≤ 2 ^ 32
-  → corner_of a e (hi % 512) (one_if_less (hi % 512) (lo % 512)) (one_if_less (middle a e) (lo % 512)) % 2 ^ 33 ≡ hi * 2 ^ e
+    → corner_of a e (hi % 512) (one_if_less (hi % 512) (lo % 512)) (one_if_less (middle a e) (lo % 512)) % 2 ^ 33 ≡ hi * 2 ^ e
 top_back a e lo hi low high order near small =
-  let from : lo ≤ a / 2 ^ e = unit_low a e lo low in
-  let to : a / 2 ^ e ≤ hi = unit_high a e hi high in
-  let blocks : a / 2 ^ e / 512 ≡ lo / 512 + one_if_less (a / 2 ^ e % 512) (lo % 512) = block lo (a / 2 ^ e) from (omega (arith, to, near)) in
-  let ends : hi / 512 ≡ lo / 512 + one_if_less (hi % 512) (lo % 512) = block lo hi order near in
-  let sum : a / 2 ^ e / 512 + 2 ^ 24 + one_if_less (hi % 512) (lo % 512) - one_if_less (a / 2 ^ e % 512) (lo % 512) ≡ hi / 512 + 2 ^ 24 = rw (blocks, ends) (omega arith) in
-  let corner : corner_of a e (hi % 512) (one_if_less (hi % 512) (lo % 512)) (one_if_less (a / 2 ^ e % 512) (lo % 512)) ≡ ((hi / 512 + 2 ^ 24) * 512 + hi % 512) * 2 ^ e = corner_sum a e (hi % 512) (one_if_less (hi % 512) (lo % 512)) (one_if_less (a / 2 ^ e % 512) (lo % 512)) (hi / 512 + 2 ^ 24) sum in
-  let whole : (hi / 512 + 2 ^ 24) * 512 + hi % 512 ≡ hi + 2 ^ 33 = omega arith in
-  rw (corner, whole) (wrap_33 hi (2 ^ e) (omega (arith, small)))
+    let from : lo ≤ a / 2 ^ e = unit_low a e lo low in
+    let to : a / 2 ^ e ≤ hi = unit_high a e hi high in
+    let blocks : a / 2 ^ e / 512 ≡ lo / 512 + one_if_less (a / 2 ^ e % 512) (lo % 512) = block lo (a / 2 ^ e) from (omega (arith, to, near)) in
+    let ends : hi / 512 ≡ lo / 512 + one_if_less (hi % 512) (lo % 512) = block lo hi order near in
+    let sum : a / 2 ^ e / 512 + 2 ^ 24 + one_if_less (hi % 512) (lo % 512) - one_if_less (a / 2 ^ e % 512) (lo % 512) ≡ hi / 512 + 2 ^ 24 = rw (blocks, ends) (omega arith) in
+    let corner : corner_of a e (hi % 512) (one_if_less (hi % 512) (lo % 512)) (one_if_less (a / 2 ^ e % 512) (lo % 512)) ≡ ((hi / 512 + 2 ^ 24) * 512 + hi % 512) * 2 ^ e = corner_sum a e (hi % 512) (one_if_less (hi % 512) (lo % 512)) (one_if_less (a / 2 ^ e % 512) (lo % 512)) (hi / 512 + 2 ^ 24) sum in
+    let whole : (hi / 512 + 2 ^ 24) * 512 + hi % 512 ≡ hi + 2 ^ 33 = omega arith in
+    rw (corner, whole) (wrap_33 hi (2 ^ e) (omega (arith, small)))
 
 -- ---- the fields of a word
 
@@ -70,10 +69,10 @@ coded_small e which = elim (eq_tells e 24) [ inl t ↦ rw t.0 (omega arith) | in
 
 pub code_back : (e : ℕ) → (e ≤ 14) ⊎ (e ≡ 24) → (if coded e == 15 then 24 else coded e) ≡ e
 code_back e which =
-  elim (eq_tells e 24) [
-    inl t ↦ rw t.0 (sym t.1)
-  | inr t ↦ rw t.0 (elim (eq_tells e 15) [ inl s ↦ absurd (elim which [ inl low ↦ omega (arith, low, s.1) | inr is ↦ t.1 is ]) | inr s ↦ rw s.0 refl ])
-  ]
+    elim (eq_tells e 24) [
+      | inl t ↦ rw t.0 (sym t.1)
+      | inr t ↦ rw t.0 (elim (eq_tells e 15) [ inl s ↦ absurd (elim which [ inl low ↦ omega (arith, low, s.1) | inr is ↦ t.1 is ]) | inr s ↦ rw s.0 refl ])
+    ]
 
 pub exponent_back : (rest c b t : ℕ) → c < 16 → b < 512 → t < 512 → exponent_field (rest * 2 ^ 22 + (c * 2 ^ 18 + b * 2 ^ 9 + t)) ≡ c
 exponent_back rest c b t hc hb ht = omega (arith, hc, hb, ht)

@@ -1,5 +1,5 @@
 -- The least exponent: that the search finds it, that it is one, and what its rounding keeps.
-use Rattle.std.proofs.Common.{ℕ, zero, suc, ◌+◌, ◌-◌, ◌*◌, ◌/◌, ◌%◌, ◌^◌, ◌<◌, ◌≤◌, ◌≡◌, ◌⊎◌, nat_le, refl, ap, sym, ◌∙◌, inl, inr, arith, subst}
+use Rattle.std.proofs.Common.{ℕ, zero, suc, ◌+◌, ◌-◌, ◌*◌, ◌/◌, ◌%◌, ◌^◌, ◌<◌, ◌≤◌, ◌≡◌, ◌⊎◌, refl, ap, sym, ◌∙◌, inl, inr, arith}
 use Rattle.std.proofs.lemmas.Nat.{pow_pos, pow-add, le-div, div_below, mul-le, div-add-mod', mod_below}
 use Rattle.std.proofs.Math.Nat.{div-mul-le_self}
 use Rattle.law_lists.proofs.Tests.{le_tells}
@@ -13,63 +13,63 @@ later : (base top e n r : ℕ) → 511 < units base top e → FirstFrom base top
 later base top e n r fails h = record {
   serves = elim h.serves [ inl s ↦ inl (omega (arith, s.0), omega (arith, s.1), s.2) | inr is ↦ inr is ];
   least = λ k low high below. elim (le_tells k e) [
-      inl t ↦ (let same : k ≡ e = omega (arith, t.1, low) in rw same fails)
+    | inl t ↦ (let same : k ≡ e = omega (arith, t.1, low) in rw same fails)
     | inr t ↦ h.least k (omega (arith, t.1)) (omega (arith, high)) below
-    ];
+  ];
 }
 
 pub first_is : (base top e n : ℕ) → FirstFrom base top e n (first_from base top e n)
 first_is base top e zero = record { serves = inr refl; least = λ k low high below. absurd (omega (arith, low, high)) }
 first_is base top e (suc n) = elim (le_tells (units base top e) 511) [
-    inl t ↦ rw t.0 (record { serves = inl (omega arith, omega arith, t.1); least = λ k low high below. absurd (omega (arith, low, below)) })
+  | inl t ↦ rw t.0 (record { serves = inl (omega arith, omega arith, t.1); least = λ k low high below. absurd (omega (arith, low, below)) })
   | inr t ↦ rw t.0 (later base top e n (first_from base top (e + 1) n) t.1 (first_is base top (e + 1) n))
-  ]
+]
 
 pub exponent_is : (base top : ℕ) → IsLeastExponent base top (exponent_for base top)
 unfolding exponent_for
 exponent_is base top =
-  let h : FirstFrom base top 0 15 (first_from base top 0 15) = first_is base top 0 15 in
-  record {
-    serves = elim h.serves [ inl s ↦ inl (omega (arith, s.1), s.2) | inr is ↦ inr is ];
-    least = λ k below small. h.least k (omega arith) (omega (arith, small)) below;
-  }
+    let h : FirstFrom base top 0 15 (first_from base top 0 15) = first_is base top 0 15 in
+    record {
+      serves = elim h.serves [ inl s ↦ inl (omega (arith, s.1), s.2) | inr is ↦ inr is ];
+      least = λ k below small. h.least k (omega arith) (omega (arith, small)) below;
+    }
 
 no_less : (base top e f : ℕ) → IsLeastExponent base top e → IsLeastExponent base top f → e < f → ⊥
 no_less base top e f he hf less = elim he.serves [
-    inl s ↦ (let fails : 511 < units base top e = hf.least e less s.0 in omega (arith, fails, s.1))
+  | inl s ↦ (let fails : 511 < units base top e = hf.least e less s.0 in omega (arith, fails, s.1))
   | inr is ↦ elim hf.serves [ inl s ↦ omega (arith, s.0, is, less) | inr same ↦ omega (arith, same, is, less) ]
-  ]
+]
 
 pub unique : (base top e f : ℕ) → IsLeastExponent base top e → IsLeastExponent base top f → e ≡ f
 unique base top e f he hf = elim (le_tells e f) [
-    inl t ↦ elim (le_tells f e) [ inl s ↦ omega (arith, t.1, s.1) | inr s ↦ absurd (no_less base top e f he hf s.1) ]
+  | inl t ↦ elim (le_tells f e) [ inl s ↦ omega (arith, t.1, s.1) | inr s ↦ absurd (no_less base top e f he hf s.1) ]
   | inr t ↦ absurd (no_less base top f e hf he t.1)
-  ]
+]
 
 -- ---- rounding at any exponent
 
 pub ceil_le : (t k e : ℕ) → t ≤ k * 2 ^ e → ceil_units t e ≤ k
 ceil_le t k e le =
-  let positive : 0 < 2 ^ e = pow_pos e in
-  let under : t + 2 ^ e - 1 < (k + 1) * 2 ^ e = omega (arith, le, positive) in
-  let below : ceil_units t e < k + 1 = div_below (t + 2 ^ e - 1) (2 ^ e) (k + 1) positive under in
-  omega (arith, below)
+    let positive : 0 < 2 ^ e = pow_pos e in
+    let under : t + 2 ^ e - 1 < (k + 1) * 2 ^ e = omega (arith, le, positive) in
+    let below : ceil_units t e < k + 1 = div_below (t + 2 ^ e - 1) (2 ^ e) (k + 1) positive under in
+    omega (arith, below)
 
 pub ceil_above : (t e : ℕ) → t ≤ ceil_units t e * 2 ^ e
 ceil_above t e =
-  let positive : 0 < 2 ^ e = pow_pos e in
-  let whole : (t + 2 ^ e - 1) / 2 ^ e * 2 ^ e + (t + 2 ^ e - 1) % 2 ^ e ≡ t + 2 ^ e - 1 = div-add-mod' (t + 2 ^ e - 1) (2 ^ e) in
-  let rest : (t + 2 ^ e - 1) % 2 ^ e < 2 ^ e = mod_below (t + 2 ^ e - 1) (2 ^ e) positive in
-  omega (arith, whole, rest, positive)
+    let positive : 0 < 2 ^ e = pow_pos e in
+    let whole : (t + 2 ^ e - 1) / 2 ^ e * 2 ^ e + (t + 2 ^ e - 1) % 2 ^ e ≡ t + 2 ^ e - 1 = div-add-mod' (t + 2 ^ e - 1) (2 ^ e) in
+    let rest : (t + 2 ^ e - 1) % 2 ^ e < 2 ^ e = mod_below (t + 2 ^ e - 1) (2 ^ e) positive in
+    omega (arith, whole, rest, positive)
 
 pub floor_under : (b e : ℕ) → floor_units b e * 2 ^ e ≤ b
 floor_under b e = div-mul-le_self b (2 ^ e)
 
 pub floor_ceil : (b t e : ℕ) → b ≤ t → floor_units b e ≤ ceil_units t e
 floor_ceil b t e le =
-  let positive : 0 < 2 ^ e = pow_pos e in
-  let under : floor_units b e * 2 ^ e ≤ b = floor_under b e in
-  le-div (floor_units b e) (t + 2 ^ e - 1) (2 ^ e) positive (omega (arith, under, le, positive))
+    let positive : 0 < 2 ^ e = pow_pos e in
+    let under : floor_units b e * 2 ^ e ≤ b = floor_under b e in
+    le-div (floor_units b e) (t + 2 ^ e - 1) (2 ^ e) positive (omega (arith, under, le, positive))
 
 pub whole : (e n : ℕ) → e ≤ n → 2 ^ (n - e) * 2 ^ e ≡ 2 ^ n
 whole e n le = let same : n - e + e ≡ n = omega (arith, le) in sym (pow-add 2 (n - e) e) ∙ ap (λ k. 2 ^ k) same
@@ -88,33 +88,33 @@ pub record Good (base top e : ℕ) : Type 0 where
 
 fits_small : (top e : ℕ) → e ≤ 14 → top ≤ 2 ^ 32 → ceil_units top e * 2 ^ e ≤ 2 ^ 32
 fits_small top e small le =
-  let all : 2 ^ (32 - e) * 2 ^ e ≡ 2 ^ 32 = whole e 32 (omega (arith, small)) in
-  let under : ceil_units top e ≤ 2 ^ (32 - e) = ceil_le top (2 ^ (32 - e)) e (rw all le) in
-  let scaled : ceil_units top e * 2 ^ e ≤ 2 ^ (32 - e) * 2 ^ e = mul-le (ceil_units top e) (2 ^ e) (2 ^ (32 - e)) (2 ^ e) under (omega arith) in
-  omega (arith, scaled, all)
+    let all : 2 ^ (32 - e) * 2 ^ e ≡ 2 ^ 32 = whole e 32 (omega (arith, small)) in
+    let under : ceil_units top e ≤ 2 ^ (32 - e) = ceil_le top (2 ^ (32 - e)) e (rw all le) in
+    let scaled : ceil_units top e * 2 ^ e ≤ 2 ^ (32 - e) * 2 ^ e = mul-le (ceil_units top e) (2 ^ e) (2 ^ (32 - e)) (2 ^ e) under (omega arith) in
+    omega (arith, scaled, all)
 
 fits_widest : (top e : ℕ) → e ≡ 24 → top ≤ 2 ^ 32 → (ceil_units top e ≤ 256) × (ceil_units top e * 2 ^ e ≤ 2 ^ 32)
 fits_widest top e is le = rw is (omega (arith, le), omega (arith, le))
 
 pub good_at : (base top e : ℕ) → IsLeastExponent base top e → base ≤ top → top ≤ 2 ^ 32 → Good base top e
 good_at base top e h order le = elim h.serves [
-    inl s ↦ record {
-      exponent_small = inl s.0;
-      near = omega (arith, s.1);
-      order = floor_ceil base top e order;
-      low = floor_under base e;
-      high = ceil_above top e;
-      fits = fits_small top e s.0 le;
-    }
+  | inl s ↦ record {
+    exponent_small = inl s.0;
+    near = omega (arith, s.1);
+    order = floor_ceil base top e order;
+    low = floor_under base e;
+    high = ceil_above top e;
+    fits = fits_small top e s.0 le;
+  }
   | inr is ↦ record {
-      exponent_small = inr is;
-      near = (let few : ceil_units top e ≤ 256 = (fits_widest top e is le).0 in omega (arith, few));
-      order = floor_ceil base top e order;
-      low = floor_under base e;
-      high = ceil_above top e;
-      fits = (fits_widest top e is le).1;
-    }
-  ]
+    exponent_small = inr is;
+    near = (let few : ceil_units top e ≤ 256 = (fits_widest top e is le).0 in omega (arith, few));
+    order = floor_ceil base top e order;
+    low = floor_under base e;
+    high = ceil_above top e;
+    fits = (fits_widest top e is le).1;
+  }
+]
 
 pub good : (base top : ℕ) → base ≤ top → top ≤ 2 ^ 32 → Good base top (exponent_for base top)
 good base top order le = good_at base top (exponent_for base top) (exponent_is base top) order le

@@ -4,3 +4,9 @@ pub mod Back
 pub mod Exacts
 pub mod Bits
 pub mod Spellings
+pub mod Words
+pub mod Narrowing
+pub mod Sealed
+pub mod Passing
+pub mod Making
+pub mod Away

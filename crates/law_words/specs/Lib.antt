@@ -1,1 +1,2 @@
--- The laws cite the definitions of def_words alone.
+-- What the laws say beyond the definitions of def_words.
+pub mod Facts

@@ -3,8 +3,15 @@
 //! the machine.
 #![tactic(auto)]
 
+mod operations;
 mod rounding;
+mod rows;
 mod sets;
 
+pub use operations::{
+    address_keeps_bounds, derivation_makes, jumps_open_and_link, loads_attenuate,
+    operations_narrow, results_settle, seals_need_keys, tags_stay_away,
+};
 pub use rounding::{exact_where_short, least_exponent, rounding_holds};
+pub use rows::{least_bounds_rows, removing_load_data, roots_hold_all, sealing_rows};
 pub use sets::{normal_holds, spelling_holds, within_holds};

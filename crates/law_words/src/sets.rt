@@ -11,19 +11,16 @@ pub fn spelling_holds()
     ensures six { (set : ℕ) → set < 2 ^ 12 → packed set < 64 }
     ensures normal { (set : ℕ) → set < 2 ^ 12 → unpacked (packed set) ≡ normal_set set }
     ensures inverse { (set : ℕ) → set < 2 ^ 12 → IsLegal set → unpacked (packed set) ≡ set }
-{
-}
+{}
 
 /// A set's normal is legal, so that taking it twice is taking it once, and lies within the set.
 pub fn normal_holds()
     ensures legal { (set : ℕ) → set < 2 ^ 12 → IsLegal (normal_set set) }
     ensures within { (set : ℕ) → Within (normal_set set) set }
-{
-}
+{}
 
 /// The test of inclusion is inclusion.
 pub fn within_holds()
     ensures tells { (a b : ℕ) → is_within a b ≡ true → Within a b }
     ensures told { (a b : ℕ) → Within a b → is_within a b ≡ true }
-{
-}
+{}

@@ -1,0 +1,3 @@
+pub mod LabelSteps
+pub mod LabelTables
+pub mod Walks

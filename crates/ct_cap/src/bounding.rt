@@ -1,0 +1,63 @@
+//! Bounds: to a length, rounded or exact.
+
+ghost use Rattle.std.specs.Prelude.{◌%◌, ◌&&◌, ◌+◌, ◌/◌, ◌<◌, ◌^◌, ◌≡◌, nat_le};
+ghost use Rattle.def_words.specs.Authority.{word_of};
+ghost use Rattle.def_words.specs.Capability.{end_at, with_bounds, with_exact_bounds, with_fields};
+ghost use Rattle.def_words.specs.LeastBounds.{rounded_of};
+
+use crate::live::{Live, made};
+use crate::words;
+use crate::words::{address_of, high_of};
+use ct_bounds::{Bounds, Rounded, least};
+
+/// The capability with bounds from its address to a length, rounded outwards where no word spells
+/// them.
+///
+/// The tag stays exactly where the source is tagged and unsealed and the range lies in its bounds.
+/// The fields are those of the least bounds, no further than the address space goes.
+#[tactic(auto, unfolding(def_words::specs::Capability::with_bounds))]
+pub fn set_bounds(l: Live, length: u32) -> Live
+    ensures { result ≡ with_bounds l length }
+{
+    let rounded = rounded(l.cap.word, length);
+    let keeps = l.cap.tag & (l.seal == 0) & covers(l.bounds, address_of(l.cap.word), length);
+    made(keeps, bounded(l.cap.word, rounded.fields), l.cap.shadow)
+}
+
+/// The same, and the tag goes too where the bounds were rounded.
+#[tactic(auto, unfolding(def_words::specs::Capability::with_exact_bounds))]
+pub fn set_bounds_exact(l: Live, length: u32) -> Live
+    ensures { result ≡ with_exact_bounds l length }
+{
+    let rounded = rounded(l.cap.word, length);
+    let keeps = l.cap.tag
+        & (l.seal == 0)
+        & covers(l.bounds, address_of(l.cap.word), length)
+        & rounded.exact;
+    made(keeps, bounded(l.cap.word, rounded.fields), l.cap.shadow)
+}
+
+/// The least bounds from a word's address to a length.
+fn rounded(word: u64, length: u32) -> Rounded
+    ensures value { result ≡ rounded_of (word % 2 ^ 32) (end_at (word % 2 ^ 32) length) }
+    ensures few { result.fields < 2 ^ 22 }
+{
+    let from = address_of(word) as u64;
+    let room = (1 << 32) - from;
+    least(from, room.min(length as u64))
+}
+
+/// Whether a range lies in bounds.
+fn covers(bounds: Bounds, from: u32, length: u32) -> bool
+    ensures { result ≡ (nat_le bounds.base from && nat_le (from + length) bounds.top) }
+{
+    (bounds.base <= from as u64) & (from as u64 + length as u64 <= bounds.top)
+}
+
+/// A word with these fields E, B and T.
+fn bounded(word: u64, fields: u32) -> u64
+    requires { fields < 2 ^ 22 }
+    ensures { result ≡ word_of (with_fields (word / 2 ^ 32) fields) (word % 2 ^ 32) }
+{
+    words::word_of(words::with_fields(high_of(word), fields), address_of(word))
+}

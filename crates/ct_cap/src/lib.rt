@@ -1,0 +1,29 @@
+//! Operations on capabilities.
+//!
+//! A register holds a capability decoded (`Live`); contracts see it as the capability alone, and
+//! each operation equals its equation in *Capability* of def_words. None of them traps: where one is
+//! refused the tag goes and the bits are the stated ones. docs/capabilities.md tells the rules.
+#![tactic(auto)]
+
+mod bounding;
+mod comparing;
+mod live;
+mod passing;
+mod pointing;
+mod rights;
+mod seals;
+mod words;
+
+pub use bounding::{set_bounds, set_bounds_exact};
+pub use comparing::{same, subset};
+pub use ct_bounds::Bounds;
+pub use ct_perm::{Permission, Perms};
+pub use def_words::{Cap, Posture, Shadow, Trap};
+pub use live::{Live, expand, shrink};
+pub use passing::{attenuate, derive, link, open};
+pub use pointing::{add_address, set_address};
+pub use rights::{and_perms, clear_tag};
+pub use seals::{seal, unseal};
+
+#[cfg(test)]
+mod tests;

@@ -1,0 +1,88 @@
+//! A capability with what its word decodes to.
+
+ghost use Rattle.std.specs.Prelude.{◌+◌, ◌<◌, ◌≡◌, if◌then◌else◌};
+ghost use Rattle.def_words.specs.Authority.{cap_bounds};
+ghost use Rattle.def_words.specs.Capability.{cap_of};
+ghost use Rattle.def_words.specs.Permissions.{cap_perms};
+ghost use Rattle.def_words.specs.Seals.{cap_seal, seal_type};
+
+use crate::words::{address_of, cap_of, high_of};
+use ct_bits::field;
+use ct_bounds::{Bounds, decode};
+use ct_perm::{Permission, Perms};
+use def_words::{Cap, Shadow};
+use std::marker::Model;
+
+/// A capability as a register holds it.
+///
+/// `bounds`, `perms` and `seal` are those that the capability's word decodes to; `seal` is the type,
+/// 0 where it is unsealed. Contracts see a `Live` as its `Cap`.
+#[derive(Clone, Copy, Debug)]
+pub struct Live {
+    pub cap: Cap,
+    pub bounds: Bounds,
+    pub perms: Perms,
+    pub seal: u32,
+}
+
+impl Model for Live {
+    ghost use Rattle.std.specs.Prelude.{◌≡◌};
+    ghost use Rattle.std.proofs.Common.{ap, sym, ◌∙◌};
+    ghost use Rattle.def_words.specs.declared.Cap.{Cap};
+    ghost use Rattle.def_words.specs.Authority.{cap_bounds};
+    ghost use Rattle.def_words.specs.Permissions.{cap_perms};
+    ghost use Rattle.def_words.specs.Seals.{cap_seal};
+
+    ghost Value = { Cap };
+
+    ghost view = { λ l. l.cap };
+
+    ghost invariant = { λ l. (l.bounds ≡ cap_bounds l.cap) × (l.perms ≡ record { 0 = cap_perms l.cap }) × (l.seal ≡ cap_seal l.cap) };
+
+    ghost inverse = { λ c. record { cap = c; bounds = cap_bounds c; perms = record { 0 = cap_perms c }; seal = cap_seal c } };
+
+    ghost inverse_ok = { λ a h. ap (λ b. record { cap = a.cap; bounds = b; perms = record { 0 = cap_perms a.cap }; seal = cap_seal a.cap }) (sym h.0) ∙ ap (λ p. record { cap = a.cap; bounds = a.bounds; perms = p; seal = cap_seal a.cap }) (sym h.1) ∙ ap (λ s. record { cap = a.cap; bounds = a.bounds; perms = a.perms; seal = s }) (sym h.2) };
+}
+
+/// The capability decoded.
+#[tactic(auto, unfolding(def_words::specs::Authority::cap_bounds, def_words::specs::Permissions::cap_perms, def_words::specs::Seals::cap_seal))]
+pub fn expand(c: Cap) -> Live
+    ensures { result ≡ c }
+{
+    let high = high_of(c.word);
+    let perms = Perms::unpack(field(high, 25, 6) as u8);
+    Live {
+        cap: c,
+        bounds: decode(high, address_of(c.word)),
+        perms,
+        seal: type_of(perms.has(Permission::Execute), field(high, 22, 3)),
+    }
+}
+
+/// The capability alone.
+pub fn shrink(l: Live) -> Cap
+    ensures { result ≡ l }
+{
+    l.cap
+}
+
+/// The type that a seal field stands for, 0 where it is unsealed.
+fn type_of(executes: bool, field: u32) -> u32
+    requires { field < 8 }
+    ensures { result ≡ seal_type executes field }
+{
+    if field == 0 {
+        0
+    } else if executes {
+        field
+    } else {
+        8 + field
+    }
+}
+
+/// A capability of this tag and word decoded; an untagged one comes from nowhere.
+pub fn made(tag: bool, word: u64, shadow: Shadow) -> Live
+    ensures { result ≡ cap_of tag word shadow }
+{
+    expand(cap_of(tag, word, shadow))
+}

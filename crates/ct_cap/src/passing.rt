@@ -1,0 +1,131 @@
+//! What loads, jumps and derivations make of a capability.
+
+ghost use Rattle.std.specs.Prelude.{[], ◌%◌, ◌∷◌, ◌++◌, ◌/◌, ◌<◌, ◌^◌, ◌≡◌, bit_and, if◌then◌else◌, ℕ};
+ghost use Rattle.def_words.specs.Authority.{word_of};
+ghost use Rattle.def_words.specs.Capability.{with_seal_field};
+ghost use Rattle.def_words.specs.Derive.{derive};
+ghost use Rattle.def_words.specs.Jumped.{linked, opened};
+ghost use Rattle.def_words.specs.Loaded.{attenuated};
+ghost use Rattle.def_words.specs.Permissions.{global, load_global, load_mutable, removed, store_data};
+
+use crate::bounding::set_bounds_exact;
+use crate::live::{Live, made};
+use crate::pointing::{add_address, set_address};
+use crate::rights::{and_perms, with_bits};
+use crate::words;
+use crate::words::{address_of, high_of};
+use ct_perm::Permission;
+use def_words::{Posture, Shadow};
+
+/// A capability loaded through another: it loses its tag where that one lacks MC; unsealed, SD and LM
+/// where that one lacks LM, and GL and LG where it lacks LG; sealed, GL alone where it lacks LG.
+///
+/// The permissions go from every word, tagged or not.
+#[tactic(auto, unfolding(def_words::specs::Loaded::attenuated))]
+pub fn attenuate(by: Live, l: Live) -> Live
+    ensures { result ≡ attenuated by l }
+{
+    let mask = passed(
+        l.seal == 0,
+        by.perms.has(Permission::LoadMutable),
+        by.perms.has(Permission::LoadGlobal),
+    );
+    let bits = l.perms.masked(mask).normal().pack();
+    made(
+        l.cap.tag & by.perms.has(Permission::MemoryCapability),
+        with_bits(l.cap.word, bits),
+        l.cap.shadow,
+    )
+}
+
+/// The permissions that a load lets pass.
+fn passed(unsealed: bool, mutable: bool, globals: bool) -> u32
+    ensures { (set : ℕ) → bit_and set result ≡ removed set (if unsealed
+        then (if mutable then [] else store_data ∷ load_mutable ∷ []) ++ (if globals then [] else global ∷ load_global ∷ [])
+        else (if globals then [] else global ∷ [])) }
+{
+    if unsealed {
+        if mutable {
+            if globals { 4095 } else { 4092 }
+        } else if globals {
+            4083
+        } else {
+            4080
+        }
+    } else if globals {
+        4095
+    } else {
+        4094
+    }
+}
+
+/// A jump's target as the program counter capability: unsealed, with its root and no source.
+pub fn open(l: Live) -> Live
+    ensures { result ≡ opened l }
+{
+    made(
+        l.cap.tag,
+        resealed(l.cap.word, 0),
+        Shadow {
+            root: l.cap.shadow.root,
+            source: 0,
+        },
+    )
+}
+
+/// A jump's link: the program counter capability after the instruction as a return sentry, of type 4
+/// with the posture's source where interrupts were off, else of type 5.
+pub fn link(pcc: Live, before: Posture) -> Live
+    ensures { result ≡ linked pcc before }
+{
+    let next = add_address(pcc, 4);
+    let field = if before.off { 4 } else { 5 };
+    let source = if before.off { before.source } else { 0 };
+    made(
+        next.cap.tag,
+        resealed(next.cap.word, field),
+        Shadow {
+            root: pcc.cap.shadow.root,
+            source,
+        },
+    )
+}
+
+/// A capability made from a root's high word: exact bounds, a part of the root's permissions, an
+/// address, and a type where that isn't 0.
+#[tactic(auto, unfolding(def_words::specs::Derive::derive))]
+pub fn derive(
+    high: u32,
+    base: u32,
+    length: u32,
+    set: u32,
+    address: u32,
+    kind: u32,
+    from: Shadow,
+) -> Live
+    ensures { result ≡ derive high base length set address kind from }
+{
+    let root = made(true, words::word_of(high, 0), from);
+    let bounded = set_bounds_exact(set_address(root, base), length);
+    let placed = set_address(and_perms(bounded, set), address);
+    if kind == 0 {
+        placed
+    } else {
+        made(
+            placed.cap.tag,
+            resealed(placed.cap.word, kind % 8),
+            placed.cap.shadow,
+        )
+    }
+}
+
+/// A word with this seal field.
+fn resealed(word: u64, field: u32) -> u64
+    requires { field < 8 }
+    ensures { result ≡ word_of (with_seal_field (word / 2 ^ 32) field) (word % 2 ^ 32) }
+{
+    words::word_of(
+        words::with_seal_field(high_of(word), field),
+        address_of(word),
+    )
+}

@@ -1,0 +1,103 @@
+//! Seals: keys that seal and open.
+
+ghost use Rattle.std.specs.Prelude.{◌%◌, ◌&&◌, ◌/◌, ◌<◌, ◌^◌, ◌≡◌, ◌≤◌, if◌then◌else◌, nat_le, nat_lt};
+ghost use Rattle.def_words.specs.Authority.{permission_bits, word_of};
+ghost use Rattle.def_words.specs.Capability.{sealed_by, unsealed_by, with_permission_bits, with_seal_field};
+ghost use Rattle.def_words.specs.Seals.{is_key_type};
+
+use crate::live::{Live, made};
+use crate::words;
+use crate::words::{address_of, high_of};
+use ct_bits::field;
+use ct_bounds::Bounds;
+use ct_perm::Permission;
+
+/// The capability sealed as the type that the key's address is.
+///
+/// The tag stays exactly where both are tagged and unsealed, the key seals, and its address lies in
+/// its bounds and is a type of the capability's kind: 1 to 5 with EX, 9 to 15 without. Where the
+/// address is such a type the seal field becomes it, else the field stays.
+#[tactic(auto, unfolding(def_words::specs::Capability::sealed_by))]
+pub fn seal(l: Live, key: Live) -> Live
+    ensures { result ≡ sealed_by l key }
+{
+    let kind = address_of(key.cap.word);
+    let lawful = is_key_type(l.perms.has(Permission::Execute), kind);
+    let keeps = l.cap.tag
+        & key.cap.tag
+        & (l.seal == 0)
+        & (key.seal == 0)
+        & key.perms.has(Permission::Seal)
+        & holds(key.bounds, kind)
+        & lawful;
+    made(keeps, sealed_word(l.cap.word, lawful, kind), l.cap.shadow)
+}
+
+/// The capability opened by a key.
+///
+/// The tag stays exactly where the capability is tagged and sealed, the key is tagged and unsealed
+/// and unseals, and its address is the capability's type and lies in its bounds. The seal field
+/// becomes 0, and GL goes where the key lacks it.
+#[tactic(auto, unfolding(def_words::specs::Capability::unsealed_by))]
+pub fn unseal(l: Live, key: Live) -> Live
+    ensures { result ≡ unsealed_by l key }
+{
+    let kind = address_of(key.cap.word);
+    let keeps = l.cap.tag
+        & key.cap.tag
+        & !(l.seal == 0)
+        & (key.seal == 0)
+        & key.perms.has(Permission::Unseal)
+        & holds(key.bounds, kind)
+        & (l.seal == kind);
+    made(
+        keeps,
+        opened_word(l.cap.word, key.perms.has(Permission::Global)),
+        l.cap.shadow,
+    )
+}
+
+/// Whether an address lies in bounds.
+fn holds(bounds: Bounds, address: u32) -> bool
+    ensures { result ≡ (nat_le bounds.base address && nat_lt address bounds.top) }
+{
+    (bounds.base <= address as u64) & ((address as u64) < bounds.top)
+}
+
+/// Whether a number is a type that keys make of capabilities with EX, or of those without.
+fn is_key_type(executes: bool, kind: u32) -> bool
+    ensures { result ≡ is_key_type executes kind }
+{
+    if executes {
+        (1 <= kind) & (kind <= 5)
+    } else {
+        (9 <= kind) & (kind <= 15)
+    }
+}
+
+/// A word with the field of a type, where it is one.
+fn sealed_word(word: u64, lawful: bool, kind: u32) -> u64
+    ensures { result ≡ (if lawful then word_of (with_seal_field (word / 2 ^ 32) (kind % 8)) (word % 2 ^ 32) else word) }
+{
+    if lawful {
+        words::word_of(
+            words::with_seal_field(high_of(word), kind % 8),
+            address_of(word),
+        )
+    } else {
+        word
+    }
+}
+
+/// A word unsealed, without GL where it is to go.
+fn opened_word(word: u64, keeps_global: bool) -> u64
+    ensures { result ≡ word_of (with_permission_bits (with_seal_field (word / 2 ^ 32) 0) (if keeps_global then permission_bits (word / 2 ^ 32) else permission_bits (word / 2 ^ 32) % 32)) (word % 2 ^ 32) }
+{
+    let high = high_of(word);
+    let all = field(high, 25, 6) as u8;
+    let bits = if keeps_global { all } else { all % 32 };
+    words::word_of(
+        words::with_permission_bits(words::with_seal_field(high, 0), bits),
+        address_of(word),
+    )
+}

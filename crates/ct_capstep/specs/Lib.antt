@@ -1,0 +1,1 @@
+-- The contracts cite the definitions of def_words and def_capstep.

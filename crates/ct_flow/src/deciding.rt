@@ -1,0 +1,130 @@
+//! Where execution goes on.
+
+ghost use Rattle.std.specs.Prelude.{◌≡◌, ◌%◌, ◌^◌};
+ghost use Rattle.def_words.specs.Authority.{cap_address};
+ghost use Rattle.def_step.specs.Checks.{plain_trap, misaligned_fetch};
+ghost use Rattle.def_step.specs.Jumps.{flow_result, target_at, jumped_to, passed_over, branched};
+
+use crate::branches::takes;
+use crate::outcome::Flow;
+use crate::registers::register_jump;
+use ct_cap::{Live, Posture, Trap, add_address, link, set_address};
+use def_instr::Instr;
+
+/// The trap of a target that isn't a multiple of 4.
+pub(crate) fn misaligned() -> Trap
+    ensures { result ≡ plain_trap misaligned_fetch }
+{
+    Trap {
+        cause: 0,
+        code: 0,
+        register: 0,
+    }
+}
+
+/// The address of a capability.
+pub(crate) fn address(c: Live) -> u32
+    ensures { result ≡ cap_address c }
+{
+    (c.cap.word % (1 << 32)) as u32
+}
+
+/// The program counter goes to a target, by the address rule.
+fn jump_to(pcc: Live, posture: Posture, target: u32, link: Option<Live>) -> Result<Flow, Trap>
+    ensures { result ≡ jumped_to pcc posture target link }
+{
+    if target % 4 != 0 {
+        return Err(misaligned());
+    }
+    Ok(Flow {
+        link,
+        pcc: set_address(pcc, target),
+        posture,
+    })
+}
+
+/// A branch by an offset, taken or not.
+fn branch(taken: bool, pcc: Live, posture: Posture, offset: u32) -> Result<Flow, Trap>
+    ensures { result ≡ branched taken pcc posture offset }
+{
+    if taken {
+        return jump_to(pcc, posture, address(pcc).wrapping_add(offset), None);
+    }
+    pass_over(pcc, posture)
+}
+
+/// Execution goes on after the instruction.
+fn pass_over(pcc: Live, posture: Posture) -> Result<Flow, Trap>
+    ensures { result ≡ passed_over pcc posture }
+{
+    Ok(Flow {
+        link: None,
+        pcc: add_address(pcc, 4),
+        posture,
+    })
+}
+
+/// A branch, `jal` or register jump from `pcc` under posture `posture`. x and y are the values of
+/// rs1 and rs2; `named` is the export that x's root entry names, or 0.
+///
+/// A trap where a check fails: the first. Any other instruction goes on after itself.
+#[tactic(auto, unfolding(def_step::specs::Jumps::flow_result))]
+pub fn flow(
+    instruction: Instr,
+    x: Live,
+    y: Live,
+    pcc: Live,
+    posture: Posture,
+    named: u32,
+) -> Result<Flow, Trap>
+    ensures { result ≡ flow_result instruction x y pcc posture named }
+{
+    match instruction {
+        Instr::Jal { offset, .. } => jump_to(
+            pcc,
+            posture,
+            address(pcc).wrapping_add(offset),
+            Some(link(pcc, posture)),
+        ),
+        Instr::CJalr { rd, rs1, immediate } => register_jump(
+            rd, rs1, x, immediate, pcc, posture, named,
+        ),
+        Instr::Beq { offset, .. } => branch(
+            takes(instruction, address(x), address(y)),
+            pcc,
+            posture,
+            offset,
+        ),
+        Instr::Bne { offset, .. } => branch(
+            takes(instruction, address(x), address(y)),
+            pcc,
+            posture,
+            offset,
+        ),
+        Instr::Blt { offset, .. } => branch(
+            takes(instruction, address(x), address(y)),
+            pcc,
+            posture,
+            offset,
+        ),
+        Instr::Bge { offset, .. } => branch(
+            takes(instruction, address(x), address(y)),
+            pcc,
+            posture,
+            offset,
+        ),
+        Instr::Bltu { offset, .. } => branch(
+            takes(instruction, address(x), address(y)),
+            pcc,
+            posture,
+            offset,
+        ),
+        Instr::Bgeu { offset, .. } => branch(
+            takes(instruction, address(x), address(y)),
+            pcc,
+            posture,
+            offset,
+        ),
+        _ => pass_over(pcc, posture),
+    }
+}

@@ -1,0 +1,16 @@
+//! Branches and jumps: where execution goes on, with which posture, and the link that is left.
+//!
+//! `flow` equals the written step of each branch, of `jal` and of the register jump, whose checks
+//! are a list and whose trap is the first that fails. docs/machine.md tells the same in prose.
+#![tactic(auto)]
+
+mod branches;
+mod deciding;
+mod outcome;
+mod registers;
+
+pub use deciding::flow;
+pub use outcome::Flow;
+
+#[cfg(test)]
+mod tests;

@@ -1,0 +1,32 @@
+//! The load filter.
+
+ghost use Rattle.std.specs.Prelude.{◌≡◌, ◌&&◌, ◌+◌, ◌*◌, ◌≤◌, ◌<◌, ◌^◌, length};
+ghost use Rattle.def_step.specs.Accesses.{filtered_in, is_marked_in};
+
+use ct_cap::{Live, clear_tag};
+use ct_mem::Memory;
+
+/// Whether an address lies in a marked granule; RAM begins at `ram`.
+fn is_marked<M: Memory>(mem: &M, ram: u32, address: u64) -> bool
+    ensures { result ≡ is_marked_in ram (M.granules mem.now) address }
+{
+    let size = mem.size();
+    if address < ram as u64 {
+        return false;
+    }
+    let at = address - ram as u64;
+    if at >= size as u64 {
+        return false;
+    }
+    mem.marked(at as u32)
+}
+
+/// The capability, without its tag where its base lies in a marked granule; RAM begins at `ram`.
+pub fn filter<M: Memory>(mem: &M, ram: u32, c: Live) -> Live
+    ensures { result ≡ filtered_in ram (M.granules mem.now) c }
+{
+    if c.cap.tag && is_marked(mem, ram, c.bounds.base) {
+        return clear_tag(c);
+    }
+    c
+}

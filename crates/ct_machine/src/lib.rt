@@ -1,0 +1,4 @@
+//! The machine of one thread.
+#![tactic(auto)]
+
+mod operands;

@@ -1,0 +1,14 @@
+-- A set under a mask.
+use Rattle.std.proofs.Common.{ℕ, ◌%◌, ◌<◌, ◌≤◌, ◌≡◌, ◌^◌, sym, ◌∙◌, arith, bit_and}
+use Rattle.std.proofs.lemmas.Nat.{and_mod, and_le_l}
+
+pub mask_small : (set mask : ℕ) → set < 4096 → bit_and set mask < 4096
+mask_small set mask small = let le : bit_and set mask ≤ set = and_le_l set mask in omega (arith, le, small)
+
+pub mask_low : (set mask : ℕ) → set < 4096 → bit_and set (mask % 4096) ≡ bit_and set mask
+mask_low set mask small =
+    let cut : bit_and set mask % 2 ^ 12 ≡ bit_and (set % 2 ^ 12) (mask % 2 ^ 12) = and_mod set mask 12 in
+    let whole : set % 2 ^ 12 ≡ set = omega (arith, small) in
+    let fits : bit_and set mask % 2 ^ 12 ≡ bit_and set mask = (let lt : bit_and set mask < 4096 = mask_small set mask small in omega (arith, lt)) in
+    let there : bit_and set mask % 2 ^ 12 ≡ bit_and set (mask % 2 ^ 12) = rw whole at cut in
+    sym there ∙ fits

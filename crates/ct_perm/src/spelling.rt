@@ -1,0 +1,99 @@
+//! Sets as six bits.
+
+ghost use Rattle.std.specs.Prelude.{◌%◌, ◌*◌, ◌+◌, ◌/◌, ◌<◌, ◌≡◌, ◌^◌, ◌≤◌, [], ◌∷◌, if◌then◌else◌};
+ghost use Rattle.ct_perm.specs.Named.{number_of};
+ghost use Rattle.def_words.specs.Permissions.{packed, spelling, unpacked};
+
+use crate::forms::{Shape, form};
+use crate::{Permission, Perms};
+
+/// The six bits of a set's normal: GL, then the form with its bits.
+#[tactic(auto, unfolding(def_words::specs::Permissions::packed))]
+pub fn packed(set: Perms) -> u8
+    ensures value { result ≡ packed set.0 }
+    ensures six { result < 64 }
+{
+    let low = match form(set) {
+        Shape::Executable => 8
+            + three(
+                set,
+                Permission::SystemRegisters,
+                Permission::LoadMutable,
+                Permission::LoadGlobal,
+            ),
+        Shape::ReadWrite => 24
+            + three(
+                set,
+                Permission::StoreLocal,
+                Permission::LoadMutable,
+                Permission::LoadGlobal,
+            ),
+        Shape::ReadOnly => 20 + two(set, Permission::LoadMutable, Permission::LoadGlobal),
+        Shape::WriteOnly => 16,
+        Shape::Plain => 16 + two(set, Permission::LoadData, Permission::StoreData),
+        Shape::Sealing => three(set, Permission::User, Permission::Seal, Permission::Unseal),
+    };
+    flag(set.has(Permission::Global), 32) + low
+}
+
+/// A bit's value where it is set.
+fn flag(on: bool, value: u8) -> u8
+    ensures { result ≡ (if on then value else 0) }
+{
+    if on { value } else { 0 }
+}
+
+/// Two bits for two permissions, the first the higher.
+fn two(set: Perms, high: Permission, low: Permission) -> u8
+    ensures value { result ≡ spelling set.0 (number_of high ∷ number_of low ∷ []) }
+    ensures small { result < 4 }
+{
+    flag(set.has(high), 2) + flag(set.has(low), 1)
+}
+
+/// Three bits for three permissions, the first the highest.
+fn three(set: Perms, high: Permission, middle: Permission, low: Permission) -> u8
+    ensures value { result ≡ spelling set.0 (number_of high ∷ number_of middle ∷ number_of low ∷ []) }
+    ensures small { result < 8 }
+{
+    flag(set.has(high), 4) + two(set, middle, low)
+}
+
+/// The set that six bits spell.
+pub fn told(bits: u8) -> Perms
+    requires { bits < 64 }
+    ensures value { result.0 ≡ unpacked bits }
+    ensures small { result.0 < 2 ^ 12 }
+{
+    Perms((bits / 32) as u16 + told_by_form(bits % 32))
+}
+
+/// The set that five bits spell, without GL.
+fn told_by_form(bits: u8) -> u16
+    requires { bits < 32 }
+    ensures { result ≡ unpacked bits }
+{
+    if bits / 8 == 1 {
+        352 + placed(bits, 128, 8, 2)
+    } else if bits / 8 == 3 {
+        100 + placed(bits, 16, 8, 2)
+    } else if bits / 4 == 5 {
+        96 + placed(bits, 0, 8, 2)
+    } else if bits == 16 {
+        68
+    } else if bits / 4 == 4 {
+        placed(bits, 0, 32, 4)
+    } else {
+        placed(bits, 2048, 1024, 512)
+    }
+}
+
+/// The permissions that the low three bits stand for.
+fn placed(bits: u8, high: u16, middle: u16, low: u16) -> u16
+    requires high { high ≤ 2048 }
+    requires middle { middle ≤ 2048 }
+    requires low { low ≤ 2048 }
+    ensures { result ≡ bits / 4 % 2 * high + bits / 2 % 2 * middle + bits % 2 * low }
+{
+    (bits / 4 % 2) as u16 * high + (bits / 2 % 2) as u16 * middle + (bits % 2) as u16 * low
+}

@@ -1,0 +1,6 @@
+pub mod DigitValues
+pub mod LineEnds
+pub mod NamedRows
+pub mod PiecesOf
+pub mod ProgramsOf
+pub mod RowsOf

@@ -1,0 +1,105 @@
+//! From text to statements: `statements` gives the statements that a source stands for, or the
+//! first line's fault, exactly as the written definition says (docs/assembler.md).
+#![tactic(auto)]
+
+mod characters;
+mod forms;
+mod lines;
+mod numbers;
+mod operands;
+mod ranges;
+mod tables;
+#[cfg(test)]
+mod tests;
+mod tokens;
+
+ghost use Rattle.std.specs.Prelude.{◌≡◌, ◌++◌, ◌+◌, ◌<◌, ◌^◌, length, option_map, OnOk, IfOk};
+ghost use Rattle.def_source.specs.Source as source;
+ghost use Rattle.def_source.specs.declared.parts.Section.TheVariants as section;
+ghost use Rattle.def_source.specs.Source.{Gives, IsLawful, program_of};
+ghost use Rattle.ct_source.specs.Views.{part_view, line_view, statements_view, program_view};
+
+use crate::lines::{first_line, line};
+use def_source::AsmFault;
+use def_source::parts::{Line, Part, Section, Statement};
+use std::alloc::{AllocError, Global};
+
+/// The labels and statements of a source, in order. Names are slices of the source.
+#[derive(Debug, Drop)]
+pub struct Program<'a> {
+    pub statements: Vec<Statement<&'a [u8]>>,
+}
+
+/// The statements that a text stands for.
+///
+/// `AsmFault::At` names the first line that has a fault, and on it the least number: A1 a byte that
+/// isn't ASCII, or a row that isn't one of tokens; A2 an unknown first word; A3 operands of no form,
+/// or a statement in the wrong section; A4 a number out of range; A7 a register above 15
+/// (docs/assembler.md, "Faults"). `AsmFault::NoMemory` comes where a growth was refused.
+#[tactic(auto, unfolding(def_source::specs::Source::program_of))]
+pub fn statements<'a>(alloc: Global, text: &'a [u8]) -> Result<Program<'a>, AsmFault>
+    requires { length text.now < 2 ^ 32 }
+    ensures program { Gives program_view result (program_of text.now) }
+    ensures lawful { IfOk result (λ p. IsLawful (program_view p)) }
+{
+    match all_statements(alloc, text) {
+        Ok(statements) => Ok(Program { statements }),
+        Err(fault) => Err(fault),
+    }
+}
+
+/// The statements, line by line.
+fn all_statements<'a>(alloc: Global, text: &'a [u8]) -> Result<Vec<Statement<&'a [u8]>>, AsmFault>
+    requires { length text.now < 2 ^ 32 }
+    ensures { Gives (λ v. statements_view v.items) result (source.program_from section.Text 1 (source.lines_of text.now)) }
+{
+    let mut all = Vec::new(alloc);
+    let mut section = Section::Text;
+    let mut number = 0;
+    let mut rest = text;
+    while !rest.is_empty() {
+        number += 1;
+        let (current, after) = first_line(rest);
+        let read = match line(alloc, section, number, current) {
+            Ok(read) => read,
+            Err(fault) => return Err(fault),
+        };
+        if add(&mut all, number, read).is_err() {
+            return Err(AsmFault::NoMemory);
+        }
+        section = section_after(section, read.part);
+        rest = after;
+    }
+    Ok(all)
+}
+
+/// Adds what stands on a line.
+fn add<'a>(
+    all: &mut Vec<Statement<&'a [u8]>>,
+    line: u32,
+    read: Line<&'a [u8]>,
+) -> Result<(), AllocError>
+    ensures { OnOk result (statements_view all.new.items ≡ statements_view all.old.items ++ source.line_statements line (line_view read.entry)) }
+{
+    if let Some(name) = read.label {
+        all.push(Statement {
+            line,
+            part: Part::Label { name },
+        })?;
+    }
+    if let Some(part) = read.part {
+        all.push(Statement { line, part })?;
+    }
+    Ok(())
+}
+
+/// The section after a statement.
+fn section_after(section: Section, part: Option<Part<&[u8]>>) -> Section
+    ensures { result ≡ source.section_after section (option_map part_view part.entry) }
+{
+    match part {
+        Some(Part::Text) => Section::Text,
+        Some(Part::Data) => Section::Data,
+        _ => section,
+    }
+}

@@ -1,0 +1,155 @@
+//! What a statement may hold: its section, the ranges of its numbers, and the registers that the
+//! machine has.
+
+ghost use Rattle.std.specs.Prelude.{◌≡◌, ◌-◌, ◌≤◌, ◌%◌, ◌==◌, ◌&&◌, nat_lt};
+ghost use Rattle.def_source.specs.Source as source;
+ghost use Rattle.ct_source.specs.Views.{part_view, target_view};
+
+use def_source::operations::ImmediateOperation;
+use def_source::parts::{Number, Part, Section, Target};
+
+/// Whether the section has such statements: instructions stand in text, bytes, zeros and alignment
+/// among the initial bytes.
+pub(crate) fn in_section(section: Section, part: Part<&[u8]>) -> bool
+    ensures { result ≡ source.in_section section (part_view part.entry) }
+{
+    match part {
+        Part::Label { .. } | Part::Text | Part::Data | Part::Word { .. } => true,
+        Part::Byte { .. } | Part::Zero { .. } | Part::Align { .. } => is_data(section),
+        _ => is_text(section),
+    }
+}
+
+fn is_text(section: Section) -> bool
+    ensures { result ≡ source.is_text section }
+{
+    match section {
+        Section::Text => true,
+        Section::Data => false,
+    }
+}
+
+fn is_data(section: Section) -> bool
+    ensures { result ≡ source.is_data section }
+{
+    match section {
+        Section::Text => false,
+        Section::Data => true,
+    }
+}
+
+/// Whether a number isn't below -low, nor above high.
+fn within(low: u128, high: u128, number: Number) -> bool
+    ensures { result ≡ source.within low high number }
+{
+    if number.negative {
+        number.magnitude <= low
+    } else {
+        number.magnitude <= high
+    }
+}
+
+fn fits_immediate(operation: ImmediateOperation, number: Number) -> bool
+    ensures { result ≡ source.fits_immediate operation number }
+{
+    match operation {
+        ImmediateOperation::Slli | ImmediateOperation::Srli | ImmediateOperation::Srai => {
+            within(0, 31, number)
+        }
+        ImmediateOperation::CSetBoundsImm => within(0, 4095, number),
+        _ => within(2048, 2047, number),
+    }
+}
+
+/// Whether an offset is even and at most so many bytes. A label's reach is a matter of the object.
+fn fits_target(reach: u128, target: Target<&[u8]>) -> bool
+    requires { 2 ≤ reach }
+    ensures { result ≡ source.fits_target reach (target_view target.entry) }
+{
+    match target {
+        Target::Label(_) => true,
+        Target::Offset(number) => within(reach, reach - 2, number) && number.magnitude % 2 == 0,
+    }
+}
+
+/// Whether a number is 1 or a power of two up to 4096.
+fn fits_align(number: Number) -> bool
+    ensures { result ≡ (source.within 0 4096 number && nat_lt 0 number.magnitude && 4096 % number.magnitude == 0) }
+{
+    within(0, 4096, number) && 0 < number.magnitude && 4096 % number.magnitude == 0
+}
+
+/// Whether each number is in its range.
+pub(crate) fn numbers_fit(part: Part<&[u8]>) -> bool
+    ensures { result ≡ source.numbers_fit (part_view part.entry) }
+{
+    match part {
+        Part::Word { number } | Part::Number { number, .. } => {
+            within(1 << 31, (1 << 32) - 1, number)
+        }
+        Part::Byte { number } => within(128, 255, number),
+        Part::Zero { number } => within(0, 1048576, number),
+        Part::Align { number } => fits_align(number),
+        Part::Immediate {
+            operation,
+            number,
+            ..
+        } => fits_immediate(operation, number),
+        Part::Upper { number, .. } => within(524288, 1048575, number),
+        Part::Load { number, .. } | Part::Store { number, .. } => within(2048, 2047, number),
+        Part::Branch { target, .. }
+        | Part::IfZero { target, .. }
+        | Part::IfNotZero { target, .. } => { fits_target(4096, target) }
+        Part::Jal { target, .. } | Part::Go { target } | Part::Link { target, .. } => {
+            fits_target(1048576, target)
+        }
+        Part::Label { .. }
+        | Part::Text
+        | Part::Data
+        | Part::Registers { .. }
+        | Part::JumpCapability { .. }
+        | Part::Source { .. }
+        | Part::Bare { .. }
+        | Part::Nop
+        | Part::Move { .. }
+        | Part::Return
+        | Part::JumpRegister { .. }
+        | Part::Import { .. }
+        | Part::TextAddress { .. }
+        | Part::GlobalAddress { .. } => true,
+    }
+}
+
+/// The machine has sixteen registers.
+fn exists(register: u32) -> bool
+    ensures { result ≡ source.exists register }
+{
+    register < 16
+}
+
+/// Whether the machine has each register.
+pub(crate) fn registers_exist(part: Part<&[u8]>) -> bool
+    ensures { result ≡ source.registers_exist (part_view part.entry) }
+{
+    match part {
+        Part::Registers { rd, rs1, rs2, .. } => exists(rd) && exists(rs1) && exists(rs2),
+        Part::Immediate { rd, rs1, .. }
+        | Part::Load { rd, rs1, .. }
+        | Part::JumpCapability { rd, rs1 }
+        | Part::Source { rd, rs1, .. } => exists(rd) && exists(rs1),
+        Part::Store { rs2, rs1, .. } => exists(rs2) && exists(rs1),
+        Part::Branch { rs1, rs2, .. } => exists(rs1) && exists(rs2),
+        Part::Move { rd, rs } => exists(rd) && exists(rs),
+        Part::Upper { rd, .. }
+        | Part::Jal { rd, .. }
+        | Part::Link { rd, .. }
+        | Part::Number { rd, .. }
+        | Part::Import { rd, .. }
+        | Part::TextAddress { rd, .. }
+        | Part::GlobalAddress { rd, .. } => exists(rd),
+        Part::JumpRegister { rs } | Part::IfZero { rs, .. } | Part::IfNotZero { rs, .. } => exists(
+            rs,
+        ),
+        _ => true,
+    }
+}

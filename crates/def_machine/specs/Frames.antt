@@ -1,0 +1,109 @@
+-- Calls, returns and unwinds, whole.
+use Rattle.std.specs.Prelude.{ℕ, ◌+◌, ◌-◌, true, List, [], ◌∷◌, Option, cond, nat_lt, slice_set}
+use Rattle.def_words.specs.declared.Cap.{Cap}
+use Rattle.def_words.specs.declared.Posture.{Posture}
+use Rattle.def_words.specs.Capability.{untagged, with_address}
+use Rattle.def_words.specs.Derive.{derive, memory_root}
+use Rattle.def_words.specs.Seals.{cap_seal, posture_through}
+use Rattle.def_words.specs.Jumped.{opened}
+use Rattle.def_memory.specs.Granules.{plain}
+use Rattle.def_memory.specs.Ranges.{zeroed_from}
+use Rattle.def_reach.specs.Roots.{gate_for}
+use Rattle.def_machine.specs.Image.{Image, root, made_cap, code_entry, globals_entry, stack_base}
+use Rattle.def_machine.specs.State.{State, Thread, Frame, register, thread, nobody, interrupts_on}
+use Rattle.def_machine.specs.Memory.{filtered}
+
+-- a thread changes whole, and its stack from its base up to an address is zeroed
+abbrev pub switched : Image → State → ℕ → ℕ → Thread → Option ℕ → State
+switched i s t high new run = record s {
+  granules = zeroed_from (stack_base i t) high i.ram s.granules;
+  threads = slice_set s.threads t new;
+  running = run;
+}
+
+-- ---- a call
+
+-- the four capabilities that the switcher makes for a callee
+pub record Given : Type 0 where
+  pub pcc : Cap
+  pub back : Cap
+  pub stack : Cap
+  pub globals : Cap
+
+-- a stack's rights: LG SD LM SL LD MC
+abbrev pub stack_rights : ℕ
+stack_rights = 126
+
+-- The callee's code at the export's address, the return sentry, the stack from its base to the new top at
+-- that top with the shadow of the caller's c2, and the callee's globals.
+abbrev pub given : Image → Thread → ℕ → ℕ → ℕ → ℕ → Given
+given i old t callee export high = record {
+  pcc = with_address (made_cap i (code_entry i callee)) (gate_for i.entries.gates export).code;
+  back = made_cap i 0;
+  stack = derive memory_root (stack_base i t) (high - stack_base i t) stack_rights high 0 (register old 2).shadow;
+  globals = made_cap i (globals_entry i callee);
+}
+
+abbrev pub pushed_frame : Thread → ℕ → ℕ → ℕ → Frame
+pushed_frame old callee export high = record {
+  actor = callee;
+  export = export;
+  top = high;
+  c1 = register old 1;
+  c2 = register old 2;
+  c3 = register old 3;
+  c8 = register old 8;
+  c9 = register old 9;
+}
+
+-- what passes between compartments: as it is where the export passes capabilities, else untagged
+abbrev pub passed : Image → ℕ → Cap → Cap
+passed i export c = cond (root i export).passes c (untagged c)
+
+-- an argument register that the export declares is the caller's; the others are zero
+abbrev pub argument : Image → Thread → ℕ → ℕ → Cap
+argument i old export n = cond (nat_lt n (gate_for i.entries.gates export).args) (passed i export (register old (10 + n))) (plain 0)
+
+-- the export's posture; a compartment's export doesn't inherit
+abbrev pub posture_of_call : Image → ℕ → Posture
+posture_of_call i export = cond (root i export).disabled (record { off = true; source = export }) interrupts_on
+
+abbrev pub entered : Image → Thread → ℕ → ℕ → ℕ → Given → Thread
+entered i old callee export high g = record {
+  pcc = g.pcc;
+  registers = plain 0 ∷ g.back ∷ g.stack ∷ g.globals ∷ plain 0 ∷ plain 0 ∷ plain 0 ∷ plain 0 ∷ plain 0 ∷ plain 0
+      ∷ argument i old export 0 ∷ argument i old export 1 ∷ argument i old export 2 ∷ argument i old export 3 ∷ argument i old export 4 ∷ argument i old export 5 ∷ [];
+  frames = pushed_frame old callee export high ∷ old.frames;
+  status = old.status;
+  posture = posture_of_call i export;
+}
+
+-- ---- a return, an unwind, the end of a thread
+
+-- what an ending frame hands back in a register
+abbrev pub answer : Image → Thread → Frame → ℕ → Cap
+answer i old f n = passed i f.export (register old n)
+
+-- The frame f ends with these two results. Program counter and posture come from the saved c1; c2, c3, c8
+-- and c9 are the caller's, through the load filter; the rest is zero.
+abbrev pub left_by : Image → State → Thread → Frame → List Frame → Cap → Cap → Thread
+left_by i s old f fs first second = record {
+  pcc = opened (filtered i s f.c1);
+  registers = plain 0 ∷ plain 0 ∷ filtered i s f.c2 ∷ filtered i s f.c3 ∷ plain 0 ∷ plain 0 ∷ plain 0 ∷ plain 0 ∷ filtered i s f.c8 ∷ filtered i s f.c9
+      ∷ first ∷ second ∷ plain 0 ∷ plain 0 ∷ plain 0 ∷ plain 0 ∷ [];
+  frames = fs;
+  status = old.status;
+  posture = posture_through old.posture (cap_seal f.c1) 0 f.c1.shadow.source;
+}
+
+-- the return: at the last frame the thread ends, and none runs
+abbrev pub returned : Image → State → ℕ → List Frame → State
+returned i s t [] = s
+returned i s t (f ∷ []) = switched i s t f.top nobody Option.None
+returned i s t (f ∷ g ∷ gs) = switched i s t f.top (left_by i s (thread s t) f (g ∷ gs) (answer i (thread s t) f 10) (answer i (thread s t) f 11)) s.running
+
+-- the unwind: the return with -1 and 0
+abbrev pub unwound : Image → State → ℕ → List Frame → State
+unwound i s t [] = s
+unwound i s t (f ∷ []) = switched i s t f.top nobody Option.None
+unwound i s t (f ∷ g ∷ gs) = switched i s t f.top (left_by i s (thread s t) f (g ∷ gs) (plain 4294967295) (plain 0)) s.running

@@ -1,0 +1,30 @@
+-- What stores do, and the load filter.
+use Rattle.std.specs.Prelude.{ℕ, ◌-◌, ◌&&◌, nat_le, Bool, cond}
+use Rattle.def_words.specs.declared.Cap.{Cap}
+use Rattle.def_words.specs.Authority.{cap_base}
+use Rattle.def_words.specs.Capability.{untagged}
+use Rattle.def_words.specs.Loaded.{attenuated, stored_through}
+use Rattle.def_memory.specs.Accesses.{stored, stored_cap}
+use Rattle.def_machine.specs.Image.{Image, granule_of}
+use Rattle.def_machine.specs.State.{State, granule}
+
+-- a capability is stored at an address of RAM: what is stored is what `by` lets through
+abbrev pub cap_stored : Image → State → ℕ → Cap → Cap → State
+cap_stored i s x by c = record s { granules = stored_cap s.granules (x - i.ram) (stored_through by c) }
+
+-- plain bytes are stored at an address of RAM
+abbrev pub bytes_stored : Image → State → ℕ → ℕ → ℕ → State
+bytes_stored i s x width value = record s { granules = stored s.granules (x - i.ram) width value }
+
+-- whether an address lies in a marked granule
+abbrev pub is_marked : Image → State → ℕ → Bool
+is_marked i s x = nat_le i.ram x && (granule s (granule_of i x)).mark
+
+-- The load filter: a capability whose base lies in a marked granule loses its tag, and nothing else of its
+-- word.
+abbrev pub filtered : Image → State → Cap → Cap
+filtered i s c = cond (c.tag && is_marked i s (cap_base c)) (untagged c) c
+
+-- what a load through `by` gives of the capability in an address's granule
+abbrev pub loaded_through : Image → State → Cap → ℕ → Cap
+loaded_through i s by x = filtered i s (attenuated by (granule s (granule_of i x)).cap)

@@ -1,0 +1,90 @@
+-- *State*: everything that an event may change.
+use Rattle.std.specs.Prelude.{ℕ, Bool, false, List, [], Option, slice_index_or}
+use Rattle.def_words.specs.declared.Cap.{Cap}
+use Rattle.def_words.specs.declared.Posture.{Posture}
+use Rattle.def_memory.specs.declared.Granule.{Granule}
+use Rattle.def_memory.specs.Granules.{plain, granule_at}
+
+-- A frame: its compartment, its export's entry number, its top, and the caller's saved registers. Of a
+-- thread's outermost frame, which has no caller, the saved registers are plain.
+pub record Frame : Type 0 where
+  pub actor : ℕ
+  pub export : ℕ
+  pub top : ℕ
+  pub c1 : Cap
+  pub c2 : Cap
+  pub c3 : Cap
+  pub c8 : Cap
+  pub c9 : Cap
+
+-- a sleeping thread has the ticks that are left, a waiting one the address of its word
+pub data Status : Type 0 where
+  Ready : Status
+  Sleeping : ℕ → Status
+  Waiting : ℕ → Status
+  Ended : Status
+
+-- frames stand innermost first; an ended thread has none
+pub record Thread : Type 0 where
+  pub pcc : Cap
+  pub registers : List Cap
+  pub frames : List Frame
+  pub status : Status
+  pub posture : Posture
+
+-- An object of the heap: its allocation number, its quota's entry number, where it begins and how long it
+-- is, what it takes from the quota, and whether it is live; a freed one is quarantined until a sweep ends.
+pub record Object : Type 0 where
+  pub number : ℕ
+  pub quota : ℕ
+  pub base : ℕ
+  pub length : ℕ
+  pub charge : ℕ
+  pub live : Bool
+
+-- the queue of a serial port, oldest first; a timer reads the time; a gpio's output and its last input
+pub data DeviceState : Type 0 where
+  Serial : List ℕ → DeviceState
+  Clock : DeviceState
+  Pins : ℕ → ℕ → DeviceState
+
+-- events and deeds so far, but allocations
+pub record Counts : Type 0 where
+  pub steps : ℕ
+  pub ticks : ℕ
+  pub inputs : ℕ
+  pub calls : ℕ
+  pub loads : ℕ
+  pub stores : ℕ
+  pub frees : ℕ
+  pub traps : ℕ
+
+-- `next` is the number of the next allocation, one more than there were; `picks` has for each thread when
+-- it was picked last
+pub record State : Type 0 where
+  pub granules : List Granule
+  pub threads : List Thread
+  pub running : Option ℕ
+  pub pending : Bool
+  pub objects : List Object
+  pub next : ℕ
+  pub devices : List DeviceState
+  pub time : ℕ
+  pub picks : List ℕ
+  pub counts : Counts
+
+abbrev pub interrupts_on : Posture
+interrupts_on = record { off = false; source = 0 }
+
+-- an ended thread holds nothing
+abbrev pub nobody : Thread
+nobody = record { pcc = plain 0; registers = []; frames = []; status = Ended; posture = interrupts_on }
+
+abbrev pub thread : State → ℕ → Thread
+thread s t = slice_index_or s.threads t nobody
+
+abbrev pub register : Thread → ℕ → Cap
+register t n = slice_index_or t.registers n (plain 0)
+
+abbrev pub granule : State → ℕ → Granule
+granule s k = granule_at s.granules k

@@ -1,0 +1,49 @@
+-- Changes of one thread that leave its frames and RAM as they are, and turns of threads.
+use Rattle.std.specs.Prelude.{ℕ, Bool, List, Option, map, slice_set}
+use Rattle.def_words.specs.declared.Cap.{Cap}
+use Rattle.def_words.specs.declared.Posture.{Posture}
+use Rattle.def_words.specs.Seals.{cap_seal, posture_through}
+use Rattle.def_words.specs.Jumped.{opened}
+use Rattle.def_machine.specs.Image.{Image}
+use Rattle.def_machine.specs.State.{State, Thread, Status, DeviceState, Counts}
+use Rattle.def_machine.specs.Memory.{filtered}
+use Rattle.def_machine.specs.Registers.{written}
+
+-- what a turn may change beside a thread
+pub record Clockwork : Type 0 where
+  pub pending : Bool
+  pub devices : List DeviceState
+  pub time : ℕ
+  pub picks : List ℕ
+  pub counts : Counts
+
+-- a thread changes, another may run or none, and the clockwork goes on
+abbrev pub changed : State → ℕ → Thread → Option ℕ → Clockwork → State
+changed s t new run w = record s {
+  threads = slice_set s.threads t new;
+  running = run;
+  pending = w.pending;
+  devices = w.devices;
+  time = w.time;
+  picks = w.picks;
+  counts = w.counts;
+}
+
+abbrev pub with_status : Thread → Status → Thread
+with_status t status = record t { status = status }
+
+-- each register and the program counter capability passes the load filter when a thread is picked
+abbrev pub picked : Image → State → Thread → Thread
+picked i s t = record t { pcc = filtered i s t.pcc; registers = map (filtered i s) t.registers }
+
+-- a jump: the program counter capability, the posture, and the link in register `to`
+abbrev pub jumped : Thread → Cap → Posture → ℕ → Cap → Thread
+jumped t pcc posture to link = record t { pcc = pcc; registers = written t.registers to link; posture = posture }
+
+-- a jump without a link, to what a return sentry seals
+abbrev pub resumed : Thread → Cap → Thread
+resumed t sentry = record t { pcc = opened sentry; posture = posture_through t.posture (cap_seal sentry) 0 sentry.shadow.source }
+
+-- the program counter capability moves on
+abbrev pub advanced : Thread → Cap → Thread
+advanced t pcc = record t { pcc = pcc }

@@ -1,0 +1,179 @@
+-- Loads and stores: their checks, what they give and what they leave.
+use Rattle.std.specs.Prelude.{ℕ, ◌+◌, ◌-◌, ◌*◌, ◌/◌, ◌%◌, ◌^◌, ◌==◌, ◌&&◌, ◌||◌, Bool, true, false, not, nat_le, List, [], ◌∷◌, length, Option, Some, None, is_some, Result, Ok, Err, if◌then◌else◌}
+use Rattle.ct_entry.specs.declared.acts.Act.{Act}
+use Rattle.ct_entry.specs.declared.acts.Act.TheVariants.{Load, Store}
+use Rattle.def_words.specs.declared.Cap.{Cap}
+use Rattle.def_words.specs.declared.Trap.{Trap}
+use Rattle.def_words.specs.Authority.{cap_address, cap_base}
+use Rattle.def_words.specs.Permissions.{has, load_data, store_data, memory_capability}
+use Rattle.def_words.specs.Seals.{is_unsealed}
+use Rattle.def_words.specs.Capability.{integer, untagged, is_range_inside}
+use Rattle.def_words.specs.Loaded.{attenuated, stored_through}
+use Rattle.def_memory.specs.declared.Granule.{Granule}
+use Rattle.def_memory.specs.Granules.{granule_at}
+use Rattle.def_memory.specs.Accesses.{loaded, stored, loaded_cap, stored_cap}
+use Rattle.def_instr.specs.declared.Instr.{Instr}
+use Rattle.def_instr.specs.declared.Instr.TheVariants.{Lb, Lh, Lw, Clc, Lbu, Lhu, Sb, Sh, Sw, Csc}
+use Rattle.def_instr.specs.Reading.{extended}
+use Rattle.def_step.specs.declared.Access.{Access}
+use Rattle.def_step.specs.Checks.{Check, capability_trap, plain_trap, first_failed, not_tagged, wrong_seal, no_load, no_store, no_store_capability, out_of_bounds, misaligned_load, misaligned_store}
+use Rattle.def_step.specs.Devices.{Bank, found, bank_value, bank_read, bank_written}
+
+-- ---- the instructions
+
+abbrev pub is_access : Instr → Bool
+is_access (Lb rd rs1 n) = true
+is_access (Lh rd rs1 n) = true
+is_access (Lw rd rs1 n) = true
+is_access (Clc rd rs1 n) = true
+is_access (Lbu rd rs1 n) = true
+is_access (Lhu rd rs1 n) = true
+is_access (Sb rs1 rs2 n) = true
+is_access (Sh rs1 rs2 n) = true
+is_access (Sw rs1 rs2 n) = true
+is_access (Csc rs1 rs2 n) = true
+is_access _ = false
+
+abbrev pub load_of : ℕ → Bool → Bool → ℕ → ℕ → Access
+load_of width signed whole by n = record { loads = true; width = width; signed = signed; whole = whole; by = by; immediate = n }
+
+abbrev pub store_of : ℕ → Bool → ℕ → ℕ → Access
+store_of width whole by n = record { loads = false; width = width; signed = false; whole = whole; by = by; immediate = n }
+
+-- widths in bytes; of any other instruction the last row means nothing
+abbrev pub access_of : Instr → Access
+access_of (Lb rd rs1 n) = load_of 1 true false rs1 n
+access_of (Lh rd rs1 n) = load_of 2 true false rs1 n
+access_of (Lw rd rs1 n) = load_of 4 false false rs1 n
+access_of (Clc rd rs1 n) = load_of 8 false true rs1 n
+access_of (Lbu rd rs1 n) = load_of 1 false false rs1 n
+access_of (Lhu rd rs1 n) = load_of 2 false false rs1 n
+access_of (Sb rs1 rs2 n) = store_of 1 false rs1 n
+access_of (Sh rs1 rs2 n) = store_of 2 false rs1 n
+access_of (Sw rs1 rs2 n) = store_of 4 false rs1 n
+access_of (Csc rs1 rs2 n) = store_of 8 true rs1 n
+access_of _ = store_of 1 false 0 0
+
+-- ---- checks, in order
+
+-- x is the authorising capability, at the address
+abbrev pub load_checks : Access → Cap → ℕ → List Check
+load_checks a x at =
+    (x.tag, capability_trap not_tagged a.by)
+    ∷ (is_unsealed x, capability_trap wrong_seal a.by)
+    ∷ (has x load_data, capability_trap no_load a.by)
+    ∷ (is_range_inside x at (at + a.width), capability_trap out_of_bounds a.by)
+    ∷ (at % a.width == 0, plain_trap misaligned_load)
+    ∷ []
+
+-- `carries`: a tagged value is stored as a capability
+abbrev pub store_checks : Access → Cap → ℕ → Bool → List Check
+store_checks a x at carries =
+    (x.tag, capability_trap not_tagged a.by)
+    ∷ (is_unsealed x, capability_trap wrong_seal a.by)
+    ∷ (has x store_data, capability_trap no_store a.by)
+    ∷ (not carries || has x memory_capability, capability_trap no_store_capability a.by)
+    ∷ (is_range_inside x at (at + a.width), capability_trap out_of_bounds a.by)
+    ∷ (at % a.width == 0, plain_trap misaligned_store)
+    ∷ []
+
+abbrev pub access_checks : Access → Cap → Cap → ℕ → List Check
+access_checks a x y at = if a.loads then load_checks a x at else store_checks a x at (a.whole && y.tag)
+
+-- ---- effects
+
+-- RAM from its base, the devices, and the time
+pub record Space : Type 0 where
+  pub ram : ℕ
+  pub granules : List Granule
+  pub bank : Bank
+  pub time : ℕ
+
+-- what an access gives, the deed that it is where it reaches a device, and what it leaves
+pub record Accessed : Type 0 where
+  pub value : Option Cap
+  pub act : Option Act
+  pub granules : List Granule
+  pub bank : Bank
+
+-- whether so many bytes lie in RAM
+abbrev pub is_ram : Space → ℕ → ℕ → Bool
+is_ram p at width = nat_le p.ram at && nat_le (at + width) (p.ram + 8 * length p.granules)
+
+-- The load filter: a capability whose base lies in a marked granule loses its tag, and nothing else.
+abbrev pub is_marked_in : ℕ → List Granule → ℕ → Bool
+is_marked_in ram gs x = nat_le ram x && (granule_at gs ((x - ram) / 8)).mark
+
+abbrev pub filtered_in : ℕ → List Granule → Cap → Cap
+filtered_in ram gs c = if c.tag && is_marked_in ram gs (cap_base c) then untagged c else c
+
+-- a loaded number as a 32-bit word
+abbrev pub widened : Access → ℕ → ℕ
+widened a n = if a.signed then extended (8 * a.width) n else n
+
+abbrev pub ram_value : Access → Cap → ℕ → ℕ → List Granule → Cap
+ram_value a x at ram gs =
+    if a.whole
+    then filtered_in ram gs (attenuated x (loaded_cap gs (at - ram)))
+    else integer (widened a (loaded gs (at - ram) a.width))
+
+-- what comes from a device is a plain word, attenuated like any other
+abbrev pub device_value : Access → Cap → ℕ → Cap
+device_value a x n = if a.whole then attenuated x (integer n) else integer (widened a n)
+
+-- what a store writes, cut to its width
+abbrev pub stored_value : Access → Cap → ℕ
+stored_value a y = if a.whole then y.word else cap_address y % 2 ^ (8 * a.width)
+
+abbrev pub ram_stored : Access → Cap → Cap → ℕ → ℕ → List Granule → List Granule
+ram_stored a x y at ram gs =
+    if a.whole
+    then stored_cap gs (at - ram) (stored_through x y)
+    else stored gs (at - ram) a.width (cap_address y)
+
+abbrev pub in_ram : Access → Cap → Cap → ℕ → Space → Accessed
+in_ram a x y at p =
+    if a.loads
+    then record { value = Some (ram_value a x at p.ram p.granules); act = None; granules = p.granules; bank = p.bank }
+    else record { value = None; act = None; granules = ram_stored a x y at p.ram p.granules; bank = p.bank }
+
+-- An access that reaches a device is a deed. One that reached neither RAM nor a device would give 0 and
+-- leave all as it is: no capability of the machine has such an authority.
+abbrev pub deed_at : Space → ℕ → Act → Option Act
+deed_at p at act = if is_some (found p.bank.bases at) then Some act else None
+
+abbrev pub on_device : Access → Cap → Cap → ℕ → Space → Accessed
+on_device a x y at p =
+    if a.loads
+    then record {
+      value = Some (device_value a x (bank_value p.bank at a.width p.time));
+      act = deed_at p at (Load at a.width (bank_value p.bank at a.width p.time));
+      granules = p.granules;
+      bank = bank_read p.bank at a.width;
+    }
+    else record {
+      value = None;
+      act = deed_at p at (Store at a.width (stored_value a y));
+      granules = p.granules;
+      bank = bank_written p.bank at a.width (stored_value a y);
+    }
+
+abbrev pub accessed : Access → Cap → Cap → ℕ → Space → Accessed
+accessed a x y at p = if is_ram p at a.width then in_ram a x y at p else on_device a x y at p
+
+-- ---- whole
+
+-- the effect where no check failed, else the trap
+abbrev pub unless : {A : Type 0} → Option Trap → A → Result A Trap
+unless None a = Ok a
+unless (Some t) a = Err t
+
+-- the address of an access: the sum modulo 2^32
+abbrev pub access_address : Access → Cap → ℕ
+access_address a x = (cap_address x + a.immediate) % 2 ^ 32
+
+unfoldable pub access_result : Instr → Cap → Cap → Space → Result Accessed Trap
+access_result i x y p =
+    unless
+    (first_failed (access_checks (access_of i) x y (access_address (access_of i) x)))
+    (accessed (access_of i) x y (access_address (access_of i) x) p)

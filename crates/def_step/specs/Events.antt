@@ -1,0 +1,198 @@
+-- *Run*: what an event does, and what a list of events does.
+use Rattle.std.specs.Prelude.{ℕ, ◌+◌, ◌-◌, ◌==◌, ◌≡◌, ◌&&◌, ◌||◌, Bool, true, false, not, nat_lt, List, [], ◌∷◌, length, Option, Some, None, slice_set, if◌then◌else◌}
+use Rattle.ct_entry.specs.declared.acts.Act.{Act}
+use Rattle.ct_entry.specs.declared.acts.Act.TheVariants.{Call, Load, Store, Allocate, Free, Trap}
+use Rattle.ct_entry.specs.declared.acts.Deed.{Deed}
+use Rattle.ct_entry.specs.declared.acts.Owned.{Owned}
+use Rattle.ct_entry.specs.declared.acts.Happened.{Happened}
+use Rattle.ct_entry.specs.declared.acts.End.{End}
+use Rattle.ct_entry.specs.declared.acts.End.TheVariants.{Finished, Idle}
+use Rattle.ct_entry.specs.declared.acts.Totals.{Totals}
+use Rattle.def_machine.specs.State.{State, Thread, Status, Ready, Sleeping, Waiting, Ended, Counts, thread}
+use Rattle.def_machine.specs.Threads.{picked}
+use Rattle.def_step.specs.declared.Event.{Event}
+use Rattle.def_step.specs.declared.Event.TheVariants.{Step, Tick, Input}
+use Rattle.def_step.specs.Devices.{device, after_input}
+use Rattle.def_step.specs.Instructions.{Board, executed, actor_of}
+
+-- a machine as contracts see it
+pub record MachineRow : Type 0 where
+  pub board : Board
+  pub state : State
+
+-- ---- counts
+
+abbrev pub with_act : Counts → Act → Counts
+with_act c (Call export) = record c { calls = c.calls + 1 }
+with_act c (Load address width value) = record c { loads = c.loads + 1 }
+with_act c (Store address width value) = record c { stores = c.stores + 1 }
+with_act c (Allocate number base size live) = c
+with_act c (Free number base size live) = record c { frees = c.frees + 1 }
+with_act c (Trap cause code register) = record c { traps = c.traps + 1 }
+
+abbrev pub with_deed : Counts → Option Deed → Counts
+with_deed c None = c
+with_deed c (Some d) = with_act c d.act
+
+abbrev pub noted : State × Option Deed → State × Option Deed
+noted r = (record r.0 { counts = with_deed r.0.counts r.1 }, r.1)
+
+-- ---- Step
+
+-- A thread that runs with interrupts on stops where a tick is pending, which is then cleared.
+abbrev pub preempted_from : State → Option ℕ → State
+preempted_from s None = s
+preempted_from s (Some t) = if s.pending && not (thread s t).posture.off then record s { running = None; pending = false } else s
+
+abbrev pub preempted : State → State
+preempted s = preempted_from s s.running
+
+abbrev pub is_ready : Status → Bool
+is_ready Ready = true
+is_ready (Sleeping ticks) = false
+is_ready (Waiting address) = false
+is_ready Ended = false
+
+-- Where none runs, the scheduler picks. There is one thread at most: thread 0, where it is ready. Its
+-- registers and pcc pass the load filter, and the number of this Step is noted.
+abbrev pub picked_from : Board → State → Option ℕ → State
+picked_from b s (Some t) = s
+picked_from b s None =
+    if is_ready (thread s 0).status
+    then record s { running = Some 0; threads = slice_set s.threads 0 (picked b.image s (thread s 0)); picks = slice_set s.picks 0 s.counts.steps }
+    else s
+
+abbrev pub scheduled : Board → State → State
+scheduled b s = picked_from b s s.running
+
+-- the running thread carries on; without one, nothing else happens
+abbrev pub continued : Board → State → Option ℕ → State × Option Deed
+continued b s None = (s, None)
+continued b s (Some t) = noted (executed b s t)
+
+abbrev pub run_on : Board → State → State × Option Deed
+run_on b s = continued b s s.running
+
+abbrev pub one_more_step : State → State
+one_more_step s = record s { counts = record s.counts { steps = s.counts.steps + 1 } }
+
+abbrev pub stepped : Board → State → State × Option Deed
+stepped b s = run_on b (scheduled b (preempted (one_more_step s)))
+
+-- ---- Tick
+
+-- No thread runs on with interrupts on; where the running one holds them off, the tick is pending.
+abbrev pub interrupted : State → Option ℕ → State
+interrupted s None = s
+interrupted s (Some t) = if (thread s t).posture.off then record s { pending = true } else record s { running = None }
+
+abbrev pub ticked : State → State
+ticked s = interrupted (record s { time = s.time + 1; counts = record s.counts { ticks = s.counts.ticks + 1 } }) s.running
+
+-- ---- Input
+
+abbrev pub received : State → ℕ → ℕ → State
+received s n byte = record s {
+  devices = slice_set s.devices n (after_input (device s.devices n) byte);
+  counts = record s.counts { inputs = s.counts.inputs + 1 };
+}
+
+-- ---- an event
+
+-- the running thread where it holds interrupts off, and the source by which it does
+abbrev pub holder_by : State → Option ℕ → Option (ℕ × ℕ)
+holder_by s None = None
+holder_by s (Some t) = if (thread s t).posture.off then Some (t, (thread s t).posture.source) else None
+
+abbrev pub holder : State → Option (ℕ × ℕ)
+holder s = holder_by s s.running
+
+abbrev pub is_holder : Option (ℕ × ℕ) → ℕ → ℕ → Bool
+is_holder None t source = false
+is_holder (Some h) t source = (h.0 == t) && (h.1 == source)
+
+-- A span with interrupts off begins where after the event the running thread holds them off, and before it
+-- another thread ran, or none, or they were on, or the source was another.
+abbrev pub begun_since : Option (ℕ × ℕ) → State → Option (ℕ × ℕ) → Option Owned
+begun_since before after None = None
+begun_since before after (Some h) = if is_holder before h.0 h.1 then None else Some (record { thread = h.0; actor = actor_of (thread after h.0).frames; export = h.1 })
+
+abbrev pub begun : State → State → Option Owned
+begun before after = begun_since (holder before) after (holder after)
+
+abbrev pub told_of : State → State × Option Deed → State × Happened
+told_of before r = (r.0, record { deed = r.1; off = begun before r.0 })
+
+abbrev pub happens : Board → State → Event → State × Happened
+happens b s Step = told_of s (stepped b s)
+happens b s Tick = told_of s (ticked s, None)
+happens b s (Input n byte) = told_of s (received s n byte, None)
+
+-- ---- runs
+
+unfoldable pub run : Board → State → List Event → State
+run b s [] = s
+run b s (e ∷ es) = run b (happens b s e).0 es
+
+unfoldable pub told : Board → State → List Event → List Happened
+told b s [] = []
+told b s (e ∷ es) = (happens b s e).1 ∷ told b (happens b s e).0 es
+
+-- events of each kind that may come
+abbrev pub most_events : ℕ
+most_events = 4000000000
+
+-- whether an event may come now
+abbrev pub is_lawful : State → Event → Bool
+is_lawful s Step = nat_lt s.counts.steps most_events
+is_lawful s Tick = nat_lt s.counts.ticks most_events
+is_lawful s (Input n byte) = nat_lt s.counts.inputs most_events && nat_lt n (length s.devices)
+
+-- each event of the list may come when it comes
+unfoldable pub AreLawful : Board → State → List Event → Type 0
+AreLawful b s [] = Unit {0}
+AreLawful b s (e ∷ es) = (is_lawful s e ≡ true) × AreLawful b (happens b s e).0 es
+
+-- ---- the end of a run
+
+abbrev pub is_ended : Status → Bool
+is_ended Ready = false
+is_ended (Sleeping ticks) = false
+is_ended (Waiting address) = false
+is_ended Ended = true
+
+abbrev pub is_waiting : Status → Bool
+is_waiting Ready = false
+is_waiting (Sleeping ticks) = false
+is_waiting (Waiting address) = true
+is_waiting Ended = false
+
+abbrev pub all_ended : List Thread → Bool
+all_ended [] = true
+all_ended (t ∷ ts) = is_ended t.status && all_ended ts
+
+abbrev pub one_waits : List Thread → Bool
+one_waits [] = false
+one_waits (t ∷ ts) = is_waiting t.status || one_waits ts
+
+-- none is ready or sleeping
+abbrev pub none_goes_on : List Thread → Bool
+none_goes_on [] = true
+none_goes_on (t ∷ ts) = (is_ended t.status || is_waiting t.status) && none_goes_on ts
+
+-- Finished where every thread has ended; Idle where one waits and none is ready or sleeping
+abbrev pub end_of : State → Option End
+end_of s = if all_ended s.threads then Some Finished else if one_waits s.threads && none_goes_on s.threads then Some Idle else None
+
+-- the totals of a run that ended so; an allocation's number counts from 1
+abbrev pub totals_of : State → End → Totals
+totals_of s e = record {
+  end = e;
+  steps = s.counts.steps;
+  ticks = s.counts.ticks;
+  calls = s.counts.calls;
+  devices = s.counts.loads + s.counts.stores;
+  allocations = s.next - 1;
+  frees = s.counts.frees;
+  traps = s.counts.traps;
+}

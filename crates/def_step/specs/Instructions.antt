@@ -1,0 +1,171 @@
+-- *Instruction step*: one instruction of a thread.
+use Rattle.std.specs.Prelude.{ℕ, ◌+◌, ◌-◌, ◌*◌, ◌%◌, ◌==◌, ◌&&◌, Bool, nat_le, nat_lt, List, [], ◌∷◌, length, Option, Some, None, option_map, unwrap_or, Result, Ok, Err, slice_set, if◌then◌else◌}
+use Rattle.ct_entry.specs.declared.acts.Act.{Act}
+use Rattle.ct_entry.specs.declared.acts.Act.TheVariants.{Trap}
+use Rattle.ct_entry.specs.declared.acts.Deed.{Deed}
+use Rattle.def_words.specs.declared.Cap.{Cap}
+use Rattle.def_words.specs.declared.Trap as trap_words
+use Rattle.def_words.specs.declared.Posture.{Posture}
+use Rattle.def_words.specs.Authority.{cap_address}
+use Rattle.def_words.specs.Permissions.{has, execute}
+use Rattle.def_words.specs.Seals.{is_unsealed}
+use Rattle.def_words.specs.Capability.{integer, raised, is_range_inside}
+use Rattle.def_memory.specs.declared.Granule.{Granule}
+use Rattle.def_memory.specs.Granules.{plain}
+use Rattle.def_memory.specs.Accesses.{loaded}
+use Rattle.def_instr.specs.declared.Instr.{Instr}
+use Rattle.def_instr.specs.Reading.{instruction_in}
+use Rattle.def_instr.specs.Results.{integer_result}
+use Rattle.def_capstep.specs.Results.{capability_result}
+use Rattle.def_machine.specs.Image.{Image}
+use Rattle.def_machine.specs.State.{State, Frame, register, thread}
+use Rattle.def_machine.specs.Threads.{jumped}
+use Rattle.def_machine.specs.Frames.{returned, unwound}
+use Rattle.def_step.specs.declared.Class.{Class}
+use Rattle.def_step.specs.declared.Class.TheVariants as class
+use Rattle.def_step.specs.declared.Next.{Next}
+use Rattle.def_step.specs.declared.Next.TheVariants.{Returning, Instruction, Nothing}
+use Rattle.def_step.specs.Checks.{Check, capability_trap, plain_trap, first_failed, not_tagged, wrong_seal, no_execute, out_of_bounds, no_system_registers, program_counter, illegal_instruction, breakpoint, environment_call}
+use Rattle.def_step.specs.Devices.{Bank}
+use Rattle.def_step.specs.Accesses.{Space, Accessed, access_result}
+use Rattle.def_step.specs.Jumps.{Flowed, flow_result}
+use Rattle.def_step.specs.Operands.{operands_of, class_of}
+
+-- what never changes: the image, and where each device stands
+pub record Board : Type 0 where
+  pub image : Image
+  pub bases : List ℕ
+
+-- ---- what an instruction that passes its checks does
+
+-- a register gets a value (register 0 drops it), pcc and posture change, RAM and devices too; where it
+-- reached a device, that is a deed
+pub record Done : Type 0 where
+  pub to : ℕ
+  pub value : Cap
+  pub pcc : Cap
+  pub posture : Posture
+  pub granules : List Granule
+  pub bank : Bank
+  pub act : Option Act
+
+-- what an instruction works on beside its operands: pcc and posture, RAM, devices and time
+pub record Around : Type 0 where
+  pub pcc : Cap
+  pub posture : Posture
+  pub space : Space
+
+-- a register gets a value, and execution goes on after the instruction
+abbrev pub gives : Around → ℕ → Cap → Done
+gives a to value = record { to = to; value = value; pcc = raised a.pcc 4; posture = a.posture; granules = a.space.granules; bank = a.space.bank; act = None }
+
+abbrev pub flows : Around → ℕ → Result Flowed trap_words.Trap → Result Done trap_words.Trap
+flows a to (Err t) = Err t
+flows a to (Ok f) = Ok (record { to = to; value = unwrap_or f.link (plain 0); pcc = f.pcc; posture = f.posture; granules = a.space.granules; bank = a.space.bank; act = None })
+
+abbrev pub accesses : Around → ℕ → Result Accessed trap_words.Trap → Result Done trap_words.Trap
+accesses a to (Err t) = Err t
+accesses a to (Ok m) = Ok (record { to = to; value = unwrap_or m.value (plain 0); pcc = raised a.pcc 4; posture = a.posture; granules = m.granules; bank = m.bank; act = m.act })
+
+-- x and y are the values of the first and second source. No jump that is carried out goes through a type 2
+-- sentry, so that none names an export.
+abbrev pub carried_out : Class → Instr → ℕ → Cap → Cap → Around → Result Done trap_words.Trap
+carried_out class.Integer i to x y a = Ok (gives a to (integer (integer_result i (cap_address x) (cap_address y))))
+carried_out class.Capability i to x y a = Ok (gives a to (capability_result i x y a.pcc))
+carried_out class.System i to x y a = Err (capability_trap no_system_registers program_counter)
+carried_out class.Jump i to x y a = flows a to (flow_result i x y a.pcc a.posture 0)
+carried_out class.Access i to x y a = accesses a to (access_result i x y a.space)
+carried_out class.Fence i to x y a = Ok (gives a 0 (plain 0))
+carried_out class.Call i to x y a = Err (plain_trap environment_call)
+carried_out class.Break i to x y a = Err (plain_trap breakpoint)
+carried_out class.Absent i to x y a = Err (plain_trap illegal_instruction)
+
+-- ---- fetch
+
+abbrev pub fetch_checks : Cap → List Check
+fetch_checks pcc =
+    (pcc.tag, capability_trap not_tagged program_counter)
+    ∷ (is_unsealed pcc, capability_trap wrong_seal program_counter)
+    ∷ (has pcc execute, capability_trap no_execute program_counter)
+    ∷ (is_range_inside pcc (cap_address pcc) (cap_address pcc + 4), capability_trap out_of_bounds program_counter)
+    ∷ []
+
+-- the word at an address; what isn't an aligned word of RAM is no instruction, and no pcc leads there
+abbrev pub fetched : Space → ℕ → ℕ
+fetched p at = if nat_le p.ram at && nat_le (at + 4) (p.ram + 8 * length p.granules) && (at % 4 == 0) then loaded p.granules (at - p.ram) 4 else 0
+
+-- native routine n stands at 65536 + 16 n; number 1 is the return
+abbrev pub native_base : ℕ
+native_base = 65536
+
+abbrev pub return_entry : ℕ
+return_entry = 65552
+
+abbrev pub is_native_entry : ℕ → Bool
+is_native_entry x = nat_le native_base x && nat_lt x (native_base + 16 * 9) && (x % 16 == 0)
+
+-- what stands at the program counter: the return, an instruction, or nothing that is carried out
+abbrev pub next_word : Option Instr → Next
+next_word None = Nothing
+next_word (Some i) = Instruction i
+
+abbrev pub next_at : Space → ℕ → Next
+next_at p at =
+    if at == return_entry then Returning
+    else if is_native_entry at then Nothing
+    else next_word (instruction_in (fetched p at))
+
+-- ---- one instruction of thread t, on the whole state
+
+abbrev pub bank_of : Board → State → Bank
+bank_of b s = record { bases = b.bases; states = s.devices }
+
+abbrev pub space_of : Board → State → Space
+space_of b s = record { ram = b.image.ram; granules = s.granules; bank = bank_of b s; time = s.time }
+
+abbrev pub around : Board → State → ℕ → Around
+around b s t = record { pcc = (thread s t).pcc; posture = (thread s t).posture; space = space_of b s }
+
+-- the compartment of the top frame
+abbrev pub actor_of : List Frame → ℕ
+actor_of [] = 0
+actor_of (f ∷ fs) = f.actor
+
+abbrev pub deed : State → ℕ → ℕ → Act → Deed
+deed s t entry act = record { thread = t; actor = actor_of (thread s t).frames; entry = entry; act = act }
+
+-- a trap unwinds, in the same step
+abbrev pub trapped : Board → State → ℕ → trap_words.Trap → State × Option Deed
+trapped b s t why = (unwound b.image s t (thread s t).frames, Some (deed s t 0 (Trap why.cause why.code why.register)))
+
+abbrev pub put_done : State → ℕ → Done → State
+put_done s t d = record s {
+  granules = d.granules;
+  threads = slice_set s.threads t (jumped (thread s t) d.pcc d.posture d.to d.value);
+  devices = d.bank.states;
+}
+
+-- `x` is the capability that was used: a deed's entry is its root
+abbrev pub ends : Board → State → ℕ → Cap → Result Done trap_words.Trap → State × Option Deed
+ends b s t x (Err why) = trapped b s t why
+ends b s t x (Ok d) = (put_done s t d, option_map (deed s t x.shadow.root) d.act)
+
+abbrev pub operand : State → ℕ → ℕ → Cap
+operand s t n = register (thread s t) n
+
+abbrev pub instructed : Board → State → ℕ → Instr → State × Option Deed
+instructed b s t i =
+    ends b s t (operand s t (operands_of i).first)
+    (carried_out (class_of i) i (operands_of i).to (operand s t (operands_of i).first) (operand s t (operands_of i).second) (around b s t))
+
+abbrev pub goes_on : Board → State → ℕ → Next → State × Option Deed
+goes_on b s t Returning = (returned b.image s t (thread s t).frames, None)
+goes_on b s t (Instruction i) = instructed b s t i
+goes_on b s t Nothing = trapped b s t (plain_trap illegal_instruction)
+
+abbrev pub after_fetch : Board → State → ℕ → Option trap_words.Trap → State × Option Deed
+after_fetch b s t (Some why) = trapped b s t why
+after_fetch b s t None = goes_on b s t (next_at (space_of b s) (cap_address (thread s t).pcc))
+
+unfoldable pub executed : Board → State → ℕ → State × Option Deed
+executed b s t = after_fetch b s t (first_failed (fetch_checks (thread s t).pcc))

@@ -1,0 +1,74 @@
+//! What an event does to the machine: the checks of each instruction in order, its effect, devices,
+//! traps, ticks, inputs and runs; what firmware is lawful, the image that it stands for and its
+//! state at boot. Definitions alone, in specs/; docs/machine.md tells the same in prose.
+#![tactic(auto)]
+
+use def_instr::Instr;
+
+/// What happens at the machine, one at a time.
+#[derive(Clone, Copy, Debug, PartialEq, Eq, Drop)]
+pub enum Event {
+    /// One instruction, or one native routine, of the running thread.
+    Step,
+    /// One tick of the timer.
+    Tick,
+    /// One byte comes at the device with this index.
+    Input { device: u32, byte: u8 },
+}
+
+/// What kind of work an instruction is.
+#[derive(Clone, Copy, Debug, PartialEq, Eq, Drop)]
+pub enum Class {
+    /// An integer result from the addresses of its registers.
+    Integer,
+    /// A result made of capabilities.
+    Capability,
+    /// An access of system registers.
+    System,
+    /// A branch or a jump.
+    Jump,
+    /// A load or a store.
+    Access,
+    /// `fence`.
+    Fence,
+    /// `ecall`.
+    Call,
+    /// `ebreak`.
+    Break,
+    /// An instruction that this machine doesn't carry out: a register jump other than the return.
+    Absent,
+}
+
+/// The registers of an instruction: the one that it writes, and its first and second source. One
+/// that it hasn't is 0.
+#[derive(Clone, Copy, Debug, PartialEq, Eq, Drop)]
+pub struct Operands {
+    pub to: u32,
+    pub first: u32,
+    pub second: u32,
+}
+
+/// A load or a store as its instruction names it: whether it loads, its width in bytes, whether a
+/// loaded value is sign-extended, whether it moves a capability, the register that authorises it,
+/// and its immediate as a 32-bit word.
+#[derive(Clone, Copy, Debug, PartialEq, Eq, Drop)]
+pub struct Access {
+    pub loads: bool,
+    pub width: u32,
+    pub signed: bool,
+    pub whole: bool,
+    pub by: u32,
+    pub immediate: u32,
+}
+
+/// What stands at the program counter.
+#[derive(Clone, Copy, Debug, PartialEq, Eq, Drop)]
+pub enum Next {
+    /// The native routine that returns.
+    Returning,
+    Instruction {
+        instruction: Instr,
+    },
+    /// Nothing that is carried out: no instruction, or another native routine.
+    Nothing,
+}

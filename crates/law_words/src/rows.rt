@@ -1,0 +1,53 @@
+//! The definitions at worked values: each row computes.
+
+ghost use Rattle.std.specs.Prelude.{false, true, ◌+◌, ◌<◌, ◌^◌, ◌≡◌, ℕ};
+ghost use Rattle.def_words.specs.Authority.{base_of, bounds_of, cap_base, cap_top, top_of};
+ghost use Rattle.def_words.specs.Capability.{masked, nowhere, sealed_by, unsealed_by};
+ghost use Rattle.def_words.specs.Derive.{derive, executable_root, memory_root, root_cap, sealing_root};
+ghost use Rattle.def_words.specs.LeastBounds.{align_mask_of, rounded_of, round_length_of};
+ghost use Rattle.def_words.specs.Permissions.{cap_perms, normal_set};
+ghost use Rattle.def_words.specs.Seals.{cap_seal};
+ghost use Rattle.law_words.specs.Facts.{IsRoot};
+
+/// The three roots: all addresses at every address, and all permissions of their forms.
+pub fn roots_hold_all()
+    ensures memory { IsRoot memory_root }
+    ensures executable { IsRoot executable_root }
+    ensures sealing { IsRoot sealing_root }
+    ensures lowest { (high address : ℕ) → IsRoot high → address < 2 ^ 32 → base_of high address ≡ 0 }
+    ensures highest { (high address : ℕ) → IsRoot high → address < 2 ^ 32 → top_of high address ≡ 2 ^ 32 }
+    ensures at_zero { bounds_of memory_root 0 ≡ record { exponent = 24; base = 0; top = 4294967296 } }
+    ensures at_end { bounds_of memory_root 4294967295 ≡ record { exponent = 24; base = 0; top = 4294967296 } }
+    ensures memory_rights { cap_perms (root_cap memory_root nowhere) ≡ 127 }
+    ensures executable_rights { cap_perms (root_cap executable_root nowhere) ≡ 491 }
+    ensures sealing_rights { cap_perms (root_cap sealing_root nowhere) ≡ 3585 }
+{}
+
+/// Least bounds at 511 and 512, where an exponent is skipped, at the greatest exponent, and of
+/// nothing.
+pub fn least_bounds_rows()
+    ensures exact_511 { rounded_of 2147483649 (2147483649 + 511) ≡ record { fields = 512; base = 2147483649; top = 2147484160; exact = true } }
+    ensures rounded_512 { rounded_of 2147483649 (2147483649 + 512) ≡ record { fields = 262401; base = 2147483648; top = 2147484162; exact = false } }
+    ensures skips { rounded_of 2147483649 (2147483649 + 1022) ≡ record { fields = 524544; base = 2147483648; top = 2147484672; exact = false } }
+    ensures greatest { rounded_of 2147483648 (2147483648 + 8372225) ≡ record { fields = 3997825; base = 2147483648; top = 2164260864; exact = false } }
+    ensures empty { rounded_of 2147483648 2147483648 ≡ record { fields = 0; base = 2147483648; top = 2147483648; exact = true } }
+    ensures lengths { (round_length_of 511 ≡ 511) × (round_length_of 512 ≡ 512) × (round_length_of 513 ≡ 514) × (round_length_of 8372225 ≡ 16777216) }
+    ensures masks { (align_mask_of 0 ≡ 4294967295) × (align_mask_of 512 ≡ 4294967294) × (align_mask_of 8372225 ≡ 4278190080) }
+{}
+
+/// Removing LD from GL LG LM LD MC EX leaves GL.
+pub fn removing_load_data()
+    ensures { normal_set 331 ≡ 1 }
+{}
+
+/// A value with GL LD, and a key with bounds 13 to 14 and GL US SE: sealing at key address 13 keeps
+/// the tag and gives field 5, which the key opens again; at 14, the key's top, the result is untagged
+/// with field 6.
+pub fn sealing_rows()
+    ensures inside { (sealed_by (derive memory_root 64 32 33 64 0 nowhere) (derive sealing_root 13 1 1537 13 0 nowhere)).tag ≡ true }
+    ensures thirteen { cap_seal (sealed_by (derive memory_root 64 32 33 64 0 nowhere) (derive sealing_root 13 1 1537 13 0 nowhere)) ≡ 13 }
+    ensures at_top { (derive sealing_root 13 1 1537 14 0 nowhere).tag ≡ true }
+    ensures outside { (sealed_by (derive memory_root 64 32 33 64 0 nowhere) (derive sealing_root 13 1 1537 14 0 nowhere)).tag ≡ false }
+    ensures fourteen { cap_seal (sealed_by (derive memory_root 64 32 33 64 0 nowhere) (derive sealing_root 13 1 1537 14 0 nowhere)) ≡ 14 }
+    ensures opens { unsealed_by (sealed_by (derive memory_root 64 32 33 64 0 nowhere) (derive sealing_root 13 1 1537 13 0 nowhere)) (derive sealing_root 13 1 1537 13 0 nowhere) ≡ derive memory_root 64 32 33 64 0 nowhere }
+{}
