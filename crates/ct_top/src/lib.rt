@@ -4,6 +4,8 @@
 
 mod audit;
 mod output;
+#[cfg(test)]
+mod tests;
 
 ghost use Rattle.std.specs.Prelude.{◌≡◌, map, option_map, string_bytes};
 ghost use Rattle.def_output.specs.Answers.{Answers, Ends, ReadsInOrder};
