@@ -1,3 +1,5 @@
+pub mod FreshNames
 pub mod LabelSteps
 pub mod LabelTables
+pub mod Reach
 pub mod Walks

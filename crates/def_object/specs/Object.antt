@@ -366,17 +366,21 @@ bytes_at labels slots at (part.Zero number) = replicate number.magnitude 0
 bytes_at labels slots at (part.Align number) = replicate (padding number.magnitude at) 0
 bytes_at labels slots at q = instruction_bytes (instructions_at labels slots at q)
 
--- the bytes of one section, of statements from a place on
-abbrev pub text_from : Labels → List Name → Place → Statements → List ℕ
-text_from labels slots p [] = []
-text_from labels slots p (s ∷ ss) = (if is_text p.section then bytes_at labels slots (offset p) s.part else []) ++ text_from labels slots (advanced p s.part) ss
+abbrev pub same_section : Section → Section → Bool
+same_section section.Text s = is_text s
+same_section section.Data s = is_data s
 
-abbrev pub data_from : Labels → List Name → Place → Statements → List ℕ
-data_from labels slots p [] = []
-data_from labels slots p (s ∷ ss) = (if is_text p.section then [] else bytes_at labels slots (offset p) s.part) ++ data_from labels slots (advanced p s.part) ss
+-- the bytes of a statement, if it stands in the wanted section
+abbrev pub section_bytes : Section → Labels → List Name → Place → Part Name → List ℕ
+section_bytes wanted labels slots p q = if same_section p.section wanted then bytes_at labels slots (offset p) q else []
+
+-- the bytes of a section, of statements from a place on
+abbrev pub bytes_from : Section → Labels → List Name → Place → Statements → List ℕ
+bytes_from wanted labels slots p [] = []
+bytes_from wanted labels slots p (s ∷ ss) = section_bytes wanted labels slots p s.part ++ bytes_from wanted labels slots (advanced p s.part) ss
 
 unfoldable pub text_of : Statements → List Name → List ℕ
-text_of all slots = text_from (label_in all) slots start all
+text_of all slots = bytes_from section.Text (label_in all) slots start all
 
-unfoldable pub data_of : Statements → List Name → List ℕ
-data_of all slots = data_from (label_in all) slots start all
+unfoldable pub initial_of : Statements → List Name → List ℕ
+initial_of all slots = bytes_from section.Data (label_in all) slots start all
