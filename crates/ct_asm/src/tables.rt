@@ -11,6 +11,7 @@ use def_source::parts::{Part, Section, Statement};
 use std::alloc::{AllocError, Global};
 
 use crate::labels::Labels;
+use crate::names::Names;
 use crate::places::{advanced, offset};
 
 /// Adds the label that a statement is, unless its name is there.
@@ -56,4 +57,14 @@ pub(crate) fn labels_of(
         place = advanced(place, s.part);
     }
     Ok(labels)
+}
+
+/// Whether a statement names an import that has no slot.
+pub(crate) fn is_undeclared(slots: &Names, part: Part<&[u8]>) -> bool
+    ensures { result ≡ object.is_undeclared slots.now (part_view part.entry) }
+{
+    if let Part::Import { name, .. } = part {
+        return slots.slot(name).is_none();
+    }
+    false
 }
