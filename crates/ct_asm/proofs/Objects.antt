@@ -1,15 +1,12 @@
 -- An object and its statements: the table's labels are the source's, and none stands past the limit.
-use Rattle.std.proofs.Common.{◌≡◌, ℕ, ◌+◌, ◌≤◌, ◌<◌, List, [], ◌∷◌, Option, Some, None, Bool, true, false, cond, nat_lt, refl, sym, ap, ◌∙◌, subst, arith}
+use Rattle.std.proofs.Common.{◌≡◌, ℕ, ◌+◌, ◌≤◌, List, [], ◌∷◌, Option, Some, None, Bool, true, false, cond, nat_lt, refl, sym, ap, subst, arith}
 use mathlib.Core.Path.{fun_ext}
-use Rattle.def_source.specs.declared.parts.Statement.{Statement}
 use Rattle.def_source.specs.declared.parts.Part.{Part}
 use Rattle.def_source.specs.declared.parts.Part.TheVariants as part
-use Rattle.def_source.specs.declared.parts.Section.{Section}
 use Rattle.def_source.specs.declared.parts.Section.TheVariants as section
 use Rattle.def_source.specs.Source.{Name, Statements, is_text}
 use Rattle.def_object.specs.declared.Label.{Label}
 use Rattle.def_object.specs.declared.Place.{Place}
-use Rattle.def_object.specs.declared.Fault.{Fault}
 use Rattle.def_object.specs.Object.{Labels, label_from, label_in, is_label, start, fault_from, fault_in, text_of, initial_of, bytes_from, advanced, grown, size_at, size_fault, offset, limit}
 use Rattle.ct_asm.specs.Labels.{label_named, WithinLimit}
 use Rattle.ct_asm.proofs.Walks.{first_faultless, rest_faultless}

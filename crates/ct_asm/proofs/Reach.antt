@@ -1,10 +1,9 @@
 -- Numbers and ways in their ranges, as words.
-use Rattle.std.proofs.Common.{◌≡◌, ℕ, ◌+◌, ◌-◌, ◌*◌, ◌/◌, ◌%◌, ◌^◌, ◌<◌, ◌≤◌, Bool, true, false, ◌&&◌, cond, nat_lt, nat_le, nat_eq, refl, sym, ap, ◌∙◌, arith, None, Some, Option, ◌⊎◌, inl, inr, ◌==◌}
+use Rattle.std.proofs.Common.{◌≡◌, ℕ, ◌+◌, ◌-◌, ◌*◌, ◌%◌, ◌^◌, ◌<◌, ◌≤◌, Bool, true, false, ◌&&◌, cond, nat_lt, nat_le, refl, arith, ◌⊎◌, inl, inr, ◌==◌}
 use Rattle.def_instr.specs.Table.{IsSigned, IsOffset}
 use Rattle.def_source.specs.declared.parts.Number.{Number}
 use Rattle.def_source.specs.Source.{within}
 use Rattle.def_object.specs.Object.{number_word, is_near, way}
-
 
 signed_by : (low high m : ℕ) (negative : Bool) → low ≤ 2048 → high ≤ 2047 → cond negative (nat_le m low) (nat_le m high) ≡ true → IsSigned 12 (cond negative ((2 ^ 32 - m % 2 ^ 32) % 2 ^ 32) (m % 2 ^ 32))
 signed_by low high m true hl hh e = grind (arith, hl, e)

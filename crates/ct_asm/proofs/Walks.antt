@@ -1,5 +1,5 @@
 -- One statement further along a source.
-use Rattle.std.proofs.Common.{◌≡◌, ℕ, suc, ◌+◌, ◌*◌, ◌<◌, ◌≤◌, ◌^◌, List, [], ◌∷◌, ◌++◌, length, drop, get_or, map, Option, Some, None, Bool, true, false, ◌&&◌, cond, nat_le, refl, sym, ap, ◌∙◌, subst, drop-cons, add-one, arith, append_assoc}
+use Rattle.std.proofs.Common.{◌≡◌, ℕ, ◌+◌, ◌*◌, ◌<◌, List, ◌∷◌, ◌++◌, length, drop, get_or, Option, Some, None, Bool, true, false, ◌&&◌, cond, nat_le, refl, sym, ap, ◌∙◌, drop-cons, add-one, arith, append_assoc}
 use denote.Ref.{Bor}
 use Rattle.def_source.specs.declared.parts.Statement.{Statement}
 use Rattle.def_source.specs.declared.parts.Part.{Part}

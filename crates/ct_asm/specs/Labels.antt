@@ -1,5 +1,5 @@
 -- The labels that a table holds, and the first of a name.
-use Rattle.std.specs.Prelude.{◌≡◌, ◌≤◌, ℕ, List, [], ◌∷◌, map, Option, Some, None, is_some, ◌++◌, if◌then◌else◌}
+use Rattle.std.specs.Prelude.{◌≡◌, ◌≤◌, ℕ, List, [], ◌∷◌, Option, Some, None, is_some, ◌++◌, if◌then◌else◌}
 use Rattle.std.specs.Str.{bytes_eq}
 use Rattle.def_source.specs.Source.{Name, Statements, is_text}
 use Rattle.def_object.specs.declared.Label.{Label}

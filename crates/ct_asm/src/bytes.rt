@@ -6,14 +6,13 @@ ghost use Rattle.def_object.specs.Object as object;
 ghost use Rattle.ct_source.specs.Views.{part_view, statements_view};
 ghost use Rattle.ct_asm.specs.Labels.{label_named};
 
-use def_object::Place;
-use def_source::parts::{Part, Section, Statement};
-use std::alloc::{AllocError, Global};
-
 use crate::emit::push_statement;
 use crate::labels::Labels;
 use crate::names::Names;
 use crate::places::{advanced, is_data, is_text, offset};
+use def_object::Place;
+use def_source::parts::{Part, Section, Statement};
+use std::alloc::{AllocError, Global};
 
 /// Whether two sections are one.
 fn same_section(a: Section, b: Section) -> bool

@@ -7,10 +7,6 @@ ghost use Rattle.def_object.specs.Object as object;
 ghost use Rattle.ct_source.specs.Views.{part_view};
 ghost use Rattle.ct_asm.specs.Labels.{label_named};
 
-use ct_isa::{Instr, encode};
-use def_source::parts::{Number, Part};
-use std::alloc::AllocError;
-
 use crate::instructions::{
     bare_instruction, branch_instruction, immediate_instruction, load_instruction,
     register_instruction, source_instruction, store_instruction, upper_instruction,
@@ -21,6 +17,9 @@ use crate::places::{is_short, number_word, padding};
 use crate::ways::{
     branch_target, high_piece, jump_target, label_offset, low_piece, rest_part, upper_part,
 };
+use ct_isa::{Instr, encode};
+use def_source::parts::{Number, Part};
+use std::alloc::AllocError;
 
 /// Adds a word, the lowest byte first.
 fn push_word(out: &mut Vec<u8>, word: u32) -> Result<(), AllocError>
@@ -66,13 +65,27 @@ fn push_number(out: &mut Vec<u8>, rd: u32, number: Number) -> Result<(), AllocEr
     let word = number_word(number);
     if is_short(word) {
         let immediate = word;
-        return push(out, Instr::Addi { rd, rs1: 0, immediate });
+        return push(
+            out,
+            Instr::Addi {
+                rd,
+                rs1: 0,
+                immediate,
+            },
+        );
     }
     let (upper, immediate) = (upper_part(word), rest_part(word));
     push_two(
         out,
-        Instr::Lui { rd, immediate: upper },
-        Instr::Addi { rd, rs1: rd, immediate },
+        Instr::Lui {
+            rd,
+            immediate: upper,
+        },
+        Instr::Addi {
+            rd,
+            rs1: rd,
+            immediate,
+        },
     )
 }
 
@@ -104,8 +117,15 @@ fn push_import(
     let to = 8 * slot_number(slots, name);
     push_two(
         out,
-        Instr::AuiPcc { rd, immediate: high_piece(from, to) },
-        Instr::Clc { rd, rs1: rd, immediate: low_piece(from, to) },
+        Instr::AuiPcc {
+            rd,
+            immediate: high_piece(from, to),
+        },
+        Instr::Clc {
+            rd,
+            rs1: rd,
+            immediate: low_piece(from, to),
+        },
     )
 }
 
@@ -116,8 +136,15 @@ fn push_text_address(out: &mut Vec<u8>, at: u128, rd: u32, to: u128) -> Result<(
 {
     push_two(
         out,
-        Instr::AuiPcc { rd, immediate: high_piece(at, to) },
-        Instr::CIncAddrImm { rd, rs1: rd, immediate: low_piece(at, to) },
+        Instr::AuiPcc {
+            rd,
+            immediate: high_piece(at, to),
+        },
+        Instr::CIncAddrImm {
+            rd,
+            rs1: rd,
+            immediate: low_piece(at, to),
+        },
     )
 }
 
@@ -128,8 +155,15 @@ fn push_global_address(out: &mut Vec<u8>, rd: u32, to: u128) -> Result<(), Alloc
 {
     push_two(
         out,
-        Instr::AuiCgp { rd, immediate: high_piece(0, to) },
-        Instr::CIncAddrImm { rd, rs1: rd, immediate: low_piece(0, to) },
+        Instr::AuiCgp {
+            rd,
+            immediate: high_piece(0, to),
+        },
+        Instr::CIncAddrImm {
+            rd,
+            rs1: rd,
+            immediate: low_piece(0, to),
+        },
     )
 }
 
@@ -149,43 +183,134 @@ fn push_instructions(
     ensures { OnOk result (out.new.items ≡ out.old.items ++ object.instruction_bytes (object.instructions_at (λ n. label_named n labels.now) slots.now at (part_view part.entry))) }
 {
     match part {
-        Part::Registers { operation, rd, rs1, rs2 } => {
-            push(out, register_instruction(operation, rd, rs1, rs2))
-        }
-        Part::Immediate { operation, rd, rs1, number } => {
-            push(out, immediate_instruction(operation, rd, rs1, number))
-        }
-        Part::Upper { operation, rd, number } => push(out, upper_instruction(operation, rd, number)),
-        Part::Load { operation, rd, number, rs1 } => {
-            push(out, load_instruction(operation, rd, rs1, number))
-        }
-        Part::JumpCapability { rd, rs1 } => push(out, Instr::CJalr { rd, rs1, immediate: 0 }),
-        Part::Store { operation, rs2, number, rs1 } => {
-            push(out, store_instruction(operation, rs1, rs2, number))
-        }
-        Part::Branch { operation, rs1, rs2, target } => {
-            push(out, branch_instruction(operation, rs1, rs2, branch_target(labels, at, target)))
+        Part::Registers {
+            operation,
+            rd,
+            rs1,
+            rs2,
+        } => { push(out, register_instruction(operation, rd, rs1, rs2)) }
+        Part::Immediate {
+            operation,
+            rd,
+            rs1,
+            number,
+        } => { push(out, immediate_instruction(operation, rd, rs1, number)) }
+        Part::Upper {
+            operation,
+            rd,
+            number,
+        } => push(out, upper_instruction(operation, rd, number)),
+        Part::Load {
+            operation,
+            rd,
+            number,
+            rs1,
+        } => { push(out, load_instruction(operation, rd, rs1, number)) }
+        Part::JumpCapability { rd, rs1 } => push(
+            out,
+            Instr::CJalr {
+                rd,
+                rs1,
+                immediate: 0,
+            },
+        ),
+        Part::Store {
+            operation,
+            rs2,
+            number,
+            rs1,
+        } => { push(out, store_instruction(operation, rs1, rs2, number)) }
+        Part::Branch {
+            operation,
+            rs1,
+            rs2,
+            target,
+        } => {
+            push(
+                out,
+                branch_instruction(operation, rs1, rs2, branch_target(labels, at, target)),
+            )
         }
         Part::Jal { rd, target } => {
-            push(out, Instr::Jal { rd, offset: jump_target(labels, at, target) })
+            push(
+                out,
+                Instr::Jal {
+                    rd,
+                    offset: jump_target(labels, at, target),
+                },
+            )
         }
         Part::Source { operation, rd, rs1 } => push(out, source_instruction(operation, rd, rs1)),
         Part::Bare { operation } => push(out, bare_instruction(operation)),
-        Part::Nop => push(out, Instr::Addi { rd: 0, rs1: 0, immediate: 0 }),
-        Part::Move { rd, rs } => push(out, Instr::Addi { rd, rs1: rs, immediate: 0 }),
+        Part::Nop => push(
+            out,
+            Instr::Addi {
+                rd: 0,
+                rs1: 0,
+                immediate: 0,
+            },
+        ),
+        Part::Move { rd, rs } => push(
+            out,
+            Instr::Addi {
+                rd,
+                rs1: rs,
+                immediate: 0,
+            },
+        ),
         Part::Go { target } => {
-            push(out, Instr::Jal { rd: 0, offset: jump_target(labels, at, target) })
+            push(
+                out,
+                Instr::Jal {
+                    rd: 0,
+                    offset: jump_target(labels, at, target),
+                },
+            )
         }
         Part::Link { rd, target } => {
-            push(out, Instr::Jal { rd, offset: jump_target(labels, at, target) })
+            push(
+                out,
+                Instr::Jal {
+                    rd,
+                    offset: jump_target(labels, at, target),
+                },
+            )
         }
-        Part::Return => push(out, Instr::CJalr { rd: 0, rs1: 1, immediate: 0 }),
-        Part::JumpRegister { rs } => push(out, Instr::CJalr { rd: 0, rs1: rs, immediate: 0 }),
+        Part::Return => push(
+            out,
+            Instr::CJalr {
+                rd: 0,
+                rs1: 1,
+                immediate: 0,
+            },
+        ),
+        Part::JumpRegister { rs } => push(
+            out,
+            Instr::CJalr {
+                rd: 0,
+                rs1: rs,
+                immediate: 0,
+            },
+        ),
         Part::IfZero { rs, target } => {
-            push(out, Instr::Beq { rs1: rs, rs2: 0, offset: branch_target(labels, at, target) })
+            push(
+                out,
+                Instr::Beq {
+                    rs1: rs,
+                    rs2: 0,
+                    offset: branch_target(labels, at, target),
+                },
+            )
         }
         Part::IfNotZero { rs, target } => {
-            push(out, Instr::Bne { rs1: rs, rs2: 0, offset: branch_target(labels, at, target) })
+            push(
+                out,
+                Instr::Bne {
+                    rs1: rs,
+                    rs2: 0,
+                    offset: branch_target(labels, at, target),
+                },
+            )
         }
         Part::Number { rd, number } => push_number(out, rd, number),
         Part::Import { rd, name } => push_import(out, slots, at, rd, name),

@@ -5,14 +5,13 @@ ghost use Rattle.def_instr.specs.Table.{InRange, IsSigned, IsOffset};
 ghost use Rattle.def_source.specs.Source as source;
 ghost use Rattle.def_object.specs.Object as object;
 
+use crate::places::number_word;
 use ct_isa::Instr;
 use def_source::operations::{
     BareOperation, BranchOperation, ImmediateOperation, LoadOperation, RegisterOperation,
     SourceOperation, StoreOperation, UpperOperation,
 };
 use def_source::parts::Number;
-
-use crate::places::number_word;
 
 /// The word of a number from -2048 to 2047.
 #[tactic(auto, using(crate::proofs::Reach::signed_word))]
@@ -45,7 +44,12 @@ fn length_word(number: Number) -> u32
 }
 
 /// Two sources and a result.
-pub(crate) fn register_instruction(operation: RegisterOperation, rd: u32, rs1: u32, rs2: u32) -> Instr
+pub(crate) fn register_instruction(
+    operation: RegisterOperation,
+    rd: u32,
+    rs1: u32,
+    rs2: u32,
+) -> Instr
     requires rd { rd < 16 }
     requires rs1 { rs1 < 16 }
     requires rs2 { rs2 < 16 }
@@ -86,7 +90,12 @@ pub(crate) fn register_instruction(operation: RegisterOperation, rd: u32, rs1: u
 }
 
 /// A source, a number and a result.
-pub(crate) fn immediate_instruction(operation: ImmediateOperation, rd: u32, rs1: u32, number: Number) -> Instr
+pub(crate) fn immediate_instruction(
+    operation: ImmediateOperation,
+    rd: u32,
+    rs1: u32,
+    number: Number,
+) -> Instr
     requires rd { rd < 16 }
     requires rs1 { rs1 < 16 }
     requires fit { source.fits_immediate operation number ≡ true }
@@ -94,17 +103,61 @@ pub(crate) fn immediate_instruction(operation: ImmediateOperation, rd: u32, rs1:
     ensures range { InRange result }
 {
     match operation {
-        ImmediateOperation::Addi => Instr::Addi { rd, rs1, immediate: signed_word(number) },
-        ImmediateOperation::Slti => Instr::Slti { rd, rs1, immediate: signed_word(number) },
-        ImmediateOperation::Sltiu => Instr::Sltiu { rd, rs1, immediate: signed_word(number) },
-        ImmediateOperation::Xori => Instr::Xori { rd, rs1, immediate: signed_word(number) },
-        ImmediateOperation::Ori => Instr::Ori { rd, rs1, immediate: signed_word(number) },
-        ImmediateOperation::Andi => Instr::Andi { rd, rs1, immediate: signed_word(number) },
-        ImmediateOperation::Slli => Instr::Slli { rd, rs1, amount: amount_word(number) },
-        ImmediateOperation::Srli => Instr::Srli { rd, rs1, amount: amount_word(number) },
-        ImmediateOperation::Srai => Instr::Srai { rd, rs1, amount: amount_word(number) },
-        ImmediateOperation::CIncAddrImm => Instr::CIncAddrImm { rd, rs1, immediate: signed_word(number) },
-        ImmediateOperation::CSetBoundsImm => Instr::CSetBoundsImm { rd, rs1, immediate: length_word(number) },
+        ImmediateOperation::Addi => Instr::Addi {
+            rd,
+            rs1,
+            immediate: signed_word(number),
+        },
+        ImmediateOperation::Slti => Instr::Slti {
+            rd,
+            rs1,
+            immediate: signed_word(number),
+        },
+        ImmediateOperation::Sltiu => Instr::Sltiu {
+            rd,
+            rs1,
+            immediate: signed_word(number),
+        },
+        ImmediateOperation::Xori => Instr::Xori {
+            rd,
+            rs1,
+            immediate: signed_word(number),
+        },
+        ImmediateOperation::Ori => Instr::Ori {
+            rd,
+            rs1,
+            immediate: signed_word(number),
+        },
+        ImmediateOperation::Andi => Instr::Andi {
+            rd,
+            rs1,
+            immediate: signed_word(number),
+        },
+        ImmediateOperation::Slli => Instr::Slli {
+            rd,
+            rs1,
+            amount: amount_word(number),
+        },
+        ImmediateOperation::Srli => Instr::Srli {
+            rd,
+            rs1,
+            amount: amount_word(number),
+        },
+        ImmediateOperation::Srai => Instr::Srai {
+            rd,
+            rs1,
+            amount: amount_word(number),
+        },
+        ImmediateOperation::CIncAddrImm => Instr::CIncAddrImm {
+            rd,
+            rs1,
+            immediate: signed_word(number),
+        },
+        ImmediateOperation::CSetBoundsImm => Instr::CSetBoundsImm {
+            rd,
+            rs1,
+            immediate: length_word(number),
+        },
     }
 }
 
@@ -143,7 +196,12 @@ pub(crate) fn load_instruction(operation: LoadOperation, rd: u32, rs1: u32, numb
 }
 
 /// An address and a source.
-pub(crate) fn store_instruction(operation: StoreOperation, rs1: u32, rs2: u32, number: Number) -> Instr
+pub(crate) fn store_instruction(
+    operation: StoreOperation,
+    rs1: u32,
+    rs2: u32,
+    number: Number,
+) -> Instr
     requires rs1 { rs1 < 16 }
     requires rs2 { rs2 < 16 }
     requires fit { source.within 2048 2047 number ≡ true }
@@ -152,15 +210,36 @@ pub(crate) fn store_instruction(operation: StoreOperation, rs1: u32, rs2: u32, n
 {
     let immediate = signed_word(number);
     match operation {
-        StoreOperation::Sb => Instr::Sb { rs1, rs2, immediate },
-        StoreOperation::Sh => Instr::Sh { rs1, rs2, immediate },
-        StoreOperation::Sw => Instr::Sw { rs1, rs2, immediate },
-        StoreOperation::Csc => Instr::Csc { rs1, rs2, immediate },
+        StoreOperation::Sb => Instr::Sb {
+            rs1,
+            rs2,
+            immediate,
+        },
+        StoreOperation::Sh => Instr::Sh {
+            rs1,
+            rs2,
+            immediate,
+        },
+        StoreOperation::Sw => Instr::Sw {
+            rs1,
+            rs2,
+            immediate,
+        },
+        StoreOperation::Csc => Instr::Csc {
+            rs1,
+            rs2,
+            immediate,
+        },
     }
 }
 
 /// Two sources and an offset.
-pub(crate) fn branch_instruction(operation: BranchOperation, rs1: u32, rs2: u32, offset: u32) -> Instr
+pub(crate) fn branch_instruction(
+    operation: BranchOperation,
+    rs1: u32,
+    rs2: u32,
+    offset: u32,
+) -> Instr
     requires rs1 { rs1 < 16 }
     requires rs2 { rs2 < 16 }
     requires reach { IsOffset 13 offset }

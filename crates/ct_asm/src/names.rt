@@ -15,7 +15,9 @@ pub struct Names {
 
 impl Model for Names {
     ghost use Rattle.std.specs.Prelude.{List, map, ℕ, string_bytes};
+
     ghost Value = { List (List ℕ) };
+
     ghost view = { λ n. map string_bytes n.set.keys };
 }
 

@@ -5,17 +5,16 @@ ghost use Rattle.def_source.specs.Source.{IsLawful};
 ghost use Rattle.ct_source.specs.Views.{statements_view};
 ghost use Rattle.ct_asm.specs.Labels.{label_named, text_offset, Stands, Refuses};
 
-use def_source::AsmFault;
-use def_source::parts::{Section, Statement};
-use std::alloc::Global;
-use std::marker::Model;
-
 use crate::bytes::section_bytes;
 use crate::faults::least_fault;
 use crate::labels::Labels;
 use crate::names::Names;
 use crate::places::is_text;
 use crate::tables::labels_of;
+use def_source::AsmFault;
+use def_source::parts::{Section, Statement};
+use std::alloc::Global;
+use std::marker::Model;
 
 /// The bytes of the text, the initial bytes of the globals, and the labels, which `find` reads.
 #[derive(Debug, Drop)]
@@ -27,8 +26,11 @@ pub struct Object {
 
 impl Model for Object {
     ghost use Rattle.ct_asm.specs.Labels.{Assembled, AreWithin};
+
     ghost Value = { Assembled };
+
     ghost view = { λ o. record { text = o.text.items; init = o.init.items; labels = o.labels } };
+
     ghost invariant = { λ o. AreWithin o.labels };
 }
 

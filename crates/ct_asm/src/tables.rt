@@ -6,13 +6,12 @@ ghost use Rattle.def_object.specs.Object as object;
 ghost use Rattle.ct_source.specs.Views.{part_view, statements_view};
 ghost use Rattle.ct_asm.specs.Labels.{label_named, noted};
 
-use def_object::{Label, Place};
-use def_source::parts::{Part, Section, Statement};
-use std::alloc::{AllocError, Global};
-
 use crate::labels::Labels;
 use crate::names::Names;
 use crate::places::{advanced, offset};
+use def_object::{Label, Place};
+use def_source::parts::{Part, Section, Statement};
+use std::alloc::{AllocError, Global};
 
 /// Adds the label that a statement is, unless its name is there.
 fn note(

@@ -7,11 +7,10 @@ ghost use Rattle.def_object.specs.Object as object;
 ghost use Rattle.ct_source.specs.Views.{target_view};
 ghost use Rattle.ct_asm.specs.Labels.{label_named};
 
-use def_object::Label;
-use def_source::parts::{Number, Target};
-
 use crate::labels::Labels;
 use crate::places::number_word;
+use def_object::Label;
+use def_source::parts::{Number, Target};
 
 /// The 32-bit word of the way from one place to another.
 fn way(at: u128, to: u128) -> u32
@@ -98,7 +97,11 @@ pub(crate) fn rest_part(word: u32) -> u32
     ensures range { IsSigned 12 result }
 {
     let low = word % (1 << 12);
-    if low < 1 << 11 { low } else { low + 0xFFFF_F000 }
+    if low < 1 << 11 {
+        low
+    } else {
+        low + 0xFFFF_F000
+    }
 }
 
 /// Where a label stands in its section.

@@ -1,7 +1,7 @@
 -- Which object statements stand for: *Source and object*, its second half (docs/assembler.md).
 -- A label's value is the sum of the lengths of the statements before it in its section, and the
 -- object is the statements' bytes in order, with each reference replaced by its value.
-use Rattle.std.specs.Prelude.{◌≡◌, ℕ, ◌+◌, ◌*◌, ◌-◌, ◌/◌, ◌%◌, ◌^◌, Bool, true, false, ◌==◌, ◌&&◌, not, nat_lt, nat_le, if◌then◌else◌, List, [], ◌∷◌, ◌++◌, length, option_map, Option, Some, None, is_none, replicate}
+use Rattle.std.specs.Prelude.{ℕ, ◌+◌, ◌*◌, ◌-◌, ◌/◌, ◌%◌, ◌^◌, Bool, false, ◌==◌, ◌&&◌, nat_lt, nat_le, if◌then◌else◌, List, [], ◌∷◌, ◌++◌, length, option_map, Option, Some, None, is_none, replicate}
 use Rattle.std.specs.List.{flat_map}
 use Rattle.std.specs.Int.{w32, to_le_bytes}
 use Rattle.std.specs.Str.{bytes_eq}
@@ -17,7 +17,6 @@ use Rattle.def_source.specs.declared.parts.Target.{Target}
 use Rattle.def_source.specs.declared.parts.Target.TheVariants as target
 use Rattle.def_source.specs.declared.parts.Part.{Part}
 use Rattle.def_source.specs.declared.parts.Part.TheVariants as part
-use Rattle.def_source.specs.declared.parts.Statement.{Statement}
 use Rattle.def_source.specs.declared.operations.RegisterOperation.{RegisterOperation}
 use Rattle.def_source.specs.declared.operations.RegisterOperation.TheVariants as register
 use Rattle.def_source.specs.declared.operations.ImmediateOperation.{ImmediateOperation}
@@ -314,9 +313,9 @@ slot_number (Some k) = k
 -- slots of eight bytes stand before the text
 abbrev pub import_instructions : List Name → ℕ → ℕ → Name → List Instr
 import_instructions slots at rd name =
-  let from = 8 * length slots + at in
-  let to = 8 * slot_number (slot_of slots name) in
-  instr.AuiPcc rd (high_piece from to) ∷ instr.Clc rd rd (low_piece from to) ∷ []
+    let from = 8 * length slots + at in
+    let to = 8 * slot_number (slot_of slots name) in
+    instr.AuiPcc rd (high_piece from to) ∷ instr.Clc rd rd (low_piece from to) ∷ []
 
 abbrev pub text_instructions : ℕ → ℕ → ℕ → List Instr
 text_instructions at rd to = instr.AuiPcc rd (high_piece at to) ∷ instr.CIncAddrImm rd rd (low_piece at to) ∷ []
