@@ -304,6 +304,7 @@ starting_confined = record {
   kept = record { granules = granules_kept; registers = λ t n. kept_at t n; frames = λ t. saved_at t };
   live = λ t runs. absurd (let clash : None ≡ Some t = runs in cc);
   apart = tt;
+  numbered = lit< tt;
   fits = tt;
   marks = λ k. record { why = λ mark. absurd (let clash : true ≡ false = sym mark ∙ unmarked k in cc); all = λ there. absurd there };
   limits = λ q. omega arith;

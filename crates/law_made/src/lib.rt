@@ -2,7 +2,7 @@
 //! operations make. So none of these facts is a premise that nobody meets.
 #![tactic(auto)]
 
-ghost use Rattle.std.specs.Prelude.{◌≡◌, ◌≤◌, ◌<◌, ◌-◌, ◌%◌, ◌^◌, ℕ, List, ◌∷◌, Option, Some, true};
+ghost use Rattle.std.specs.Prelude.{◌≡◌, ◌≤◌, ◌<◌, ◌-◌, ◌+◌, ◌%◌, ◌^◌, ℕ, List, ◌∷◌, Option, Some, true};
 ghost use Rattle.def_words.specs.declared.Cap.{Cap};
 ghost use Rattle.def_words.specs.declared.Posture.{Posture};
 ghost use Rattle.def_words.specs.declared.Shadow.{Shadow};
@@ -18,12 +18,13 @@ ghost use Rattle.def_reach.specs.Roots.{Listing};
 ghost use Rattle.def_machine.specs.Image.{Image, root, stack_entry, stack_base, stack_top};
 ghost use Rattle.def_machine.specs.State.{State, Frame, Object, register, thread};
 ghost use Rattle.def_machine.specs.Frames.{given, stack_rights};
-ghost use Rattle.def_machine.specs.Heap.{object_cap};
+ghost use Rattle.def_machine.specs.Objects.{charges};
+ghost use Rattle.def_machine.specs.Heap.{object_cap, Fits, length_for, charge_for, new_object};
 ghost use Rattle.def_confined.specs.Capabilities.{Rooted, IsReturnType};
 ghost use Rattle.def_confined.specs.Confined.{Confined, ObjectFits};
 ghost use Rattle.def_confined.specs.Partitioned.{Partitioned};
 ghost use Rattle.def_confined.specs.Made.{Derived, Opens, Links, IsStackUpTo, IsObjectCap};
-ghost use Rattle.def_confined.specs.Changes.{Enters};
+ghost use Rattle.def_confined.specs.Changes.{Enters, NewObject};
 
 /// A result of an operation is derived from its first operand: the address and its raise, bounds, exact
 /// bounds, a mask, the tag cleared, a seal and an unseal by a key with a root, and a load's attenuation.
@@ -55,7 +56,9 @@ pub fn calls_made()
     ensures enters { (i : Image) (s : State) (t : ℕ) (g : Frame) (gs : List Frame) (callee export high : ℕ) → Partitioned i → Confined i s → s.running ≡ Some t → (thread s t).frames ≡ g ∷ gs → (register (thread s t) 1).tag ≡ true → IsReturnType (cap_seal (register (thread s t) 1)) → (register (thread s t) 6).tag ≡ true → cap_seal (register (thread s t) 6) ≡ 9 → (root i (register (thread s t) 6).shadow.root).of ≡ export → (root i export).owner ≡ Compartment callee → (register (thread s t) 2).tag ≡ true → has (register (thread s t) 2) store_local ≡ true → high % 16 ≡ 0 → stack_base i t ≤ high → high ≤ g.top → Enters i s t g gs callee export high (given i (thread s t) t callee export high) }
 {}
 
-/// The capability of an object that fits the heap.
+/// A place that was found, with room in the quota, gives an object that may be put beside the others; and the
+/// capability of an object that fits the heap.
 pub fn objects_made()
-    ensures { (i : Image) (next : ℕ) (r : Object) → Partitioned i → (root i r.quota).origin ≡ Listing Quota → ObjectFits i next r → 0 < r.number → 0 < r.length → (object_cap r).tag ≡ true → IsObjectCap i r (object_cap r) }
+    ensures found { (i : Image) (s : State) (quota size base : ℕ) → Confined i s → Fits i s.objects (length_for size) base → charge_for size + charges quota s.objects ≤ (root i quota).limit → NewObject i s (new_object s quota size base) }
+    ensures capability { (i : Image) (next : ℕ) (r : Object) → Partitioned i → (root i r.quota).origin ≡ Listing Quota → ObjectFits i next r → 0 < r.number → 0 < r.length → (object_cap r).tag ≡ true → IsObjectCap i r (object_cap r) }
 {}
