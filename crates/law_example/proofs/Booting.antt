@@ -1,5 +1,5 @@
 -- The state in which this firmware starts is confined.
-use Rattle.std.proofs.Common.{ℕ, zero, suc, ◌≡◌, ◌&&◌, Bool, true, false, not, nat_eq, [], ◌∷◌, Some, None, refl, sym, ap, ◌∙◌, subst, arith, lit≤}
+use Rattle.std.proofs.Common.{ℕ, zero, suc, ◌≡◌, ◌&&◌, Bool, true, false, not, nat_eq, [], ◌∷◌, Some, None, refl, sym, ap, ◌∙◌, subst, arith, lit≤, lit<}
 use Rattle.def_words.specs.declared.Cap.{Cap}
 use Rattle.def_words.specs.declared.Shadow.{Shadow}
 use Rattle.def_words.specs.Authority.{cap_top}
