@@ -1,0 +1,5 @@
+pub mod Cases
+pub mod Mades
+pub mod Rooting
+pub mod Whole
+pub mod Booting
