@@ -1,9 +1,9 @@
 -- The lists of a value, and lists that are built one element after another.
-use Rattle.std.proofs.Common.{◌≡◌, ℕ, zero, suc, ◌+◌, ◌<◌, List, [], ◌∷◌, ◌++◌, refl, ap, sym, ◌∙◌, arith, map, length, take, drop}
+use Rattle.std.proofs.Common.{◌≡◌, List, [], ◌∷◌, refl, ap, map}
 use Rattle.serde_json.specs.Data.{Data}
 use Rattle.std.specs.Prelude.{String, string_bytes}
 use Rattle.std.specs.declared.alloc.Global.{Global}
-use Rattle.serde_json.specs.View.{items_of, members_view, view}
+use Rattle.serde_json.specs.View.{items_of, members_view}
 use Rattle.serde_json.specs.declared.value.Value.{Value}
 use Rattle.def_desc.specs.Members.{list_of, names_in}
 

@@ -1,5 +1,5 @@
 -- A set of texts, by the texts.
-use Rattle.std.proofs.Common.{◌≡◌, ℕ, List, [], ◌∷◌, ◌||◌, ◌++◌, Bool, true, false, cond, refl, ap, sym, ◌∙◌, map}
+use Rattle.std.proofs.Common.{◌≡◌, ℕ, List, [], ◌∷◌, ◌||◌, ◌++◌, Bool, true, false, cond, refl, ap, sym, ◌∙◌}
 use denote.Bor.{Bor}
 use Rattle.std.specs.Prelude.{bytes_eq}
 use Rattle.std.specs.List.{list_any}

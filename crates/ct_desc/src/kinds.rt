@@ -7,7 +7,9 @@ ghost use Rattle.def_desc.specs.Kinds as spec;
 ghost use Rattle.def_desc.specs.Members.{among, keys_of, names_in};
 ghost use Rattle.def_desc.specs.Reading.{are_digits as hex_digits, is_digit as hex_digit, is_word as hex_word, text_of as text_in, member_at};
 
-use crate::members::{has_list, has_number, has_object, has_text, may_list, may_number, text_of, text_or, words_at};
+use crate::members::{
+    has_list, has_number, has_object, has_text, may_list, may_number, text_of, text_or, words_at,
+};
 use crate::walk::value_at;
 use def_desc::{Part, Place};
 use serde_json::{Map, Value};
@@ -98,7 +100,9 @@ fn has_kinds(part: Part, value: &Value) -> bool
                 && has_number(value, "base")
         }
         Part::Compartment => compartment_has_kinds(value),
-        Part::Import => has_text(value, "as") && has_text(value, "device") && has_text(value, "rights"),
+        Part::Import => has_text(value, "as")
+            && has_text(value, "device")
+            && has_text(value, "rights"),
         Part::Export => has_text(value, "name") && has_number(value, "at"),
         Part::Thread => {
             has_text(value, "name")

@@ -16,19 +16,20 @@ mod refer;
 mod repeats;
 mod rows;
 mod sizes;
+#[cfg(test)]
+mod tests;
 mod walk;
 
 ghost use Rattle.std.specs.Prelude.{◌≡◌, MatchResult};
 ghost use Rattle.ct_desc.specs.Answers.{Refused, Unread};
 ghost use Rattle.def_desc.specs.WellFormed.{WellFormed};
 
-use serde_json::Value;
-use std::alloc::{AllocError, AllocFailed, Global};
-use thiserror::Error;
-
 pub use parts::{Code, Compartment, Desc, Export, Import, Thread};
 pub use refer::is_call;
+use serde_json::Value;
 pub use sizes::{code_size, globals_size, table_size, text_size};
+use std::alloc::{AllocError, AllocFailed, Global};
+use thiserror::Error;
 
 /// Why a description is not read.
 #[derive(Debug, Drop, PartialEq, Error)]

@@ -92,13 +92,7 @@ pub fn word_or(value: &Value, key: &str, default: u32) -> u32
     ensures { result ≡ reading.word_or default key.now (view value.now) }
 {
     match number_at(value, key) {
-        Some(n) => {
-            if n < 1 << 32 {
-                n as u32
-            } else {
-                0
-            }
-        }
+        Some(n) => { if n < 1 << 32 { n as u32 } else { 0 } }
         None => default,
     }
 }

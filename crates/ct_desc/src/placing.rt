@@ -45,9 +45,18 @@ fn add_compartment(regions: &mut Vec<Region>, compartment: &Compartment) -> Resu
     if !all_begin(text_size(compartment), compartment.exports.as_slice()) {
         return Ok(false);
     }
-    regions.push(Region { base: compartment.codebase, length: code_size(compartment) })?;
-    regions.push(Region { base: compartment.tablebase, length: table_size(compartment) })?;
-    regions.push(Region { base: compartment.globalsbase, length: globals_size(compartment) })?;
+    regions.push(Region {
+        base: compartment.codebase,
+        length: code_size(compartment),
+    })?;
+    regions.push(Region {
+        base: compartment.tablebase,
+        length: table_size(compartment),
+    })?;
+    regions.push(Region {
+        base: compartment.globalsbase,
+        length: globals_size(compartment),
+    })?;
     Ok(true)
 }
 
@@ -83,7 +92,10 @@ fn add_stacks(regions: &mut Vec<Region>, rows: &[Thread]) -> Result<Option<u32>,
             return Ok(None);
         }
         saves += 160 + 64 * row.frames;
-        regions.push(Region { base: row.stackbase, length: row.stack })?;
+        regions.push(Region {
+            base: row.stackbase,
+            length: row.stack,
+        })?;
     }
     Ok(Some(saves))
 }
@@ -165,7 +177,10 @@ fn regions_of(alloc: Global, desc: &Desc) -> Result<Option<Vec<Region>>, AllocEr
     if !heap_is_placed(desc) {
         return Ok(None);
     }
-    regions.push(Region { base: desc.trustedbase, length: 16 + saves })?;
+    regions.push(Region {
+        base: desc.trustedbase,
+        length: 16 + saves,
+    })?;
     Ok(Some(regions))
 }
 

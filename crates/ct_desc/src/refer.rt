@@ -34,7 +34,11 @@ fn names_export(entry: &str, compartment: &str, exports: &[Export]) -> bool
     ensures { result ≡ list_any (λ e. spec.is_call entry.now compartment.now e.name) exports.now }
 {
     for export in exports {
-        if is_call(entry.as_bytes(), compartment.as_bytes(), export.name.as_bytes()) {
+        if is_call(
+            entry.as_bytes(),
+            compartment.as_bytes(),
+            export.name.as_bytes(),
+        ) {
             return true;
         }
     }
@@ -45,7 +49,11 @@ fn is_export(entry: &str, compartments: &[Compartment]) -> bool
     ensures { result ≡ spec.is_export entry.now compartments.now }
 {
     for compartment in compartments {
-        if names_export(entry, compartment.name.as_str(), compartment.exports.as_slice()) {
+        if names_export(
+            entry,
+            compartment.name.as_str(),
+            compartment.exports.as_slice(),
+        ) {
             return true;
         }
     }

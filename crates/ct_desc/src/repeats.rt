@@ -178,7 +178,10 @@ fn owners_twice(
     let mut seen = IndexSet::new(alloc);
     let compartments = repeated(alloc, &mut seen, owners.as_slice())?;
     let threads = repeated(alloc, &mut seen, others.as_slice())?;
-    Ok(Owners { compartments, threads })
+    Ok(Owners {
+        compartments,
+        threads,
+    })
 }
 
 fn repeats_in(
@@ -207,7 +210,12 @@ pub fn repeats_of(alloc: Global, desc: &Desc) -> Result<Repeats, AllocError>
     ensures { IfOk result (λ m. m ≡ spec.repeats_of desc.now) }
 {
     let devices = desc.devices.as_slice();
-    repeats_in(alloc, devices, desc.compartments.as_slice(), desc.threads.as_slice())
+    repeats_in(
+        alloc,
+        devices,
+        desc.compartments.as_slice(),
+        desc.threads.as_slice(),
+    )
 }
 
 fn flag(flags: &[bool], index: usize) -> bool

@@ -155,7 +155,9 @@ fn exports_of(alloc: Global, values: &[Value]) -> Result<Vec<Export>, AllocError
 fn code_of(alloc: Global, value: &Value) -> Result<Code, AllocError>
     ensures { IfOk result (λ x. x ≡ spec.code_of (spec.member_at (codes "code") (view value.now))) }
 {
-    Ok(Code { words: words_of(alloc, words_at(value))? })
+    Ok(Code {
+        words: words_of(alloc, words_at(value))?,
+    })
 }
 
 fn compartment_of(alloc: Global, value: &Value) -> Result<Compartment, AllocError>

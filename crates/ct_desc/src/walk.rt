@@ -13,7 +13,11 @@ fn add_outer(places: &mut Vec<Place>, part: Part, values: &[Value]) -> Result<()
     ensures { OnOk result (places.new.items ≡ places.old.items ++ spec.outer part 0 (map view values.now)) }
 {
     for (index, _) in values.iter().enumerate() {
-        places.push(Place { part, index, item: 0 })?;
+        places.push(Place {
+            part,
+            index,
+            item: 0,
+        })?;
     }
     Ok(())
 }
@@ -35,7 +39,11 @@ fn add_inner(
 fn add_compartment(places: &mut Vec<Place>, index: usize, value: &Value) -> Result<(), AllocError>
     ensures { OnOk result (places.new.items ≡ places.old.items ++ spec.compartment_places index (view value.now)) }
 {
-    places.push(Place { part: Part::Compartment, index, item: 0 })?;
+    places.push(Place {
+        part: Part::Compartment,
+        index,
+        item: 0,
+    })?;
     add_inner(places, Part::Import, index, list_at(value, "imports"))?;
     add_inner(places, Part::Export, index, list_at(value, "exports"))
 }
@@ -54,8 +62,16 @@ pub fn places_of(alloc: Global, value: &Value) -> Result<Vec<Place>, AllocError>
     ensures { IfOk result (λ v. v.items ≡ spec.places_of (view value.now)) }
 {
     let mut places = Vec::new(alloc);
-    places.push(Place { part: Part::Firmware, index: 0, item: 0 })?;
-    places.push(Place { part: Part::Ram, index: 0, item: 0 })?;
+    places.push(Place {
+        part: Part::Firmware,
+        index: 0,
+        item: 0,
+    })?;
+    places.push(Place {
+        part: Part::Ram,
+        index: 0,
+        item: 0,
+    })?;
     add_outer(&mut places, Part::Device, list_at(value, "devices"))?;
     add_compartments(&mut places, list_at(value, "compartments"))?;
     add_outer(&mut places, Part::Thread, list_at(value, "threads"))?;

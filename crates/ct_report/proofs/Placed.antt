@@ -73,7 +73,7 @@ heap_below r h =
     omega (arith, end, inside)
 
 above : (n : ℕ) → n ≤ rounded n
-above n = elim (cases_Bool (nat_lt n 16)) [ | inl e ↦ rw e (omega (arith, ltb-true n 16 e)) | inr e ↦ rw e (omega arith) ]
+above n = elim (cases_Bool (nat_lt n 16)) [ inl e ↦ rw e (omega (arith, ltb-true n 16 e)) | inr e ↦ rw e (omega arith) ]
 
 ends : (ram : Ram) (heap : ℕ) (g : Region) → lies ram heap g ≡ true → g.base + g.length ≤ heap
 ends ram heap g h = leb-true (g.base + g.length) heap (both_right ((g.base % 16 == 0) && nat_le ram.base g.base) (nat_le (g.base + g.length) heap) h)
@@ -88,7 +88,7 @@ fit ram heap c below is all =
     let globals_region : Region = region c.globalsbase (globals_size c) in
     let small : is_small c ≡ true = both_left (is_small c) (list_all (begins (text_size c)) c.exports) is in
     let parts : Four (nat_le (length c.imports) 128) (nat_le (length c.exports) 64) (nat_le (length c.code.words) 1024) (nat_le c.globals 8176) =
-        four (nat_le (length c.imports) 128) (nat_le (length c.exports) 64) (nat_le (length c.code.words) 1024) (nat_le c.globals 8176) small in
+    four (nat_le (length c.imports) 128) (nat_le (length c.exports) 64) (nat_le (length c.code.words) 1024) (nat_le c.globals 8176) small in
     let code_end : c.codebase + code_size c ≤ heap = ends ram heap code_region (both_left (lies ram heap code_region) (lies ram heap table_region && (lies ram heap globals_region && true)) all) in
     let rest : (lies ram heap table_region && (lies ram heap globals_region && true)) ≡ true = both_right (lies ram heap code_region) (lies ram heap table_region && (lies ram heap globals_region && true)) all in
     let table_end : c.tablebase + table_size c ≤ heap = ends ram heap table_region (both_left (lies ram heap table_region) (lies ram heap globals_region && true) rest) in
@@ -107,11 +107,11 @@ all : (ram : Ram) (heap : ℕ) (cs : List CompartmentRow) (rest : List Region) �
 all ram heap [] rest below is lie = tt
 all ram heap (c ∷ cs) rest below is lie =
     let front : list_all (lies ram heap) (regions_from (c ∷ cs)) ≡ true =
-        both_left (list_all (lies ram heap) (regions_from (c ∷ cs))) (list_all (lies ram heap) rest) (sym (list_all-append (lies ram heap) (regions_from (c ∷ cs)) rest) ∙ lie) in
+    both_left (list_all (lies ram heap) (regions_from (c ∷ cs))) (list_all (lies ram heap) rest) (sym (list_all-append (lies ram heap) (regions_from (c ∷ cs)) rest) ∙ lie) in
     let back : list_all (lies ram heap) rest ≡ true =
-        both_right (list_all (lies ram heap) (regions_from (c ∷ cs))) (list_all (lies ram heap) rest) (sym (list_all-append (lies ram heap) (regions_from (c ∷ cs)) rest) ∙ lie) in
+    both_right (list_all (lies ram heap) (regions_from (c ∷ cs))) (list_all (lies ram heap) rest) (sym (list_all-append (lies ram heap) (regions_from (c ∷ cs)) rest) ∙ lie) in
     let split : (list_all (lies ram heap) (regions_of_one c) && list_all (lies ram heap) (regions_from cs)) ≡ true =
-        sym (list_all-append (lies ram heap) (regions_of_one c) (regions_from cs)) ∙ front in
+    sym (list_all-append (lies ram heap) (regions_of_one c) (regions_from cs)) ∙ front in
     let one : list_all (lies ram heap) (regions_of_one c) ≡ true = both_left (list_all (lies ram heap) (regions_of_one c)) (list_all (lies ram heap) (regions_from cs)) split in
     let others : list_all (lies ram heap) (regions_from cs) ≡ true = both_right (list_all (lies ram heap) (regions_of_one c)) (list_all (lies ram heap) (regions_from cs)) split in
     let left : list_all (lies ram heap) (regions_from cs ++ rest) ≡ true = list_all-append (lies ram heap) (regions_from cs) rest ∙ rw (others, back) refl in
@@ -120,5 +120,5 @@ all ram heap (c ∷ cs) rest below is lie =
 pub all_fit : (r : DescRow) → is_placed r ≡ true → AllFit r.compartments
 all_fit r h =
     let lie : list_all (lies r.ram r.heapbase) (regions_from r.compartments ++ (stacks_from r.threads ++ region r.trustedbase (trusted_size r) ∷ [])) ≡ true =
-        ap (λ gs. list_all (lies r.ram r.heapbase) gs) (sym (append_assoc (regions_from r.compartments) (stacks_from r.threads) (region r.trustedbase (trusted_size r) ∷ []))) ∙ (placed r h).fifth in
+    ap (λ gs. list_all (lies r.ram r.heapbase) gs) (sym (append_assoc (regions_from r.compartments) (stacks_from r.threads) (region r.trustedbase (trusted_size r) ∷ []))) ∙ (placed r h).fifth in
     all r.ram r.heapbase r.compartments (stacks_from r.threads ++ region r.trustedbase (trusted_size r) ∷ []) (heap_below r h) (placed r h).second lie

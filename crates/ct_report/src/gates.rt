@@ -88,7 +88,11 @@ fn number_in(number: u32, entry: &str, compartment: &Compartment) -> Option<u32>
 {
     let exports = compartment.exports.as_slice();
     for (item, export) in exports.iter().enumerate() {
-        if is_call(entry.as_bytes(), compartment.name.as_bytes(), export.name.as_bytes()) {
+        if is_call(
+            entry.as_bytes(),
+            compartment.name.as_bytes(),
+            export.name.as_bytes(),
+        ) {
             return Some(number + item as u32);
         }
     }

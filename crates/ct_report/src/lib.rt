@@ -6,6 +6,8 @@ mod gates;
 mod lines;
 mod report;
 mod rights;
+#[cfg(test)]
+mod tests;
 mod values;
 
 ghost use Rattle.std.specs.Prelude.{◌≡◌, IfOk, string_bytes, true};

@@ -24,7 +24,15 @@ pub struct Line<'a> {
 fn entry_of(owner: Owner, kind: Kind, base: u32, length: u32, rights: u32, of: u32) -> Entry
     ensures { result ≡ spec.entry_of owner kind base length rights of }
 {
-    Entry { owner, kind, base, length, rights, of, limit: 0 }
+    Entry {
+        owner,
+        kind,
+        base,
+        length,
+        rights,
+        of,
+        limit: 0,
+    }
 }
 
 fn code_line<'a>(index: u32, compartment: &'a Compartment) -> Line<'a>
@@ -34,7 +42,12 @@ fn code_line<'a>(index: u32, compartment: &'a Compartment) -> Line<'a>
     let size = code_size(compartment);
     let owner = Owner::Compartment(index);
     let entry = entry_of(owner, Kind::Code, compartment.codebase, size, 363, 0);
-    Line { entry, owner: compartment.name.as_str(), name: "", of: "" }
+    Line {
+        entry,
+        owner: compartment.name.as_str(),
+        name: "",
+        of: "",
+    }
 }
 
 fn globals_line<'a>(index: u32, compartment: &'a Compartment) -> Line<'a>
@@ -44,14 +57,24 @@ fn globals_line<'a>(index: u32, compartment: &'a Compartment) -> Line<'a>
     let size = globals_size(compartment);
     let owner = Owner::Compartment(index);
     let entry = entry_of(owner, Kind::Globals, compartment.globalsbase, size, 111, 0);
-    Line { entry, owner: compartment.name.as_str(), name: "", of: "" }
+    Line {
+        entry,
+        owner: compartment.name.as_str(),
+        name: "",
+        of: "",
+    }
 }
 
 fn switch_line<'a>(index: u32, compartment: &'a Compartment) -> Line<'a>
     ensures { row_of result ≡ spec.switch_line index compartment.now }
 {
     let entry = entry_of(Owner::Compartment(index), Kind::Service, 65536, 8, 353, 0);
-    Line { entry, owner: compartment.name.as_str(), name: "switch", of: "switch" }
+    Line {
+        entry,
+        owner: compartment.name.as_str(),
+        name: "switch",
+        of: "switch",
+    }
 }
 
 fn device_index(devices: &[Device], name: &str) -> usize
@@ -98,8 +121,20 @@ fn import_line<'a>(
     let of = device_index(devices, name) as u32;
     let base = device_base(devices, name);
     let rights = device_rights(import.rights);
-    let entry = entry_of(Owner::Compartment(index), Kind::Device, base, 16, rights, of);
-    Line { entry, owner: compartment.name.as_str(), name: import.alias.as_str(), of: name }
+    let entry = entry_of(
+        Owner::Compartment(index),
+        Kind::Device,
+        base,
+        16,
+        rights,
+        of,
+    );
+    Line {
+        entry,
+        owner: compartment.name.as_str(),
+        name: import.alias.as_str(),
+        of: name,
+    }
 }
 
 fn add_imports<'a>(
@@ -130,7 +165,12 @@ fn export_line<'a>(
 {
     let base = compartment.tablebase + 16 + 16 * item;
     let entry = entry_of(Owner::Compartment(index), Kind::Export, base, 16, 33, 0);
-    Line { entry, owner: compartment.name.as_str(), name: export.name.as_str(), of: "" }
+    Line {
+        entry,
+        owner: compartment.name.as_str(),
+        name: export.name.as_str(),
+        of: "",
+    }
 }
 
 fn add_exports<'a>(
@@ -161,7 +201,13 @@ fn add_compartment<'a>(
     lines.push(code_line(index, compartment))?;
     lines.push(globals_line(index, compartment))?;
     lines.push(switch_line(index, compartment))?;
-    add_imports(lines, devices, index, compartment, compartment.imports.as_slice())?;
+    add_imports(
+        lines,
+        devices,
+        index,
+        compartment,
+        compartment.imports.as_slice(),
+    )?;
     add_exports(lines, index, compartment)
 }
 
@@ -186,7 +232,12 @@ fn stack_line<'a>(index: u32, thread: &'a Thread) -> Line<'a>
 {
     let owner = Owner::Thread(index);
     let entry = entry_of(owner, Kind::Stack, thread.stackbase, thread.stack, 126, 0);
-    Line { entry, owner: thread.name.as_str(), name: "", of: "" }
+    Line {
+        entry,
+        owner: thread.name.as_str(),
+        name: "",
+        of: "",
+    }
 }
 
 fn add_stacks<'a>(lines: &mut Vec<Line<'a>>, threads: &'a [Thread]) -> Result<(), AllocError>
@@ -206,7 +257,11 @@ pub fn lines_of<'a>(alloc: Global, desc: &'a Desc) -> Result<Vec<Line<'a>>, Allo
     ensures { IfOk result (λ v. shown v.items ≡ spec.lines_of desc.now) }
 {
     let mut lines = Vec::new(alloc);
-    add_compartments(&mut lines, desc.devices.as_slice(), desc.compartments.as_slice())?;
+    add_compartments(
+        &mut lines,
+        desc.devices.as_slice(),
+        desc.compartments.as_slice(),
+    )?;
     add_stacks(&mut lines, desc.threads.as_slice())?;
     Ok(lines)
 }

@@ -60,9 +60,19 @@ fn add_range(
 {
     serde_json::put(members, alloc, "base", Value::from(line.entry.base))?;
     serde_json::put(members, alloc, "length", Value::from(line.entry.length))?;
-    serde_json::put(members, alloc, "name", Value::String(String::from_str(alloc, line.name)?))?;
+    serde_json::put(
+        members,
+        alloc,
+        "name",
+        Value::String(String::from_str(alloc, line.name)?),
+    )?;
     serde_json::put(members, alloc, "number", Value::from(number))?;
-    serde_json::put(members, alloc, "owner", Value::String(String::from_str(alloc, line.owner)?))
+    serde_json::put(
+        members,
+        alloc,
+        "owner",
+        Value::String(String::from_str(alloc, line.owner)?),
+    )
 }
 
 fn export_value(alloc: Global, number: usize, line: &Line) -> Result<Value, AllocError>

@@ -4,16 +4,17 @@
 
 mod audit;
 mod output;
+#[cfg(test)]
+mod tests;
 
 ghost use Rattle.std.specs.Prelude.{◌≡◌, map, option_map, string_bytes};
 ghost use Rattle.def_output.specs.Answers.{Answers, Ends, ReadsInOrder};
 ghost use Rattle.def_output.specs.Commands.{Audit, form_of as form_in};
 
 use ct_port::{Folder, Sink};
+pub use def_output::Status;
 use output::{refuse_usage, report};
 use std::alloc::Global;
-
-pub use def_output::Status;
 
 /// Runs one command. The words are those after the program's name: `audit DESC` writes the report
 /// line of the description in the file DESC.
@@ -28,21 +29,29 @@ pub fn capfw<F: Folder, S: Sink>(
     sink: &mut S,
 ) -> Status
     ensures answer { let e : Ends = record {
-            words = map string_bytes words.now;
-            told = F.file folder.old;
-            calls = F.calls folder.old; calls_after = F.calls folder.new;
-            read_faults = F.faults folder.old; read_faults_after = F.faults folder.new;
-            bytes = S.bytes sink.old; bytes_after = S.bytes sink.new;
-            write_faults = S.faults sink.old; write_faults_after = S.faults sink.new
-        } in Answers e result }
+      words = map string_bytes words.now;
+      told = F.file folder.old;
+      calls = F.calls folder.old;
+      calls_after = F.calls folder.new;
+      read_faults = F.faults folder.old;
+      read_faults_after = F.faults folder.new;
+      bytes = S.bytes sink.old;
+      bytes_after = S.bytes sink.new;
+      write_faults = S.faults sink.old;
+      write_faults_after = S.faults sink.new;
+    } in Answers e result }
     ensures names { let e : Ends = record {
-            words = map string_bytes words.now;
-            told = F.file folder.old;
-            calls = F.calls folder.old; calls_after = F.calls folder.new;
-            read_faults = F.faults folder.old; read_faults_after = F.faults folder.new;
-            bytes = S.bytes sink.old; bytes_after = S.bytes sink.new;
-            write_faults = S.faults sink.old; write_faults_after = S.faults sink.new
-        } in ReadsInOrder e }
+      words = map string_bytes words.now;
+      told = F.file folder.old;
+      calls = F.calls folder.old;
+      calls_after = F.calls folder.new;
+      read_faults = F.faults folder.old;
+      read_faults_after = F.faults folder.new;
+      bytes = S.bytes sink.old;
+      bytes_after = S.bytes sink.new;
+      write_faults = S.faults sink.old;
+      write_faults_after = S.faults sink.new;
+    } in ReadsInOrder e }
 {
     command(alloc, words, folder, sink)
 }
@@ -54,13 +63,17 @@ fn command<F: Folder, S: Sink>(
     sink: &mut S,
 ) -> Status
     ensures { let e : Ends = record {
-            words = map string_bytes words.now;
-            told = F.file folder.old;
-            calls = F.calls folder.old; calls_after = F.calls folder.new;
-            read_faults = F.faults folder.old; read_faults_after = F.faults folder.new;
-            bytes = S.bytes sink.old; bytes_after = S.bytes sink.new;
-            write_faults = S.faults sink.old; write_faults_after = S.faults sink.new
-        } in Answers e result }
+      words = map string_bytes words.now;
+      told = F.file folder.old;
+      calls = F.calls folder.old;
+      calls_after = F.calls folder.new;
+      read_faults = F.faults folder.old;
+      read_faults_after = F.faults folder.new;
+      bytes = S.bytes sink.old;
+      bytes_after = S.bytes sink.new;
+      write_faults = S.faults sink.old;
+      write_faults_after = S.faults sink.new;
+    } in Answers e result }
 {
     match form_of(words) {
         Some(name) => report(alloc, name, folder, sink),

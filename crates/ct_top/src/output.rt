@@ -78,20 +78,19 @@ pub fn refuse_usage<S: Sink>(sink: &mut S) -> Status
 }
 
 /// `audit DESC`: writes the report line of the description in the file of this name.
-pub fn report<F: Folder, S: Sink>(
-    alloc: Global,
-    name: &str,
-    folder: &mut F,
-    sink: &mut S,
-) -> Status
+pub fn report<F: Folder, S: Sink>(alloc: Global, name: &str, folder: &mut F, sink: &mut S) -> Status
     ensures { (words : List (List ℕ)) → form_of words ≡ Some (Audit name.now) → let e : Ends = record {
-            words = words;
-            told = F.file folder.old;
-            calls = F.calls folder.old; calls_after = F.calls folder.new;
-            read_faults = F.faults folder.old; read_faults_after = F.faults folder.new;
-            bytes = S.bytes sink.old; bytes_after = S.bytes sink.new;
-            write_faults = S.faults sink.old; write_faults_after = S.faults sink.new
-        } in Answers e result }
+      words = words;
+      told = F.file folder.old;
+      calls = F.calls folder.old;
+      calls_after = F.calls folder.new;
+      read_faults = F.faults folder.old;
+      read_faults_after = F.faults folder.new;
+      bytes = S.bytes sink.old;
+      bytes_after = S.bytes sink.new;
+      write_faults = S.faults sink.old;
+      write_faults_after = S.faults sink.new;
+    } in Answers e result }
 {
     match prepare(alloc, name, folder) {
         Ok(line) => close(line.as_bytes(), Status::Done, sink),

@@ -1,13 +1,12 @@
 -- Rules Kind and Member: which members a part has, and of which kind each is.
-use Rattle.std.specs.Prelude.{ℕ, List, [], ◌∷◌, Bool, true, false, not, ◌&&◌, ◌||◌, Option, Some, None, is_some, codes}
+use Rattle.std.specs.Prelude.{ℕ, List, [], ◌∷◌, Bool, true, false, not, ◌&&◌, Option, Some, None, codes}
 use Rattle.std.specs.List.{list_all}
 use Rattle.std.specs.Prelude.{bytes_eq}
 use Rattle.serde_json.specs.Data.{Data}
-use Rattle.serde_json.specs.Find.{get, as_str, as_object}
 use Rattle.def_desc.specs.declared.Part.{Part}
 use Rattle.def_desc.specs.declared.Part.TheVariants.{Firmware, Ram, Device, Compartment, Import, Export, Thread}
 use Rattle.def_desc.specs.declared.Place.{Place}
-use Rattle.def_desc.specs.Members.{text_at, list_at, has_text, has_number, has_object, has_list, may_number, may_list, keys_of, among}
+use Rattle.def_desc.specs.Members.{list_at, has_text, has_number, has_object, has_list, may_number, may_list, keys_of, among}
 use Rattle.def_desc.specs.Reading.{is_word, text_or, text_of, member_at}
 use Rattle.def_desc.specs.Walk.{value_at}
 

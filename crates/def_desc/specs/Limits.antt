@@ -1,5 +1,5 @@
 -- Rule Limit: numbers, and lengths of lists.
-use Rattle.std.specs.Prelude.{ℕ, ◌+◌, ◌%◌, List, length, Bool, true, not, ◌&&◌, ◌==◌, Option, Some, None, unwrap_or, nat_le, codes}
+use Rattle.std.specs.Prelude.{ℕ, ◌+◌, ◌%◌, List, length, Bool, true, ◌&&◌, ◌==◌, unwrap_or, nat_le, codes}
 use Rattle.serde_json.specs.Data.{Data}
 use Rattle.def_desc.specs.declared.Part.{Part}
 use Rattle.def_desc.specs.declared.Part.TheVariants.{Firmware, Ram, Device, Compartment, Import, Export, Thread}

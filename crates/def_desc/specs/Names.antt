@@ -1,5 +1,5 @@
 -- Rules Name and Twice.
-use Rattle.std.specs.Prelude.{ℕ, ◌+◌, List, [], ◌∷◌, ◌++◌, map, length, Bool, true, false, not, ◌&&◌, ◌||◌, ◌==◌, Option, Some, None, option_map, option_and_then, slice_get, unwrap_or, nat_le, if◌then◌else◌, codes}
+use Rattle.std.specs.Prelude.{ℕ, List, [], ◌∷◌, ◌++◌, map, length, Bool, false, not, ◌&&◌, ◌||◌, ◌==◌, Option, Some, None, option_map, option_and_then, slice_get, unwrap_or, nat_le, if◌then◌else◌, codes}
 use Rattle.std.specs.List.{list_all}
 use Rattle.ct_entry.specs.Listed.{DeviceRow}
 use Rattle.def_desc.specs.declared.Part.{Part}

@@ -1,12 +1,12 @@
 -- Rule Placing: the regions of the description, and where they may lie.
-use Rattle.std.specs.Prelude.{ℕ, ◌+◌, ◌*◌, ◌/◌, ◌%◌, List, [], ◌∷◌, ◌++◌, map, max, length, Bool, true, false, not, ◌&&◌, ◌==◌, nat_lt, nat_le, if◌then◌else◌, sum}
+use Rattle.std.specs.Prelude.{ℕ, ◌+◌, ◌*◌, ◌/◌, ◌%◌, List, [], ◌∷◌, ◌++◌, length, Bool, true, false, not, ◌&&◌, ◌==◌, nat_lt, nat_le, if◌then◌else◌}
 use Rattle.std.specs.List.{list_all}
 use Rattle.def_desc.specs.declared.Part.{Part}
 use Rattle.def_desc.specs.declared.Part.TheVariants.{Firmware, Ram, Device, Compartment, Import, Export, Thread}
 use Rattle.def_desc.specs.declared.Place.{Place}
 use Rattle.def_desc.specs.declared.Ram.{Ram as RamRow}
 use Rattle.def_desc.specs.declared.Region.{Region}
-use Rattle.def_desc.specs.Rows.{CodeRow, ExportRow, CompartmentRow, ThreadRow, DescRow}
+use Rattle.def_desc.specs.Rows.{ExportRow, CompartmentRow, ThreadRow, DescRow}
 use Rattle.def_desc.specs.References.{meets}
 
 -- a size of a region is rounded up to a multiple of 16, at least 16

@@ -1,7 +1,7 @@
 -- The rows of any JSON value. Where a member is missing or not of its kind, its default stands, or
 -- else 0, the empty text or the empty list; rule Kind then fails. A number from 2^32 on reads as 0;
 -- rule Limit then fails.
-use Rattle.std.specs.Prelude.{ℕ, ◌+◌, ◌*◌, ◌-◌, ◌^◌, List, [], ◌∷◌, map, Bool, true, false, Option, Some, None, option_and_then, if◌then◌else◌, nat_lt, nat_le, ◌&&◌, ◌||◌, codes, unwrap_or}
+use Rattle.std.specs.Prelude.{ℕ, ◌+◌, ◌*◌, ◌-◌, ◌^◌, List, [], ◌∷◌, map, Bool, false, Option, Some, None, if◌then◌else◌, nat_lt, nat_le, ◌&&◌, ◌||◌, codes, unwrap_or}
 use Rattle.std.specs.Prelude.{bytes_eq}
 use Rattle.serde_json.specs.Data.{Data, null}
 use Rattle.serde_json.specs.Find.{get, as_str}

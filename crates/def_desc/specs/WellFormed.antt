@@ -1,5 +1,5 @@
 -- The first fault of a description, and when there is none.
-use Rattle.std.specs.Prelude.{◌≡◌, ℕ, List, [], ◌∷◌, ◌++◌, find, Bool, true, false, Option, Some, None, option_map, if◌then◌else◌, IsUtf8, ◌⊎◌}
+use Rattle.std.specs.Prelude.{◌≡◌, ℕ, List, [], ◌∷◌, ◌++◌, find, Bool, true, false, Option, Some, None, IsUtf8, ◌⊎◌}
 use Rattle.serde_json.specs.Data.{Data}
 use Rattle.serde_json.specs.Read.{read}
 use Rattle.def_desc.specs.declared.Place.{Place}

@@ -12,7 +12,7 @@ use Rattle.ct_entry.specs.declared.rows.Kind.TheVariants as kind
 use Rattle.ct_entry.specs.declared.rows.Mode.TheVariants as mode
 use Rattle.ct_entry.specs.Listed.{Listed, DeviceRow}
 use Rattle.def_desc.specs.Rows.{ImportRow, ExportRow, CompartmentRow, ThreadRow, DescRow}
-use Rattle.def_desc.specs.Placing.{slots_of, code_size, table_size, globals_size}
+use Rattle.def_desc.specs.Placing.{slots_of, code_size, globals_size}
 use Rattle.def_desc.specs.References.{is_call}
 use Rattle.def_report.specs.Rights.{code_rights, globals_rights, stack_rights, service_rights, export_rights, device_rights}
 

@@ -1,5 +1,5 @@
 -- The rights of entries as sets of the twelve permissions, and their names.
-use Rattle.std.specs.Prelude.{ℕ, ◌+◌, ◌*◌, ◌/◌, ◌%◌, ◌^◌, ◌==◌, List, [], ◌∷◌, ◌++◌, Bool, if◌then◌else◌, codes}
+use Rattle.std.specs.Prelude.{ℕ, ◌+◌, ◌/◌, ◌%◌, ◌^◌, ◌==◌, List, [], ◌∷◌, ◌++◌, Bool, if◌then◌else◌, codes}
 use Rattle.def_words.specs.Permissions.{global, load_global, store_data, load_mutable, store_local, load_data, memory_capability, execute}
 use Rattle.def_desc.specs.declared.Rights.{Rights}
 

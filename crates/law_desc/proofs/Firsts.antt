@@ -1,14 +1,13 @@
 -- The first place, and the first rule, that fails.
-use Rattle.std.proofs.Common.{◌≡◌, ℕ, List, [], ◌∷◌, ◌++◌, Bool, true, false, not, cond, refl, ap, sym, ◌∙◌, find, Option, Some, None}
+use Rattle.std.proofs.Common.{◌≡◌, List, [], ◌∷◌, Bool, true, false, not, cond, refl, ap, sym, find, Option, Some, None}
 use Rattle.serde_json.specs.Data.{Data}
 use Rattle.def_desc.specs.declared.Place.{Place}
 use Rattle.def_desc.specs.declared.Fault.{Fault}
 use Rattle.def_desc.specs.declared.Rule.{Rule}
-use Rattle.def_desc.specs.declared.Rule.TheVariants as rule
 use Rattle.def_desc.specs.Reading.{rows_of}
 use Rattle.def_desc.specs.Walk.{places_of}
 use Rattle.def_desc.specs.Placing.{is_placed}
-use Rattle.def_desc.specs.WellFormed.{NoneFails, IsFirst, fails, fault, fault_or, first_fault, fault_of, judged, rules}
+use Rattle.def_desc.specs.WellFormed.{NoneFails, IsFirst, fails, fault_or, first_fault, fault_of, judged, rules}
 use Rattle.law_desc.specs.First.{FindsFirst, NoRuleFails, IsFirstRule, FindsFirstRule}
 use Rattle.std.specs.Prelude.{MatchOption}
 
@@ -36,7 +35,7 @@ finds_first test (p ∷ ps) = step test p ps (test p) refl (finds_first test ps)
 none_of : (test : Place → Bool) (ps : List Place) → find test ps ≡ None → NoneFails test ps
 none_of test ps h =
     let all : FindsFirst test ps = finds_first test ps in
-    (rw h at all) 
+    (rw h at all)
 
 one_of : (test : Place → Bool) (ps : List Place) (p : Place) → find test ps ≡ Some p → IsFirst test ps p
 one_of test ps p h =

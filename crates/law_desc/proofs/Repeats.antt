@@ -1,9 +1,8 @@
 -- Names that stand before themselves.
-use Rattle.std.proofs.Common.{◌≡◌, ℕ, zero, suc, List, [], ◌∷◌, ◌++◌, Bool, true, false, ◌||◌, cond, refl, ap, sym, ◌∙◌, take, Option, Some, None, inl, inr}
+use Rattle.std.proofs.Common.{◌≡◌, ℕ, zero, suc, List, [], ◌∷◌, ◌++◌, Bool, true, false, ◌||◌, cond, refl, ap, sym, ◌∙◌, take, Some, inl, inr}
 use Rattle.std.proofs.lemmas.Bool.{cases_Bool}
 use Rattle.std.proofs.lemmas.List.{append_assoc, append-nil}
 use Rattle.std.specs.Prelude.{bytes_eq, slice_get}
-use Rattle.std.specs.List.{list_any}
 use Rattle.def_desc.specs.Members.{among}
 use Rattle.def_desc.specs.Names.{flag, repeated, with_name}
 use Rattle.std.proofs.lemmas.Slice.Eq.{bytes_eq-Decides}
@@ -31,7 +30,8 @@ there seen before x n same h =
           let here : among n seen ≡ true = ap (λ t. among t seen) is ∙ h in
           let also : among n before ≡ true = sym (same n) ∙ here in
           same n ∙ or_anything (among n before) (bytes_eq n x) also
-      | inr e ↦ same n ∙ sym (or_nothing (among n before) (bytes_eq n x) e) ]
+      | inr e ↦ same n ∙ sym (or_nothing (among n before) (bytes_eq n x) e)
+    ]
 
 grown : (b : Bool) (seen before : List (List ℕ)) (x n : List ℕ) → Same seen before → among x seen ≡ b →
     among n (cond b seen (seen ++ x ∷ [])) ≡ among n (before ++ x ∷ [])

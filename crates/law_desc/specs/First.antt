@@ -1,5 +1,5 @@
 -- What the first place, and the first rule, that fails is.
-use Rattle.std.specs.Prelude.{◌≡◌, ℕ, List, [], ◌∷◌, ◌++◌, Bool, true, false, find, Option, Some, None, MatchOption}
+use Rattle.std.specs.Prelude.{◌≡◌, List, [], ◌∷◌, ◌++◌, Bool, find, MatchOption}
 use Rattle.def_desc.specs.declared.Place.{Place}
 use Rattle.def_desc.specs.declared.Fault.{Fault}
 use Rattle.def_desc.specs.declared.Rule.{Rule}

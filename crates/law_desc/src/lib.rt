@@ -17,23 +17,19 @@ ghost use Rattle.law_desc.specs.First.{FindsFirst, FindsFirstRule};
 /// What a search over the places finds is the first place that fails.
 pub fn finds_first()
     ensures { (fails : PlaceRow → Bool) (ps : List PlaceRow) → FindsFirst fails ps }
-{
-}
+{}
 
 /// A fault is the first rule that fails at some place, with the first place where it does.
 pub fn finds_first_rule()
     ensures { (fails : RuleRow → PlaceRow → Bool) (rs : List RuleRow) (ps : List PlaceRow) → FindsFirstRule fails rs ps }
-{
-}
+{}
 
 /// A name is marked where it stands among the names before it.
 pub fn marks_what_stands_before()
     ensures { (names : List (List ℕ)) (i : ℕ) (name : List ℕ) → slice_get names i ≡ Some name → flag (repeated [] names) i ≡ among name (take i names) }
-{
-}
+{}
 
 /// The regions of a description without a fault lie where they may.
 pub fn places_regions()
     ensures { (d : Data) → fault_of d ≡ None → is_placed (rows_of d) ≡ true }
-{
-}
+{}

@@ -1,4 +1,4 @@
-use Rattle.std.proofs.Common.{◌≡◌, map, drop}
+use Rattle.std.proofs.Common.{◌≡◌, drop}
 use Rattle.std.specs.List.{list_all}
 use Rattle.def_desc.specs.Names.{is_name_byte}
 use Rattle.ct_desc.proofs.naming.are_name_bytes.Given as goal

@@ -1,4 +1,4 @@
-use Rattle.std.proofs.Common.{◌≡◌, map, drop}
+use Rattle.std.proofs.Common.{◌≡◌, drop}
 use Rattle.std.specs.List.{list_all}
 use Rattle.def_desc.specs.Placing.{clear_of}
 use Rattle.ct_desc.proofs.placing.all_clear.Given as goal

@@ -1,4 +1,4 @@
-use Rattle.std.proofs.Common.{◌≡◌, map, drop}
+use Rattle.std.proofs.Common.{◌≡◌, drop}
 use Rattle.def_desc.specs.Placing.{apart as apart_of}
 use Rattle.ct_desc.proofs.placing.apart.Given as goal
 

@@ -1,4 +1,4 @@
-use Rattle.std.proofs.Common.{◌≡◌, map, drop}
+use Rattle.std.proofs.Common.{◌≡◌, drop}
 use Rattle.def_desc.specs.References.{is_export as is_export_of}
 use Rattle.ct_desc.proofs.refer.is_export.Given as goal
 

@@ -1,4 +1,4 @@
-use Rattle.std.proofs.Common.{◌≡◌, map, drop}
+use Rattle.std.proofs.Common.{◌≡◌, drop}
 use Rattle.std.specs.List.{list_any}
 use Rattle.def_desc.specs.References.{meets_device}
 use Rattle.ct_desc.proofs.refer.meets_devices.Given as goal

@@ -1,4 +1,4 @@
-use Rattle.std.proofs.Common.{◌≡◌, map, drop}
+use Rattle.std.proofs.Common.{◌≡◌, drop}
 use Rattle.std.specs.List.{list_any}
 use Rattle.def_desc.specs.References.{is_call}
 use Rattle.ct_desc.proofs.refer.names_export.Given as goal

@@ -1,4 +1,4 @@
-use Rattle.std.proofs.Common.{◌≡◌, ◌++◌, map, drop}
+use Rattle.std.proofs.Common.{◌≡◌, ◌++◌, drop}
 use Rattle.def_desc.specs.Names.{repeated, with_names}
 use Rattle.ct_desc.specs.Seen.{texts}
 use Rattle.ct_desc.proofs.repeats.repeated.Given as goal
