@@ -3,3 +3,4 @@ pub mod Mades
 pub mod Rooting
 pub mod Whole
 pub mod Booting
+pub mod Gates

@@ -12,11 +12,11 @@ use Rattle.law_words.proofs.Exacts.{exponent_zero, exact_base, exact_top, exact_
 use Rattle.law_example.specs.Starting.{first_pcc}
 use Rattle.law_example.specs.Small.{made_0, made_1, made_2, made_3, made_4, made_5, made_6, made_7, made_8, made_9, made_11, made_12, made_13, made_14, made_18}
 
-memory_is_root : IsRoot memory_root
+pub memory_is_root : IsRoot memory_root
 unfolding memory_root
 memory_is_root = record { low = refl; unsealed = refl }
 
-executable_is_root : IsRoot executable_root
+pub executable_is_root : IsRoot executable_root
 unfolding executable_root
 executable_is_root = record { low = refl; unsealed = refl }
 
@@ -28,7 +28,7 @@ pub plain_seal : cap_seal (plain 0) ≡ 0
 unfolding cap_seal
 plain_seal = refl
 
-make : (high base length set address type_is n : ℕ) → IsRoot high → normal_set (bit_and (unpacked (permission_bits high)) set) ≡ set → base < 2 ^ 32 → length ≤ 511 → base + length ≤ 2 ^ 32 → base ≤ address → address ≤ base + length → address < 2 ^ 32 → KindFits set type_is
+pub make : (high base length set address type_is n : ℕ) → IsRoot high → normal_set (bit_and (unpacked (permission_bits high)) set) ≡ set → base < 2 ^ 32 → length ≤ 511 → base + length ≤ 2 ^ 32 → base ≤ address → address ≤ base + length → address < 2 ^ 32 → KindFits set type_is
     → IsMade base (base + length) set address type_is (derive high base length set address type_is (record { root = n; source = 0 })) × ((derive high base length set address type_is (record { root = n; source = 0 })).shadow ≡ record { root = n; source = 0 })
 make high base length set address type_is n root normal low short fits from to small kind =
     let K : ℕ → Type 0 = λ s. KindFits s type_is in
@@ -36,7 +36,7 @@ make high base length set address type_is n root normal low short fits from to s
     let P : ℕ → Type 0 = λ s. IsMade base (base + length) s address type_is (derive high base length set address type_is (record { root = n; source = 0 })) in
     (subst P normal made.0, made.1)
 
-normal_executable_root_353 : normal_set (bit_and (unpacked (permission_bits executable_root)) 353) ≡ 353
+pub normal_executable_root_353 : normal_set (bit_and (unpacked (permission_bits executable_root)) 353) ≡ 353
 unfolding executable_root unpacked normal_set set_where form_of bit
 normal_executable_root_353 = refl
 
@@ -52,7 +52,7 @@ normal_memory_root_37 : normal_set (bit_and (unpacked (permission_bits memory_ro
 unfolding memory_root unpacked normal_set set_where form_of bit
 normal_memory_root_37 = refl
 
-normal_memory_root_111 : normal_set (bit_and (unpacked (permission_bits memory_root)) 111) ≡ 111
+pub normal_memory_root_111 : normal_set (bit_and (unpacked (permission_bits memory_root)) 111) ≡ 111
 unfolding memory_root unpacked normal_set set_where form_of bit
 normal_memory_root_111 = refl
 
@@ -100,7 +100,7 @@ pub legal_353 : IsLegal 353
 unfolding normal_set set_where form_of bit
 legal_353 = refl
 
-kind_353 : (k : ℕ) → seal_type true (k % 8) ≡ k → k ≢ 0 → KindFits 353 k
+pub kind_353 : (k : ℕ) → seal_type true (k % 8) ≡ k → k ≢ 0 → KindFits 353 k
 unfolding bit
 kind_353 k e n = inr (n, e)
 

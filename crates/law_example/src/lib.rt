@@ -5,11 +5,13 @@
 
 ghost use Rattle.def_confined.specs.Confined.{Confined};
 ghost use Rattle.def_confined.specs.Partitioned.{Partitioned};
+ghost use Rattle.law_licensed.specs.Uses.{GatesOfExports};
 ghost use Rattle.law_example.specs.Small.{small};
 ghost use Rattle.law_example.specs.Starting.{starting};
 
-/// The image is partitioned, and the state in which it starts is confined.
+/// The image is partitioned, its gates are of exports, and the state in which it starts is confined.
 pub fn small_firmware()
     ensures partitioned { Partitioned small }
+    ensures gates { GatesOfExports small }
     ensures confined { Confined small starting }
 {}
