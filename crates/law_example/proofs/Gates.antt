@@ -1,5 +1,5 @@
 -- Gates of the small firmware are of exports.
-use Rattle.std.proofs.Common.{ℕ, ◌≡◌, true, false, refl}
+use Rattle.std.proofs.Common.{◌≡◌, true, false, refl}
 use Rattle.ct_entry.specs.declared.rows.Kind.TheVariants as kinds
 use Rattle.def_reach.specs.Roots.{Listing, root_of, gate_for}
 use Rattle.def_machine.specs.Image.{root}

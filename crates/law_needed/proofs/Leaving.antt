@@ -1,9 +1,8 @@
 -- Without the fact a return leads out of the invariant.
-use Rattle.std.proofs.Common.{ℕ, zero, suc, ◌≡◌, ◌≢◌, ◌+◌, ◌*◌, ◌≤◌, ◌<◌, ◌⊎◌, inl, inr, ◌&&◌, Bool, true, false, not, nat_eq, List, [], ◌∷◌, Option, Some, None, replicate, refl, sym, ap, ◌∙◌, subst, arith, lit<, lit≤}
+use Rattle.std.proofs.Common.{ℕ, zero, suc, ◌≡◌, inl, inr, ◌&&◌, Bool, true, false, not, nat_eq, List, [], ◌∷◌, refl, sym, ◌∙◌, subst, arith, lit<, lit≤}
 use Rattle.def_words.specs.declared.Cap.{Cap}
 use Rattle.def_words.specs.declared.Shadow.{Shadow}
-use Rattle.def_words.specs.Authority.{cap_address, cap_base, cap_top}
-use Rattle.def_words.specs.Permissions.{bit, has}
+use Rattle.def_words.specs.Permissions.{bit}
 use Rattle.def_words.specs.Seals.{cap_seal}
 use Rattle.def_words.specs.Derive.{memory_root, executable_root}
 use Rattle.def_words.specs.Narrows.{IsMade}
@@ -12,12 +11,12 @@ use Rattle.ct_entry.specs.declared.rows.Owner.{Owner}
 use Rattle.ct_entry.specs.declared.rows.Owner.TheVariants.{Compartment}
 use Rattle.ct_entry.specs.declared.rows.Kind.TheVariants as kinds
 use Rattle.def_reach.specs.Roots.{Unknown, TrustedPart, Listing, root_of, gate_for, is_owned, is_stack, is_quota}
-use Rattle.def_reach.specs.Sharing.{Edge, Leads, Joined, Imports, Reaches, Calls, SharesC, Brings}
-use Rattle.def_machine.specs.Image.{Image, region, root, made_cap}
-use Rattle.def_machine.specs.State.{State, Frame, thread, register, granule}
+use Rattle.def_reach.specs.Sharing.{Edge, Leads, Imports, Reaches}
+use Rattle.def_machine.specs.Image.{region, root}
+use Rattle.def_machine.specs.State.{thread, register, granule}
 use Rattle.def_machine.specs.Objects.{Each}
 use Rattle.def_machine.specs.Frames.{returned}
-use Rattle.def_confined.specs.Capabilities.{Rooted, Kept, IsBootType, IsReturnType, heap_cap, stack_cap}
+use Rattle.def_confined.specs.Capabilities.{Rooted, Kept, IsBootType, heap_cap}
 use Rattle.def_confined.specs.Places.{Placed, InFrames, InRegion, OwnStack, HasLive}
 use Rattle.def_confined.specs.Confined.{IsPcc, PostureFits, SavedKept}
 use Rattle.law_places.proofs.Reaching.{reaches_own, joined_is}
@@ -25,7 +24,7 @@ use Rattle.law_places.proofs.Puts.{plain_kept}
 use Rattle.law_calls.proofs.Pushes.{all_of}
 use Rattle.law_made.proofs.Makes.{made_rooted}
 use Rattle.law_example.proofs.Mades.{make, executable_is_root, memory_is_root, normal_executable_root_353, normal_memory_root_111, kind_353, legal_353, legal_111}
-use Rattle.law_needed.specs.Loosely.{LooseFrame, LooseFrames, Loosely}
+use Rattle.law_needed.specs.Loosely.{LooseFrames, Loosely}
 use Rattle.law_needed.specs.Apart.{two, sentry, inner_globals, inner, outermost, runner, before}
 
 is_sentry : IsMade 65552 65560 353 65552 5 sentry × (sentry.shadow ≡ record { root = 0; source = 0 })

@@ -1,13 +1,13 @@
 -- Two compartments that import nothing from each other. The second's export passes capabilities; a thread is in
 -- it, called from the first by nobody's leave, and holds the second's globals in c10.
-use Rattle.std.specs.Prelude.{ℕ, List, [], ◌∷◌, Option, Some, true, false, replicate}
+use Rattle.std.specs.Prelude.{[], ◌∷◌, Some, true, false, replicate}
 use Rattle.def_words.specs.declared.Cap.{Cap}
 use Rattle.def_words.specs.Derive.{memory_root, executable_root}
 use Rattle.def_memory.specs.Granules.{plain, nothing}
 use Rattle.ct_entry.specs.declared.rows.Owner.TheVariants.{Compartment, Thread}
 use Rattle.ct_entry.specs.declared.rows.Kind.TheVariants as kinds
 use Rattle.ct_entry.specs.Listed.{Listed}
-use Rattle.def_machine.specs.Image.{Image, Region, Fixed, Globals, Stack}
+use Rattle.def_machine.specs.Image.{Image, Fixed, Globals, Stack}
 use Rattle.def_machine.specs.State.{State, Frame, Ready, interrupts_on}
 use Rattle.def_machine.specs.State as state
 use Rattle.law_example.specs.Small.{row, gate, made}
