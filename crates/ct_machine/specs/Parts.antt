@@ -1,20 +1,18 @@
 -- What the machine's state is, from what the code keeps of it.
-use Rattle.std.specs.Prelude.{ℕ, ◌+◌, ◌*◌, ◌%◌, ◌≡◌, ◌≤◌, Bool, true, false, List, [], ◌∷◌, length, Option, Some, None, if◌then◌else◌}
-use Rattle.ct_entry.specs.declared.acts.Act.{Act}
-use Rattle.ct_entry.specs.declared.acts.Act.TheVariants.{Call, Load, Store, Allocate, Free, Trap}
+use Rattle.std.specs.Prelude.{ℕ, ◌+◌, ◌*◌, ◌%◌, ◌≡◌, ◌≤◌, Bool, List, [], ◌∷◌, Option, Some, None, if◌then◌else◌}
 use Rattle.def_words.specs.declared.Cap.{Cap}
 use Rattle.def_words.specs.declared.Posture.{Posture}
 use Rattle.def_memory.specs.declared.Granule.{Granule}
 use Rattle.def_memory.specs.Granules.{plain}
 use Rattle.def_machine.specs.Image.{Image, stack_base}
-use Rattle.def_machine.specs.State.{State, Thread, Frame, DeviceState, Counts, Ready, nobody, thread}
+use Rattle.def_machine.specs.State.{State, Thread, Frame, DeviceState, Counts, Ready, nobody}
 use Rattle.def_instr.specs.Table.{InRange}
 use Rattle.def_step.specs.declared.Next.{Next}
 use Rattle.def_step.specs.declared.Next.TheVariants.{Returning, Instruction, Nothing}
 use Rattle.def_step.specs.Accesses.{Space}
 use Rattle.def_step.specs.Instructions.{fetched}
 use Rattle.def_step.specs.Devices.{Bank}
-use Rattle.def_step.specs.Events.{MachineRow, most_events}
+use Rattle.def_step.specs.Events.{most_events}
 use Rattle.ct_machine.specs.declared.presence.Presence.{Presence}
 use Rattle.ct_machine.specs.declared.presence.Presence.TheVariants.{Absent, Gone, Alive}
 
@@ -54,21 +52,15 @@ state_by granules presence t runs pending devices time picked counts = record {
   counts = counts;
 }
 
--- the deeds of a thread that neither calls nor allocates
-abbrev pub IsOwnDeed : Act → Type 0
-IsOwnDeed (Call export) = ⊥
-IsOwnDeed (Load address width value) = Unit {0}
-IsOwnDeed (Store address width value) = Unit {0}
-IsOwnDeed (Allocate number base size live) = ⊥
-IsOwnDeed (Free number base size live) = ⊥
-IsOwnDeed (Trap cause code register) = Unit {0}
+abbrev pub deeds_of : Counts → ℕ
+deeds_of c = c.calls + c.loads + c.stores + c.frees + c.traps
 
 -- each step is one deed at most, and time counts ticks
 pub record IsCounted (c : Counts) (time : ℕ) : Type 0 where
   pub steps : c.steps ≤ most_events
   pub ticks : c.ticks ≤ most_events
   pub inputs : c.inputs ≤ most_events
-  pub deeds : c.loads + c.stores + c.traps ≤ c.steps
+  pub deeds : deeds_of c ≤ c.steps
   pub clock : time ≤ c.ticks
 
 -- a stack from its base to its top in RAM of so many granules
@@ -83,6 +75,17 @@ pub record IsStackPlaced (ram base top granules : ℕ) : Type 0 where
 pub record IsRam (ram granules : ℕ) : Type 0 where
   pub even : ram % 16 ≡ 0
   pub fits : ram + 8 * granules ≤ 4294967280
+
+-- the first frame, of a thread that has one
+abbrev pub first_in : List Frame → Frame
+first_in [] = outermost 0 0 0
+first_in (f ∷ fs) = f
+
+abbrev pub only : Thread → Frame
+only t = first_in t.frames
+
+abbrev pub top_of : Thread → ℕ
+top_of t = (only t).top
 
 -- what the code keeps beside the state: RAM's base, and of a thread that goes on the base of its stack
 pub record IsKept (i : Image) (ram base top granules : ℕ) (presence : Presence) : Type 0 where

@@ -1,7 +1,7 @@
 //! The thread.
 
-ghost use Rattle.std.specs.Prelude.{◌≡◌, ◌<◌, ◌%◌, ◌^◌};
-ghost use Rattle.def_words.specs.Authority.{cap_address};
+ghost use Rattle.std.specs.Prelude.{◌≡◌, ◌<◌, [], ◌∷◌};
+ghost use Rattle.ct_machine.specs.Parts.{only};
 ghost use Rattle.def_machine.specs.State.{register};
 ghost use Rattle.def_machine.specs.Registers.{written};
 ghost use Rattle.def_machine.specs.Threads.{jumped};
@@ -56,5 +56,20 @@ impl Active {
         self.write(to, value);
         self.pcc = pcc;
         self.posture = posture;
+    }
+
+    /// The top of its frame, which is its only one.
+    pub(crate) fn frame_top(&self) -> u32
+        ensures is { result ≡ (only self.now).top }
+        ensures one { self.now.frames ≡ only self.now ∷ [] }
+    {
+        self.top
+    }
+
+    /// The compartment of its frame.
+    pub(crate) fn frame_actor(&self) -> u32
+        ensures { result ≡ (only self.now).actor }
+    {
+        self.actor
     }
 }

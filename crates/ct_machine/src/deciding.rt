@@ -149,10 +149,18 @@ fn advance(active: &mut Active, to: u32, value: Live)
 }
 
 /// A branch or a jump.
-fn carry_jump<M: Memory>(instruction: Instr, active: &mut Active, mem: &M, bus: &Bus, ram: u32, time: u64) -> Ran
+fn carry_jump<M: Memory>(
+    instruction: Instr,
+    active: &mut Active,
+    mem: &M,
+    bus: &Bus,
+    ram: u32,
+    time: u64,
+) -> Ran
     requires ranged { InRange instruction }
     requires class { class_of instruction ≡ kinds.Jump }
-    ensures { Decided (decide_instruction active.old (space_by ram (M.granules mem.now) bus.now time) instruction) active.old (space_by ram (M.granules mem.now) bus.now time) active.new (M.granules mem.now) bus.now result }
+    ensures is { Decided (decide_instruction active.old (space_by ram (M.granules mem.now) bus.now time) instruction) active.old (space_by ram (M.granules mem.now) bus.now time) active.new (M.granules mem.now) bus.now result }
+    ensures frames { active.new.frames ≡ active.old.frames }
 {
     let operands = operands_of(instruction);
     let x = active.register(operands.first);
@@ -174,11 +182,21 @@ fn carry_jump<M: Memory>(instruction: Instr, active: &mut Active, mem: &M, bus: 
 }
 
 /// A load or a store.
-fn carry_access<M: Memory>(instruction: Instr, active: &mut Active, mem: &mut M, bus: &mut Bus, ram: u32, time: u64) -> Ran
+fn carry_access<M: Memory>(
+    instruction: Instr,
+    active: &mut Active,
+    mem: &mut M,
+    bus: &mut Bus,
+    ram: u32,
+    time: u64,
+) -> Ran
     requires ranged { InRange instruction }
     requires class { class_of instruction ≡ kinds.Access }
     requires even { ram % 16 ≡ 0 }
-    ensures { Decided (decide_instruction active.old (space_by ram (M.granules mem.old) bus.old time) instruction) active.old (space_by ram (M.granules mem.old) bus.old time) active.new (M.granules mem.new) bus.new result }
+    ensures is { Decided (decide_instruction active.old (space_by ram (M.granules mem.old) bus.old time) instruction) active.old (space_by ram (M.granules mem.old) bus.old time) active.new (M.granules mem.new) bus.new result }
+    ensures frames { active.new.frames ≡ active.old.frames }
+    ensures bases { bus.new.bases ≡ bus.old.bases }
+    ensures size { length (M.granules mem.new) ≡ length (M.granules mem.old) }
 {
     let operands = operands_of(instruction);
     let x = active.register(operands.first);
@@ -206,14 +224,23 @@ fn carry_access<M: Memory>(instruction: Instr, active: &mut Active, mem: &mut M,
 }
 
 /// An instruction that gives a register a value and touches nothing else, or traps.
-fn carry_value<M: Memory>(class: Class, instruction: Instr, active: &mut Active, mem: &M, bus: &Bus, ram: u32, time: u64) -> Ran
+fn carry_value<M: Memory>(
+    class: Class,
+    instruction: Instr,
+    active: &mut Active,
+    mem: &M,
+    bus: &Bus,
+    ram: u32,
+    time: u64,
+) -> Ran
     requires ranged { InRange instruction }
     requires is { class ≡ class_of instruction }
     requires jump { class ≡ kinds.Jump → ⊥ }
     requires access { class ≡ kinds.Access → ⊥ }
     requires integer { class ≡ kinds.Integer → is_integer instruction ≡ true }
     requires capability { class ≡ kinds.Capability → (is_capability instruction ≡ true) × (is_system instruction ≡ false) }
-    ensures { Decided (decide_instruction active.old (space_by ram (M.granules mem.now) bus.now time) instruction) active.old (space_by ram (M.granules mem.now) bus.now time) active.new (M.granules mem.now) bus.now result }
+    ensures is { Decided (decide_instruction active.old (space_by ram (M.granules mem.now) bus.now time) instruction) active.old (space_by ram (M.granules mem.now) bus.now time) active.new (M.granules mem.now) bus.now result }
+    ensures frames { active.new.frames ≡ active.old.frames }
 {
     let operands = operands_of(instruction);
     let x = active.register(operands.first);
@@ -224,7 +251,11 @@ fn carry_value<M: Memory>(class: Class, instruction: Instr, active: &mut Active,
     };
     match class {
         Class::Integer => {
-            advance(active, operands.to, integer(alu(instruction, address(x), address(y))));
+            advance(
+                active,
+                operands.to,
+                integer(alu(instruction, address(x), address(y))),
+            );
             went
         }
         Class::Capability => match capstep(instruction, x, y, active.pcc) {
@@ -238,18 +269,36 @@ fn carry_value<M: Memory>(class: Class, instruction: Instr, active: &mut Active,
             advance(active, 0, integer(0));
             went
         }
-        Class::System => Ran::Trapped { trap: refused(24, 16) },
-        Class::Call => Ran::Trapped { trap: plain_trap(11) },
-        Class::Break => Ran::Trapped { trap: plain_trap(3) },
-        _ => Ran::Trapped { trap: plain_trap(2) },
+        Class::System => Ran::Trapped {
+            trap: refused(24, 16),
+        },
+        Class::Call => Ran::Trapped {
+            trap: plain_trap(11),
+        },
+        Class::Break => Ran::Trapped {
+            trap: plain_trap(3),
+        },
+        _ => Ran::Trapped {
+            trap: plain_trap(2),
+        },
     }
 }
 
 /// An instruction, whole.
-fn carry_out<M: Memory>(instruction: Instr, active: &mut Active, mem: &mut M, bus: &mut Bus, ram: u32, time: u64) -> Ran
+fn carry_out<M: Memory>(
+    instruction: Instr,
+    active: &mut Active,
+    mem: &mut M,
+    bus: &mut Bus,
+    ram: u32,
+    time: u64,
+) -> Ran
     requires ranged { InRange instruction }
     requires even { ram % 16 ≡ 0 }
-    ensures { Decided (decide_instruction active.old (space_by ram (M.granules mem.old) bus.old time) instruction) active.old (space_by ram (M.granules mem.old) bus.old time) active.new (M.granules mem.new) bus.new result }
+    ensures is { Decided (decide_instruction active.old (space_by ram (M.granules mem.old) bus.old time) instruction) active.old (space_by ram (M.granules mem.old) bus.old time) active.new (M.granules mem.new) bus.new result }
+    ensures frames { active.new.frames ≡ active.old.frames }
+    ensures bases { bus.new.bases ≡ bus.old.bases }
+    ensures size { length (M.granules mem.new) ≡ length (M.granules mem.old) }
 {
     let class = class_of(instruction);
     match class {
@@ -260,9 +309,18 @@ fn carry_out<M: Memory>(instruction: Instr, active: &mut Active, mem: &mut M, bu
 }
 
 /// The instruction or native routine at the program counter, from its fetch on.
-pub(crate) fn run_one<M: Memory>(active: &mut Active, mem: &mut M, bus: &mut Bus, ram: u32, time: u64) -> Ran
+pub(crate) fn run_one<M: Memory>(
+    active: &mut Active,
+    mem: &mut M,
+    bus: &mut Bus,
+    ram: u32,
+    time: u64,
+) -> Ran
     requires { ram % 16 ≡ 0 }
-    ensures { Decided (decide active.old (space_by ram (M.granules mem.old) bus.old time)) active.old (space_by ram (M.granules mem.old) bus.old time) active.new (M.granules mem.new) bus.new result }
+    ensures is { Decided (decide active.old (space_by ram (M.granules mem.old) bus.old time)) active.old (space_by ram (M.granules mem.old) bus.old time) active.new (M.granules mem.new) bus.new result }
+    ensures frames { active.new.frames ≡ active.old.frames }
+    ensures bases { bus.new.bases ≡ bus.old.bases }
+    ensures size { length (M.granules mem.new) ≡ length (M.granules mem.old) }
 {
     if let Some(trap) = fetch_trap(active.pcc) {
         return Ran::Trapped { trap };
@@ -270,6 +328,8 @@ pub(crate) fn run_one<M: Memory>(active: &mut Active, mem: &mut M, bus: &mut Bus
     match next(mem, bus, ram, address(active.pcc), time) {
         Next::Returning => Ran::Returned,
         Next::Instruction { instruction } => carry_out(instruction, active, mem, bus, ram, time),
-        Next::Nothing => Ran::Trapped { trap: plain_trap(2) },
+        Next::Nothing => Ran::Trapped {
+            trap: plain_trap(2),
+        },
     }
 }

@@ -3,7 +3,13 @@
 
 mod active;
 mod deciding;
+mod machine;
 mod operands;
 mod presence;
 mod ran;
+mod sweeping;
 mod tally;
+mod works;
+
+pub use def_step::Event;
+pub use machine::Machine;

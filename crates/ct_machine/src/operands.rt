@@ -124,7 +124,11 @@ pub(crate) fn class_of(instruction: Instr) -> Class
         Instr::AuiPcc { .. } => Class::Capability,
         Instr::AuiCgp { .. } => Class::Capability,
         Instr::Jal { .. } => Class::Jump,
-        Instr::CJalr { rd, rs1, immediate } => if rd == 0 && rs1 == 1 && immediate == 0 { Class::Jump } else { Class::Absent },
+        Instr::CJalr { rd, rs1, immediate } => if rd == 0 && rs1 == 1 && immediate == 0 {
+            Class::Jump
+        } else {
+            Class::Absent
+        },
         Instr::Beq { .. } => Class::Jump,
         Instr::Bne { .. } => Class::Jump,
         Instr::Blt { .. } => Class::Jump,

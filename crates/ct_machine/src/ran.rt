@@ -7,12 +7,7 @@ use def_words::Trap;
 /// it came to the native return; or a check failed.
 #[derive(Clone, Copy, Debug, PartialEq, Eq, Drop)]
 pub enum Ran {
-    Went {
-        act: Option<Act>,
-        entry: u32,
-    },
+    Went { act: Option<Act>, entry: u32 },
     Returned,
-    Trapped {
-        trap: Trap,
-    },
+    Trapped { trap: Trap },
 }
