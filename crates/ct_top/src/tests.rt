@@ -138,3 +138,86 @@ fn steady_ends(rt: HostRuntime) {
     let status = capfw(rt.alloc(), words.as_slice(), &mut folder, &mut sink);
     assert!(rt; status == Status::Done);
 }
+
+/// The imports or exports of a compartment of the largest description: pieces with a number each.
+fn add_rows(
+    alloc: Global,
+    text: &mut String,
+    count: u32,
+    before: &str,
+    after: &str,
+) -> Result<(), AllocError> {
+    for i in 0..count {
+        let row = format!(in alloc; "{before}{i}{after}")?;
+        text.push_str(row.as_str())?;
+    }
+    Ok(())
+}
+
+/// One compartment of the largest description.
+fn add_compartment(alloc: Global, text: &mut String, i: u64) -> Result<(), AllocError> {
+    let base = 2147483648 + i % 64 * 10256;
+    let table = base + 1040;
+    let globals = base + 2080;
+    let head = format!(in alloc;
+        "{{\"name\":\"c{i}\",\"code\":{{\"words\":[\"00008067\"]}},\"globals\":8176,\"codebase\":{base},\"tablebase\":{table},\"globalsbase\":{globals},\"imports\":["
+    )?;
+    text.push_str(head.as_str())?;
+    add_rows(
+        alloc,
+        text,
+        127,
+        "{\"as\":\"i",
+        "\",\"device\":\"d0\",\"rights\":\"RW\"},",
+    )?;
+    text.push_str("{\"as\":\"last\",\"device\":\"d15\",\"rights\":\"R\"}],\"exports\":[")?;
+    add_rows(alloc, text, 63, "{\"name\":\"e", "\",\"at\":0},")?;
+    text.push_str("{\"name\":\"last\",\"at\":0}]}")
+}
+
+/// 16 devices, 64 compartments with 128 imports and 64 exports each, one thread.
+fn largest(alloc: Global) -> Result<String, AllocError> {
+    let mut text = String::from_str(
+        alloc,
+        "{\"firmware\":\"f\",\"ram\":{\"base\":2147483648,\"size\":8388608},\"heapbase\":2148154528,\"trustedbase\":2148148208,\"devices\":[",
+    )?;
+    for i in 0..16u64 {
+        let comma = if i == 0 { "" } else { "," };
+        let base = 268435456 + 16 * i;
+        let row = format!(in alloc;
+            "{comma}{{\"name\":\"d{i}\",\"kind\":\"uart\",\"base\":{base}}}"
+        )?;
+        text.push_str(row.as_str())?;
+    }
+    text.push_str("],\"compartments\":[")?;
+    for i in 0..64u64 {
+        if i > 0 {
+            text.push(',')?;
+        }
+        add_compartment(alloc, &mut text, i)?;
+    }
+    text.push_str(
+        "],\"threads\":[{\"name\":\"t\",\"entry\":\"c63.last\",\"priority\":15,\"stack\":8176,\"frames\":96,\"stackbase\":2148140032}]}",
+    )?;
+    Ok(text)
+}
+
+#[test]
+fn the_largest_description(rt: HostRuntime) {
+    let text = largest(rt.alloc()).expect(&rt, "memory");
+    let words = ["audit", "tiny.json"];
+    let answer = outcome(rt.alloc(), &words, text.as_bytes(), 100000000, 0, "");
+    assert!(rt; answer == Some((Status::Done, false)));
+    let more = text
+        .replace(rt.alloc(), "\"c63.last\"", "\"c63.none\"")
+        .expect(&rt, "memory");
+    let answer = outcome(
+        rt.alloc(),
+        &words,
+        more.as_bytes(),
+        100,
+        0,
+        "refused 4 description\n",
+    );
+    assert!(rt; answer == Some((Status::Description, true)));
+}
