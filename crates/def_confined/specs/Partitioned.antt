@@ -1,16 +1,18 @@
 -- What the laws of the moves ask of an image: how its regions, the ranges and rights of its entries, and the
 -- capabilities that boot makes stand to one another. All x are addresses.
-use Rattle.std.specs.Prelude.{ℕ, ◌≡◌, ◌%◌, ◌≤◌, ◌<◌, ◌⊎◌, true, false}
+use Rattle.std.specs.Prelude.{ℕ, ◌≡◌, ◌%◌, ◌^◌, ◌≤◌, ◌<◌, ◌⊎◌, true, false}
 use Rattle.def_words.specs.declared.Cap.{Cap}
 use Rattle.def_words.specs.Authority.{cap_base}
-use Rattle.def_words.specs.Permissions.{bit, store_data, load_data, memory_capability, execute, unsealing, sealing}
+use Rattle.def_words.specs.Permissions.{bit, has, store_data, load_data, memory_capability, execute, unsealing, sealing}
 use Rattle.def_words.specs.Seals.{cap_seal}
 use Rattle.ct_entry.specs.declared.rows.Owner.TheVariants.{Compartment}
 use Rattle.ct_entry.specs.declared.rows.Owner.TheVariants as owner
+use Rattle.ct_entry.specs.declared.rows.Kind.{Kind}
 use Rattle.ct_entry.specs.declared.rows.Kind.TheVariants as kind
-use Rattle.def_reach.specs.Roots.{Listing, is_owned, is_root, is_code}
+use Rattle.def_reach.specs.Roots.{Listing, is_owned, is_root, is_code, gate_for}
 use Rattle.def_reach.specs.Sharing.{SharesC, Reaches}
-use Rattle.def_machine.specs.Image.{Image, Region, Fixed, Globals, Shared, HeapRam, Stack, Bare, root, made_cap, region, booted, granule_of, address_of, stack_entry, stack_base, stack_top}
+use Rattle.def_machine.specs.Image.{Image, Region, Fixed, Globals, Shared, HeapRam, Stack, Bare, root, made_cap, region, booted, granule_of, address_of, stack_entry, stack_base, stack_top, code_entry, globals_entry}
+use Rattle.def_machine.specs.Frames.{stack_rights}
 use Rattle.def_confined.specs.Capabilities.{Rooted, heap_cap, stack_cap}
 
 -- a region that isn't as boot made it
@@ -62,6 +64,12 @@ pub record BootMade (i : Image) (n : ℕ) (c : Cap) : Type 0 where
   pub source : c.shadow.source ≡ 0
   pub rooted : Rooted i c
 
+-- what boot made of a compartment's code or globals is unsealed
+pub record IsOwnEntry (i : Image) (b n : ℕ) (k : Kind) : Type 0 where
+  pub kind_is : (root i n).origin ≡ Listing k
+  pub owner_is : (root i n).owner ≡ Compartment b
+  pub unsealed : cap_seal (made_cap i n) ≡ 0
+
 pub record Partitioned (i : Image) : Type 0 where
   pub stores : (n x : ℕ) → i.ram ≤ x → bit (root i n).rights store_data ≡ true → (root i n).base ≤ x → x < (root i n).top → Open (region i (granule_of i x))
   pub carries : (n x : ℕ) → bit (root i n).rights store_data ≡ true → bit (root i n).rights memory_capability ≡ true → (root i n).base ≤ x → x < (root i n).top → (i.ram ≤ x) × Carries i n (region i (granule_of i x))
@@ -80,6 +88,12 @@ pub record Partitioned (i : Image) : Type 0 where
   pub forwards : (n : ℕ) → (cap_seal (made_cap i n) ≡ 1) ⊎ (cap_seal (made_cap i n) ≡ 2) ⊎ (cap_seal (made_cap i n) ≡ 3) → ((root i n).origin ≡ Listing kind.Library) ⊎ ((root i n).origin ≡ Listing kind.Service)
   pub disables : (n : ℕ) → cap_seal (made_cap i n) ≡ 2 → ((root i (root i n).of).disabled ≡ true) × ((d : ℕ) → Reaches i.entries (root i n).owner d → Reaches i.entries (root i (root i n).of).owner d)
   pub made : (n : ℕ) → is_root (root i n).origin ≡ true → (made_cap i n).tag ≡ true → BootMade i n (made_cap i n)
+  pub own_code : (b n : ℕ) → (root i n).owner ≡ Compartment b → IsOwnEntry i b (code_entry i b) kind.Code × (has (made_cap i (code_entry i b)) execute ≡ true)
+  pub own_globals : (b n : ℕ) → (root i n).owner ≡ Compartment b → IsOwnEntry i b (globals_entry i b) kind.Globals
+  pub stacks_are : (n : ℕ) → (root i n).origin ≡ Listing kind.Stack → ((root i n).rights ≡ stack_rights) × ((root i n).top ≤ 4294967280)
+  pub heap_small : i.heap_end ≤ 2 ^ 32
+  pub gates_small : (n : ℕ) → (gate_for i.entries.gates n).code < 2 ^ 32
   pub sentry : (made_cap i 0).tag ≡ true → cap_seal (made_cap i 0) ≡ 5
   pub boot_rooted : (k : ℕ) → region i k ≡ Fixed → (booted i k).cap.tag ≡ true → Rooted i (booted i k).cap
   pub boot_away : (k : ℕ) → region i k ≡ Fixed → (booted i k).cap.tag ≡ true → AwayFromHeap i (cap_base (booted i k).cap)
+  pub boot_no_heap : (k : ℕ) → region i k ≡ Fixed → (booted i k).cap.tag ≡ true → heap_cap i (booted i k).cap ≡ false

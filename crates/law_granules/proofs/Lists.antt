@@ -105,11 +105,11 @@ store_comm gs at width value other span more inside apart = elim (cases_eq (at /
 ]
 
 -- the range as a function and as facts
-zeroed_length : (from to place : ℕ) (gs : List Granule) → length (zeroed_from from to place gs) ≡ length gs
+pub zeroed_length : (from to place : ℕ) (gs : List Granule) → length (zeroed_from from to place gs) ≡ length gs
 zeroed_length from to place [] = refl
 zeroed_length from to place (g ∷ gs) = ap (λ n. suc n) (zeroed_length from to (place + 8) gs)
 
-zeroed_at : (from to place : ℕ) (gs : List Granule) (k : ℕ) (P : Granule → Type 0) → (from ≤ place + 8 * k → place + 8 * k < to → P (blank (granule_at gs k))) → ((place + 8 * k < from) ⊎ (to ≤ place + 8 * k) → P (granule_at gs k))
+pub zeroed_at : (from to place : ℕ) (gs : List Granule) (k : ℕ) (P : Granule → Type 0) → (from ≤ place + 8 * k → place + 8 * k < to → P (blank (granule_at gs k))) → ((place + 8 * k < from) ⊎ (to ≤ place + 8 * k) → P (granule_at gs k))
     → P (granule_at (zeroed_from from to place gs) k)
 zeroed_at from to place [] k P in_it out_of = elim (lt_tells (place + 8 * k) from) [
   | inl e ↦ out_of (inl e.1)
@@ -139,12 +139,12 @@ zeroed_is from to old new is =
     ext_get_or nothing new (zeroed from to old) (is.size ∙ sym (zeroed_length from to 0 old))
     (λ k lt. zeroed_at from to 0 old k (λ g. granule_at new k ≡ g) (λ a b. is.zero k (omega (arith, a), omega (arith, b))) (λ o. is.rest k (elim o [ inl a ↦ inl (omega (arith, a)) | inr b ↦ inr (omega (arith, b)) ])))
 
-marked_length : (from to : ℕ) (on : Bool) (place : ℕ) (gs : List Granule) → length (marked_from from to on place gs) ≡ length gs
+pub marked_length : (from to : ℕ) (on : Bool) (place : ℕ) (gs : List Granule) → length (marked_from from to on place gs) ≡ length gs
 marked_length from to on place [] = refl
 marked_length from to on place (g ∷ gs) = ap (λ n. suc n) (marked_length from to on (place + 8) gs)
 
 -- past the end the mark stays as it is: nothing is there
-marked_at : (from to : ℕ) (on : Bool) (place : ℕ) (gs : List Granule) (k : ℕ) (P : Granule → Type 0) → k < length gs → (from ≤ place + 8 * k → place + 8 * k < to → P (record (granule_at gs k) { mark = on })) → ((place + 8 * k < from) ⊎ (to ≤ place + 8 * k) → P (granule_at gs k))
+pub marked_at : (from to : ℕ) (on : Bool) (place : ℕ) (gs : List Granule) (k : ℕ) (P : Granule → Type 0) → k < length gs → (from ≤ place + 8 * k → place + 8 * k < to → P (record (granule_at gs k) { mark = on })) → ((place + 8 * k < from) ⊎ (to ≤ place + 8 * k) → P (granule_at gs k))
     → P (granule_at (marked_from from to on place gs) k)
 marked_at from to on place [] k P lt in_it out_of = absurd (omega (arith, lt))
 marked_at from to on place (g ∷ gs) zero P lt in_it out_of =

@@ -1,0 +1,82 @@
+-- The table of labels, one statement further along a source.
+use Rattle.std.proofs.Common.{◌≡◌, ℕ, ◌+◌, List, [], ◌∷◌, ◌++◌, Option, Some, None, is_some, Bool, true, false, cond, refl, sym, ap, ◌∙◌}
+use Rattle.std.specs.Str.{bytes_eq}
+use Rattle.std.proofs.lemmas.Slice.Eq.{bytes_eq-Decides}
+use Rattle.def_source.specs.declared.parts.Statement.{Statement}
+use Rattle.def_source.specs.declared.parts.Part.{Part}
+use Rattle.def_source.specs.declared.parts.Part.TheVariants as part
+use Rattle.def_source.specs.Source.{Name, Statements, or_else}
+use Rattle.def_object.specs.declared.Label.{Label}
+use Rattle.def_object.specs.declared.Place.{Place}
+use Rattle.def_object.specs.Object.{advanced, offset, label_from, is_label}
+use Rattle.ct_asm.specs.Labels.{label_named, noted}
+
+-- a row at the end is found where no row before it has the name
+named_last : (q n : Name) (l : Label) (rows : List (Name × Label)) → label_named q (rows ++ (n, l) ∷ []) ≡ or_else (label_named q rows) (cond (bytes_eq q n) (Some l) None)
+named_last q n l [] = refl
+named_last q n l (r ∷ rows) = by_test (bytes_eq q r.0) (named_last q n l rows)
+  where
+    by_test : (b : Bool) → label_named q (rows ++ (n, l) ∷ []) ≡ or_else (label_named q rows) (cond (bytes_eq q n) (Some l) None) → cond b (Some r.1) (label_named q (rows ++ (n, l) ∷ [])) ≡ or_else (cond b (Some r.1) (label_named q rows)) (cond (bytes_eq q n) (Some l) None)
+    by_test true more = refl
+    by_test false more = more
+
+-- a label: what comes later is found behind it
+label_step : (q n : Name) (l : Label) (rows : List (Name × Label)) (later : Option Label) → or_else (label_named q (cond (is_some (label_named n rows)) rows (rows ++ (n, l) ∷ []))) later ≡ or_else (label_named q rows) (cond (bytes_eq q n) (Some l) later)
+label_step q n l rows later = by_row (label_named n rows) refl (bytes_eq q n) refl
+  where
+    found : (o p : Option Label) (x y : Option Label) → is_some o ≡ true → or_else o x ≡ or_else o y
+    found None p x y e = cc e
+    found (Some z) p x y e = refl
+
+    chosen : (o : Option Label) (b : Bool) → or_else (or_else o (cond b (Some l) None)) later ≡ or_else o (cond b (Some l) later)
+    chosen None true = refl
+    chosen None false = refl
+    chosen (Some z) b = refl
+
+    by_row : (o : Option Label) → label_named n rows ≡ o → (b : Bool) → bytes_eq q n ≡ b → or_else (label_named q (cond (is_some (label_named n rows)) rows (rows ++ (n, l) ∷ []))) later ≡ or_else (label_named q rows) (cond (bytes_eq q n) (Some l) later)
+    by_row None e b same =
+        ap (λ o. or_else (label_named q (cond (is_some o) rows (rows ++ (n, l) ∷ []))) later) e ∙ ap (λ o. or_else o later) (named_last q n l rows) ∙ chosen (label_named q rows) (bytes_eq q n)
+    by_row (Some z) e true same =
+        let equal : q ≡ n = (bytes_eq-Decides q n).0 same in
+        ap (λ o. or_else (label_named q (cond (is_some o) rows (rows ++ (n, l) ∷ []))) later) e ∙ found (label_named q rows) None later (cond (bytes_eq q n) (Some l) later) (ap (λ m. is_some (label_named m rows)) equal ∙ ap is_some e)
+    by_row (Some z) e false same =
+        ap (λ o. or_else (label_named q (cond (is_some o) rows (rows ++ (n, l) ∷ []))) later) e ∙ ap (λ b. or_else (label_named q rows) (cond b (Some l) later)) (sym same)
+
+one_statement : (q : Name) (rows : List (Name × Label)) (p : Place) (k : ℕ) (x : Part Name) (later : Option Label) → or_else (label_named q (noted rows p k x)) later ≡ or_else (label_named q rows) (cond (is_label q x) (Some (record { section = p.section; offset = offset p; index = k })) later)
+one_statement q rows p k (part.Label a) later = label_step q a (record { section = p.section; offset = offset p; index = k }) rows later
+one_statement q rows p k part.Text later = refl
+one_statement q rows p k part.Data later = refl
+one_statement q rows p k (part.Word a) later = refl
+one_statement q rows p k (part.Byte a) later = refl
+one_statement q rows p k (part.Zero a) later = refl
+one_statement q rows p k (part.Align a) later = refl
+one_statement q rows p k (part.Registers a b c d) later = refl
+one_statement q rows p k (part.Immediate a b c d) later = refl
+one_statement q rows p k (part.Upper a b c) later = refl
+one_statement q rows p k (part.Load a b c d) later = refl
+one_statement q rows p k (part.JumpCapability a b) later = refl
+one_statement q rows p k (part.Store a b c d) later = refl
+one_statement q rows p k (part.Branch a b c d) later = refl
+one_statement q rows p k (part.Jal a b) later = refl
+one_statement q rows p k (part.Source a b c) later = refl
+one_statement q rows p k (part.Bare a) later = refl
+one_statement q rows p k part.Nop later = refl
+one_statement q rows p k (part.Move a b) later = refl
+one_statement q rows p k (part.Go a) later = refl
+one_statement q rows p k (part.Link a b) later = refl
+one_statement q rows p k part.Return later = refl
+one_statement q rows p k (part.JumpRegister a) later = refl
+one_statement q rows p k (part.IfZero a b) later = refl
+one_statement q rows p k (part.IfNotZero a b) later = refl
+one_statement q rows p k (part.Number a b) later = refl
+one_statement q rows p k (part.Import a b) later = refl
+one_statement q rows p k (part.TextAddress a b) later = refl
+one_statement q rows p k (part.GlobalAddress a b) later = refl
+
+-- the labels so far and those to come, one statement further
+pub label_further : (q : Name) (rows rows' : List (Name × Label)) (p p' : Place) (k : ℕ) (x : Statement Name) (xs all : Statements) (whole : Option Label) → all ≡ x ∷ xs → rows' ≡ noted rows p k x.part → p' ≡ advanced p x.part → or_else (label_named q rows) (label_from q p k all) ≡ whole → or_else (label_named q rows') (label_from q p' (k + 1) xs) ≡ whole
+label_further q rows rows' p p' k x xs all whole cut grown next so_far =
+    ap (λ r. or_else (label_named q r) (label_from q p' (k + 1) xs)) grown
+    ∙ ap (λ o. or_else (label_named q (noted rows p k x.part)) (label_from q o (k + 1) xs)) next
+    ∙ one_statement q rows p k x.part (label_from q (advanced p x.part) (k + 1) xs)
+    ∙ sym (ap (λ ss. or_else (label_named q rows) (label_from q p k ss)) cut) ∙ so_far

@@ -1,0 +1,20 @@
+use Rattle.std.proofs.Common.{arith}
+use Rattle.ct_asm.specs.Labels.{label_named}
+use Rattle.ct_asm.proofs.Walks.{from_here, first_lawful, rest_lawful, fault_step}
+use Rattle.ct_asm.proofs.faults.least_fault.Goals as goal
+
+pub statement_fault-requires-clause-fit : goal.statement_fault-requires-clause-fit
+statement_fault-requires-clause-fit c = (first_lawful c.loop-k.place.section _ _ _ (from_here c.args.statements.now c.loop-k.k _ c.loop-k-test.true) c.loop-k.invariant.lawful).1
+
+pub advanced-place-requires-clause-fit : goal.advanced-place-requires-clause-fit
+advanced-place-requires-clause-fit c = (first_lawful c.loop-k.place.section _ _ _ (from_here c.args.statements.now c.loop-k.k _ c.loop-k-test.true) c.loop-k.invariant.lawful).1
+
+pub loop-k-preserved : goal.loop-k-preserved
+loop-k-preserved c =
+    let cut = from_here c.args.statements.now c.loop-k.k _ c.loop-k-test.true in
+    record {
+      whole = fault_step (λ n. label_named n c.args.labels.now) c.loop-k.least c.lesser-least.result c.on_line-fault.result c.statement_fault.result c.loop-k.place c.advanced-place.result c.loop-k.k _ _ _ _ cut c.on_line-fault.ensures c.statement_fault.ensures c.lesser-least.ensures c.advanced-place.ensures.value c.loop-k.invariant.whole;
+      lawful = rest_lawful c.loop-k.place c.advanced-place.result _ _ _ cut c.advanced-place.ensures.value c.loop-k.invariant.lawful;
+      text = omega (arith, c.advanced-place.ensures.text, c.loop-k.invariant.text);
+      initial = omega (arith, c.advanced-place.ensures.initial, c.loop-k.invariant.initial);
+    }

@@ -1,0 +1,195 @@
+//! What is wrong with statements that each have their form.
+
+ghost use Rattle.std.specs.Prelude.{◌≡◌, ◌<◌, ◌≤◌, ◌^◌, ◌+◌, ◌*◌, true, length};
+ghost use Rattle.def_source.specs.Source as source;
+ghost use Rattle.def_object.specs.Object as object;
+ghost use Rattle.ct_source.specs.Views.{part_view, target_view, statements_view};
+ghost use Rattle.ct_asm.specs.Labels.{label_named};
+
+use crate::labels::Labels;
+use crate::places::{advanced, is_data, is_text, offset, size_at};
+use def_object::{Fault, Label, Place};
+use def_source::parts::{Part, Section, Statement, Target};
+
+/// Whether a label lies within a reach: even, backwards by at most so many bytes and forwards by
+/// two less.
+fn is_near(reach: u128, at: u128, to: u128) -> bool
+    requires { 2 ≤ reach }
+    ensures { result ≡ object.is_near reach at to }
+{
+    let near = if to < at {
+        at - to <= reach
+    } else {
+        to - at <= reach - 2
+    };
+    near && at % 2 == to % 2
+}
+
+/// A branch to a label: A6 where the text has none of that name, A4 where it is out of reach.
+fn reach_fault(reach: u128, at: u128, label: Option<Label>) -> Option<u32>
+    requires { 2 ≤ reach }
+    ensures { result ≡ object.reach_fault reach at label }
+{
+    match label {
+        None => Some(6),
+        Some(l) => {
+            if is_data(l.section) {
+                return Some(6);
+            }
+            if is_near(reach, at, l.offset) {
+                None
+            } else {
+                Some(4)
+            }
+        }
+    }
+}
+
+/// A branch to a target; an offset has its range already.
+fn target_fault(labels: &Labels, reach: u128, at: u128, target: Target<&[u8]>) -> Option<u32>
+    requires { 2 ≤ reach }
+    ensures { result ≡ object.target_fault (λ n. label_named n labels.now) reach at (target_view target.entry) }
+{
+    match target {
+        Target::Label(name) => reach_fault(reach, at, labels.get(name)),
+        Target::Offset(_) => None,
+    }
+}
+
+/// A6 where the text has no such label.
+fn text_fault(label: Option<Label>) -> Option<u32>
+    ensures { result ≡ object.text_fault label }
+{
+    match label {
+        None => Some(6),
+        Some(l) => if is_text(l.section) { None } else { Some(6) },
+    }
+}
+
+/// A6 where the initial bytes have no such label.
+fn data_fault(label: Option<Label>) -> Option<u32>
+    ensures { result ≡ object.data_fault label }
+{
+    match label {
+        None => Some(6),
+        Some(l) => if is_data(l.section) { None } else { Some(6) },
+    }
+}
+
+/// A5 where a label isn't the first of its name.
+fn second_fault(k: u64, label: Option<Label>) -> Option<u32>
+    ensures { result ≡ object.second_fault k label }
+{
+    match label {
+        None => None,
+        Some(l) => if l.index == k { None } else { Some(5) },
+    }
+}
+
+/// What a statement refers to, or what it defines again.
+fn reference_fault(labels: &Labels, k: u64, at: u128, part: Part<&[u8]>) -> Option<u32>
+    ensures { result ≡ object.reference_fault (λ n. label_named n labels.now) k at (part_view part.entry) }
+{
+    match part {
+        Part::Label { name } => second_fault(k, labels.get(name)),
+        Part::Branch { target, .. } => target_fault(labels, 4096, at, target),
+        Part::IfZero { target, .. } => target_fault(labels, 4096, at, target),
+        Part::IfNotZero { target, .. } => target_fault(labels, 4096, at, target),
+        Part::Jal { target, .. } => target_fault(labels, 1048576, at, target),
+        Part::Go { target } => target_fault(labels, 1048576, at, target),
+        Part::Link { target, .. } => target_fault(labels, 1048576, at, target),
+        Part::TextAddress { label, .. } => text_fault(labels.get(label)),
+        Part::GlobalAddress { label, .. } => data_fault(labels.get(label)),
+        Part::Text
+        | Part::Data
+        | Part::Word { .. }
+        | Part::Byte { .. }
+        | Part::Zero { .. }
+        | Part::Align { .. }
+        | Part::Registers { .. }
+        | Part::Immediate { .. }
+        | Part::Upper { .. }
+        | Part::Load { .. }
+        | Part::JumpCapability { .. }
+        | Part::Store { .. }
+        | Part::Source { .. }
+        | Part::Bare { .. }
+        | Part::Nop
+        | Part::Move { .. }
+        | Part::Return
+        | Part::JumpRegister { .. }
+        | Part::Number { .. }
+        | Part::Import { .. } => None,
+    }
+}
+
+/// A8 where a statement passes the limit of a section.
+fn size_fault(at: u128, part: Part<&[u8]>) -> Option<u32>
+    requires fit { source.numbers_fit (part_view part) ≡ true }
+    requires at { at < 2 ^ 101 }
+    ensures { result ≡ object.size_fault at (part_view part.entry) }
+{
+    if at + size_at(part, at) > 1048576 {
+        Some(8)
+    } else {
+        None
+    }
+}
+
+/// The least number of what a statement breaks.
+fn statement_fault(labels: &Labels, place: Place, k: u64, part: Part<&[u8]>) -> Option<u32>
+    requires fit { source.numbers_fit (part_view part) ≡ true }
+    requires text { place.text < 2 ^ 100 }
+    requires initial { place.initial < 2 ^ 100 }
+    ensures { result ≡ object.statement_fault (λ n. label_named n labels.now) place k (part_view part.entry) }
+{
+    match reference_fault(labels, k, offset(place), part) {
+        Some(number) => Some(number),
+        None => size_fault(offset(place), part),
+    }
+}
+
+/// The fault of the lesser line, and on one line of the lesser number.
+fn lesser(a: Option<Fault>, b: Option<Fault>) -> Option<Fault>
+    ensures { result ≡ object.lesser a b }
+{
+    match (a, b) {
+        (None, b) => b,
+        (a, None) => a,
+        (Some(x), Some(y)) => if key(x) <= key(y) { Some(x) } else { Some(y) },
+    }
+}
+
+fn key(fault: Fault) -> u64
+    ensures { result ≡ fault.line * 16 + fault.number }
+{
+    fault.line as u64 * 16 + fault.number as u64
+}
+
+fn on_line(line: u32, number: Option<u32>) -> Option<Fault>
+    ensures { result ≡ object.on_line line number }
+{
+    match number {
+        Some(number) => Some(Fault { number, line }),
+        None => None,
+    }
+}
+
+/// The least fault of all statements.
+pub(crate) fn least_fault(labels: &Labels, statements: &[Statement<&[u8]>]) -> Option<Fault>
+    requires { source.IsLawful (statements_view statements.now) }
+    ensures { result ≡ object.fault_from (λ n. label_named n labels.now) object.start 0 (statements_view statements.now) }
+{
+    let mut place = Place {
+        section: Section::Text,
+        text: 0,
+        initial: 0,
+    };
+    let mut least = None;
+    for (k, s) in statements.iter().enumerate() {
+        let fault = on_line(s.line, statement_fault(labels, place, k as u64, s.part));
+        least = lesser(least, fault);
+        place = advanced(place, s.part);
+    }
+    least
+}

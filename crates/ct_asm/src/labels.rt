@@ -1,0 +1,53 @@
+//! A table of labels, each by the first place of its name.
+
+ghost use Rattle.std.specs.Prelude.{◌≡◌, ◌++◌, ◌∷◌, [], OnOk, IfNone, None};
+ghost use Rattle.ct_asm.specs.Labels.{label_named};
+
+use def_object::Label;
+use indexmap::IndexMap;
+use std::alloc::{AllocError, Global};
+use std::marker::Model;
+
+/// Labels by name.
+#[derive(Debug, Drop)]
+pub struct Labels {
+    table: IndexMap<Vec<u8>, Label>,
+}
+
+impl Model for Labels {
+    ghost use Rattle.std.specs.Prelude.{List, map, ℕ};
+    ghost use Rattle.def_source.specs.Source.{Name};
+    ghost use Rattle.def_object.specs.declared.Label.{Label};
+
+    ghost Value = { List (Name × Label) };
+
+    ghost view = { λ l. map (λ e. (e.0.items, e.1)) l.table.entries };
+}
+
+impl Labels {
+    /// No labels.
+    pub fn new(alloc: Global) -> Labels
+        ensures { result ≡ [] }
+    {
+        Labels {
+            table: IndexMap::new(alloc),
+        }
+    }
+
+    /// The label of a name.
+    pub fn get(&self, name: &[u8]) -> Option<Label>
+        ensures { result ≡ label_named name.now self.now }
+    {
+        self.table.get(name).copied()
+    }
+
+    /// Adds a label whose name isn't there.
+    pub fn add(&mut self, alloc: Global, name: &[u8], label: Label) -> Result<(), AllocError>
+        requires { label_named name.now self.old ≡ None }
+        ensures { OnOk result (self.new ≡ self.old ++ (name.now, label) ∷ []) }
+    {
+        let key = Vec::from_slice(alloc, name)?;
+        self.table.insert(key, label)?;
+        Ok(())
+    }
+}

@@ -1,0 +1,69 @@
+//! The labels of a source, and the slots that it names.
+
+ghost use Rattle.std.specs.Prelude.{◌≡◌, ◌<◌, ◌≤◌, ◌^◌, ℕ, OnOk, IfOk, Option};
+ghost use Rattle.def_source.specs.Source as source;
+ghost use Rattle.def_object.specs.Object as object;
+ghost use Rattle.ct_source.specs.Views.{part_view, statements_view};
+ghost use Rattle.ct_asm.specs.Labels.{label_named, noted};
+
+use crate::labels::Labels;
+use crate::names::Names;
+use crate::places::{advanced, offset};
+use def_object::{Label, Place};
+use def_source::parts::{Part, Section, Statement};
+use std::alloc::{AllocError, Global};
+
+/// Adds the label that a statement is, unless its name is there.
+fn note(
+    alloc: Global,
+    labels: &mut Labels,
+    place: Place,
+    k: u64,
+    part: Part<&[u8]>,
+) -> Result<(), AllocError>
+    ensures { OnOk result (labels.new ≡ noted labels.old place k (part_view part.entry)) }
+{
+    let Part::Label { name } = part else {
+        return Ok(());
+    };
+    if labels.get(name).is_some() {
+        return Ok(());
+    }
+    let label = Label {
+        section: place.section,
+        offset: offset(place),
+        index: k,
+    };
+    labels.add(alloc, name, label)
+}
+
+/// The labels of a source, each by the first of its name.
+pub(crate) fn labels_of(
+    alloc: Global,
+    statements: &[Statement<&[u8]>],
+) -> Result<Labels, AllocError>
+    requires { source.IsLawful (statements_view statements.now) }
+    ensures { IfOk result (λ t. (name : source.Name) → label_named name t ≡ object.label_from name object.start 0 (statements_view statements.now)) }
+{
+    let mut labels = Labels::new(alloc);
+    let mut place = Place {
+        section: Section::Text,
+        text: 0,
+        initial: 0,
+    };
+    for (k, s) in statements.iter().enumerate() {
+        note(alloc, &mut labels, place, k as u64, s.part)?;
+        place = advanced(place, s.part);
+    }
+    Ok(labels)
+}
+
+/// Whether a statement names an import that has no slot.
+pub(crate) fn is_undeclared(slots: &Names, part: Part<&[u8]>) -> bool
+    ensures { result ≡ object.is_undeclared slots.now (part_view part.entry) }
+{
+    if let Part::Import { name, .. } = part {
+        return slots.slot(name).is_none();
+    }
+    false
+}

@@ -1,0 +1,9 @@
+pub mod Lists
+pub mod Paths
+pub mod Relaxing
+pub mod Owners
+pub mod Steps
+pub mod Connects
+pub mod Orders
+pub mod Transfer
+pub mod Graphs

@@ -1,0 +1,195 @@
+//! What the graph reads of each row, and whether one owner has a step to another.
+
+ghost use Rattle.std.specs.Prelude.{ℕ, ◌≡◌, ◌==◌, ◌/◌, ◌%◌, ◌^◌, ◌<◌, List, Bool, map, IfOk, length};
+ghost use Rattle.std.specs.List.{list_any, filter};
+ghost use Rattle.def_words.specs.Permissions.{bit};
+ghost use Rattle.ct_entry.specs.Listed.{Listed};
+ghost use Rattle.def_reach.specs.Roots.{root_of, gate_for};
+ghost use Rattle.def_graph.specs.Reach.{same_owner};
+ghost use Rattle.ct_graph.specs.Links.{link_of, links_of, own, calls, brings, shares, meets, steps, is_compartment, is_library, is_shared, holds};
+ghost use Rattle.std.specs.Prelude.{◌&&◌};
+
+use ct_entry::{Entries, Entry, Gate, Kind, Owner};
+use std::alloc::{AllocError, Global};
+
+/// A row, with what it names looked up.
+#[derive(Clone, Copy, Debug, Drop)]
+pub(crate) struct Link {
+    pub owner: Owner,
+    pub kind: Kind,
+    pub of: u32,
+    pub target: Owner,
+    pub passes: bool,
+    pub carries: bool,
+}
+
+/// Whether two owners are the same.
+pub(crate) fn same(a: Owner, b: Owner) -> bool
+    ensures { result ≡ same_owner a b }
+{
+    match (a, b) {
+        (Owner::Trusted, Owner::Trusted) => true,
+        (Owner::Compartment(x), Owner::Compartment(y)) => x == y,
+        (Owner::Library(x), Owner::Library(y)) => x == y,
+        (Owner::Thread(x), Owner::Thread(y)) => x == y,
+        _ => false,
+    }
+}
+
+/// The links of all rows.
+pub(crate) fn links(alloc: Global, entries: &Entries) -> Result<Vec<Link>, AllocError>
+    ensures { IfOk result (λ v. v.items ≡ links_of entries.now) }
+{
+    let mut all = Vec::new(alloc);
+    for row in &entries.rows {
+        all.push(look_up(entries, *row))?;
+    }
+    Ok(all)
+}
+
+/// A row's link.
+#[tactic(auto, unfolding(def_words::specs::Permissions::bit))]
+fn look_up(entries: &Entries, row: Entry) -> Link
+    ensures { result ≡ link_of entries.now row }
+{
+    let (target, passes) = named(entries.rows.as_slice(), entries.gates.as_slice(), row.of);
+    Link {
+        owner: row.owner,
+        kind: row.kind,
+        of: row.of,
+        target,
+        passes,
+        carries: row.rights / 64 % 2 == 1,
+    }
+}
+
+/// The owner of the entry of this number, and whether a call of it passes capabilities.
+#[tactic(auto, unfolding(def_reach::specs::Roots::root_of))]
+fn named(rows: &[Entry], gates: &[Gate], number: u32) -> (Owner, bool)
+    ensures { let e : Listed = record { rows = rows.now; gates = gates.now } in
+        ((root_of e number).owner ≡ result.0) × ((root_of e number).passes ≡ result.1) }
+{
+    if number == 0 {
+        return (Owner::Trusted, false);
+    }
+    match rows.get(number as usize - 1) {
+        Some(row) => (row.owner, passes(gates, number)),
+        None => (Owner::Trusted, false),
+    }
+}
+
+/// Whether the gate of this export passes capabilities.
+#[tactic(auto, unfolding(def_reach::specs::Roots::gate_for))]
+fn passes(gates: &[Gate], number: u32) -> bool
+    ensures { result ≡ (gate_for gates.now number).capabilities }
+{
+    for gate in gates {
+        if gate.entry == number {
+            return gate.capabilities;
+        }
+    }
+    false
+}
+
+/// The links of one owner.
+pub(crate) fn own_links(
+    alloc: Global,
+    links: &[Link],
+    owner: Owner,
+) -> Result<Vec<Link>, AllocError>
+    ensures { IfOk result (λ v. v.items ≡ own links.now owner) }
+{
+    let mut all = Vec::new(alloc);
+    for link in links {
+        if same(link.owner, owner) {
+            all.push(*link)?;
+        }
+    }
+    Ok(all)
+}
+
+/// Whether a path may step from one owner to another, by their links.
+pub(crate) fn goes(a: Owner, from: &[Link], b: Owner, to: &[Link]) -> bool
+    ensures { result ≡ steps a from.now b to.now }
+{
+    match a {
+        Owner::Library(_) => imports_one(to, a),
+        Owner::Compartment(_) => is_part(b) && !same(a, b) && neighbours(a, from, b, to),
+        _ => false,
+    }
+}
+
+fn is_part(owner: Owner) -> bool
+    ensures { result ≡ is_compartment owner }
+{
+    match owner {
+        Owner::Compartment(_) => true,
+        _ => false,
+    }
+}
+
+/// Whether one calls the other so that capabilities pass, or both share an object so.
+fn neighbours(a: Owner, from: &[Link], b: Owner, to: &[Link]) -> bool
+    ensures { result ≡ meets a from.now b to.now }
+{
+    calls_one(from, b) || calls_one(to, a) || share_one(from, to)
+}
+
+fn imports_one(links: &[Link], library: Owner) -> bool
+    ensures { result ≡ list_any (brings library) links.now }
+{
+    links.iter().any(|l| imports_from(*l, library))
+}
+
+fn imports_from(link: Link, library: Owner) -> bool
+    ensures { result ≡ brings library link }
+{
+    match link.kind {
+        Kind::Library => same(link.target, library),
+        _ => false,
+    }
+}
+
+fn calls_one(links: &[Link], target: Owner) -> bool
+    ensures { result ≡ list_any (calls target) links.now }
+{
+    links.iter().any(|l| calls_to(*l, target))
+}
+
+fn calls_to(link: Link, target: Owner) -> bool
+    ensures { result ≡ calls target link }
+{
+    match link.kind {
+        Kind::Call => same(link.target, target) && link.passes,
+        _ => false,
+    }
+}
+
+fn share_one(from: &[Link], to: &[Link]) -> bool
+    ensures { result ≡ list_any (shares to.now) from.now }
+{
+    from.iter().any(|l| shares_with(*l, to))
+}
+
+fn shares_with(link: Link, links: &[Link]) -> bool
+    ensures { result ≡ shares links.now link }
+{
+    shares_capabilities(link) && holds_object(links, link.of)
+}
+
+fn shares_capabilities(link: Link) -> bool
+    ensures { result ≡ (is_shared link.kind && link.carries) }
+{
+    match link.kind {
+        Kind::Shared => link.carries,
+        _ => false,
+    }
+}
+
+fn holds_object(links: &[Link], object: u32) -> bool
+    ensures { result ≡ list_any (holds object) links.now }
+{
+    links
+        .iter()
+        .any(|m| shares_capabilities(*m) && m.of == object)
+}

@@ -1,0 +1,31 @@
+-- Two pieces that are written one after the other.
+use Rattle.std.proofs.Common.{◌≡◌, ℕ, ◌+◌, ◌-◌, ◌^◌, ◌≤◌, min, List, ◌++◌, Option, ◌∙◌, ap, sym, subst}
+use Rattle.std.proofs.lemmas.List.{append_assoc}
+use Rattle.def_port.specs.Bytes.{Rose, Appends, AppendsPart}
+use Rattle.def_port.specs.Writes.{Writes, WriteFails}
+use Rattle.law_lists.proofs.Added.{appends_both}
+
+pub both : (old mid new : Option (List ℕ)) (f g h : ℕ) (first second : List ℕ) → Writes old mid f g first → Writes mid new g h second → Writes old new f h (first ++ second)
+both old mid new f g h first second a b = record { added = appends_both old mid new first second a.added b.added; same = b.same ∙ a.same }
+
+pub first_fails : (old new : Option (List ℕ)) (f g : ℕ) (first second : List ℕ) → WriteFails old new f g first → WriteFails old new f g (first ++ second)
+first_fails old new f g first second a = record {
+  added = record {
+    part = a.added.part;
+    rest = a.added.rest ++ second;
+    whole = sym (append_assoc a.added.part a.added.rest second) ∙ ap (λ t. t ++ second) a.added.whole;
+    added = a.added.added;
+  };
+  rose = a.rose;
+}
+
+pub second_fails : (old mid new : Option (List ℕ)) (f g h : ℕ) (first second : List ℕ) → Writes old mid f g first → WriteFails mid new g h second → WriteFails old new f h (first ++ second)
+second_fails old mid new f g h first second a b = record {
+  added = record {
+    part = first ++ b.added.part;
+    rest = b.added.rest;
+    whole = append_assoc first b.added.part b.added.rest ∙ ap (λ t. first ++ t) b.added.whole;
+    added = appends_both old mid new first b.added.part a.added b.added.added;
+  };
+  rose = let P : ℕ → Type 0 = λ n. Rose n h in subst P a.same b.rose;
+}

@@ -1,0 +1,98 @@
+//! The top call: words and files in, bytes and a status out (docs/run.md). Its one clause says, for
+//! each status, from what it comes and what was written; the definitions stand in def_output.
+#![tactic(auto)]
+
+mod audit;
+mod output;
+#[cfg(test)]
+mod tests;
+
+ghost use Rattle.std.specs.Prelude.{◌≡◌, map, option_map, string_bytes};
+ghost use Rattle.def_output.specs.Answers.{Answers, Ends, ReadsInOrder};
+ghost use Rattle.def_output.specs.Commands.{Audit, form_of as form_in};
+
+use ct_port::{Folder, Sink};
+pub use def_output::Status;
+use output::{refuse_usage, report};
+use std::alloc::Global;
+
+/// Runs one command. The words are those after the program's name: `audit DESC` writes the report
+/// line of the description in the file DESC.
+///
+/// Every answer has its cause (clause `answer`), and in every answer the names read are a prefix of
+/// those that are due, and no read but the last failed (clause `names`). No memory is taken after
+/// the first write.
+pub fn capfw<F: Folder, S: Sink>(
+    alloc: Global,
+    words: &[String],
+    folder: &mut F,
+    sink: &mut S,
+) -> Status
+    ensures answer { let e : Ends = record {
+      words = map string_bytes words.now;
+      told = F.file folder.old;
+      calls = F.calls folder.old;
+      calls_after = F.calls folder.new;
+      read_faults = F.faults folder.old;
+      read_faults_after = F.faults folder.new;
+      bytes = S.bytes sink.old;
+      bytes_after = S.bytes sink.new;
+      write_faults = S.faults sink.old;
+      write_faults_after = S.faults sink.new;
+    } in Answers e result }
+    ensures names { let e : Ends = record {
+      words = map string_bytes words.now;
+      told = F.file folder.old;
+      calls = F.calls folder.old;
+      calls_after = F.calls folder.new;
+      read_faults = F.faults folder.old;
+      read_faults_after = F.faults folder.new;
+      bytes = S.bytes sink.old;
+      bytes_after = S.bytes sink.new;
+      write_faults = S.faults sink.old;
+      write_faults_after = S.faults sink.new;
+    } in ReadsInOrder e }
+{
+    command(alloc, words, folder, sink)
+}
+
+fn command<F: Folder, S: Sink>(
+    alloc: Global,
+    words: &[String],
+    folder: &mut F,
+    sink: &mut S,
+) -> Status
+    ensures { let e : Ends = record {
+      words = map string_bytes words.now;
+      told = F.file folder.old;
+      calls = F.calls folder.old;
+      calls_after = F.calls folder.new;
+      read_faults = F.faults folder.old;
+      read_faults_after = F.faults folder.new;
+      bytes = S.bytes sink.old;
+      bytes_after = S.bytes sink.new;
+      write_faults = S.faults sink.old;
+      write_faults_after = S.faults sink.new;
+    } in Answers e result }
+{
+    match form_of(words) {
+        Some(name) => report(alloc, name, folder, sink),
+        None => refuse_usage(sink),
+    }
+}
+
+/// The file of `audit DESC`.
+fn form_of<'a>(words: &'a [String]) -> Option<&'a str>
+    ensures { option_map (λ name. Audit name.now) result ≡ form_in (map string_bytes words.now) }
+{
+    match words {
+        [word, name] => {
+            if word.as_str() == "audit" {
+                Some(name.as_str())
+            } else {
+                None
+            }
+        }
+        _ => None,
+    }
+}

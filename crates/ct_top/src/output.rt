@@ -1,0 +1,99 @@
+//! What is written: the report line, or the line of a refusal, in pieces and with no memory taken.
+
+ghost use Rattle.std.specs.Prelude.{◌≡◌, ◌++◌, ◌∷◌, [], List, ℕ, MatchResult, None, Some};
+ghost use Rattle.def_port.specs.Writes.{Writes, WriteFails};
+ghost use Rattle.def_output.specs.Answers.{Answers, Ends};
+ghost use Rattle.def_output.specs.Commands.{Audit, form_of};
+ghost use Rattle.def_output.specs.Lines.{description_line, usage_line};
+ghost use Rattle.ct_top.specs.Steps.{Closes, Refuses};
+
+use crate::audit::{Stop, prepare};
+use ct_port::{Folder, Sink, WriteFailed};
+use def_output::Status;
+use std::alloc::Global;
+
+/// Writes two pieces.
+#[tactic(auto, using(crate::proofs::Pieces::both, crate::proofs::Pieces::first_fails, crate::proofs::Pieces::second_fails))]
+fn write_both<S: Sink>(first: &[u8], second: &[u8], sink: &mut S) -> Result<(), WriteFailed>
+    ensures { MatchResult result
+        (λ _. Writes (S.bytes sink.old) (S.bytes sink.new) (S.faults sink.old) (S.faults sink.new) (first.now ++ second.now))
+        (λ _. WriteFails (S.bytes sink.old) (S.bytes sink.new) (S.faults sink.old) (S.faults sink.new) (first.now ++ second.now)) }
+{
+    match sink.write(first) {
+        Ok(()) => sink.write(second),
+        Err(failed) => Err(failed),
+    }
+}
+
+/// Writes a text, a name and a line feed.
+#[tactic(auto, using(crate::proofs::Pieces::both, crate::proofs::Pieces::first_fails, crate::proofs::Pieces::second_fails))]
+fn write_named<S: Sink>(text: &[u8], name: &str, sink: &mut S) -> Result<(), WriteFailed>
+    ensures { MatchResult result
+        (λ _. Writes (S.bytes sink.old) (S.bytes sink.new) (S.faults sink.old) (S.faults sink.new) (text.now ++ (name.now ++ 10 ∷ [])))
+        (λ _. WriteFails (S.bytes sink.old) (S.bytes sink.new) (S.faults sink.old) (S.faults sink.new) (text.now ++ (name.now ++ 10 ∷ []))) }
+{
+    match sink.write(text) {
+        Ok(()) => write_both(name.as_bytes(), b"\n", sink),
+        Err(failed) => Err(failed),
+    }
+}
+
+/// Writes a text, a name and a line feed, and ends with a status.
+fn close_named<S: Sink>(text: &[u8], name: &str, status: Status, sink: &mut S) -> Status
+    ensures { Closes (S.bytes sink.old) (S.bytes sink.new) (S.faults sink.old) (S.faults sink.new) (text.now ++ (name.now ++ 10 ∷ [])) status result }
+{
+    match write_named(text, name, sink) {
+        Ok(()) => status,
+        Err(_) => Status::WriteFault,
+    }
+}
+
+/// Writes a text, and ends with a status.
+fn close<S: Sink>(text: &[u8], status: Status, sink: &mut S) -> Status
+    ensures { Closes (S.bytes sink.old) (S.bytes sink.new) (S.faults sink.old) (S.faults sink.new) text.now status result }
+{
+    match sink.write(text) {
+        Ok(()) => status,
+        Err(_) => Status::WriteFault,
+    }
+}
+
+/// Writes the line of a refusal; for want of memory nothing is written.
+fn refuse<S: Sink>(stop: Stop, name: &str, sink: &mut S) -> Status
+    ensures { Refuses name.now stop (S.bytes sink.old) (S.bytes sink.new) (S.faults sink.old) (S.faults sink.new) result }
+{
+    match stop {
+        Stop::Unread => close_named(b"refused 2 read ", name, Status::ReadFault, sink),
+        Stop::Large => close_named(b"refused 3 large ", name, Status::TooLarge, sink),
+        Stop::Bad => close(b"refused 4 description\n", Status::Description, sink),
+        Stop::NoMemory => Status::NoMemory,
+    }
+}
+
+/// Refuses words that aren't a form. It takes no memory and reads no file.
+pub fn refuse_usage<S: Sink>(sink: &mut S) -> Status
+    ensures { Closes (S.bytes sink.old) (S.bytes sink.new) (S.faults sink.old) (S.faults sink.new) usage_line Status.Usage result }
+{
+    close(b"refused 1 usage\n", Status::Usage, sink)
+}
+
+/// `audit DESC`: writes the report line of the description in the file of this name.
+pub fn report<F: Folder, S: Sink>(alloc: Global, name: &str, folder: &mut F, sink: &mut S) -> Status
+    ensures { (words : List (List ℕ)) → form_of words ≡ Some (Audit name.now) → let e : Ends = record {
+      words = words;
+      told = F.file folder.old;
+      calls = F.calls folder.old;
+      calls_after = F.calls folder.new;
+      read_faults = F.faults folder.old;
+      read_faults_after = F.faults folder.new;
+      bytes = S.bytes sink.old;
+      bytes_after = S.bytes sink.new;
+      write_faults = S.faults sink.old;
+      write_faults_after = S.faults sink.new;
+    } in Answers e result }
+{
+    match prepare(alloc, name, folder) {
+        Ok(line) => close(line.as_bytes(), Status::Done, sink),
+        Err(stop) => refuse(stop, name, sink),
+    }
+}

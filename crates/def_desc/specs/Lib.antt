@@ -1,0 +1,10 @@
+pub mod Rows
+pub mod Members
+pub mod Reading
+pub mod Walk
+pub mod Kinds
+pub mod Names
+pub mod Limits
+pub mod References
+pub mod Placing
+pub mod WellFormed

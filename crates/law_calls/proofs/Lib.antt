@@ -1,0 +1,4 @@
+pub mod Givens
+pub mod Pushes
+pub mod Pops
+pub mod Cleans

@@ -1,0 +1,5 @@
+pub mod Quarantines
+pub mod Allocates
+pub mod Frees
+pub mod Sweeps
+pub mod Holding

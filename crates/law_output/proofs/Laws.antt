@@ -1,0 +1,80 @@
+-- What is left of the answers.
+use Rattle.std.proofs.Common.{◌≡◌, ℕ, ◌+◌, ◌-◌, ◌^◌, ◌<◌, ◌≤◌, min, List, [], Option, Some, None, length, refl, sym, ap, ◌∙◌, subst, ◌⊎◌, inl, inr, arith}
+use Rattle.def_port.specs.Bytes.{Rose}
+use Rattle.def_port.specs.Told.{Told, File}
+use Rattle.def_desc.specs.Rows.{DescRow}
+use Rattle.def_desc.specs.WellFormed.{WellFormed, Malformed, fault_of}
+use Rattle.def_output.specs.declared.Status.{Status}
+use Rattle.def_output.specs.declared.Status.TheVariants.{Done, Usage, ReadFault, TooLarge, Description, WriteFault, NoMemory}
+use Rattle.def_output.specs.Commands.{Command, Audit, form_of, most}
+use Rattle.def_output.specs.Answers.{Ends, Answers, Holds, IsLarge}
+use Rattle.law_output.specs.Ends.{Audits, DoneOrMemory, IsSteady, NoFault}
+
+abbrev audited : Option Command → List ℕ
+audited None = []
+audited (Some (Audit name)) = name
+
+same_name : (e : Ends) (a b : List ℕ) → form_of e.words ≡ Some (Audit a) → form_of e.words ≡ Some (Audit b) → a ≡ b
+same_name e a b p q = ap audited (sym p ∙ q)
+
+not_both : (e : Ends) (a : List ℕ) → form_of e.words ≡ None → form_of e.words ≡ Some (Audit a) → ⊥
+not_both e a p q = let same : Some (Audit a) ≡ None = sym q ∙ p in cc
+
+-- the file that is told is the one that was read
+told_is : (t : Told) (all bytes : List ℕ) → t ≡ File all → Holds t bytes → all ≡ bytes
+told_is t all bytes is holds = let P : Told → Type 0 = λ u. Holds u bytes in subst P is holds
+
+too_large : (t : Told) (all : List ℕ) → t ≡ File all → length all ≤ most → IsLarge t → ⊥
+too_large t all is size large =
+    let past : most < length all = (let P : Told → Type 0 = λ u. IsLarge u in subst P is large) in
+    absurd (omega (arith, past, size))
+
+-- bytes aren't both
+not_malformed : (bytes : List ℕ) (rows : DescRow) → WellFormed bytes rows → Malformed bytes → ⊥
+not_malformed bytes rows good (inl none) =
+    let same : Some good.0 ≡ None = sym good.1.0.1 ∙ none good.1.0.0 in cc
+not_malformed bytes rows good (inr bad) =
+    let same : Some good.0 ≡ Some bad.0 = sym good.1.0.1 ∙ bad.2.0.1 in
+    let is : good.0 ≡ bad.0 = cc in
+    let both : None ≡ Some bad.1 = sym good.1.1 ∙ ap fault_of is ∙ bad.2.1 in
+    cc
+
+pub completes : (e : Ends) (s : Status) (all : List ℕ) (rows : DescRow) → Answers e s → NoFault e → Audits e all → WellFormed all rows → DoneOrMemory s
+completes e Done all rows a none file good = inl refl
+completes e Usage all rows a none file good = elim (not_both e file.name a.cause.form file.form) [ ]
+completes e ReadFault all rows a none file good = elim (none.reads a.cause.read.rose) [ ]
+completes e TooLarge all rows a none file good =
+    let is : e.told a.cause.name ≡ File all = ap e.told (same_name e a.cause.name file.name a.cause.form file.form) ∙ file.told in
+    elim (too_large (e.told a.cause.name) all is file.size a.cause.large.large) [ ]
+completes e Description all rows a none file good =
+    let is : e.told a.cause.name ≡ File all = ap e.told (same_name e a.cause.name file.name a.cause.form file.form) ∙ file.told in
+    let same : all ≡ a.cause.bytes = told_is (e.told a.cause.name) all a.cause.bytes is a.cause.file.holds in
+    elim (not_malformed a.cause.bytes rows (subst (λ b. WellFormed b rows) same good) a.cause.bad) [ ]
+completes e WriteFault all rows a none file good = elim (none.writes a.rose) [ ]
+completes e NoMemory all rows a none file good = inr refl
+
+pub no_fault : (e : Ends) (s : Status) → Answers e s → NoFault e → IsSteady s
+no_fault e Done a none = tt
+no_fault e Usage a none = tt
+no_fault e ReadFault a none = none.reads a.cause.read.rose
+no_fault e TooLarge a none = tt
+no_fault e Description a none = tt
+no_fault e WriteFault a none = none.writes a.rose
+no_fault e NoMemory a none = tt
+
+still : (before now : ℕ) → before ≡ 0 → now ≡ 0 → Rose before now → ⊥
+still before now b n rose =
+    let one : min (before + 1) (2 ^ 64 - 1) ≤ now = rose.1 in
+    absurd (omega (arith, one, b, n))
+
+pub constant : (e : Ends) → e.read_faults ≡ 0 → e.read_faults_after ≡ 0 → e.write_faults ≡ 0 → e.write_faults_after ≡ 0 → NoFault e
+constant e a b c d = record { reads = still e.read_faults e.read_faults_after a b; writes = still e.write_faults e.write_faults_after c d }
+
+pub misuse : (e : Ends) (s : Status) → Answers e s → form_of e.words ≡ None → (s ≡ Usage) ⊎ (s ≡ WriteFault)
+misuse e Done a none = elim (not_both e a.cause.name none a.cause.form) [ ]
+misuse e Usage a none = inl refl
+misuse e ReadFault a none = elim (not_both e a.cause.name none a.cause.form) [ ]
+misuse e TooLarge a none = elim (not_both e a.cause.name none a.cause.form) [ ]
+misuse e Description a none = elim (not_both e a.cause.name none a.cause.form) [ ]
+misuse e WriteFault a none = inr refl
+misuse e NoMemory a none = elim (not_both e a.name none a.form) [ ]

@@ -1,0 +1,33 @@
+-- What follows from the answers: which statuses are left where something is known of the files.
+use Rattle.std.specs.Prelude.{◌≡◌, ℕ, List, ◌⊎◌, ◌≤◌, length, Some}
+use Rattle.def_port.specs.Bytes.{Rose}
+use Rattle.def_port.specs.Told.{File}
+use Rattle.def_output.specs.declared.Status.{Status}
+use Rattle.def_output.specs.declared.Status.TheVariants.{Done, Usage, ReadFault, TooLarge, Description, WriteFault, NoMemory}
+use Rattle.def_output.specs.Commands.{Audit, form_of, most}
+use Rattle.def_output.specs.Answers.{Ends}
+
+-- the status of a folder and a sink that never fail
+abbrev pub IsSteady : Status → Type 0
+IsSteady Done = Unit {0}
+IsSteady Usage = Unit {0}
+IsSteady ReadFault = ⊥
+IsSteady TooLarge = Unit {0}
+IsSteady Description = Unit {0}
+IsSteady WriteFault = ⊥
+IsSteady NoMemory = Unit {0}
+
+-- no fault was counted in the call
+pub record NoFault (e : Ends) : Type 0 where
+  pub reads : Rose e.read_faults e.read_faults_after → ⊥
+  pub writes : Rose e.write_faults e.write_faults_after → ⊥
+
+-- the command audits a file that the folder tells, of a lawful size
+pub record Audits (e : Ends) (all : List ℕ) : Type 0 where
+  pub name : List ℕ
+  pub form : form_of e.words ≡ Some (Audit name)
+  pub told : e.told name ≡ File all
+  pub size : length all ≤ most
+
+abbrev pub DoneOrMemory : Status → Type 0
+DoneOrMemory s = (s ≡ Done) ⊎ (s ≡ NoMemory)

@@ -1,0 +1,4 @@
+pub mod Derives
+pub mod Filters
+pub mod Keying
+pub mod Moves

@@ -1,0 +1,68 @@
+-- Turns of threads.
+use Rattle.std.proofs.Common.{ℕ, zero, suc, ◌≡◌, true, false, List, [], ◌∷◌, map, Option, Some, refl}
+use Rattle.std.proofs.Math.ListN.{get_or}
+use Rattle.def_words.specs.declared.Cap.{Cap}
+use Rattle.def_memory.specs.Granules.{plain}
+use Rattle.def_machine.specs.Image.{Image}
+use Rattle.def_machine.specs.State.{State, Status, thread, register}
+use Rattle.def_machine.specs.Memory.{filtered}
+use Rattle.def_machine.specs.Threads.{Clockwork, changed, picked, with_status}
+use Rattle.def_confined.specs.Capabilities.{Kept}
+use Rattle.def_confined.specs.Places.{InFrames, HasLive}
+use Rattle.def_confined.specs.Confined.{Confined, IsPcc}
+use Rattle.def_confined.specs.Partitioned.{Partitioned}
+use Rattle.law_places.proofs.Places.{plain_in}
+use Rattle.law_places.proofs.Puts.{plain_kept}
+use Rattle.law_places.proofs.Turns.{changed_confined}
+use Rattle.law_registers.proofs.Filters.{filter_case, filter_in, filter_kept, filter_live, in_object}
+use Rattle.law_jumps.proofs.Moves.{fits_as}
+
+-- what holds of the default and of the mapped element holds after the map
+pub at_map : {A : Type 0} (P : A → Type 0) (f : A → A) (xs : List A) (k : ℕ) (z : A) → P z → P (f (get_or xs k z)) → P (get_or (map f xs) k z)
+at_map P f [] k z none h = none
+at_map P f (x ∷ xs) zero z none h = h
+at_map P f (x ∷ xs) (suc k) z none h = at_map P f xs k z none h
+
+pub pick_confined : (i : Image) (s : State) (t : ℕ) (w : Clockwork) → Partitioned i → Confined i s → Confined i (changed s t (picked i s (thread s t)) (Some t) w)
+pick_confined i s t w p h = changed_confined i s t (picked i s (thread s t)) (Some t) w h (record {
+  frames = refl;
+  pcc = filter_in i s s.objects t (thread s t).frames (thread s t).pcc (h.pcc t);
+  registers = λ n. at_map (λ c. InFrames i s.objects t (thread s t).frames c) (filtered i s) (thread s t).registers n (plain 0) (plain_in i s.objects t (thread s t).frames (plain 0) refl)
+      (filter_in i s s.objects t (thread s t).frames (register (thread s t) n) (h.registers t n));
+  kept = λ n. at_map (Kept i) (filtered i s) (thread s t).registers n (plain 0) (plain_kept i (plain 0) refl) (filter_kept i s (register (thread s t) n) (h.kept.registers t n));
+  posture = fits_as i (thread s t) (picked i s (thread s t)) (thread s t).frames refl (h.postures t);
+  runs = filter_case (λ (z : Cap). z.tag ≡ true → IsPcc i z) i s (thread s t).pcc (λ tagged. absurd (let clash : false ≡ true = tagged in cc)) (λ not. h.runs t);
+  live = λ runs n. at_map (HasLive i s.objects) (filtered i s) (thread s t).registers n (plain 0) (λ tagged. absurd (let clash : false ≡ true = tagged in cc))
+      (filter_live i s (register (thread s t) n) p h (in_object i s.objects t (thread s t).frames (register (thread s t) n) (h.registers t n)));
+  others = λ u other is. absurd (other (let same : Some t ≡ Some u = is in cc));
+})
+
+pub turn_confined : (i : Image) (s : State) (t : ℕ) (status : Status) (run : Option ℕ) (w : Clockwork) → Confined i s → ((u : ℕ) → run ≡ Some u → s.running ≡ Some u) → Confined i (changed s t (with_status (thread s t) status) run w)
+turn_confined i s t status run w h stays = changed_confined i s t (with_status (thread s t) status) run w h (record {
+  frames = refl;
+  pcc = h.pcc t;
+  registers = λ n. h.registers t n;
+  kept = λ n. h.kept.registers t n;
+  posture = fits_as i (thread s t) (with_status (thread s t) status) (thread s t).frames refl (h.postures t);
+  runs = h.runs t;
+  live = λ runs n. h.live t (stays t runs) n;
+  others = λ u other is. stays u is;
+})
+
+pub clock_confined : (i : Image) (s : State) (w : Clockwork) → Confined i s → Confined i (record s { pending = w.pending; devices = w.devices; time = w.time; picks = w.picks; counts = w.counts })
+clock_confined i s w h = record {
+  granules = h.granules;
+  pcc = h.pcc;
+  registers = h.registers;
+  frames = h.frames;
+  postures = h.postures;
+  runs = h.runs;
+  kept = record { granules = h.kept.granules; registers = h.kept.registers; frames = h.kept.frames };
+  live = h.live;
+  apart = h.apart;
+  numbered = h.numbered;
+  fits = h.fits;
+  marks = h.marks;
+  limits = h.limits;
+  size = h.size;
+}
