@@ -1,5 +1,5 @@
 -- The table of labels, one statement further along a source.
-use Rattle.std.proofs.Common.{◌≡◌, ℕ, ◌+◌, List, [], ◌∷◌, ◌++◌, Option, Some, None, is_some, Bool, true, false, cond, refl, sym, ap, ◌∙◌, subst}
+use Rattle.std.proofs.Common.{◌≡◌, ℕ, ◌+◌, List, [], ◌∷◌, ◌++◌, Option, Some, None, is_some, Bool, true, false, cond, refl, sym, ap, ◌∙◌}
 use Rattle.std.specs.Str.{bytes_eq}
 use Rattle.std.proofs.lemmas.Slice.Eq.{bytes_eq-Decides}
 use Rattle.def_source.specs.declared.parts.Statement.{Statement}
@@ -27,10 +27,12 @@ label_step q n l rows later = by_row (label_named n rows) refl (bytes_eq q n) re
     found : (o p : Option Label) (x y : Option Label) → is_some o ≡ true → or_else o x ≡ or_else o y
     found None p x y e = cc e
     found (Some z) p x y e = refl
+
     chosen : (o : Option Label) (b : Bool) → or_else (or_else o (cond b (Some l) None)) later ≡ or_else o (cond b (Some l) later)
     chosen None true = refl
     chosen None false = refl
     chosen (Some z) b = refl
+
     by_row : (o : Option Label) → label_named n rows ≡ o → (b : Bool) → bytes_eq q n ≡ b → or_else (label_named q (cond (is_some (label_named n rows)) rows (rows ++ (n, l) ∷ []))) later ≡ or_else (label_named q rows) (cond (bytes_eq q n) (Some l) later)
     by_row None e b same =
         ap (λ o. or_else (label_named q (cond (is_some o) rows (rows ++ (n, l) ∷ []))) later) e ∙ ap (λ o. or_else o later) (named_last q n l rows) ∙ chosen (label_named q rows) (bytes_eq q n)

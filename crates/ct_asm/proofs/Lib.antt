@@ -1,3 +1,7 @@
+pub mod FreshNames
 pub mod LabelSteps
 pub mod LabelTables
+pub mod Loads
+pub mod Objects
+pub mod Reach
 pub mod Walks

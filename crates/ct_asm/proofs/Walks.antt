@@ -1,14 +1,14 @@
 -- One statement further along a source.
-use Rattle.std.proofs.Common.{◌≡◌, ℕ, suc, ◌+◌, ◌*◌, ◌<◌, ◌≤◌, ◌^◌, List, [], ◌∷◌, ◌++◌, length, drop, get_or, map, Option, Some, None, Bool, true, false, ◌&&◌, cond, nat_le, refl, sym, ap, ◌∙◌, subst, drop-cons, add-one, arith}
+use Rattle.std.proofs.Common.{◌≡◌, ℕ, ◌+◌, ◌*◌, ◌<◌, List, ◌∷◌, ◌++◌, length, drop, get_or, Option, Some, None, Bool, true, false, ◌&&◌, cond, nat_le, refl, sym, ap, ◌∙◌, drop-cons, add-one, arith, append_assoc}
 use denote.Ref.{Bor}
 use Rattle.def_source.specs.declared.parts.Statement.{Statement}
 use Rattle.def_source.specs.declared.parts.Part.{Part}
 use Rattle.def_source.specs.declared.parts.Part.TheVariants as part
 use Rattle.def_source.specs.declared.parts.Section.{Section}
-use Rattle.def_source.specs.Source.{Name, Statements, lawful_from, is_lawful, in_section, numbers_fit, registers_exist, section_after, is_text}
+use Rattle.def_source.specs.Source.{Name, Statements, lawful_from, is_lawful, in_section, numbers_fit, registers_exist, section_after, is_text, or_else}
 use Rattle.def_object.specs.declared.Place.{Place}
 use Rattle.def_object.specs.declared.Fault.{Fault}
-use Rattle.def_object.specs.Object.{Labels, advanced, grown, size_at, offset, lesser, on_line, statement_fault, fault_from}
+use Rattle.def_object.specs.Object.{Labels, advanced, grown, size_at, offset, lesser, on_line, statement_fault, reference_fault, size_fault, fault_from, section_bytes, bytes_from}
 use Rattle.ct_source.specs.Views.{statement_view, statements_view}
 
 -- the statements from number k on begin with number k
@@ -93,3 +93,38 @@ fault_step labels least least' fault number p p' k x xs all whole cut found numb
     ∙ ap (λ q. lesser (lesser least (on_line x.line (statement_fault labels p k x.part))) (fault_from labels q (k + 1) xs)) next
     ∙ lesser_assoc least (on_line x.line (statement_fault labels p k x.part)) (fault_from labels (advanced p x.part) (k + 1) xs)
     ∙ sym (ap (λ ss. lesser least (fault_from labels p k ss)) cut) ∙ so_far
+
+-- the bytes so far, one statement further
+pub bytes_step : (wanted : Section) (labels : Labels) (slots : List Name) (front front' : List ℕ) (p p' : Place) (x : Statement Name) (xs all : Statements) (whole : List ℕ) → all ≡ x ∷ xs → front' ≡ front ++ section_bytes wanted labels slots p x.part → p' ≡ advanced p x.part → front ++ bytes_from wanted labels slots p all ≡ whole → front' ++ bytes_from wanted labels slots p' xs ≡ whole
+bytes_step wanted labels slots front front' p p' x xs all whole cut grown next so_far =
+    ap (λ f. f ++ bytes_from wanted labels slots p' xs) grown
+    ∙ ap (λ q. (front ++ section_bytes wanted labels slots p x.part) ++ bytes_from wanted labels slots q xs) next
+    ∙ append_assoc front (section_bytes wanted labels slots p x.part) (bytes_from wanted labels slots (advanced p x.part) xs)
+    ∙ sym (ap (λ ss. front ++ bytes_from wanted labels slots p ss) cut) ∙ so_far
+
+neither : (a b : Option Fault) → lesser a b ≡ None → (a ≡ None) × (b ≡ None)
+neither None b e = (refl, e)
+neither (Some a) None e = cc e
+neither (Some a) (Some b) e = by_test (nat_le (a.line * 16 + a.number) (b.line * 16 + b.number)) e
+  where
+    by_test : (t : Bool) → cond t (Some a) (Some b) ≡ None → (Some a ≡ None) × (Some b ≡ None)
+    by_test true e = cc e
+    by_test false e = cc e
+
+no_number : (line : ℕ) (o : Option ℕ) → on_line line o ≡ None → o ≡ None
+no_number line None e = refl
+no_number line (Some n) e = cc e
+
+either_none : (a b : Option ℕ) → or_else a b ≡ None → (a ≡ None) × (b ≡ None)
+either_none None b e = (refl, e)
+either_none (Some a) b e = cc e
+
+-- statements without a fault: the first has none, and neither have the others
+pub first_faultless : (labels : Labels) (p : Place) (k : ℕ) (x : Statement Name) (xs all : Statements) → all ≡ x ∷ xs → fault_from labels p k all ≡ None → (reference_fault labels k (offset p) x.part ≡ None) × (size_fault (offset p) x.part ≡ None)
+first_faultless labels p k x xs all cut e =
+    let two = neither (on_line x.line (statement_fault labels p k x.part)) (fault_from labels (advanced p x.part) (k + 1) xs) (sym (ap (fault_from labels p k) cut) ∙ e) in
+    either_none (reference_fault labels k (offset p) x.part) (size_fault (offset p) x.part) (no_number x.line (statement_fault labels p k x.part) two.0)
+
+pub rest_faultless : (labels : Labels) (p p' : Place) (k : ℕ) (x : Statement Name) (xs all : Statements) → all ≡ x ∷ xs → p' ≡ advanced p x.part → fault_from labels p k all ≡ None → fault_from labels p' (k + 1) xs ≡ None
+rest_faultless labels p p' k x xs all cut next e =
+    ap (λ q. fault_from labels q (k + 1) xs) next ∙ (neither (on_line x.line (statement_fault labels p k x.part)) (fault_from labels (advanced p x.part) (k + 1) xs) (sym (ap (fault_from labels p k) cut) ∙ e)).1

@@ -1,10 +1,12 @@
 -- The labels that a table holds, and the first of a name.
-use Rattle.std.specs.Prelude.{◌≡◌, ℕ, List, [], ◌∷◌, map, Option, Some, None, is_some, ◌++◌, if◌then◌else◌}
+use Rattle.std.specs.Prelude.{◌≡◌, ◌≤◌, ℕ, List, [], ◌∷◌, Option, Some, None, is_some, ◌++◌, if◌then◌else◌}
 use Rattle.std.specs.Str.{bytes_eq}
-use Rattle.def_source.specs.Source.{Name}
+use Rattle.def_source.specs.Source.{Name, Statements, is_text}
 use Rattle.def_object.specs.declared.Label.{Label}
 use Rattle.def_object.specs.declared.Place.{Place}
-use Rattle.def_object.specs.Object.{offset}
+use Rattle.def_object.specs.Object.{offset, limit, fault_in, label_in, text_of, initial_of}
+use Rattle.def_source.specs.declared.AsmFault.{AsmFault}
+use Rattle.def_source.specs.declared.AsmFault.TheVariants.{At, NoMemory}
 use Rattle.def_source.specs.declared.parts.Part.{Part}
 use Rattle.def_source.specs.declared.parts.Part.TheVariants as part
 
@@ -16,3 +18,34 @@ label_named name (row ∷ rows) = if bytes_eq name row.0 then Some row.1 else la
 abbrev pub noted : List (Name × Label) → Place → ℕ → Part Name → List (Name × Label)
 noted rows p k (part.Label name) = if is_some (label_named name rows) then rows else rows ++ (name, record { section = p.section; offset = offset p; index = k }) ∷ []
 noted rows p k _ = rows
+
+-- an object: its bytes, and the labels that it keeps
+pub record Assembled : Type 0 where
+  pub text : List ℕ
+  pub init : List ℕ
+  pub labels : List (Name × Label)
+
+-- the offset of a label of the text
+abbrev pub text_offset : Option Label → Option ℕ
+text_offset None = None
+text_offset (Some l) = if is_text l.section then Some l.offset else None
+
+abbrev pub WithinLimit : Option Label → Type 0
+WithinLimit None = Unit {0}
+WithinLimit (Some l) = l.offset ≤ limit
+
+-- no label of a section stands past the section's limit
+abbrev pub AreWithin : List (Name × Label) → Type 0
+AreWithin rows = (name : Name) → WithinLimit (label_named name rows)
+
+-- what an object is to its statements: they have no fault, its bytes are theirs, and each label is the first of its name
+pub record Stands (all : Statements) (slots : List Name) (o : Assembled) : Type 0 where
+  pub faultless : fault_in all ≡ None
+  pub text : o.text ≡ text_of all slots
+  pub init : o.init ≡ initial_of all slots
+  pub labels : (name : Name) → label_named name o.labels ≡ label_in all name
+
+-- a fault that was answered is the least one
+abbrev pub Refuses : AsmFault → Statements → Type 0
+Refuses NoMemory all = Unit {0}
+Refuses (At number line) all = fault_in all ≡ Some (record { number = number; line = line })

@@ -6,11 +6,10 @@ ghost use Rattle.def_object.specs.Object as object;
 ghost use Rattle.ct_source.specs.Views.{part_view, target_view, statements_view};
 ghost use Rattle.ct_asm.specs.Labels.{label_named};
 
-use def_object::{Fault, Label, Place};
-use def_source::parts::{Part, Section, Statement, Target};
-
 use crate::labels::Labels;
 use crate::places::{advanced, is_data, is_text, offset, size_at};
+use def_object::{Fault, Label, Place};
+use def_source::parts::{Part, Section, Statement, Target};
 
 /// Whether a label lies within a reach: even, backwards by at most so many bytes and forwards by
 /// two less.
@@ -18,7 +17,11 @@ fn is_near(reach: u128, at: u128, to: u128) -> bool
     requires { 2 ≤ reach }
     ensures { result ≡ object.is_near reach at to }
 {
-    let near = if to < at { at - to <= reach } else { to - at <= reach - 2 };
+    let near = if to < at {
+        at - to <= reach
+    } else {
+        to - at <= reach - 2
+    };
     near && at % 2 == to % 2
 }
 
@@ -33,7 +36,11 @@ fn reach_fault(reach: u128, at: u128, label: Option<Label>) -> Option<u32>
             if is_data(l.section) {
                 return Some(6);
             }
-            if is_near(reach, at, l.offset) { None } else { Some(4) }
+            if is_near(reach, at, l.offset) {
+                None
+            } else {
+                Some(4)
+            }
         }
     }
 }
@@ -122,7 +129,11 @@ fn size_fault(at: u128, part: Part<&[u8]>) -> Option<u32>
     requires at { at < 2 ^ 101 }
     ensures { result ≡ object.size_fault at (part_view part.entry) }
 {
-    if at + size_at(part, at) > 1048576 { Some(8) } else { None }
+    if at + size_at(part, at) > 1048576 {
+        Some(8)
+    } else {
+        None
+    }
 }
 
 /// The least number of what a statement breaks.

@@ -18,7 +18,9 @@ impl Model for Labels {
     ghost use Rattle.std.specs.Prelude.{List, map, ℕ};
     ghost use Rattle.def_source.specs.Source.{Name};
     ghost use Rattle.def_object.specs.declared.Label.{Label};
+
     ghost Value = { List (Name × Label) };
+
     ghost view = { λ l. map (λ e. (e.0.items, e.1)) l.table.entries };
 }
 

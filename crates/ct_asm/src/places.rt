@@ -13,7 +13,11 @@ pub(crate) fn number_word(number: Number) -> u32
     ensures { result ≡ object.number_word number }
 {
     let low = (number.magnitude % (1 << 32)) as u32;
-    if number.negative { low.wrapping_neg() } else { low }
+    if number.negative {
+        low.wrapping_neg()
+    } else {
+        low
+    }
 }
 
 /// Whether a word stands for -2048 to 2047.
@@ -54,7 +58,11 @@ pub(crate) fn is_data(section: Section) -> bool
 pub(crate) fn offset(place: Place) -> u128
     ensures { result ≡ object.offset place }
 {
-    if is_text(place.section) { place.text } else { place.initial }
+    if is_text(place.section) {
+        place.text
+    } else {
+        place.initial
+    }
 }
 
 /// The bytes of a load of a number: one or two words.

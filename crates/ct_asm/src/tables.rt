@@ -6,12 +6,12 @@ ghost use Rattle.def_object.specs.Object as object;
 ghost use Rattle.ct_source.specs.Views.{part_view, statements_view};
 ghost use Rattle.ct_asm.specs.Labels.{label_named, noted};
 
+use crate::labels::Labels;
+use crate::names::Names;
+use crate::places::{advanced, offset};
 use def_object::{Label, Place};
 use def_source::parts::{Part, Section, Statement};
 use std::alloc::{AllocError, Global};
-
-use crate::labels::Labels;
-use crate::places::{advanced, offset};
 
 /// Adds the label that a statement is, unless its name is there.
 fn note(
@@ -56,4 +56,14 @@ pub(crate) fn labels_of(
         place = advanced(place, s.part);
     }
     Ok(labels)
+}
+
+/// Whether a statement names an import that has no slot.
+pub(crate) fn is_undeclared(slots: &Names, part: Part<&[u8]>) -> bool
+    ensures { result ≡ object.is_undeclared slots.now (part_view part.entry) }
+{
+    if let Part::Import { name, .. } = part {
+        return slots.slot(name).is_none();
+    }
+    false
 }

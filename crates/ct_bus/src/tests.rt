@@ -42,6 +42,7 @@ fn three_devices(rt: HostRuntime) -> Result<(), Fail> {
     assert_eq!(rt; bus.read(0x2000_0001, 1, 0), 0x56);
     bus.write(0x2000_0000, 1, 0xFF);
     assert_eq!(rt; bus.read(0x2000_0000, 4, 0), 0xFF);
+    assert!(rt; bus.count() == 3);
     bus.input(2, 7);
     assert_eq!(rt; bus.read(0x2000_0004, 4, 0), 7);
     Ok(())

@@ -2,6 +2,8 @@
 //! high word is 0x76000020, and through one of a serial port. Words are put together by hand from
 //! the fields of docs/capabilities.md.
 
+ghost use Rattle.std.specs.Prelude.{◌≡◌};
+
 use crate::{Map, filter, loadstore};
 use ct_bus::Bus;
 use ct_cap::{Cap, Live, Shadow, Trap, expand};

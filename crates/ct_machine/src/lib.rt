@@ -1,4 +1,15 @@
 //! The machine of one thread.
 #![tactic(auto)]
 
+mod active;
+mod deciding;
+mod machine;
 mod operands;
+mod presence;
+mod ran;
+mod sweeping;
+mod tally;
+mod works;
+
+pub use def_step::Event;
+pub use machine::Machine;

@@ -1,6 +1,9 @@
 //! The registers of an instruction, and what kind of work it is.
 
-ghost use Rattle.std.specs.Prelude.{◌≡◌, ◌<◌};
+ghost use Rattle.std.specs.Prelude.{◌≡◌, ◌<◌, true, false};
+ghost use Rattle.def_instr.specs.Results.{is_integer};
+ghost use Rattle.def_capstep.specs.Results.{is_capability, is_system};
+ghost use Rattle.def_step.specs.declared.Class.TheVariants as kinds;
 ghost use Rattle.def_instr.specs.Table.{InRange};
 ghost use Rattle.def_step.specs.Operands.{operands, operands_of, class_of};
 
@@ -112,14 +115,20 @@ pub(crate) fn operands_of(instruction: Instr) -> Operands
 
 /// What kind of work an instruction is. Of the register jumps only the return is carried out.
 pub(crate) fn class_of(instruction: Instr) -> Class
-    ensures { result ≡ class_of instruction }
+    ensures is { result ≡ class_of instruction }
+    ensures integer { result ≡ kinds.Integer → is_integer instruction ≡ true }
+    ensures capability { result ≡ kinds.Capability → (is_capability instruction ≡ true) × (is_system instruction ≡ false) }
 {
     match instruction {
         Instr::Lui { .. } => Class::Integer,
         Instr::AuiPcc { .. } => Class::Capability,
         Instr::AuiCgp { .. } => Class::Capability,
         Instr::Jal { .. } => Class::Jump,
-        Instr::CJalr { rd, rs1, immediate } => if rd == 0 && rs1 == 1 && immediate == 0 { Class::Jump } else { Class::Absent },
+        Instr::CJalr { rd, rs1, immediate } => if rd == 0 && rs1 == 1 && immediate == 0 {
+            Class::Jump
+        } else {
+            Class::Absent
+        },
         Instr::Beq { .. } => Class::Jump,
         Instr::Bne { .. } => Class::Jump,
         Instr::Blt { .. } => Class::Jump,

@@ -1,6 +1,6 @@
 -- What the laws take of each kind of change: one thread changes and its frames stay; one thread changes whole
 -- and its stack is zeroed; capabilities stay or lose their tag while objects change.
-use Rattle.std.specs.Prelude.{ℕ, ◌≡◌, ◌+◌, ◌%◌, ◌≤◌, ◌⊎◌, true, false, List, [], ◌∷◌, length, Option, Some}
+use Rattle.std.specs.Prelude.{ℕ, ◌≡◌, ◌+◌, ◌%◌, ◌≤◌, ◌<◌, ◌⊎◌, true, false, List, [], ◌∷◌, length, Option, Some}
 use Rattle.def_words.specs.declared.Cap.{Cap}
 use Rattle.def_words.specs.Seals.{cap_seal}
 use Rattle.ct_entry.specs.declared.rows.Owner.TheVariants.{Compartment}
@@ -93,6 +93,7 @@ pub record StateFades (i : Image) (s new : State) : Type 0 where
   pub threads : (t : ℕ) → ThreadFades i s.objects new.objects (thread s t) (thread new t)
   pub live : (t : ℕ) → new.running ≡ Some t → (n : ℕ) → HasLive i new.objects (register (thread new t) n)
   pub apart : AllApart new.objects
+  pub numbered : 0 < new.next
   pub fits : Each (ObjectFits i new.next) new.objects
   pub marks : (k : ℕ) → MarksFit i new.objects k (granule new k).mark
   pub limits : (q : ℕ) → charges q new.objects ≤ (root i q).limit

@@ -100,6 +100,7 @@ pub record Confined (i : Image) (s : State) : Type 0 where
   pub kept : AllKept i s
   pub live : (t : ℕ) → s.running ≡ Some t → (n : ℕ) → HasLive i s.objects (register (thread s t) n)
   pub apart : AllApart s.objects
+  pub numbered : 0 < s.next
   pub fits : Each (ObjectFits i s.next) s.objects
   pub marks : (k : ℕ) → MarksFit i s.objects k (granule s k).mark
   pub limits : (q : ℕ) → charges q s.objects ≤ (root i q).limit

@@ -1,7 +1,7 @@
 -- Which object statements stand for: *Source and object*, its second half (docs/assembler.md).
 -- A label's value is the sum of the lengths of the statements before it in its section, and the
 -- object is the statements' bytes in order, with each reference replaced by its value.
-use Rattle.std.specs.Prelude.{◌≡◌, ℕ, ◌+◌, ◌*◌, ◌-◌, ◌/◌, ◌%◌, ◌^◌, Bool, true, false, ◌==◌, ◌&&◌, not, nat_lt, nat_le, if◌then◌else◌, List, [], ◌∷◌, ◌++◌, length, option_map, Option, Some, None, is_none, replicate}
+use Rattle.std.specs.Prelude.{ℕ, ◌+◌, ◌*◌, ◌-◌, ◌/◌, ◌%◌, ◌^◌, Bool, false, ◌==◌, ◌&&◌, nat_lt, nat_le, if◌then◌else◌, List, [], ◌∷◌, ◌++◌, length, option_map, Option, Some, None, is_none, replicate}
 use Rattle.std.specs.List.{flat_map}
 use Rattle.std.specs.Int.{w32, to_le_bytes}
 use Rattle.std.specs.Str.{bytes_eq}
@@ -17,7 +17,6 @@ use Rattle.def_source.specs.declared.parts.Target.{Target}
 use Rattle.def_source.specs.declared.parts.Target.TheVariants as target
 use Rattle.def_source.specs.declared.parts.Part.{Part}
 use Rattle.def_source.specs.declared.parts.Part.TheVariants as part
-use Rattle.def_source.specs.declared.parts.Statement.{Statement}
 use Rattle.def_source.specs.declared.operations.RegisterOperation.{RegisterOperation}
 use Rattle.def_source.specs.declared.operations.RegisterOperation.TheVariants as register
 use Rattle.def_source.specs.declared.operations.ImmediateOperation.{ImmediateOperation}
@@ -314,9 +313,9 @@ slot_number (Some k) = k
 -- slots of eight bytes stand before the text
 abbrev pub import_instructions : List Name → ℕ → ℕ → Name → List Instr
 import_instructions slots at rd name =
-  let from = 8 * length slots + at in
-  let to = 8 * slot_number (slot_of slots name) in
-  instr.AuiPcc rd (high_piece from to) ∷ instr.Clc rd rd (low_piece from to) ∷ []
+    let from = 8 * length slots + at in
+    let to = 8 * slot_number (slot_of slots name) in
+    instr.AuiPcc rd (high_piece from to) ∷ instr.Clc rd rd (low_piece from to) ∷ []
 
 abbrev pub text_instructions : ℕ → ℕ → ℕ → List Instr
 text_instructions at rd to = instr.AuiPcc rd (high_piece at to) ∷ instr.CIncAddrImm rd rd (low_piece at to) ∷ []
@@ -366,17 +365,21 @@ bytes_at labels slots at (part.Zero number) = replicate number.magnitude 0
 bytes_at labels slots at (part.Align number) = replicate (padding number.magnitude at) 0
 bytes_at labels slots at q = instruction_bytes (instructions_at labels slots at q)
 
--- the bytes of one section, of statements from a place on
-abbrev pub text_from : Labels → List Name → Place → Statements → List ℕ
-text_from labels slots p [] = []
-text_from labels slots p (s ∷ ss) = (if is_text p.section then bytes_at labels slots (offset p) s.part else []) ++ text_from labels slots (advanced p s.part) ss
+abbrev pub same_section : Section → Section → Bool
+same_section section.Text s = is_text s
+same_section section.Data s = is_data s
 
-abbrev pub data_from : Labels → List Name → Place → Statements → List ℕ
-data_from labels slots p [] = []
-data_from labels slots p (s ∷ ss) = (if is_text p.section then [] else bytes_at labels slots (offset p) s.part) ++ data_from labels slots (advanced p s.part) ss
+-- the bytes of a statement, if it stands in the wanted section
+abbrev pub section_bytes : Section → Labels → List Name → Place → Part Name → List ℕ
+section_bytes wanted labels slots p q = if same_section p.section wanted then bytes_at labels slots (offset p) q else []
+
+-- the bytes of a section, of statements from a place on
+abbrev pub bytes_from : Section → Labels → List Name → Place → Statements → List ℕ
+bytes_from wanted labels slots p [] = []
+bytes_from wanted labels slots p (s ∷ ss) = section_bytes wanted labels slots p s.part ++ bytes_from wanted labels slots (advanced p s.part) ss
 
 unfoldable pub text_of : Statements → List Name → List ℕ
-text_of all slots = text_from (label_in all) slots start all
+text_of all slots = bytes_from section.Text (label_in all) slots start all
 
-unfoldable pub data_of : Statements → List Name → List ℕ
-data_of all slots = data_from (label_in all) slots start all
+unfoldable pub initial_of : Statements → List Name → List ℕ
+initial_of all slots = bytes_from section.Data (label_in all) slots start all

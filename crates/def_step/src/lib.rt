@@ -66,9 +66,7 @@ pub struct Access {
 pub enum Next {
     /// The native routine that returns.
     Returning,
-    Instruction {
-        instruction: Instr,
-    },
+    Instruction { instruction: Instr },
     /// Nothing that is carried out: no instruction, or another native routine.
     Nothing,
 }

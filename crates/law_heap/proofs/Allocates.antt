@@ -77,6 +77,7 @@ add_object_confined i s r p h n =
       };
       live = λ t runs m tagged heap some. inr (h.live t runs m tagged heap some);
       apart = (n.apart, h.apart);
+      numbered = omega (arith, h.numbered);
       fits = (n.fits, each_map (ObjectFits i s.next) (ObjectFits i (s.next + 1)) s.objects (λ q f. record { number = omega (arith, f.number); low = f.low; high = f.high; whole = f.whole; charge = f.charge }) h.fits);
       marks = λ k. record {
         why = λ mark. inr ((h.marks k).why mark);

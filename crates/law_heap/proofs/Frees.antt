@@ -159,6 +159,7 @@ freed_fades i s t r w =
           (λ same none tagged. absurd (let clash : false ≡ true = tagged in cc))
           (λ other. absurd (other (let both : Some t ≡ Some u = sym w.frees.running ∙ runs in cc)));
       apart = quarantine_apart r.number s.objects w.held.apart;
+      numbered = w.held.numbered;
       fits = fits_after;
       marks = λ k. marks_fit i s t r k w;
       limits = λ n. omega (arith, quarantine_charges n r.number s.objects, w.held.limits n);

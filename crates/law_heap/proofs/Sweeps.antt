@@ -168,6 +168,7 @@ sweep_fades i s p h = record {
       subst P (sym e) (subst Q (sym here) (live_stays i s (register (thread s u) n))))
       (h.live u runs n);
   apart = live_apart s.objects h.apart;
+  numbered = h.numbered;
   fits = live_each (ObjectFits i s.next) s.objects h.fits;
   marks = λ k. record {
     why = λ mark. absurd (let clash : false ≡ true = sym (unmarked k) ∙ mark in cc);

@@ -181,6 +181,7 @@ faded_confined i s new h f = record {
   };
   live = f.live;
   apart = f.apart;
+  numbered = f.numbered;
   fits = f.fits;
   marks = f.marks;
   limits = f.limits;

@@ -43,6 +43,7 @@ put_confined i s k c h there kept =
       };
       live = h.live;
       apart = h.apart;
+      numbered = h.numbered;
       fits = h.fits;
       marks = λ j. after_set_at (λ n g. MarksFit i s.objects n g.mark) s.granules k j new nothing (h.marks k) (h.marks j);
       limits = h.limits;

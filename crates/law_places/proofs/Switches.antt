@@ -64,6 +64,7 @@ switched_confined i s t high new run p h w =
           (λ e none tagged. absurd (let clash : true ≡ false = sym tagged in cc))
           (λ other. h.live u (w.stays u is) n);
       apart = h.apart;
+      numbered = h.numbered;
       fits = h.fits;
       marks = λ k. zeroed_at (stack_base i t) high i.ram s.granules k (λ g. MarksFit i s.objects k g.mark) (λ a b. h.marks k) (λ o. h.marks k);
       limits = h.limits;

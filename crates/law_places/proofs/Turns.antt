@@ -52,6 +52,7 @@ changed_confined i s t new run w h c = record {
       (λ e none tagged. absurd (let clash : true ≡ false = sym tagged in cc))
       (λ other. h.live u (c.others u other is) n);
   apart = h.apart;
+  numbered = h.numbered;
   fits = h.fits;
   marks = h.marks;
   limits = h.limits;

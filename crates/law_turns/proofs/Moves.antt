@@ -60,6 +60,7 @@ clock_confined i s w h = record {
   kept = record { granules = h.kept.granules; registers = h.kept.registers; frames = h.kept.frames };
   live = h.live;
   apart = h.apart;
+  numbered = h.numbered;
   fits = h.fits;
   marks = h.marks;
   limits = h.limits;

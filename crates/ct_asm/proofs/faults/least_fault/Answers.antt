@@ -1,5 +1,4 @@
-use Rattle.std.proofs.Common.{◌≡◌, ◌∷◌, ◌+◌, drop, get_or, arith}
-use Rattle.ct_source.specs.Views.{statement_view, statements_view}
+use Rattle.std.proofs.Common.{arith}
 use Rattle.ct_asm.specs.Labels.{label_named}
 use Rattle.ct_asm.proofs.Walks.{from_here, first_lawful, rest_lawful, fault_step}
 use Rattle.ct_asm.proofs.faults.least_fault.Goals as goal

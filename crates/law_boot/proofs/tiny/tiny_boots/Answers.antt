@@ -1,4 +1,5 @@
-use Rattle.std.proofs.Common.{refl, search, [], ◌∷◌}
+use Rattle.std.proofs.Common.{refl, [], ◌∷◌, inl, inr}
+use Rattle.std.proofs.lemmas.Bool.{leb-true, ltb-true}
 use Rattle.def_step.specs.Firmware.{Share, StackRange}
 use Rattle.law_boot.specs.Tiny.{tiny_text}
 use Rattle.def_words.specs.Derive.{derive, executable_root, memory_root}
@@ -85,22 +86,32 @@ tiny_stack = record { base = 2147483744; size = 256 }
 pub returns-clause-lawful : goal.returns-clause-lawful
 unfolding tiny_share tiny_stack
 returns-clause-lawful c = record {
-  ram = search;
-  ram_not_native = search;
+  ram = (refl, refl, leb-true _ _ refl, leb-true _ _ refl, leb-true _ _ refl);
+  ram_not_native = inr (leb-true _ _ refl);
   shares = tiny_share ∷ [];
   stacks = tiny_stack ∷ [];
   rows = refl;
   gates = refl;
   tables = refl;
   texts = refl;
-  few = search;
-  each_share = (record { words = search; bytes = search; globals = search; imports = search; exports = search; fits = search }, search);
+  few = (leb-true _ _ refl, leb-true _ _ refl, leb-true _ _ refl);
+  each_share = (
+    record {
+      words = (refl, leb-true _ _ refl);
+      bytes = (ltb-true _ _ refl, (ltb-true _ _ refl, (ltb-true _ _ refl, (ltb-true _ _ refl, (ltb-true _ _ refl, (ltb-true _ _ refl, (ltb-true _ _ refl, (ltb-true _ _ refl, (ltb-true _ _ refl, (ltb-true _ _ refl, (ltb-true _ _ refl, (ltb-true _ _ refl, (ltb-true _ _ refl, (ltb-true _ _ refl, (ltb-true _ _ refl, (ltb-true _ _ refl, (ltb-true _ _ refl, (ltb-true _ _ refl, (ltb-true _ _ refl, (ltb-true _ _ refl, tt))))))))))))))))))));
+      globals = (refl, leb-true _ _ refl, leb-true _ _ refl);
+      imports = ((record { device = inl (refl, refl); rights = inr (inl refl) }, tt), leb-true _ _ refl);
+      exports = (((refl, ltb-true _ _ refl), tt), leb-true _ _ refl);
+      fits = (ltb-true _ _ refl, leb-true _ _ refl);
+    },
+    tt,
+  );
   one_stack_each = refl;
-  each_stack = search;
-  each_thread = search;
-  placed = search;
-  none_meet = search;
-  heap = search;
-  devices = search;
-  devices_apart = search;
+  each_stack = (record { even = refl; least = leb-true _ _ refl; most = leb-true _ _ refl }, tt);
+  each_thread = (record { export = inl refl; priority = leb-true _ _ refl; frames = (leb-true _ _ refl, leb-true _ _ refl) }, tt);
+  placed = (record { even = refl; low = leb-true _ _ refl; high = leb-true _ _ refl }, (record { even = refl; low = leb-true _ _ refl; high = leb-true _ _ refl }, (record { even = refl; low = leb-true _ _ refl; high = leb-true _ _ refl }, (record { even = refl; low = leb-true _ _ refl; high = leb-true _ _ refl }, (record { even = refl; low = leb-true _ _ refl; high = leb-true _ _ refl }, tt)))));
+  none_meet = ((inl (leb-true _ _ refl), (inl (leb-true _ _ refl), (inl (leb-true _ _ refl), (inl (leb-true _ _ refl), tt)))), ((inl (leb-true _ _ refl), (inl (leb-true _ _ refl), (inl (leb-true _ _ refl), tt))), ((inl (leb-true _ _ refl), (inl (leb-true _ _ refl), tt)), ((inl (leb-true _ _ refl), tt), (tt, tt)))));
+  heap = (refl, leb-true _ _ refl);
+  devices = (record { even = refl; small = ltb-true _ _ refl; away = inl (leb-true _ _ refl); not_native = inr (leb-true _ _ refl) }, tt);
+  devices_apart = (tt, tt);
 }

@@ -1,4 +1,4 @@
-use Rattle.std.proofs.Common.{◌≡◌, ◌∙◌, ◌++◌, ◌∷◌, [], None, sym, ap}
+use Rattle.std.proofs.Common.{◌≡◌, ◌∙◌, ◌++◌, ◌∷◌, [], None, ap}
 use Rattle.ct_asm.specs.Labels.{label_named}
 use Rattle.ct_asm.proofs.LabelTables.{rows, inserted}
 use Rattle.ct_asm.proofs.labels.Labels.add.Goals as goal

@@ -1,4 +1,4 @@
-use Rattle.std.proofs.Common.{◌∙◌, sym, ap}
+use Rattle.std.proofs.Common.{◌∙◌, ap}
 use Rattle.ct_asm.specs.Labels.{label_named}
 use Rattle.ct_asm.proofs.LabelTables.{looked_up}
 use Rattle.ct_asm.proofs.labels.Labels.get.Goals as goal

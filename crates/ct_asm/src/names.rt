@@ -1,0 +1,75 @@
+//! The names of a compartment's slots, or of a library's, in slot order.
+
+ghost use Rattle.std.specs.Prelude.{◌≡◌, ◌++◌, ◌∷◌, ◌<◌, ◌^◌, [], length, IfOk, OnErr, option_map, is_none, if◌then◌else◌, map, string_bytes};
+ghost use Rattle.def_object.specs.Object as object;
+
+use indexmap::IndexSet;
+use std::alloc::{AllocError, Global};
+use std::marker::Model;
+
+/// Names in slot order, each once.
+#[derive(Debug, Drop)]
+pub struct Names {
+    set: IndexSet<String>,
+}
+
+impl Model for Names {
+    ghost use Rattle.std.specs.Prelude.{List, map, ℕ, string_bytes};
+
+    ghost Value = { List (List ℕ) };
+
+    ghost view = { λ n. map string_bytes n.set.keys };
+}
+
+impl Names {
+    /// No names.
+    pub fn new(alloc: Global) -> Names
+        ensures { result ≡ [] }
+    {
+        Names {
+            set: IndexSet::new(alloc),
+        }
+    }
+
+    /// How many names there are.
+    pub fn len(&self) -> usize
+        ensures value { result ≡ length self.now }
+        ensures small { result < 2 ^ 63 }
+    {
+        self.set.len()
+    }
+
+    /// The slot of a name.
+    pub fn slot(&self, name: &[u8]) -> Option<usize>
+        ensures { result ≡ object.slot_of self.now name.now }
+    {
+        slot_among(self.set.as_slice(), name)
+    }
+
+    /// Gives a name the next slot, unless it has one. An `Err` changes nothing.
+    pub fn add(&mut self, alloc: Global, name: &str) -> Result<bool, AllocError>
+        ensures fresh { IfOk result (λ fresh. fresh ≡ is_none (object.slot_of self.old name.now)) }
+        ensures added { IfOk result (λ fresh. self.new ≡ (if fresh then self.old ++ name.now ∷ [] else self.old)) }
+        ensures err { OnErr result (self.new ≡ self.old) }
+    {
+        if self.slot(name.as_bytes()).is_some() {
+            return Ok(false);
+        }
+        let text = String::from_str(alloc, name)?;
+        self.set.insert(text)?;
+        Ok(true)
+    }
+}
+
+/// The index of a name among texts.
+#[tactic(auto, unfolding(def_object::specs::Object::slot_of))]
+fn slot_among(names: &[String], name: &[u8]) -> Option<usize>
+    ensures { result ≡ object.slot_of (map string_bytes names.now) name.now }
+{
+    for (i, known) in names.iter().enumerate() {
+        if name == known.as_bytes() {
+            return Some(i);
+        }
+    }
+    None
+}

@@ -1,0 +1,80 @@
+//! The object of statements.
+
+ghost use Rattle.std.specs.Prelude.{◌≡◌, ◌<◌, ◌^◌, IfOk, IfErr};
+ghost use Rattle.def_source.specs.Source.{IsLawful};
+ghost use Rattle.ct_source.specs.Views.{statements_view};
+ghost use Rattle.ct_asm.specs.Labels.{label_named, text_offset, Stands, Refuses};
+
+use crate::bytes::section_bytes;
+use crate::faults::least_fault;
+use crate::labels::Labels;
+use crate::names::Names;
+use crate::places::is_text;
+use crate::tables::labels_of;
+use def_source::AsmFault;
+use def_source::parts::{Section, Statement};
+use std::alloc::Global;
+use std::marker::Model;
+
+/// The bytes of the text, the initial bytes of the globals, and the labels, which `find` reads.
+#[derive(Debug, Drop)]
+pub struct Object {
+    pub text: Vec<u8>,
+    pub init: Vec<u8>,
+    labels: Labels,
+}
+
+impl Model for Object {
+    ghost use Rattle.ct_asm.specs.Labels.{Assembled, AreWithin};
+
+    ghost Value = { Assembled };
+
+    ghost view = { λ o. record { text = o.text.items; init = o.init.items; labels = o.labels } };
+
+    ghost invariant = { λ o. AreWithin o.labels };
+}
+
+impl Object {
+    /// The offset of a label of the text; None exactly where the text has none of that name.
+    pub fn find(&self, label: &str) -> Option<u32>
+        ensures { result ≡ text_offset (label_named label.now self.now.labels) }
+    {
+        match self.labels.get(label.as_bytes()) {
+            Some(l) => {
+                if is_text(l.section) {
+                    return Some(l.offset as u32);
+                }
+                None
+            }
+            None => None,
+        }
+    }
+}
+
+/// The object of lawful statements, or their least fault.
+pub(crate) fn assembled(
+    alloc: Global,
+    statements: &[Statement<&[u8]>],
+    slots: &Names,
+) -> Result<Object, AsmFault>
+    requires { IsLawful (statements_view statements.now) }
+    ensures ok { IfOk result (λ o. Stands (statements_view statements.now) slots.now o) }
+    ensures err { IfErr result (λ e. Refuses e (statements_view statements.now)) }
+{
+    let Ok(labels) = labels_of(alloc, statements) else {
+        return Err(AsmFault::NoMemory);
+    };
+    if let Some(fault) = least_fault(&labels, statements) {
+        return Err(AsmFault::At {
+            number: fault.number,
+            line: fault.line,
+        });
+    }
+    let Ok(text) = section_bytes(alloc, Section::Text, &labels, slots, statements) else {
+        return Err(AsmFault::NoMemory);
+    };
+    let Ok(init) = section_bytes(alloc, Section::Data, &labels, slots, statements) else {
+        return Err(AsmFault::NoMemory);
+    };
+    Ok(Object { text, init, labels })
+}

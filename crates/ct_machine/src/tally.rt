@@ -1,0 +1,57 @@
+//! Counts of events and deeds.
+
+ghost use Rattle.std.specs.Prelude.{◌≡◌, ◌<◌};
+ghost use Rattle.def_step.specs.Events.{with_deed, with_act};
+ghost use Rattle.ct_machine.specs.Parts.{deeds_of};
+
+use ct_entry::{Act, Deed};
+use std::marker::Model;
+
+/// Events of each kind and deeds of each kind so far, but allocations.
+#[derive(Drop)]
+pub(crate) struct Tally {
+    pub(crate) steps: u32,
+    pub(crate) ticks: u32,
+    pub(crate) inputs: u32,
+    pub(crate) calls: u32,
+    pub(crate) loads: u32,
+    pub(crate) stores: u32,
+    pub(crate) frees: u32,
+    pub(crate) traps: u32,
+}
+
+impl Model for Tally {
+    ghost use Rattle.def_machine.specs.State.{Counts};
+
+    ghost Value = { Counts };
+
+    ghost view = { λ t. record { steps = t.steps; ticks = t.ticks; inputs = t.inputs; calls = t.calls; loads = t.loads; stores = t.stores; frees = t.frees; traps = t.traps } };
+}
+
+impl Tally {
+    /// A deed counts, where there was one.
+    pub(crate) fn note(&mut self, deed: Option<Deed>)
+        requires { deeds_of self.old < 4294967295 }
+        ensures { self.new ≡ with_deed self.old deed }
+    {
+        match deed {
+            Some(done) => self.note_act(done.act),
+            None => {}
+        }
+    }
+
+    /// What was done counts.
+    fn note_act(&mut self, act: Act)
+        requires { deeds_of self.old < 4294967295 }
+        ensures { self.new ≡ with_act self.old act }
+    {
+        match act {
+            Act::Call { .. } => self.calls += 1,
+            Act::Load { .. } => self.loads += 1,
+            Act::Store { .. } => self.stores += 1,
+            Act::Allocate { .. } => {}
+            Act::Free { .. } => self.frees += 1,
+            Act::Trap { .. } => self.traps += 1,
+        }
+    }
+}

@@ -1,0 +1,6 @@
+pub mod Cases
+pub mod Mades
+pub mod Rooting
+pub mod Whole
+pub mod Booting
+pub mod Gates

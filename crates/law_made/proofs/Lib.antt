@@ -1,0 +1,4 @@
+pub mod Results
+pub mod Makes
+pub mod Entering
+pub mod Found

@@ -1,0 +1,70 @@
+-- Two compartments that import nothing from each other. The second's export passes capabilities; a thread is in
+-- it, called from the first by nobody's leave, and holds the second's globals in c10.
+use Rattle.std.specs.Prelude.{[], ◌∷◌, Some, true, false, replicate}
+use Rattle.def_words.specs.declared.Cap.{Cap}
+use Rattle.def_words.specs.Derive.{memory_root, executable_root}
+use Rattle.def_memory.specs.Granules.{plain, nothing}
+use Rattle.ct_entry.specs.declared.rows.Owner.TheVariants.{Compartment, Thread}
+use Rattle.ct_entry.specs.declared.rows.Kind.TheVariants as kinds
+use Rattle.ct_entry.specs.Listed.{Listed}
+use Rattle.def_machine.specs.Image.{Image, Fixed, Globals, Stack}
+use Rattle.def_machine.specs.State.{State, Frame, Ready, interrupts_on}
+use Rattle.def_machine.specs.State as state
+use Rattle.law_example.specs.Small.{row, gate, made}
+
+abbrev pub apart_entries : Listed
+apart_entries = record {
+  rows = row (Compartment 0) kinds.Code 2147483648 16 363 0 0 ∷ row (Compartment 0) kinds.Globals 2147483664 16 111 0 0 ∷ row (Compartment 1) kinds.Code 2147483680 16 363 0 0 ∷ row (Compartment 1) kinds.Globals 2147483696 16 111 0 0
+      ∷ row (Compartment 1) kinds.Export 2147483680 16 33 0 0 ∷ row (Thread 0) kinds.Stack 2147483712 64 126 0 0 ∷ [];
+  gates = record (gate 5 2147483680) { capabilities = true } ∷ [];
+}
+
+abbrev pub sentry : Cap
+sentry = made 0 executable_root 65552 8 353 65552 5
+
+abbrev pub inner_globals : Cap
+inner_globals = made 4 memory_root 2147483696 16 111 2147483696 0
+
+abbrev pub two : Image
+two = record {
+  entries = apart_entries;
+  made = sentry ∷ plain 0 ∷ plain 0 ∷ plain 0 ∷ inner_globals ∷ plain 0 ∷ plain 0 ∷ [];
+  ram = 2147483648;
+  regions = Fixed ∷ Fixed ∷ Globals 0 ∷ Globals 0 ∷ Fixed ∷ Fixed ∷ Globals 1 ∷ Globals 1 ∷ Stack 0 ∷ Stack 0 ∷ Stack 0 ∷ Stack 0 ∷ Stack 0 ∷ Stack 0 ∷ Stack 0 ∷ Stack 0 ∷ [];
+  boot = [];
+  codes = 1 ∷ 3 ∷ [];
+  globals = 2 ∷ 4 ∷ [];
+  stacks = 6 ∷ [];
+  frames = 4 ∷ [];
+  heap_base = 2147483776;
+  heap_end = 2147483776;
+}
+
+abbrev pub inner : Frame
+inner = record { actor = 1; export = 5; top = 2147483744; c1 = sentry; c2 = plain 0; c3 = plain 0; c8 = plain 0; c9 = plain 0 }
+
+abbrev pub outermost : Frame
+outermost = record { actor = 0; export = 0; top = 2147483776; c1 = plain 0; c2 = plain 0; c3 = plain 0; c8 = plain 0; c9 = plain 0 }
+
+abbrev pub runner : state.Thread
+runner = record {
+  pcc = plain 0;
+  registers = plain 0 ∷ plain 0 ∷ plain 0 ∷ plain 0 ∷ plain 0 ∷ plain 0 ∷ plain 0 ∷ plain 0 ∷ plain 0 ∷ plain 0 ∷ inner_globals ∷ [];
+  frames = inner ∷ outermost ∷ [];
+  status = Ready;
+  posture = interrupts_on;
+}
+
+abbrev pub before : State
+before = record {
+  granules = replicate 16 nothing;
+  threads = runner ∷ [];
+  running = Some 0;
+  pending = false;
+  objects = [];
+  next = 1;
+  devices = [];
+  time = 0;
+  picks = 0 ∷ [];
+  counts = record { steps = 0; ticks = 0; inputs = 0; calls = 0; loads = 0; stores = 0; frees = 0; traps = 0 };
+}

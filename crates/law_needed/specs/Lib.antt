@@ -1,0 +1,2 @@
+pub mod Loosely
+pub mod Apart
