@@ -2,7 +2,8 @@
 
 use crate::{entries, text};
 use ct_desc::read;
-use ct_entry::{Kind, Mode, Owner};
+use ct_entry::{Entries, Kind, Mode, Owner};
+use std::alloc::Global;
 
 const TINY: &str =
     r#"{"firmware":"tiny","ram":{"base":2147483648,"size":4096},"heapbase":2147484304,"trustedbase":2147484000,"devices":[{"name":"uart0","kind":"uart","base":268435456}],"compartments":[{"name":"app","code":{"words":["00000297","ff82b283","04100513","00a2a023","00008067"]},"codebase":2147483648,"tablebase":2147483696,"globalsbase":2147483728,"imports":[{"as":"uart","device":"uart0","rights":"W"}],"exports":[{"name":"main","at":0}]}],"threads":[{"name":"t","entry":"app.main","priority":1,"stack":256,"frames":2,"stackbase":2147483744}]}"#;
@@ -11,10 +12,23 @@ const REPORT: &str =
     r#"{"compartments":["app"],"devices":[{"base":268435456,"kind":"uart","name":"uart0"}],"edges":[],"entries":[{"base":2147483648,"kind":"code","length":48,"number":1,"owner":"app","rights":"GL LG LM LD MC EX"},{"base":2147483728,"kind":"globals","length":16,"number":2,"owner":"app","rights":"GL LG SD LM LD MC"},{"base":65536,"kind":"service","length":8,"name":"switch","number":3,"of":"switch","owner":"app","rights":"GL LD MC EX"},{"base":268435456,"kind":"device","length":16,"name":"uart","number":4,"of":"uart0","owner":"app","rights":"GL SD"},{"args":6,"base":2147483712,"kind":"export","length":16,"name":"main","number":5,"owner":"app","passes":"capabilities","posture":"enabled","rights":"GL LD","stack":0},{"base":2147483744,"kind":"stack","length":256,"number":6,"owner":"t","rights":"LG SD LM SL LD MC"}],"firmware":"tiny","heap":{"base":2147484304,"length":3440},"libraries":[],"quantum":100,"threads":[{"entry":5,"name":"t","priority":1}]}
 "#;
 
+fn entries_in(alloc: Global) -> Option<Entries> {
+    match read(alloc, TINY.as_bytes()) {
+        Ok(desc) => entries(alloc, &desc).ok(),
+        Err(_) => None,
+    }
+}
+
+fn line_in(alloc: Global) -> Option<String> {
+    match read(alloc, TINY.as_bytes()) {
+        Ok(desc) => text(alloc, &desc).ok(),
+        Err(_) => None,
+    }
+}
+
 #[test]
 fn entries_of_tiny(rt: HostRuntime) {
-    let desc = read(rt.alloc(), TINY.as_bytes()).expect(&rt, "tiny");
-    let all = entries(rt.alloc(), &desc).expect(&rt, "memory");
+    let all = entries_in(rt.alloc()).expect(&rt, "memory");
     assert_eq!(rt; all.rows.len(), 6);
     for (index, owner, kind, base, length, rights, of) in [
         (
@@ -83,7 +97,6 @@ fn entries_of_tiny(rt: HostRuntime) {
 
 #[test]
 fn tiny_audit(rt: HostRuntime) {
-    let desc = read(rt.alloc(), TINY.as_bytes()).expect(&rt, "tiny");
-    let line = text(rt.alloc(), &desc).expect(&rt, "memory");
+    let line = line_in(rt.alloc()).expect(&rt, "memory");
     assert_eq!(rt; line.as_str(), REPORT);
 }
