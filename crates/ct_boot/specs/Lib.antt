@@ -1,0 +1,2 @@
+pub mod Bootable
+pub mod Searches

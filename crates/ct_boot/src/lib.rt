@@ -1,0 +1,13 @@
+//! Boot: what stands in each granule of RAM, and how a thread starts, for a firmware in its small
+//! form.
+//!
+//! Exactly the capabilities of *Boot state* are tagged; each is derived from a root and carries its
+//! entry's number. docs/machine.md tells the same in prose.
+#![tactic(auto)]
+
+mod looking;
+mod making;
+mod places;
+mod wanted;
+mod words;
+
