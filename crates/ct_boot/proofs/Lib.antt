@@ -1,3 +1,5 @@
+pub mod Booted
+pub mod Lawful
 pub mod Made
 pub mod Rooted
 pub mod Texts

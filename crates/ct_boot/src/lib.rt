@@ -5,9 +5,14 @@
 //! entry's number. docs/machine.md tells the same in prose.
 #![tactic(auto)]
 
+mod granules;
 mod looking;
 mod making;
 mod places;
+mod starting;
 mod wanted;
 mod words;
+
+pub use granules::boot;
+pub use starting::{First, first_of};
 
