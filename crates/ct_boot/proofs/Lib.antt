@@ -3,3 +3,4 @@ pub mod Lawful
 pub mod Made
 pub mod Rooted
 pub mod Texts
+pub mod Tops

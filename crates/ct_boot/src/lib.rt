@@ -15,4 +15,3 @@ mod words;
 
 pub use granules::boot;
 pub use starting::{First, first_of};
-

@@ -76,7 +76,7 @@ pub(crate) fn slots(rows: &[Entry], of: u32) -> u64
 }
 
 /// What an entry's number names: whose it is, and its range.
-#[derive(Clone, Copy, Debug, PartialEq, Eq, Drop)]
+#[derive(Clone, Copy, Drop)]
 pub(crate) struct Named {
     pub(crate) owner: Owner,
     pub(crate) base: u32,

@@ -53,11 +53,51 @@ fn made_by(number: u32, row: Entry) -> Live
     ensures { result ≡ made_by number row row.kind }
 {
     match row.kind {
-        Kind::Code => derive(EXECUTABLE, row.base, row.length, row.rights, row.base, 0, from_entry(number)),
-        Kind::Globals => derive(MEMORY, row.base, row.length, row.rights, row.base, 0, from_entry(number)),
-        Kind::Device => derive(MEMORY, row.base, row.length, row.rights, row.base, 0, from_entry(number)),
-        Kind::Stack => derive(MEMORY, row.base, row.length, row.rights, row.base + row.length, 0, from_entry(number)),
-        Kind::Service => derive(EXECUTABLE, row.base, row.length, row.rights, row.base, 1, from_entry(number)),
+        Kind::Code => derive(
+            EXECUTABLE,
+            row.base,
+            row.length,
+            row.rights,
+            row.base,
+            0,
+            from_entry(number),
+        ),
+        Kind::Globals => derive(
+            MEMORY,
+            row.base,
+            row.length,
+            row.rights,
+            row.base,
+            0,
+            from_entry(number),
+        ),
+        Kind::Device => derive(
+            MEMORY,
+            row.base,
+            row.length,
+            row.rights,
+            row.base,
+            0,
+            from_entry(number),
+        ),
+        Kind::Stack => derive(
+            MEMORY,
+            row.base,
+            row.length,
+            row.rights,
+            row.base + row.length,
+            0,
+            from_entry(number),
+        ),
+        Kind::Service => derive(
+            EXECUTABLE,
+            row.base,
+            row.length,
+            row.rights,
+            row.base,
+            1,
+            from_entry(number),
+        ),
         _ => plain(0),
     }
 }

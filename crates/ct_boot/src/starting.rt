@@ -92,8 +92,22 @@ fn first_registers(firmware: &Firmware, thread: u32, export: u32) -> [Live; 16]
     let globals = made_for(&firmware.entries, globals);
     let none = plain(0);
     [
-        none, return_sentry(), stack, globals, none, none, none, none, none, none, none, none, none,
-        none, none, none,
+        none,
+        return_sentry(),
+        stack,
+        globals,
+        none,
+        none,
+        none,
+        none,
+        none,
+        none,
+        none,
+        none,
+        none,
+        none,
+        none,
+        none,
     ]
 }
 

@@ -7,24 +7,16 @@ ghost use Rattle.ct_boot.specs.Searches.{passes};
 use ct_entry::{Entry, Kind, Owner};
 
 /// A kind of entry, with whose or where it is.
-#[derive(Clone, Copy, Debug, PartialEq, Eq, Drop)]
+#[derive(Clone, Copy, Drop)]
 pub enum Wanted {
     /// A compartment's code.
-    Code {
-        of: u32,
-    },
+    Code { of: u32 },
     /// A compartment's globals.
-    Globals {
-        of: u32,
-    },
+    Globals { of: u32 },
     /// A thread's stack.
-    Stack {
-        of: u32,
-    },
+    Stack { of: u32 },
     /// The export whose row stands at an address.
-    Export {
-        at: u32,
-    },
+    Export { at: u32 },
 }
 
 /// Whether it is a compartment of this index.

@@ -52,7 +52,10 @@ pub(crate) fn export_second(gate: Gate) -> u64
     ensures { result ≡ export_second gate }
 {
     let passing = if gate.capabilities { 1 } else { 2 };
-    gate.args as u64 + posture_byte(gate.posture) * (1 << 8) + passing * (1 << 16) + gate.entry as u64 * (1 << 32)
+    gate.args as u64
+        + posture_byte(gate.posture) * (1 << 8)
+        + passing * (1 << 16)
+        + gate.entry as u64 * (1 << 32)
 }
 
 /// The index of a compartment, 0 for the trusted part.

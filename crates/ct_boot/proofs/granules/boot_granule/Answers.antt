@@ -9,7 +9,7 @@ returns-then-is_nothing g c = c.requires.so_far ∙ passed_next c.args.firmware.
 pub store_cap-requires : goal.store_cap-requires
 store_cap-requires g c =
     let whole : length (g.M.Memory.granules c.args.mem.now) ≡ c.args.firmware.now.size / 8 =
-        ap length c.requires.so_far ∙ booted_length c.args.firmware.now c.args.index (omega (arith, c.requires.inside)) in
+    ap length c.requires.so_far ∙ booted_length c.args.firmware.now c.args.index (omega (arith, c.requires.inside)) in
     record { aligned = omega arith; inside = rw whole (omega (arith, c.requires.inside)) }
 
 pub returns : goal.returns
