@@ -1,11 +1,11 @@
 -- RAM that is booted granule by granule.
-use Rattle.std.proofs.Common.{ℕ, zero, suc, ◌+◌, ◌-◌, ◌*◌, ◌/◌, ◌%◌, ◌≡◌, ◌<◌, ◌≤◌, ◌∙◌, false, List, [], ◌∷◌, ◌++◌, length, replicate, refl, ap, sym, arith, append-nil, length-append}
+use Rattle.std.proofs.Common.{ℕ, zero, suc, ◌+◌, ◌-◌, ◌*◌, ◌/◌, ◌≡◌, ◌<◌, ◌≤◌, ◌∙◌, false, List, ◌∷◌, ◌++◌, length, replicate, refl, ap, sym, arith, append-nil, length-append}
 use Rattle.std.proofs.Math.ListN.{get_or, set}
 use Rattle.ct_entry.specs.Listed.{FirmwareRow}
 use Rattle.def_words.specs.declared.Cap.{Cap}
 use Rattle.def_memory.specs.declared.Granule.{Granule}
 use Rattle.def_memory.specs.Granules.{plain, nothing}
-use Rattle.def_memory.specs.Accesses.{stored_cap, IsPlace}
+use Rattle.def_memory.specs.Accesses.{stored_cap}
 use Rattle.def_step.specs.Boot.{granules_from, boot_granule, boot_granules, boot_cap}
 use Rattle.ct_boot.specs.Bootable.{booted_to, empty_granules}
 

@@ -1,11 +1,10 @@
 -- A lawful firmware can be booted: its entries are few, its stacks and RAM lie in the address space.
-use Rattle.std.proofs.Common.{ℕ, zero, suc, ◌+◌, ◌*◌, ◌≡◌, ◌<◌, ◌≤◌, List, [], ◌∷◌, ◌++◌, length, map, refl, ap, subst, sym, arith, length-append}
+use Rattle.std.proofs.Common.{ℕ, suc, ◌+◌, ◌*◌, ◌≡◌, ◌<◌, ◌≤◌, List, [], ◌∷◌, ◌++◌, length, map, refl, ap, arith, length-append}
 use Rattle.std.proofs.lemmas.List.{length-map}
 use Rattle.ct_entry.specs.Listed.{FirmwareRow}
-use Rattle.ct_entry.specs.declared.rows.Entry.{Entry}
 use Rattle.def_machine.specs.Objects.{Each}
-use Rattle.def_step.specs.Firmware.{IsLawfulFirmware, IsShare, Share, StackRange, DeviceImport, RegionRange, IsPlaced, share_rows, all_share_rows, export_rows, device_row, stack_row, stack_rows, share_ranges, stack_ranges, range, trusted_length}
-use Rattle.ct_boot.specs.Bootable.{IsBootable, IsNumbered, IsStackFit, IsRamFit}
+use Rattle.def_step.specs.Firmware.{IsLawfulFirmware, IsShare, Share, StackRange, DeviceImport, IsPlaced, share_rows, all_share_rows, export_rows, device_row, stack_rows, share_ranges, stack_ranges, range, trusted_length}
+use Rattle.ct_boot.specs.Bootable.{IsBootable, IsNumbered, IsStackFit}
 
 -- ---- lists
 

@@ -1,5 +1,5 @@
 -- What a number stands for, by whether it is 0 and whether an entry has it.
-use Rattle.std.proofs.Common.{ℕ, zero, suc, ◌-◌, ◌≡◌, ◌<◌, ◌≤◌, ◌∙◌, Option, Some, None, length, refl, ap, arith, slice_get}
+use Rattle.std.proofs.Common.{ℕ, zero, suc, ◌-◌, ◌≡◌, ◌<◌, ◌∙◌, Some, None, refl, ap, arith, slice_get}
 use Rattle.ct_entry.specs.Listed.{Listed}
 use Rattle.ct_entry.specs.declared.rows.Entry.{Entry}
 use Rattle.def_reach.specs.Roots.{root_of, trusted_root, listed_root, no_root, gate_for}

@@ -1,5 +1,5 @@
 -- The search for the text at an address, a text at a time.
-use Rattle.std.proofs.Common.{ℕ, zero, suc, ◌+◌, ◌-◌, ◌≡◌, ◌∙◌, true, false, List, [], ◌∷◌, Some, drop, refl, ap, sym, arith, slice_get}
+use Rattle.std.proofs.Common.{ℕ, zero, suc, ◌+◌, ◌-◌, ◌≡◌, ◌∙◌, true, false, List, [], ◌∷◌, Some, drop, refl, sym, arith, slice_get}
 use Rattle.ct_entry.specs.Listed.{FirmwareRow}
 use Rattle.def_step.specs.Boot.{text_from, text_word, text_base}
 use Rattle.ct_boot.specs.Searches.{is_text_at}

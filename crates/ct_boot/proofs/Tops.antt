@@ -1,11 +1,10 @@
 -- The top of a thread's stack is an address.
-use Rattle.std.proofs.Common.{ℕ, zero, suc, ◌+◌, ◌-◌, ◌≡◌, ◌<◌, ◌⊎◌, ◌∙◌, inl, inr, true, false, ◌&&◌, List, [], ◌∷◌, Some, refl, ap, sym, arith, slice_get}
+use Rattle.std.proofs.Common.{ℕ, suc, ◌+◌, ◌-◌, ◌≡◌, ◌<◌, ◌⊎◌, ◌∙◌, inl, inr, true, ◌&&◌, List, [], ◌∷◌, Some, refl, ap, sym, arith, slice_get}
 use Rattle.ct_entry.specs.Listed.{FirmwareRow}
 use Rattle.ct_entry.specs.declared.rows.Entry.{Entry}
 use Rattle.ct_entry.specs.declared.rows.Kind.{Kind}
 use Rattle.ct_entry.specs.declared.rows.Kind.TheVariants as kind
 use Rattle.def_machine.specs.Objects.{Each}
-use Rattle.def_reach.specs.Roots.{root_of}
 use Rattle.def_step.specs.Boot.{first_number, is_stack_kind, is_thread, stack_number, stack_top_of}
 use Rattle.law_lists.proofs.Tests.{bool_tells, both_left}
 use Rattle.ct_boot.specs.Bootable.{IsStackFit}

@@ -1,5 +1,5 @@
 -- What booting asks of a firmware; each lawful one has it.
-use Rattle.std.specs.Prelude.{ℕ, ◌+◌, ◌-◌, ◌*◌, ◌/◌, ◌%◌, ◌≡◌, ◌<◌, ◌≤◌, List, ◌++◌, length, replicate}
+use Rattle.std.specs.Prelude.{ℕ, ◌+◌, ◌-◌, ◌/◌, ◌%◌, ◌≡◌, ◌<◌, List, ◌++◌, length, replicate}
 use Rattle.ct_entry.specs.Listed.{FirmwareRow}
 use Rattle.ct_entry.specs.declared.rows.Entry.{Entry}
 use Rattle.ct_entry.specs.declared.rows.Kind.TheVariants as kind

@@ -1,11 +1,8 @@
 -- What each search among the entries looks for; each is one of the numbers that *Boot state* names.
-use Rattle.std.specs.Prelude.{ℕ, ◌+◌, ◌*◌, ◌-◌, ◌<◌, ◌==◌, ◌&&◌, Bool, false, List, length, nat_le, nat_lt, if◌then◌else◌}
+use Rattle.std.specs.Prelude.{ℕ, ◌+◌, ◌-◌, ◌==◌, ◌&&◌, Bool, List, length, nat_le, nat_lt, if◌then◌else◌}
 use Rattle.ct_entry.specs.declared.rows.Entry.{Entry}
-use Rattle.ct_entry.specs.declared.rows.Owner.{Owner}
-use Rattle.ct_entry.specs.declared.rows.Owner.TheVariants.{Trusted, Compartment, Library, Thread}
-use Rattle.ct_entry.specs.Listed.{FirmwareRow, Listed}
-use Rattle.def_reach.specs.Roots.{root_of}
-use Rattle.def_step.specs.Boot.{is_compartment, is_thread, is_code_kind, is_globals_kind, is_stack_kind, is_export_kind, is_slot_kind, first_number, export_at, text_base}
+use Rattle.ct_entry.specs.Listed.{FirmwareRow}
+use Rattle.def_step.specs.Boot.{is_compartment, is_thread, is_code_kind, is_globals_kind, is_stack_kind, is_export_kind, first_number, export_at, text_base}
 use Rattle.ct_boot.specs.declared.wanted.Wanted.{Wanted}
 use Rattle.ct_boot.specs.declared.wanted.Wanted.TheVariants.{Code, Globals, Stack, Export}
 

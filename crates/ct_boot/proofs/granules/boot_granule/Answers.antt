@@ -1,4 +1,4 @@
-use Rattle.std.proofs.Common.{◌≡◌, ◌∙◌, ◌≤◌, ◌*◌, ◌/◌, ◌%◌, ◌+◌, length, ap, sym, arith, rules}
+use Rattle.std.proofs.Common.{◌≡◌, ◌∙◌, ◌*◌, ◌/◌, length, ap, arith, rules}
 use Rattle.def_memory.specs.Accesses.{stored_cap}
 use Rattle.ct_boot.proofs.Booted.{written_next, passed_next, booted_length}
 use Rattle.ct_boot.proofs.granules.boot_granule.Goals as goal

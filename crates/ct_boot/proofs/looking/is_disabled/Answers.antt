@@ -1,5 +1,4 @@
-use Rattle.std.proofs.Common.{ℕ, ◌≡◌, ◌<◌, ◌-◌, ◌∙◌, Some, None, refl, arith, ap, sym, slice_get}
-use Rattle.ct_entry.specs.declared.rows.Entry.{Entry}
+use Rattle.std.proofs.Common.{◌≡◌, ◌<◌, ◌-◌, ◌∙◌, Some, None, refl, arith, sym, slice_get}
 use Rattle.ct_boot.proofs.Rooted.{root_zero, root_found, root_missing}
 use Rattle.ct_boot.proofs.looking.is_disabled.Goals as goal
 

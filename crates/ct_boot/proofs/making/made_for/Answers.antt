@@ -1,4 +1,4 @@
-use Rattle.std.proofs.Common.{ℕ, ◌≡◌, ◌<◌, ◌-◌, ◌∙◌, Some, None, refl, arith, sym, slice_get}
+use Rattle.std.proofs.Common.{◌<◌, ◌-◌, ◌∙◌, arith, sym}
 use Rattle.ct_boot.proofs.Made.{made_found, made_missing, fit_at}
 use Rattle.ct_boot.proofs.making.made_for.Goals as goal
 

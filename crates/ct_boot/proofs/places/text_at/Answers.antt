@@ -1,4 +1,4 @@
-use Rattle.std.proofs.Common.{◌≡◌, ◌∙◌, Some, option_map, ap, sym, arith, slice_get}
+use Rattle.std.proofs.Common.{◌∙◌, option_map, ap, sym}
 use Rattle.ct_boot.proofs.Texts.{text_found, text_passed}
 use Rattle.ct_boot.proofs.places.text_at.Goals as goal
 

@@ -1,4 +1,4 @@
-use Rattle.std.proofs.Common.{◌≡◌, ◌+◌, ◌<◌, ap, arith}
+use Rattle.std.proofs.Common.{◌<◌, ap, arith}
 use Rattle.def_step.specs.Boot.{stack_top_of}
 use Rattle.def_reach.specs.Roots.{root_of}
 use Rattle.ct_boot.proofs.Tops.{top_fits}
