@@ -14,4 +14,4 @@ mod wanted;
 mod words;
 
 pub use granules::boot;
-pub use starting::{First, first_of};
+pub use starting::{First, first_of, stack_base};

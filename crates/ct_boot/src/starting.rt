@@ -120,6 +120,14 @@ fn stack_top(firmware: &Firmware, thread: u32) -> u32
     stack.base + stack.length
 }
 
+/// The base of a thread's stack.
+pub fn stack_base(firmware: &Firmware, thread: u32) -> u32
+    requires { IsLawfulFirmware firmware.now }
+    ensures { result ≡ (root_of firmware.now.entries (stack_number firmware.now thread)).base }
+{
+    find(&firmware.entries, stack_number(firmware, thread)).base
+}
+
 /// A thread before its first step.
 fn start_thread(firmware: &Firmware, thread: u32, starter: Starter) -> First
     requires { IsBootable firmware.now }

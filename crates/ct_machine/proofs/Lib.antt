@@ -1,3 +1,4 @@
 pub mod Clears
 pub mod Executed
+pub mod Launches
 pub mod Sizes

@@ -2,7 +2,9 @@
 #![tactic(auto)]
 
 mod active;
+mod copying;
 mod deciding;
+mod launching;
 mod machine;
 mod operands;
 mod presence;
