@@ -2,3 +2,4 @@ pub mod Clears
 pub mod Executed
 pub mod Launches
 pub mod Sizes
+pub mod Starts

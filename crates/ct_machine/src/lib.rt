@@ -9,6 +9,7 @@ mod machine;
 mod operands;
 mod presence;
 mod ran;
+mod starting;
 mod sweeping;
 mod tally;
 mod works;
