@@ -5,3 +5,5 @@ pub mod Listing
 pub mod Classes
 pub mod Fitting
 pub mod Makes
+pub mod ByCase
+pub mod Clauses
