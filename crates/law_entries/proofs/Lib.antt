@@ -9,3 +9,4 @@ pub mod ByCase
 pub mod Clauses
 pub mod Booted
 pub mod Own
+pub mod Wiring
