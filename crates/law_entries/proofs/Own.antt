@@ -15,14 +15,14 @@ use Rattle.def_reach.specs.Roots.{Root, TrustedPart, Listing, root_of, gate_for,
 use Rattle.def_machine.specs.Image.{root, made_cap, code_entry, globals_entry, stack_entry}
 use Rattle.def_confined.specs.Partitioned.{IsOwnEntry}
 use Rattle.def_step.specs.Boot.{image_of, made_for, made_by, code_number, globals_number, stack_number, numbered_from}
-use Rattle.def_step.specs.Firmware.{IsLawfulFirmware, Share, all_gates, first_export, text_offset, code_row, globals_row, code_length}
-use Rattle.law_entries.specs.Rows.{HasRow, HasShare, EntryIs, is_nothing, is_trusted, is_code, is_globals, is_switch, is_import, is_export, is_stack}
+use Rattle.def_step.specs.Firmware.{IsLawfulFirmware, Share, StackRange, all_gates, first_export, text_offset, code_row, globals_row, code_length}
+use Rattle.law_entries.specs.Rows.{HasRow, HasShare, HasStack, EntryIs, is_nothing, is_trusted, is_code, is_globals, is_switch, is_import, is_export, is_stack}
 use Rattle.law_entries.specs.Fits.{RamFits, ShareFits, MadeAs}
 use Rattle.law_entries.proofs.Standing.{ShareAt, share_there}
 use Rattle.law_entries.proofs.Gates.{each_of_all}
 use Rattle.law_entries.proofs.Classes.{entry_of, share_of}
-use Rattle.law_entries.proofs.Fitting.{ram_fits, share_fits}
-use Rattle.law_entries.proofs.Makes.{sentry_made, code_made, globals_made}
+use Rattle.law_entries.proofs.Fitting.{ram_fits, share_fits, stack_fits}
+use Rattle.law_entries.proofs.Makes.{sentry_made, code_made, globals_made, stack_made}
 
 numbered_there : (number : ℕ → ℕ) (b0 n k : ℕ) → k < n → slice_index_or (numbered_from number b0 n) k 0 ≡ number (b0 + k)
 numbered_there number b0 zero k lt = absurd (omega (arith, lt))
@@ -85,6 +85,9 @@ module _ (f : FirmwareRow) (l : IsLawfulFirmware f) where
 
   pub globals_stand : (b : ℕ) (c : Share) → HasShare f l.shares b c → MadeAs (globals_number f b) c.globals (c.globals + c.globals_length) 111 c.globals 0 (made_for f (globals_number f b))
   globals_stand b c h = subst (λ (d : Cap). MadeAs (globals_number f b) c.globals (c.globals + c.globals_length) 111 c.globals 0 d) (sym h.globals.made_is) (globals_made f c (globals_number f b) (ram_fits f l) (share_fits f l b c h.there))
+
+  pub stack_stands : (t : ℕ) (s : StackRange) → HasStack f l.stacks t s → MadeAs (stack_number f t) s.base (s.base + s.size) 126 (s.base + s.size) 0 (made_for f (stack_number f t))
+  stack_stands t s h = subst (λ (d : Cap). MadeAs (stack_number f t) s.base (s.base + s.size) 126 (s.base + s.size) 0 d) (sym h.row.made_is) (stack_made f s (stack_number f t) (ram_fits f l) (stack_fits f l t s h.there))
 
   pub own_code : (b n : ℕ) → (root (image_of f) n).owner ≡ Compartment b → IsOwnEntry (image_of f) b (code_entry (image_of f) b) kind.Code × (has (made_cap (image_of f) (code_entry (image_of f) b)) execute ≡ true)
   unfolding image_of
