@@ -59,6 +59,12 @@ registers_range register.CSetHigh rd rs1 rs2 hd h1 h2 = (hd, h1, h2)
 registers_range register.CTestSubset rd rs1 rs2 hd h1 h2 = (hd, h1, h2)
 registers_range register.CSetEqualExact rd rs1 rs2 hd h1 h2 = (hd, h1, h2)
 
+under32 : (n : Number) → within 0 31 n ≡ true → number_word n < 32
+under32 n e = let h : number_word n ≤ 31 = small_word n 31 (omega arith) e in omega (arith, h)
+
+under4096 : (n : Number) → within 0 4095 n ≡ true → number_word n < 2 ^ 12
+under4096 n e = let h : number_word n ≤ 4095 = small_word n 4095 (omega arith) e in omega (arith, h)
+
 pub immediates_range : (operation : ImmediateOperation) (rd rs1 : ℕ) (n : Number) → rd < 16 → rs1 < 16 → fits_immediate operation n ≡ true → InRange (immediate_instruction operation rd rs1 (number_word n))
 immediates_range immediate.Addi rd rs1 n hd h1 e = (hd, h1, signed_word n e)
 immediates_range immediate.Slti rd rs1 n hd h1 e = (hd, h1, signed_word n e)
@@ -71,12 +77,6 @@ immediates_range immediate.Srli rd rs1 n hd h1 e = (hd, h1, under32 n e)
 immediates_range immediate.Srai rd rs1 n hd h1 e = (hd, h1, under32 n e)
 immediates_range immediate.CIncAddrImm rd rs1 n hd h1 e = (hd, h1, signed_word n e)
 immediates_range immediate.CSetBoundsImm rd rs1 n hd h1 e = (hd, h1, under4096 n e)
-  where
-    under32 : (n : Number) → within 0 31 n ≡ true → number_word n < 32
-    under32 n e = let h : number_word n ≤ 31 = small_word n 31 (omega arith) e in omega (arith, h)
-
-    under4096 : (n : Number) → within 0 4095 n ≡ true → number_word n < 2 ^ 12
-    under4096 n e = let h : number_word n ≤ 4095 = small_word n 4095 (omega arith) e in omega (arith, h)
 
 pub uppers_range : (operation : UpperOperation) (rd n : ℕ) → rd < 16 → n < 2 ^ 20 → InRange (upper_instruction operation rd n)
 uppers_range upper.Lui rd n hd hn = (hd, hn)

@@ -53,7 +53,7 @@ number_in_range rd word hd small = by_test (is_short word) refl
   where
     by_test : (b : Bool) → is_short word ≡ b → AllInRange (cond b (instr.Addi rd 0 word ∷ []) (instr.Lui rd (upper_part word) ∷ instr.Addi rd rd (rest_part word) ∷ []))
     by_test true e = ((hd, omega arith, short_range word small e), tt)
-    by_test false e = ((hd, upper_range word), (hd, hd, rest_range word), tt)
+    by_test false e = ((hd, upper_range word), ((hd, hd, rest_range word), tt))
 
 ranged : (labels : Labels) (slots : List Name) (k at : ℕ) (q : Part Name) → numbers_fit q ≡ true → registers_exist q ≡ true → reference_fault labels k at q ≡ None → AllInRange (instructions_at labels slots at q)
 ranged labels slots k at (part.Registers operation rd rs1 rs2) fit there found = let h = three rd rs1 rs2 there in (registers_range operation rd rs1 rs2 h.0 h.1 h.2, tt)
@@ -79,15 +79,15 @@ ranged labels slots k at (part.Import rd name) fit there found =
     let hd = exists_below rd there in
     let from : ℕ = 8 * length slots + at in
     let to : ℕ = 8 * slot_number (slot_of slots name) in
-    ((hd, high_range from to), (hd, hd, low_range from to), tt)
+    ((hd, high_range from to), ((hd, hd, low_range from to), tt))
 ranged labels slots k at (part.TextAddress rd label) fit there found =
     let hd = exists_below rd there in
     let to : ℕ = label_offset (labels label) in
-    ((hd, high_range at to), (hd, hd, low_range at to), tt)
+    ((hd, high_range at to), ((hd, hd, low_range at to), tt))
 ranged labels slots k at (part.GlobalAddress rd label) fit there found =
     let hd = exists_below rd there in
     let to : ℕ = label_offset (labels label) in
-    ((hd, high_range 0 to), (hd, hd, low_range 0 to), tt)
+    ((hd, high_range 0 to), ((hd, hd, low_range 0 to), tt))
 ranged labels slots k at (part.Label name) fit there found = tt
 ranged labels slots k at part.Text fit there found = tt
 ranged labels slots k at part.Data fit there found = tt
