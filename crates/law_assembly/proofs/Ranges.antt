@@ -1,5 +1,5 @@
 -- The instructions of a lawful statement hold what their fields may hold.
-use Rattle.std.proofs.Common.{◌≡◌, ℕ, ◌+◌, ◌-◌, ◌*◌, ◌/◌, ◌%◌, ◌^◌, ◌<◌, ◌≤◌, ◌==◌, Bool, true, false, ◌&&◌, cond, nat_lt, nat_le, refl, arith, Option, Some, None}
+use Rattle.std.proofs.Common.{◌≡◌, ℕ, ◌-◌, ◌/◌, ◌%◌, ◌^◌, ◌<◌, ◌≤◌, Bool, true, false, cond, nat_lt, refl, arith, Option, Some, None}
 use Rattle.def_instr.specs.Table.{InRange, IsSigned, IsOffset}
 use Rattle.def_instr.specs.Reading.{extended}
 use Rattle.def_source.specs.declared.parts.Number.{Number}
@@ -23,7 +23,7 @@ use Rattle.def_source.specs.declared.operations.BareOperation.{BareOperation}
 use Rattle.def_source.specs.declared.operations.BareOperation.TheVariants as bare
 use Rattle.def_object.specs.declared.Label.{Label}
 use Rattle.def_source.specs.Source.{Name, within, fits_immediate, fits_target, is_data}
-use Rattle.def_object.specs.Object.{Labels, number_word, is_short, register_instruction, immediate_instruction, upper_instruction, load_instruction, store_instruction, branch_instruction, source_instruction, bare_instruction, way, label_offset, target_word, target_fault, reach_fault, is_near, high_piece, low_piece, upper_part, rest_part}
+use Rattle.def_object.specs.Object.{Labels, number_word, is_short, register_instruction, immediate_instruction, upper_instruction, load_instruction, store_instruction, branch_instruction, source_instruction, bare_instruction, label_offset, target_word, target_fault, reach_fault, is_near, high_piece, low_piece, upper_part, rest_part}
 use Rattle.ct_asm.proofs.Reach.{signed_word, small_word, branch_word, jump_word, near_branch, near_jump}
 
 -- ---- operations by operands

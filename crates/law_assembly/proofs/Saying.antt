@@ -1,20 +1,18 @@
 -- Each lawful statement without a fault says what its words decode to.
-use Rattle.std.proofs.Common.{◌≡◌, ℕ, ◌+◌, ◌*◌, ◌<◌, ◌^◌, ◌%◌, Bool, true, false, ◌&&◌, cond, nat_lt, List, [], ◌∷◌, ◌++◌, length, refl, sym, ap, ◌∙◌, arith, Option, Some, None}
-use Rattle.std.specs.Prelude.{IsTrue}
+use Rattle.std.proofs.Common.{◌≡◌, ℕ, ◌+◌, ◌*◌, ◌<◌, ◌^◌, Bool, true, false, ◌&&◌, cond, List, [], ◌∷◌, length, refl, arith, Option, Some, None}
 use Rattle.def_instr.specs.declared.Instr.{Instr}
 use Rattle.def_instr.specs.declared.Instr.TheVariants as instr
-use Rattle.def_instr.specs.Table.{InRange, EncodesTo, word_of, IsSigned}
+use Rattle.def_instr.specs.Table.{InRange, word_of, IsSigned}
 use Rattle.ct_isa.proofs.Complete.{complete}
-use Rattle.def_source.specs.Source.{Name, Statements, IsLawful, lawful_from, is_lawful, in_section, numbers_fit, registers_exist, section_after, exists, is_text, or_else}
+use Rattle.def_source.specs.Source.{Name, Statements, IsLawful, lawful_from, is_lawful, in_section, numbers_fit, registers_exist, section_after, exists, or_else}
 use Rattle.def_source.specs.declared.parts.Number.{Number}
 use Rattle.def_source.specs.declared.parts.Section.{Section}
 use Rattle.def_source.specs.declared.parts.Section.TheVariants as section
-use Rattle.def_source.specs.declared.parts.Statement.{Statement}
 use Rattle.def_source.specs.declared.parts.Part.{Part}
 use Rattle.def_source.specs.declared.parts.Part.TheVariants as part
 use Rattle.def_object.specs.declared.Place.{Place}
 use Rattle.def_object.specs.declared.Fault.{Fault}
-use Rattle.def_object.specs.Object.{Labels, instructions_at, number_instructions, import_instructions, instruction_bytes, word_bytes, bytes_at, offset, advanced, fault_in, fault_from, label_in, start, lesser, on_line, statement_fault, reference_fault, size_fault, is_short, number_word, upper_part, rest_part, label_offset, slot_number, slot_of}
+use Rattle.def_object.specs.Object.{Labels, instructions_at, number_instructions, instruction_bytes, bytes_at, offset, advanced, fault_in, fault_from, label_in, start, lesser, on_line, statement_fault, reference_fault, size_fault, is_short, number_word, upper_part, rest_part, label_offset, slot_number, slot_of}
 use Rattle.law_assembly.specs.Decoding.{Decodes, Says, AllSay, is_instruction}
 use Rattle.law_assembly.proofs.Ranges.{registers_range, immediates_range, uppers_range, loads_range, stores_range, branches_range, sources_range, bares_range, high_range, low_range, upper_range, rest_range, word_small, short_range, cut_range, branch_range, jump_range}
 use Rattle.ct_asm.proofs.Reach.{signed_word}
