@@ -1,3 +1,6 @@
 pub mod Values
 pub mod Checking
 pub mod Smalls
+pub mod Goings
+pub mod Returns
+pub mod Flows
