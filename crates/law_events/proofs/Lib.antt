@@ -4,3 +4,5 @@ pub mod Smalls
 pub mod Goings
 pub mod Returns
 pub mod Flows
+pub mod Fairness
+pub mod Steps
