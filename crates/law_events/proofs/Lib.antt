@@ -6,3 +6,4 @@ pub mod Returns
 pub mod Flows
 pub mod Fairness
 pub mod Steps
+pub mod Events
