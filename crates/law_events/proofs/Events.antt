@@ -19,9 +19,10 @@ use Rattle.def_confined.specs.Licensed.{Licensed, OffLicensed}
 use Rattle.law_places.proofs.Turns.{clock_of}
 use Rattle.law_turns.proofs.Moves.{pick_confined, clock_confined}
 use Rattle.law_licensed.proofs.Deeds.{off_licensed}
-use Rattle.law_events.specs.Holding.{EndedOn}
+use Rattle.def_confined.specs.Holding.{EndedOn}
 use Rattle.law_events.proofs.Fairness.{Fair, IsOn, some_same, none_licensed}
-use Rattle.law_events.proofs.Steps.{AccessesKeep, executed_fair}
+use Rattle.law_events.specs.Accessing.{AccessesKeep}
+use Rattle.law_events.proofs.Steps.{executed_fair}
 
 -- ---- who runs, and the clockwork
 
@@ -93,15 +94,11 @@ noted_fair b s r f = record {
   ended = f.ended;
 }
 
--- the laws of loads and stores in every state
-abbrev pub AccessesHold : Type 0
-AccessesHold = (b : Board) (s : State) (t : ℕ) → Partitioned b.image → Wired b → Confined b.image s → s.running ≡ Some t → AccessesKeep b s t
-
-continued_fair : (b : Board) (s : State) (o : Option ℕ) → AccessesHold → s.running ≡ o → Partitioned b.image → Wired b → Confined b.image s → Fair b s (continued b s o)
+continued_fair : (b : Board) (s : State) (o : Option ℕ) → AccessesKeep → s.running ≡ o → Partitioned b.image → Wired b → Confined b.image s → Fair b s (continued b s o)
 continued_fair b s None laws runs parts wired h = record { confined = h; licensed = none_licensed b; ended = λ e. e }
-continued_fair b s (Some t) laws runs parts wired h = noted_fair b s (executed b s t) (executed_fair b s t parts wired h runs (laws b s t parts wired h runs))
+continued_fair b s (Some t) laws runs parts wired h = noted_fair b s (executed b s t) (executed_fair b s t parts wired h runs laws)
 
-stepped_fair : (b : Board) (s : State) → AccessesHold → Partitioned b.image → Wired b → Confined b.image s → Fair b s (stepped b s)
+stepped_fair : (b : Board) (s : State) → AccessesKeep → Partitioned b.image → Wired b → Confined b.image s → Fair b s (stepped b s)
 stepped_fair b s laws parts wired h =
     let counted = clock_kept b s (record (clock_of s) { counts = record s.counts { steps = s.counts.steps + 1 } }) h in
     let before = preempted_kept b (one_more_step s) (one_more_step s).running counted.confined in
@@ -152,7 +149,7 @@ spans_fit b before after o wired h on = begun_fits b after (holder before) (hold
 
 -- ---- an event
 
-pub event_fair : (b : Board) (s : State) (e : Event) → AccessesHold → Partitioned b.image → Wired b → Confined b.image s → Fair b s ((happens b s e).0, (happens b s e).1.deed)
+event_fair : (b : Board) (s : State) (e : Event) → AccessesKeep → Partitioned b.image → Wired b → Confined b.image s → Fair b s ((happens b s e).0, (happens b s e).1.deed)
 event_fair b s Step laws parts wired h = stepped_fair b s laws parts wired h
 event_fair b s Tick laws parts wired h =
     let counted = clock_kept b s (record (clock_of s) { time = s.time + 1; counts = record s.counts { ticks = s.counts.ticks + 1 } }) h in
@@ -162,7 +159,21 @@ event_fair b s (Input n byte) laws parts wired h =
     let after = clock_kept b s (record (clock_of s) { devices = slice_set s.devices n (after_input (device s.devices n) byte); counts = record s.counts { inputs = s.counts.inputs + 1 } }) h in
     record { confined = after.confined; licensed = none_licensed b; ended = after.ended }
 
-pub event_span : (b : Board) (s : State) (e : Event) (o : Owned) → Wired b → Confined b.image (happens b s e).0 → EndedOn (happens b s e).0 → (happens b s e).1.off ≡ Some o → OffLicensed b.image.entries o
+event_span : (b : Board) (s : State) (e : Event) (o : Owned) → Wired b → Confined b.image (happens b s e).0 → EndedOn (happens b s e).0 → (happens b s e).1.off ≡ Some o → OffLicensed b.image.entries o
 event_span b s Step o wired h on is = spans_fit b s (stepped b s).0 o wired h on is
 event_span b s Tick o wired h on is = spans_fit b s (ticked s) o wired h on is
 event_span b s (Input n byte) o wired h on is = spans_fit b s (received s n byte) o wired h on is
+
+-- ---- the laws
+
+pub event_confined : AccessesKeep → (b : Board) (s : State) (e : Event) → Partitioned b.image → Wired b → Confined b.image s → Confined b.image (happens b s e).0
+event_confined laws b s e parts wired h = (event_fair b s e laws parts wired h).confined
+
+pub event_ended : AccessesKeep → (b : Board) (s : State) (e : Event) → Partitioned b.image → Wired b → Confined b.image s → EndedOn s → EndedOn (happens b s e).0
+event_ended laws b s e parts wired h = (event_fair b s e laws parts wired h).ended
+
+pub deed_licensed : AccessesKeep → (b : Board) (s : State) (e : Event) (d : Deed) → Partitioned b.image → Wired b → Confined b.image s → (happens b s e).1.deed ≡ Some d → Licensed b.image.entries d
+deed_licensed laws b s e d parts wired h is = (event_fair b s e laws parts wired h).licensed d is
+
+pub span_licensed : AccessesKeep → (b : Board) (s : State) (e : Event) (o : Owned) → Partitioned b.image → Wired b → Confined b.image s → EndedOn s → (happens b s e).1.off ≡ Some o → OffLicensed b.image.entries o
+span_licensed laws b s e o parts wired h on is = event_span b s e o wired (event_confined laws b s e parts wired h) (event_ended laws b s e parts wired h on) is

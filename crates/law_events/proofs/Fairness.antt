@@ -19,7 +19,7 @@ use Rattle.def_confined.specs.Licensed.{Licensed}
 use Rattle.law_places.proofs.Turns.{clock_of}
 use Rattle.law_calls.proofs.Pops.{returned_confined, unwound_confined}
 use Rattle.law_jumps.proofs.Moves.{Jumps, jumps_confined}
-use Rattle.law_events.specs.Holding.{EndedOn}
+use Rattle.def_confined.specs.Holding.{EndedOn}
 use Rattle.law_events.proofs.Checking.{MayTell}
 
 -- the state after stays confined, the deed is licensed, and no thread without frames holds interrupts off

@@ -31,6 +31,7 @@ use Rattle.def_confined.specs.Confined.{Confined}
 use Rattle.def_confined.specs.Partitioned.{Partitioned}
 use Rattle.def_confined.specs.Licensed.{Licensed}
 use Rattle.law_jumps.proofs.Moves.{in_rooted}
+use Rattle.law_events.specs.Accessing.{Accesses, AccessesKeep}
 use Rattle.law_events.proofs.Values.{Puts, untagged_puts, result_puts}
 use Rattle.law_events.proofs.Checking.{MayTell, Fetched, by_checks, access_tells, counter_tells, plain_tells, fetch_tells, fetch_passes}
 use Rattle.law_events.proofs.Smalls.{IsSmall, read_small}
@@ -38,12 +39,6 @@ use Rattle.law_events.proofs.Goings.{FlowFits, Fetching}
 use Rattle.law_events.proofs.Goings as going
 use Rattle.law_events.proofs.Flows.{flow_fits}
 use Rattle.law_events.proofs.Fairness.{Fair, some_same, none_licensed, trapped_fair, returned_fair, has_frames, put_ended, moved_on, jumps_fair}
-
--- what is proved of loads and stores that are carried out
-pub record AccessLaws (b : Board) (s : State) (t : ℕ) (k : Instr) : Type 0 where
-  pub confined : (d : Done) → carried_out class.Access k (operands_of k).to (operand s t (operands_of k).first) (operand s t (operands_of k).second) (around b s t) ≡ Ok d → Confined b.image (put_done s t d)
-  pub licensed : (d : Done) (a : Act) → carried_out class.Access k (operands_of k).to (operand s t (operands_of k).first) (operand s t (operands_of k).second) (around b s t) ≡ Ok d → d.act ≡ Some a
-      → Licensed b.image.entries (deed s t (operand s t (operands_of k).first).shadow.root a)
 
 -- ---- by the kind of work
 
@@ -76,18 +71,20 @@ act_licensed : (b : Board) (s : State) (t entry : ℕ) (o : Option Act) → ((a 
 act_licensed b s t entry None h d e = none_licensed b d e
 act_licensed b s t entry (Some a) h d e = some_same (Licensed b.image.entries) (deed s t entry a) d e (h a refl)
 
-access_fair : (b : Board) (s : State) (t : ℕ) (k : Instr) (r : Result Done Trap) → Fetching b.image s t → AccessLaws b s t k
+access_fair : (b : Board) (s : State) (t : ℕ) (k : Instr) (r : Result Done Trap) → Fetching b.image s t → AccessesKeep → Wired b → s.running ≡ Some t → class_of k ≡ class.Access
     → carried_out class.Access k (operands_of k).to (operand s t (operands_of k).first) (operand s t (operands_of k).second) (around b s t) ≡ r → ErrTells r → Fair b s (ends b s t (operand s t (operands_of k).first) r)
-access_fair b s t k (Err w) f laws e tells = trapped_fair b s t w f.parts f.held tells
-access_fair b s t k (Ok d) f laws e tells = record {
-  confined = laws.confined d e;
-  licensed = act_licensed b s t (operand s t (operands_of k).first).shadow.root d.act (λ a is. laws.licensed d a e is);
+access_fair b s t k (Err w) f laws wired runs is e tells = trapped_fair b s t w f.parts f.held tells
+access_fair b s t k (Ok d) f laws wired runs is e tells =
+    let here : Accesses b s t k d = record { parts = f.parts; wired = wired; held = f.held; running = runs; other = f.other; executes = f.fetched.executes; kind = is; done = e } in
+    record {
+  confined = laws.confined b s t k d here;
+  licensed = act_licensed b s t (operand s t (operands_of k).first).shadow.root d.act (λ a acts. laws.licensed b s t k d a here acts);
   ended = put_ended s t d (has_frames b.image s.objects t (thread s t).frames (thread s t).pcc (f.held.pcc t) f.fetched.tagged);
 }
 
 -- ---- an instruction
 
-class_fair : (b : Board) (s : State) (t : ℕ) (k : Instr) (c : Class) → class_of k ≡ c → Wired b → s.running ≡ Some t → Fetching b.image s t → (access_of k).by < 16 → (class_of k ≡ class.Access → AccessLaws b s t k)
+class_fair : (b : Board) (s : State) (t : ℕ) (k : Instr) (c : Class) → class_of k ≡ c → Wired b → s.running ≡ Some t → Fetching b.image s t → (access_of k).by < 16 → AccessesKeep
     → Fair b s (ends b s t (operand s t (operands_of k).first) (carried_out c k (operands_of k).to (operand s t (operands_of k).first) (operand s t (operands_of k).second) (around b s t)))
 class_fair b s t k class.Integer e wired runs f small laws =
     gives_fair b s t (operands_of k).to (integer (integer_result k (cap_address (operand s t (operands_of k).first)) (cap_address (operand s t (operands_of k).second)))) f (untagged_puts b.image s t _ refl)
@@ -99,7 +96,7 @@ class_fair b s t k class.Jump e wired runs f small laws =
     flow_fair b s t (operands_of k).to (operand s t (operands_of k).first) (flow_result k (operand s t (operands_of k).first) (operand s t (operands_of k).second) (thread s t).pcc (thread s t).posture 0) f
     (flow_fits b s t (operands_of k).first (operands_of k).second k wired f e refl)
 class_fair b s t k class.Access e wired runs f small laws =
-    access_fair b s t k _ f (laws e) refl
+    access_fair b s t k _ f laws wired runs e refl
     (accesses_tell (around b s t) (operands_of k).to (access_result k (operand s t (operands_of k).first) (operand s t (operands_of k).second) (space_of b s))
     (result_tells k (operand s t (operands_of k).first) (operand s t (operands_of k).second) (space_of b s) small))
 class_fair b s t k class.Fence e wired runs f small laws = gives_fair b s t 0 (plain 0) f (untagged_puts b.image s t (plain 0) refl)
@@ -132,20 +129,16 @@ not_native b s t wired h tagged away = elim (bool_tells (is_native (root b.image
   | inr other ↦ other
 ]
 
--- the laws of loads and stores, for the instruction that is carried out
-abbrev pub AccessesKeep : Board → State → ℕ → Type 0
-AccessesKeep b s t = (k : Instr) → is_native (root b.image (thread s t).pcc.shadow.root).origin ≡ false → has (thread s t).pcc execute ≡ true → class_of k ≡ class.Access → AccessLaws b s t k
-
-next_fair : (b : Board) (s : State) (t : ℕ) (n : Next) → next_at (space_of b s) (cap_address (thread s t).pcc) ≡ n → Partitioned b.image → Wired b → Confined b.image s → s.running ≡ Some t → Fetched (thread s t).pcc → AccessesKeep b s t → Fair b s (goes_on b s t n)
+next_fair : (b : Board) (s : State) (t : ℕ) (n : Next) → next_at (space_of b s) (cap_address (thread s t).pcc) ≡ n → Partitioned b.image → Wired b → Confined b.image s → s.running ≡ Some t → Fetched (thread s t).pcc → AccessesKeep → Fair b s (goes_on b s t n)
 next_fair b s t Returning e parts wired h runs f laws = returned_fair b s t parts h
 next_fair b s t Nothing e parts wired h runs f laws = trapped_fair b s t _ parts h (plain_tells illegal_instruction (inr (inl refl)))
 next_fair b s t (Instruction k) e parts wired h runs f laws =
     let stands = stands_at (space_of b s) (cap_address (thread s t).pcc) k e in
     let other = not_native b s t wired h f.tagged stands.away in
     let small : IsSmall (Some k) = subst IsSmall stands.read (read_small (fetched (space_of b s) (cap_address (thread s t).pcc))) in
-    class_fair b s t k (class_of k) refl wired runs (record { parts = parts; held = h; fetched = f; other = other }) small (λ is. laws k other f.executes is)
+    class_fair b s t k (class_of k) refl wired runs (record { parts = parts; held = h; fetched = f; other = other }) small laws
 
-pub executed_fair : (b : Board) (s : State) (t : ℕ) → Partitioned b.image → Wired b → Confined b.image s → s.running ≡ Some t → AccessesKeep b s t → Fair b s (executed b s t)
+pub executed_fair : (b : Board) (s : State) (t : ℕ) → Partitioned b.image → Wired b → Confined b.image s → s.running ≡ Some t → AccessesKeep → Fair b s (executed b s t)
 unfolding executed
 executed_fair b s t parts wired h runs laws = by_checks (λ o. Fair b s (after_fetch b s t o))
     (fetch_checks (thread s t).pcc)

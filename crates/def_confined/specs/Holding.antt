@@ -1,4 +1,4 @@
--- Who may hold interrupts off.
+-- Who may hold interrupts off: a state where this holds beside *Confined* tells of each span who holds them.
 use Rattle.std.specs.Prelude.{ℕ, ◌≡◌, false, []}
 use Rattle.def_machine.specs.State.{State, thread}
 
