@@ -1,5 +1,5 @@
 -- Checks that failed give a trap that may be; checks that passed say so.
-use Rattle.std.proofs.Common.{ℕ, ◌≡◌, ◌<◌, ◌≤◌, ◌+◌, ◌&&◌, ◌⊎◌, Bool, true, false, List, [], ◌∷◌, Option, Some, None, inl, inr, refl, arith, nat_le}
+use Rattle.std.proofs.Common.{ℕ, ◌≡◌, ◌<◌, ◌≤◌, ◌+◌, ◌&&◌, ◌⊎◌, Bool, true, List, [], ◌∷◌, Option, Some, None, inl, inr, refl, arith, nat_le}
 use Rattle.std.proofs.lemmas.Bool.{eqb-true, leb-true, and_parts}
 use Rattle.law_lists.proofs.Tests.{chosen}
 use Rattle.def_words.specs.declared.Cap.{Cap}
@@ -7,10 +7,9 @@ use Rattle.def_words.specs.declared.Trap.{Trap}
 use Rattle.def_words.specs.Authority.{cap_address, cap_base, cap_top}
 use Rattle.def_words.specs.Permissions.{has, execute}
 use Rattle.def_words.specs.Seals.{cap_seal}
-use Rattle.def_instr.specs.declared.Instr.{Instr}
 use Rattle.def_step.specs.declared.Access.{Access}
-use Rattle.def_step.specs.Checks.{Check, first_failed, capability_trap, plain_trap, out_of_bounds, not_tagged, wrong_seal, no_execute, no_load, no_store, no_store_capability, no_system_registers, program_counter}
-use Rattle.def_step.specs.Accesses.{access_of, access_checks, load_checks, store_checks}
+use Rattle.def_step.specs.Checks.{Check, first_failed, capability_trap, plain_trap, out_of_bounds, not_tagged, wrong_seal, no_execute, no_load, no_store, no_store_capability, program_counter}
+use Rattle.def_step.specs.Accesses.{access_checks, load_checks, store_checks}
 use Rattle.def_step.specs.Instructions.{fetch_checks}
 use Rattle.def_confined.specs.Licensed.{IsTrap}
 

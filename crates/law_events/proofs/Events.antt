@@ -1,17 +1,17 @@
 -- Ticks, inputs and steps, whole.
-use Rattle.std.proofs.Common.{ℕ, ◌≡◌, ◌+◌, ◌==◌, ◌&&◌, Bool, true, false, not, List, [], ◌∷◌, Option, Some, None, refl, sym, ◌∙◌, subst, if◌then◌else◌, slice_set}
+use Rattle.std.proofs.Common.{ℕ, ◌≡◌, ◌+◌, ◌&&◌, true, false, not, List, [], ◌∷◌, Option, Some, None, refl, sym, ◌∙◌, slice_set}
 use Rattle.law_lists.proofs.Sets.{after_set}
 use Rattle.law_lists.proofs.Tests.{chosen}
 use Rattle.ct_entry.specs.declared.acts.Deed.{Deed}
 use Rattle.ct_entry.specs.declared.acts.Owned.{Owned}
 use Rattle.def_machine.specs.Image.{Image}
-use Rattle.def_machine.specs.State.{State, Thread, Frame, Counts, thread, nobody}
+use Rattle.def_machine.specs.State.{State, Frame, thread, nobody}
 use Rattle.def_machine.specs.Threads.{Clockwork, picked}
 use Rattle.def_step.specs.declared.Event.{Event}
 use Rattle.def_step.specs.declared.Event.TheVariants.{Step, Tick, Input}
 use Rattle.def_step.specs.Instructions.{Board, executed, actor_of}
 use Rattle.def_step.specs.Devices.{device, after_input}
-use Rattle.def_step.specs.Events.{noted, with_deed, preempted_from, preempted, is_ready, picked_from, scheduled, continued, run_on, one_more_step, stepped, interrupted, ticked, received, holder_by, holder, is_holder, begun_since, begun, told_of, happens}
+use Rattle.def_step.specs.Events.{noted, with_deed, preempted_from, preempted, is_ready, picked_from, scheduled, continued, one_more_step, stepped, interrupted, ticked, received, holder_by, holder, is_holder, begun_since, begun, happens}
 use Rattle.def_board.specs.Wired.{Wired}
 use Rattle.def_confined.specs.Confined.{Confined}
 use Rattle.def_confined.specs.Partitioned.{Partitioned}

@@ -1,5 +1,5 @@
 -- What the running thread may do where its fetch passed, away from native entries.
-use Rattle.std.proofs.Common.{ℕ, ◌≡◌, true, false, List, Option, Result, Ok, Err, refl}
+use Rattle.std.proofs.Common.{ℕ, ◌≡◌, true, false, Result, Ok, Err, refl}
 use Rattle.std.specs.Prelude.{unwrap_or}
 use Rattle.def_words.specs.declared.Cap.{Cap}
 use Rattle.def_words.specs.declared.Trap.{Trap}

@@ -1,11 +1,9 @@
 -- The register jump that is carried out: through c1, with no link.
 use Rattle.std.proofs.Common.{ℕ, ◌≡◌, ◌==◌, ◌&&◌, ◌||◌, ◌⊎◌, ◌≤◌, ◌<◌, ◌+◌, ◌*◌, ◌/◌, ◌%◌, ◌^◌, Bool, true, false, nat_le, nat_lt, if◌then◌else◌, inl, inr, List, Some, refl, sym, ap, ◌∙◌, subst, arith}
-use Rattle.std.specs.Prelude.{unwrap_or}
 use Rattle.std.proofs.lemmas.Bool.{eqb-true, leb-true, ltb-true, and_parts, cases_eq}
 use Rattle.law_lists.proofs.Tests.{bool_tells}
 use Rattle.def_words.specs.declared.Cap.{Cap}
 use Rattle.def_words.specs.declared.Shadow.{Shadow}
-use Rattle.def_words.specs.declared.Posture.{Posture}
 use Rattle.def_words.specs.Authority.{cap_address}
 use Rattle.def_words.specs.Permissions.{bit, has, execute}
 use Rattle.def_words.specs.Seals.{cap_seal, posture_through, is_jump_taken, is_unsealed}
@@ -13,12 +11,10 @@ use Rattle.def_words.specs.Capability.{with_address}
 use Rattle.def_words.specs.Jumped.{opened, linked}
 use Rattle.def_words.specs.Narrows.{IsOpened}
 use Rattle.law_words.proofs.Narrowing.{Addressed, addressed}
-use Rattle.def_memory.specs.Granules.{plain}
 use Rattle.def_instr.specs.declared.Instr.TheVariants.{CJalr}
 use Rattle.def_reach.specs.Roots.{is_native}
 use Rattle.def_machine.specs.Image.{Image, root, made_cap}
 use Rattle.def_machine.specs.State.{State, Frame, Object, thread, register}
-use Rattle.def_step.specs.declared.Class.{Class}
 use Rattle.def_step.specs.declared.Class.TheVariants as class
 use Rattle.def_step.specs.Checks.{not_tagged, wrong_seal, no_execute, misaligned_fetch}
 use Rattle.def_step.specs.Accesses.{unless}
@@ -34,9 +30,8 @@ use Rattle.def_confined.specs.Made.{Opens}
 use Rattle.law_registers.proofs.Moves.{not_native_bound}
 use Rattle.law_registers.proofs.Derives.{Bound, derived_in}
 use Rattle.law_jumps.proofs.Targets.{opened_in, opened_runs}
-use Rattle.law_jumps.proofs.Moves.{Jumps, fits_as, return_fits, derived_runs, runs_no_heap, in_rooted}
+use Rattle.law_jumps.proofs.Moves.{fits_as, return_fits, derived_runs, runs_no_heap, in_rooted}
 use Rattle.law_made.proofs.Results.{address_derived, address_runs, opened_opens}
-use Rattle.law_events.proofs.Values.{Puts}
 use Rattle.law_events.proofs.Checking.{by_checks, register_tells, plain_tells}
 use Rattle.law_events.proofs.Goings.{FlowFits, Fetching, link_puts}
 
@@ -95,8 +90,8 @@ other_goes i objects t fs x a parts h tagged runs small other =
     let none : heap_cap i x ≡ false = runs_no_heap i x (in_rooted i objects t fs x h tagged) runs in
     let open_there : InFrames i objects t fs (opened x) = opened_in i objects t fs x (opened x) (opened_opens x) (λ any. none) h in
     let bound : (opened x).tag ≡ true → Bound i (opened x) = λ is.
-        let P : ℕ → Type 0 = λ n. is_native (root i n).origin ≡ false in
-        not_native_bound i (opened x) (subst P (sym (opened_opens x is).opened.root) other) in
+    let P : ℕ → Type 0 = λ n. is_native (root i n).origin ≡ false in
+    not_native_bound i (opened x) (subst P (sym (opened_opens x is).opened.root) other) in
     let derived = address_derived (opened x) a small in
     record {
       there = derived_in i objects t fs (opened x) (with_address (opened x) a) bound derived open_there;

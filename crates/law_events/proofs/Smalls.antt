@@ -1,11 +1,11 @@
 -- The register that authorises an access is below 16: so the table reads it.
-use Rattle.std.proofs.Common.{ℕ, ◌≡◌, ◌<◌, ◌==◌, ◌&&◌, ◌||◌, Bool, true, false, nat_lt, nat_le, Option, Some, None, if◌then◌else◌, refl, arith}
+use Rattle.std.proofs.Common.{ℕ, ◌<◌, ◌==◌, ◌&&◌, ◌||◌, Bool, true, false, nat_lt, nat_le, Option, Some, None, if◌then◌else◌, arith}
 use Rattle.std.proofs.lemmas.Bool.{ltb-true, and_parts}
 use Rattle.law_lists.proofs.Tests.{chosen}
 use Rattle.def_instr.specs.declared.Instr.{Instr}
-use Rattle.def_instr.specs.declared.Instr.TheVariants.{Lui, AuiPcc, AuiCgp, Jal, CJalr, Beq, Bne, Blt, Bge, Bltu, Bgeu, Lb, Lh, Lw, Clc, Lbu, Lhu, Sb, Sh, Sw, Csc, Addi, Slti, Sltiu, Xori, Ori, Andi, Slli, Srli, Srai, Add, Sub, Sll, Slt, Sltu, Xor, Srl, Sra, Or, And, Mul, Mulh, Mulhsu, Mulhu, Div, Divu, Rem, Remu, Fence, Ecall, Ebreak, Csr, CIncAddrImm, CSetBoundsImm, CSpecialRw, CSetBounds, CSetBoundsExact, CSeal, CUnseal, CAndPerm, CSetAddr, CIncAddr, CSub, CSetHigh, CTestSubset, CSetEqualExact, CGetPerm, CGetType, CGetBase, CGetLen, CGetTag, Crrl, Cram, CMove, CClearTag, CGetAddr, CGetHigh, CGetTop}
+use Rattle.def_instr.specs.declared.Instr.TheVariants.{Lb, Lh, Lw, Clc, Lbu, Lhu, Sb, Sh, Sw, Csc}
 use Rattle.def_instr.specs.declared.Fields.{Fields}
-use Rattle.def_instr.specs.Reading.{upper_of, jump_of, register_jump_of, branch_of, load_of, store_of, shift_of, immediate_of, base_of, alternate_of, multiply_of, register_of, fence_of, call_of, system_of, one_source_of, two_source_of, unnumbered_of, capability_of, instruction_of, instruction_in, cut_of, one_small, two_small, three_small, upper_immediate, jump_offset, signed_immediate, branch_offset, store_immediate, low_immediate}
+use Rattle.def_instr.specs.Reading.{upper_of, jump_of, register_jump_of, branch_of, load_of, store_of, shift_of, immediate_of, base_of, alternate_of, multiply_of, register_of, fence_of, call_of, system_of, one_source_of, two_source_of, unnumbered_of, capability_of, instruction_of, instruction_in, cut_of, one_small, two_small, three_small, signed_immediate, store_immediate}
 use Rattle.def_step.specs.Accesses.{access_of}
 
 abbrev pub IsSmall : Option Instr → Type 0

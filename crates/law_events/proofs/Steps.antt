@@ -6,7 +6,6 @@ use Rattle.def_words.specs.declared.Cap.{Cap}
 use Rattle.def_words.specs.declared.Trap.{Trap}
 use Rattle.def_words.specs.Authority.{cap_address}
 use Rattle.def_words.specs.Capability.{integer, raised}
-use Rattle.def_words.specs.Permissions.{has, execute}
 use Rattle.def_memory.specs.Granules.{plain}
 use Rattle.ct_entry.specs.declared.acts.Act.{Act}
 use Rattle.ct_entry.specs.declared.acts.Deed.{Deed}
@@ -15,17 +14,17 @@ use Rattle.def_instr.specs.Reading.{instruction_in}
 use Rattle.def_instr.specs.Results.{integer_result}
 use Rattle.def_capstep.specs.Results.{capability_result}
 use Rattle.def_reach.specs.Roots.{is_native}
-use Rattle.def_machine.specs.Image.{Image, root, made_cap}
-use Rattle.def_machine.specs.State.{State, thread, register}
+use Rattle.def_machine.specs.Image.{root, made_cap}
+use Rattle.def_machine.specs.State.{State, thread}
 use Rattle.def_step.specs.declared.Class.{Class}
 use Rattle.def_step.specs.declared.Class.TheVariants as class
 use Rattle.def_step.specs.declared.Next.{Next}
 use Rattle.def_step.specs.declared.Next.TheVariants.{Returning, Instruction, Nothing}
-use Rattle.def_step.specs.Checks.{first_failed, no_system_registers, illegal_instruction, breakpoint, environment_call}
+use Rattle.def_step.specs.Checks.{no_system_registers, illegal_instruction, breakpoint, environment_call}
 use Rattle.def_step.specs.Accesses.{Space, Accessed, access_of, access_checks, access_address, access_result, accessed, unless}
 use Rattle.def_step.specs.Jumps.{Flowed, flow_result}
 use Rattle.def_step.specs.Operands.{operands_of, class_of}
-use Rattle.def_step.specs.Instructions.{Board, Done, Around, carried_out, flows, accesses, around, space_of, deed, trapped, put_done, ends, operand, instructed, goes_on, after_fetch, executed, fetch_checks, fetched, next_at, next_word, return_entry, is_native_entry}
+use Rattle.def_step.specs.Instructions.{Board, Done, Around, carried_out, flows, accesses, around, space_of, deed, put_done, ends, operand, goes_on, after_fetch, executed, fetch_checks, fetched, next_at, next_word, return_entry, is_native_entry}
 use Rattle.def_board.specs.Wired.{Wired}
 use Rattle.def_confined.specs.Confined.{Confined}
 use Rattle.def_confined.specs.Partitioned.{Partitioned}
@@ -77,10 +76,10 @@ access_fair b s t k (Err w) f laws wired runs is e tells = trapped_fair b s t w 
 access_fair b s t k (Ok d) f laws wired runs is e tells =
     let here : Accesses b s t k d = record { parts = f.parts; wired = wired; held = f.held; running = runs; other = f.other; executes = f.fetched.executes; kind = is; done = e } in
     record {
-  confined = laws.confined b s t k d here;
-  licensed = act_licensed b s t (operand s t (operands_of k).first).shadow.root d.act (λ a acts. laws.licensed b s t k d a here acts);
-  ended = put_ended s t d (has_frames b.image s.objects t (thread s t).frames (thread s t).pcc (f.held.pcc t) f.fetched.tagged);
-}
+      confined = laws.confined b s t k d here;
+      licensed = act_licensed b s t (operand s t (operands_of k).first).shadow.root d.act (λ a acts. laws.licensed b s t k d a here acts);
+      ended = put_ended s t d (has_frames b.image s.objects t (thread s t).frames (thread s t).pcc (f.held.pcc t) f.fetched.tagged);
+    }
 
 -- ---- an instruction
 

@@ -1,26 +1,22 @@
 -- What an instruction that doesn't load may put in a register.
 use Rattle.std.proofs.Common.{ℕ, ◌≡◌, true, false, Some, refl, sym, ◌∙◌, arith}
 use Rattle.def_words.specs.declared.Cap.{Cap}
-use Rattle.def_words.specs.Authority.{word_of, cap_address, cap_high, cap_base, cap_top}
-use Rattle.def_words.specs.LeastBounds.{round_length_of, align_mask_of}
-use Rattle.def_words.specs.Permissions.{cap_perms}
-use Rattle.def_words.specs.Seals.{cap_seal}
-use Rattle.def_words.specs.Capability.{cap_of, nowhere, integer, untagged, raised, with_address, with_bounds, with_exact_bounds, masked, sealed_by, unsealed_by, is_subset, is_same}
+use Rattle.def_words.specs.Authority.{cap_address}
+use Rattle.def_words.specs.Capability.{raised, with_address, with_bounds, with_exact_bounds, masked, sealed_by, unsealed_by}
 use Rattle.def_instr.specs.declared.Instr.{Instr}
 use Rattle.def_instr.specs.declared.Instr.TheVariants.{Lui, AuiPcc, AuiCgp, Jal, CJalr, Beq, Bne, Blt, Bge, Bltu, Bgeu, Lb, Lh, Lw, Clc, Lbu, Lhu, Sb, Sh, Sw, Csc, Addi, Slti, Sltiu, Xori, Ori, Andi, Slli, Srli, Srai, Add, Sub, Sll, Slt, Sltu, Xor, Srl, Sra, Or, And, Mul, Mulh, Mulhsu, Mulhu, Div, Divu, Rem, Remu, Fence, Ecall, Ebreak, Csr, CIncAddrImm, CSetBoundsImm, CSpecialRw, CSetBounds, CSetBoundsExact, CSeal, CUnseal, CAndPerm, CSetAddr, CIncAddr, CSub, CSetHigh, CTestSubset, CSetEqualExact, CGetPerm, CGetType, CGetBase, CGetLen, CGetTag, Crrl, Cram, CMove, CClearTag, CGetAddr, CGetHigh, CGetTop}
-use Rattle.def_instr.specs.Results.{truth}
-use Rattle.def_capstep.specs.Results.{capability_result, upper_offset, capped, cap_length}
+use Rattle.def_capstep.specs.Results.{capability_result, upper_offset}
 use Rattle.def_reach.specs.Roots.{is_native}
 use Rattle.def_machine.specs.Image.{Image, root}
 use Rattle.def_machine.specs.State.{State, thread, register}
-use Rattle.def_confined.specs.Capabilities.{Rooted, Kept}
+use Rattle.def_confined.specs.Capabilities.{Kept}
 use Rattle.def_confined.specs.Places.{InFrames, HasLive}
 use Rattle.def_confined.specs.Confined.{Confined}
 use Rattle.def_confined.specs.Partitioned.{Partitioned}
 use Rattle.def_confined.specs.Made.{Derived}
 use Rattle.law_places.proofs.Places.{plain_in}
 use Rattle.law_places.proofs.Puts.{plain_kept}
-use Rattle.law_registers.proofs.Derives.{Bound, kept_bound, derived_in, derived_kept, live_derived, pcc_live}
+use Rattle.law_registers.proofs.Derives.{kept_bound, derived_in, derived_kept, live_derived, pcc_live}
 use Rattle.law_registers.proofs.Moves.{not_native_bound, not_native_kept}
 use Rattle.law_jumps.proofs.Moves.{in_rooted}
 use Rattle.law_made.proofs.Results.{address_derived, raised_derived, bounds_derived, exact_derived, masked_derived, sealed_derived, unsealed_derived}

@@ -1,5 +1,5 @@
 -- What the laws of events take of loads and stores that are carried out.
-use Rattle.std.specs.Prelude.{ℕ, ◌≡◌, true, false, Option, Some, Result, Ok}
+use Rattle.std.specs.Prelude.{ℕ, ◌≡◌, true, false, Some, Ok}
 use Rattle.ct_entry.specs.declared.acts.Act.{Act}
 use Rattle.def_words.specs.Permissions.{has, execute}
 use Rattle.def_instr.specs.declared.Instr.{Instr}
