@@ -3,9 +3,11 @@
 #![tactic(auto)]
 
 ghost use Rattle.std.specs.Prelude.{◌≡◌, ℕ, Option, Some};
+ghost use Rattle.ct_entry.specs.Listed.{FirmwareRow};
 ghost use Rattle.ct_entry.specs.declared.acts.Deed.{Deed};
 ghost use Rattle.ct_entry.specs.declared.acts.Owned.{Owned};
 ghost use Rattle.def_machine.specs.State.{State};
+ghost use Rattle.def_step.specs.Boot.{boot_state};
 ghost use Rattle.def_step.specs.declared.Event.{Event};
 ghost use Rattle.def_step.specs.Instructions.{Board};
 ghost use Rattle.def_step.specs.Events.{happens};
@@ -24,6 +26,11 @@ pub fn events_confined()
 /// No event leaves a thread that has no frames with interrupts off.
 pub fn events_end_on()
     ensures { AccessesKeep → (b : Board) (s : State) (e : Event) → Partitioned b.image → Wired b → Confined b.image s → EndedOn s → EndedOn (happens b s e).0 }
+{}
+
+/// Nor does boot.
+pub fn boot_ends_on()
+    ensures { (f : FirmwareRow) → EndedOn (boot_state f) }
 {}
 
 /// The deed of an event, and the span with interrupts off that begins with it, are licensed. Of spans
