@@ -21,7 +21,6 @@ use Rattle.law_turns.proofs.Moves.{pick_confined, clock_confined}
 use Rattle.law_licensed.proofs.Deeds.{off_licensed}
 use Rattle.def_confined.specs.Holding.{EndedOn}
 use Rattle.law_events.proofs.Fairness.{Fair, IsOn, some_same, none_licensed}
-use Rattle.law_events.specs.Accessing.{AccessesKeep}
 use Rattle.law_events.proofs.Steps.{executed_fair}
 
 -- ---- who runs, and the clockwork
@@ -94,17 +93,17 @@ noted_fair b s r f = record {
   ended = f.ended;
 }
 
-continued_fair : (b : Board) (s : State) (o : Option ℕ) → AccessesKeep → s.running ≡ o → Partitioned b.image → Wired b → Confined b.image s → Fair b s (continued b s o)
-continued_fair b s None laws runs parts wired h = record { confined = h; licensed = none_licensed b; ended = λ e. e }
-continued_fair b s (Some t) laws runs parts wired h = noted_fair b s (executed b s t) (executed_fair b s t parts wired h runs laws)
+continued_fair : (b : Board) (s : State) (o : Option ℕ) → s.running ≡ o → Partitioned b.image → Wired b → Confined b.image s → Fair b s (continued b s o)
+continued_fair b s None runs parts wired h = record { confined = h; licensed = none_licensed b; ended = λ e. e }
+continued_fair b s (Some t) runs parts wired h = noted_fair b s (executed b s t) (executed_fair b s t parts wired h runs)
 
-stepped_fair : (b : Board) (s : State) → AccessesKeep → Partitioned b.image → Wired b → Confined b.image s → Fair b s (stepped b s)
-stepped_fair b s laws parts wired h =
+stepped_fair : (b : Board) (s : State) → Partitioned b.image → Wired b → Confined b.image s → Fair b s (stepped b s)
+stepped_fair b s parts wired h =
     let counted = clock_kept b s (record (clock_of s) { counts = record s.counts { steps = s.counts.steps + 1 } }) h in
     let before = preempted_kept b (one_more_step s) (one_more_step s).running counted.confined in
     let chosen_one = picked_kept b (preempted (one_more_step s)) (preempted (one_more_step s)).running parts before.confined in
     let here = scheduled b (preempted (one_more_step s)) in
-    let runs = continued_fair b (scheduled b (preempted (one_more_step s))) (scheduled b (preempted (one_more_step s))).running laws refl parts wired chosen_one.confined in
+    let runs = continued_fair b (scheduled b (preempted (one_more_step s))) (scheduled b (preempted (one_more_step s))).running refl parts wired chosen_one.confined in
     record { confined = runs.confined; licensed = runs.licensed; ended = λ e. runs.ended (chosen_one.ended (before.ended (counted.ended e))) }
 
 -- ---- a tick
@@ -149,13 +148,13 @@ spans_fit b before after o wired h on = begun_fits b after (holder before) (hold
 
 -- ---- an event
 
-event_fair : (b : Board) (s : State) (e : Event) → AccessesKeep → Partitioned b.image → Wired b → Confined b.image s → Fair b s ((happens b s e).0, (happens b s e).1.deed)
-event_fair b s Step laws parts wired h = stepped_fair b s laws parts wired h
-event_fair b s Tick laws parts wired h =
+event_fair : (b : Board) (s : State) (e : Event) → Partitioned b.image → Wired b → Confined b.image s → Fair b s ((happens b s e).0, (happens b s e).1.deed)
+event_fair b s Step parts wired h = stepped_fair b s parts wired h
+event_fair b s Tick parts wired h =
     let counted = clock_kept b s (record (clock_of s) { time = s.time + 1; counts = record s.counts { ticks = s.counts.ticks + 1 } }) h in
     let after = ticked_kept b (record s { time = s.time + 1; counts = record s.counts { ticks = s.counts.ticks + 1 } }) s.running counted.confined in
     record { confined = after.confined; licensed = none_licensed b; ended = λ on. after.ended (counted.ended on) }
-event_fair b s (Input n byte) laws parts wired h =
+event_fair b s (Input n byte) parts wired h =
     let after = clock_kept b s (record (clock_of s) { devices = slice_set s.devices n (after_input (device s.devices n) byte); counts = record s.counts { inputs = s.counts.inputs + 1 } }) h in
     record { confined = after.confined; licensed = none_licensed b; ended = after.ended }
 
@@ -166,14 +165,14 @@ event_span b s (Input n byte) o wired h on is = spans_fit b s (received s n byte
 
 -- ---- the laws
 
-pub event_confined : AccessesKeep → (b : Board) (s : State) (e : Event) → Partitioned b.image → Wired b → Confined b.image s → Confined b.image (happens b s e).0
-event_confined laws b s e parts wired h = (event_fair b s e laws parts wired h).confined
+pub event_confined : (b : Board) (s : State) (e : Event) → Partitioned b.image → Wired b → Confined b.image s → Confined b.image (happens b s e).0
+event_confined b s e parts wired h = (event_fair b s e parts wired h).confined
 
-pub event_ended : AccessesKeep → (b : Board) (s : State) (e : Event) → Partitioned b.image → Wired b → Confined b.image s → EndedOn s → EndedOn (happens b s e).0
-event_ended laws b s e parts wired h = (event_fair b s e laws parts wired h).ended
+pub event_ended : (b : Board) (s : State) (e : Event) → Partitioned b.image → Wired b → Confined b.image s → EndedOn s → EndedOn (happens b s e).0
+event_ended b s e parts wired h = (event_fair b s e parts wired h).ended
 
-pub deed_licensed : AccessesKeep → (b : Board) (s : State) (e : Event) (d : Deed) → Partitioned b.image → Wired b → Confined b.image s → (happens b s e).1.deed ≡ Some d → Licensed b.image.entries d
-deed_licensed laws b s e d parts wired h is = (event_fair b s e laws parts wired h).licensed d is
+pub deed_licensed : (b : Board) (s : State) (e : Event) (d : Deed) → Partitioned b.image → Wired b → Confined b.image s → (happens b s e).1.deed ≡ Some d → Licensed b.image.entries d
+deed_licensed b s e d parts wired h is = (event_fair b s e parts wired h).licensed d is
 
-pub span_licensed : AccessesKeep → (b : Board) (s : State) (e : Event) (o : Owned) → Partitioned b.image → Wired b → Confined b.image s → EndedOn s → (happens b s e).1.off ≡ Some o → OffLicensed b.image.entries o
-span_licensed laws b s e o parts wired h on is = event_span b s e o wired (event_confined laws b s e parts wired h) (event_ended laws b s e parts wired h on) is
+pub span_licensed : (b : Board) (s : State) (e : Event) (o : Owned) → Partitioned b.image → Wired b → Confined b.image s → EndedOn s → (happens b s e).1.off ≡ Some o → OffLicensed b.image.entries o
+span_licensed b s e o parts wired h on is = event_span b s e o wired (event_confined b s e parts wired h) (event_ended b s e parts wired h on) is

@@ -30,7 +30,7 @@ use Rattle.def_confined.specs.Confined.{Confined}
 use Rattle.def_confined.specs.Partitioned.{Partitioned}
 use Rattle.def_confined.specs.Licensed.{Licensed}
 use Rattle.law_jumps.proofs.Moves.{in_rooted}
-use Rattle.law_events.specs.Accessing.{Accesses, AccessesKeep}
+use Rattle.law_events.proofs.Accesses.{access_laws}
 use Rattle.law_events.proofs.Values.{Puts, untagged_puts, result_puts}
 use Rattle.law_events.proofs.Checking.{MayTell, Fetched, by_checks, access_tells, counter_tells, plain_tells, fetch_tells, fetch_passes}
 use Rattle.law_events.proofs.Smalls.{IsSmall, read_small}
@@ -70,38 +70,38 @@ act_licensed : (b : Board) (s : State) (t entry : ℕ) (o : Option Act) → ((a 
 act_licensed b s t entry None h d e = none_licensed b d e
 act_licensed b s t entry (Some a) h d e = some_same (Licensed b.image.entries) (deed s t entry a) d e (h a refl)
 
-access_fair : (b : Board) (s : State) (t : ℕ) (k : Instr) (r : Result Done Trap) → Fetching b.image s t → AccessesKeep → Wired b → s.running ≡ Some t → class_of k ≡ class.Access
+access_fair : (b : Board) (s : State) (t : ℕ) (k : Instr) (r : Result Done Trap) → Fetching b.image s t → Wired b → s.running ≡ Some t
     → carried_out class.Access k (operands_of k).to (operand s t (operands_of k).first) (operand s t (operands_of k).second) (around b s t) ≡ r → ErrTells r → Fair b s (ends b s t (operand s t (operands_of k).first) r)
-access_fair b s t k (Err w) f laws wired runs is e tells = trapped_fair b s t w f.parts f.held tells
-access_fair b s t k (Ok d) f laws wired runs is e tells =
-    let here : Accesses b s t k d = record { parts = f.parts; wired = wired; held = f.held; running = runs; other = f.other; executes = f.fetched.executes; kind = is; done = e } in
+access_fair b s t k (Err w) f wired runs e tells = trapped_fair b s t w f.parts f.held tells
+access_fair b s t k (Ok d) f wired runs e tells =
+    let laws = access_laws b s t k wired f runs in
     record {
-      confined = laws.confined b s t k d here;
-      licensed = act_licensed b s t (operand s t (operands_of k).first).shadow.root d.act (λ a acts. laws.licensed b s t k d a here acts);
+      confined = laws.confined d e;
+      licensed = act_licensed b s t (operand s t (operands_of k).first).shadow.root d.act (λ a acts. laws.licensed d a e acts);
       ended = put_ended s t d (has_frames b.image s.objects t (thread s t).frames (thread s t).pcc (f.held.pcc t) f.fetched.tagged);
     }
 
 -- ---- an instruction
 
-class_fair : (b : Board) (s : State) (t : ℕ) (k : Instr) (c : Class) → class_of k ≡ c → Wired b → s.running ≡ Some t → Fetching b.image s t → (access_of k).by < 16 → AccessesKeep
+class_fair : (b : Board) (s : State) (t : ℕ) (k : Instr) (c : Class) → class_of k ≡ c → Wired b → s.running ≡ Some t → Fetching b.image s t → (access_of k).by < 16
     → Fair b s (ends b s t (operand s t (operands_of k).first) (carried_out c k (operands_of k).to (operand s t (operands_of k).first) (operand s t (operands_of k).second) (around b s t)))
-class_fair b s t k class.Integer e wired runs f small laws =
+class_fair b s t k class.Integer e wired runs f small =
     gives_fair b s t (operands_of k).to (integer (integer_result k (cap_address (operand s t (operands_of k).first)) (cap_address (operand s t (operands_of k).second)))) f (untagged_puts b.image s t _ refl)
-class_fair b s t k class.Capability e wired runs f small laws =
+class_fair b s t k class.Capability e wired runs f small =
     gives_fair b s t (operands_of k).to (capability_result k (operand s t (operands_of k).first) (operand s t (operands_of k).second) (thread s t).pcc) f
     (result_puts b.image s t (operands_of k).first (operands_of k).second k f.parts f.held runs f.other)
-class_fair b s t k class.System e wired runs f small laws = trapped_fair b s t _ f.parts f.held (counter_tells no_system_registers (inr (inr (inr (inr refl)))))
-class_fair b s t k class.Jump e wired runs f small laws =
+class_fair b s t k class.System e wired runs f small = trapped_fair b s t _ f.parts f.held (counter_tells no_system_registers (inr (inr (inr (inr refl)))))
+class_fair b s t k class.Jump e wired runs f small =
     flow_fair b s t (operands_of k).to (operand s t (operands_of k).first) (flow_result k (operand s t (operands_of k).first) (operand s t (operands_of k).second) (thread s t).pcc (thread s t).posture 0) f
     (flow_fits b s t (operands_of k).first (operands_of k).second k wired f e refl)
-class_fair b s t k class.Access e wired runs f small laws =
-    access_fair b s t k _ f laws wired runs e refl
+class_fair b s t k class.Access e wired runs f small =
+    access_fair b s t k _ f wired runs refl
     (accesses_tell (around b s t) (operands_of k).to (access_result k (operand s t (operands_of k).first) (operand s t (operands_of k).second) (space_of b s))
     (result_tells k (operand s t (operands_of k).first) (operand s t (operands_of k).second) (space_of b s) small))
-class_fair b s t k class.Fence e wired runs f small laws = gives_fair b s t 0 (plain 0) f (untagged_puts b.image s t (plain 0) refl)
-class_fair b s t k class.Call e wired runs f small laws = trapped_fair b s t _ f.parts f.held (plain_tells environment_call (inr (inr (inr (inr (inr refl))))))
-class_fair b s t k class.Break e wired runs f small laws = trapped_fair b s t _ f.parts f.held (plain_tells breakpoint (inr (inr (inl refl))))
-class_fair b s t k class.Absent e wired runs f small laws = trapped_fair b s t _ f.parts f.held (plain_tells illegal_instruction (inr (inl refl)))
+class_fair b s t k class.Fence e wired runs f small = gives_fair b s t 0 (plain 0) f (untagged_puts b.image s t (plain 0) refl)
+class_fair b s t k class.Call e wired runs f small = trapped_fair b s t _ f.parts f.held (plain_tells environment_call (inr (inr (inr (inr (inr refl))))))
+class_fair b s t k class.Break e wired runs f small = trapped_fair b s t _ f.parts f.held (plain_tells breakpoint (inr (inr (inl refl))))
+class_fair b s t k class.Absent e wired runs f small = trapped_fair b s t _ f.parts f.held (plain_tells illegal_instruction (inr (inl refl)))
 
 -- ---- what stands at the program counter
 
@@ -128,19 +128,19 @@ not_native b s t wired h tagged away = elim (bool_tells (is_native (root b.image
   | inr other ↦ other
 ]
 
-next_fair : (b : Board) (s : State) (t : ℕ) (n : Next) → next_at (space_of b s) (cap_address (thread s t).pcc) ≡ n → Partitioned b.image → Wired b → Confined b.image s → s.running ≡ Some t → Fetched (thread s t).pcc → AccessesKeep → Fair b s (goes_on b s t n)
-next_fair b s t Returning e parts wired h runs f laws = returned_fair b s t parts h
-next_fair b s t Nothing e parts wired h runs f laws = trapped_fair b s t _ parts h (plain_tells illegal_instruction (inr (inl refl)))
-next_fair b s t (Instruction k) e parts wired h runs f laws =
+next_fair : (b : Board) (s : State) (t : ℕ) (n : Next) → next_at (space_of b s) (cap_address (thread s t).pcc) ≡ n → Partitioned b.image → Wired b → Confined b.image s → s.running ≡ Some t → Fetched (thread s t).pcc → Fair b s (goes_on b s t n)
+next_fair b s t Returning e parts wired h runs f = returned_fair b s t parts h
+next_fair b s t Nothing e parts wired h runs f = trapped_fair b s t _ parts h (plain_tells illegal_instruction (inr (inl refl)))
+next_fair b s t (Instruction k) e parts wired h runs f =
     let stands = stands_at (space_of b s) (cap_address (thread s t).pcc) k e in
     let other = not_native b s t wired h f.tagged stands.away in
     let small : IsSmall (Some k) = subst IsSmall stands.read (read_small (fetched (space_of b s) (cap_address (thread s t).pcc))) in
-    class_fair b s t k (class_of k) refl wired runs (record { parts = parts; held = h; fetched = f; other = other }) small laws
+    class_fair b s t k (class_of k) refl wired runs (record { parts = parts; held = h; fetched = f; other = other }) small
 
-pub executed_fair : (b : Board) (s : State) (t : ℕ) → Partitioned b.image → Wired b → Confined b.image s → s.running ≡ Some t → AccessesKeep → Fair b s (executed b s t)
+pub executed_fair : (b : Board) (s : State) (t : ℕ) → Partitioned b.image → Wired b → Confined b.image s → s.running ≡ Some t → Fair b s (executed b s t)
 unfolding executed
-executed_fair b s t parts wired h runs laws = by_checks (λ o. Fair b s (after_fetch b s t o))
+executed_fair b s t parts wired h runs = by_checks (λ o. Fair b s (after_fetch b s t o))
     (fetch_checks (thread s t).pcc)
     (fetch_tells (thread s t).pcc)
     (λ w tells. trapped_fair b s t w parts h tells)
-    (λ passes. next_fair b s t (next_at (space_of b s) (cap_address (thread s t).pcc)) refl parts wired h runs (fetch_passes (thread s t).pcc passes) laws)
+    (λ passes. next_fair b s t (next_at (space_of b s) (cap_address (thread s t).pcc)) refl parts wired h runs (fetch_passes (thread s t).pcc passes))

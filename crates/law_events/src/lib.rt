@@ -16,16 +16,15 @@ ghost use Rattle.def_confined.specs.Confined.{Confined};
 ghost use Rattle.def_confined.specs.Partitioned.{Partitioned};
 ghost use Rattle.def_confined.specs.Licensed.{Licensed, OffLicensed};
 ghost use Rattle.def_confined.specs.Holding.{EndedOn};
-ghost use Rattle.law_events.specs.Accessing.{AccessesKeep};
 
-/// Every event keeps a state confined, lawful or not, by what is taken of loads and stores.
+/// Every event keeps a state confined, lawful or not.
 pub fn events_confined()
-    ensures { AccessesKeep → (b : Board) (s : State) (e : Event) → Partitioned b.image → Wired b → Confined b.image s → Confined b.image (happens b s e).0 }
+    ensures { (b : Board) (s : State) (e : Event) → Partitioned b.image → Wired b → Confined b.image s → Confined b.image (happens b s e).0 }
 {}
 
 /// No event leaves a thread that has no frames with interrupts off.
 pub fn events_end_on()
-    ensures { AccessesKeep → (b : Board) (s : State) (e : Event) → Partitioned b.image → Wired b → Confined b.image s → EndedOn s → EndedOn (happens b s e).0 }
+    ensures { (b : Board) (s : State) (e : Event) → Partitioned b.image → Wired b → Confined b.image s → EndedOn s → EndedOn (happens b s e).0 }
 {}
 
 /// Nor does boot.
@@ -36,6 +35,6 @@ pub fn boot_ends_on()
 /// The deed of an event, and the span with interrupts off that begins with it, are licensed. Of spans
 /// this needs that no thread without frames holds interrupts off: picked, it would hold them by any source.
 pub fn events_licensed()
-    ensures deeds { AccessesKeep → (b : Board) (s : State) (e : Event) (d : Deed) → Partitioned b.image → Wired b → Confined b.image s → (happens b s e).1.deed ≡ Some d → Licensed b.image.entries d }
-    ensures spans { AccessesKeep → (b : Board) (s : State) (e : Event) (o : Owned) → Partitioned b.image → Wired b → Confined b.image s → EndedOn s → (happens b s e).1.off ≡ Some o → OffLicensed b.image.entries o }
+    ensures deeds { (b : Board) (s : State) (e : Event) (d : Deed) → Partitioned b.image → Wired b → Confined b.image s → (happens b s e).1.deed ≡ Some d → Licensed b.image.entries d }
+    ensures spans { (b : Board) (s : State) (e : Event) (o : Owned) → Partitioned b.image → Wired b → Confined b.image s → EndedOn s → (happens b s e).1.off ≡ Some o → OffLicensed b.image.entries o }
 {}

@@ -12,19 +12,18 @@ ghost use Rattle.def_confined.specs.Confined.{Confined};
 ghost use Rattle.def_confined.specs.Partitioned.{Partitioned};
 ghost use Rattle.def_confined.specs.Holding.{EndedOn};
 ghost use Rattle.def_confined.specs.Telling.{AllLicensed};
-ghost use Rattle.law_events.specs.Accessing.{AccessesKeep};
 
 /// Any list of events, lawful or not, keeps a state confined.
 pub fn runs_confined()
-    ensures { AccessesKeep → (b : Board) (s : State) (es : List Event) → Partitioned b.image → Wired b → Confined b.image s → Confined b.image (run b s es) }
+    ensures { (b : Board) (s : State) (es : List Event) → Partitioned b.image → Wired b → Confined b.image s → Confined b.image (run b s es) }
 {}
 
 /// No list of events leaves a thread that has no frames with interrupts off.
 pub fn runs_end_on()
-    ensures { AccessesKeep → (b : Board) (s : State) (es : List Event) → Partitioned b.image → Wired b → Confined b.image s → EndedOn s → EndedOn (run b s es) }
+    ensures { (b : Board) (s : State) (es : List Event) → Partitioned b.image → Wired b → Confined b.image s → EndedOn s → EndedOn (run b s es) }
 {}
 
 /// Each deed, and each span with interrupts off, that a list of events tells is licensed.
 pub fn runs_licensed()
-    ensures { AccessesKeep → (b : Board) (s : State) (es : List Event) → Partitioned b.image → Wired b → Confined b.image s → EndedOn s → AllLicensed b.image.entries (told b s es) }
+    ensures { (b : Board) (s : State) (es : List Event) → Partitioned b.image → Wired b → Confined b.image s → EndedOn s → AllLicensed b.image.entries (told b s es) }
 {}
