@@ -4,3 +4,6 @@ pub mod Rounding
 pub mod Tables
 pub mod Where
 pub mod Granules
+pub mod Roots
+pub mod Boots
+pub mod Regions

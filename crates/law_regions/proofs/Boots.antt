@@ -1,0 +1,137 @@
+-- What stands at an address of a lawful firmware at boot: a capability for a slot in its compartment's code, for
+-- the head of an export table, the return sentry at the trusted region's base; else nothing that is tagged.
+use Rattle.std.proofs.Common.{ℕ, zero, suc, ◌≡◌, ◌+◌, ◌-◌, ◌*◌, ◌≤◌, ◌<◌, ◌⊎◌, inl, inr, ◌&&◌, Bool, true, false, not, cond, nat_eq, List, [], ◌∷◌, map, length, Option, Some, None, slice_get, refl, sym, ap, ◌∙◌, subst, arith}
+use Rattle.std.proofs.lemmas.Option.{slice_get_within}
+use Rattle.law_lists.proofs.Tests.{bool_tells, eq_tells, both_left, both_right}
+use Rattle.def_words.specs.declared.Cap.{Cap}
+use Rattle.def_memory.specs.Granules.{plain}
+use Rattle.ct_entry.specs.Listed.{FirmwareRow}
+use Rattle.ct_entry.specs.declared.rows.Entry.{Entry}
+use Rattle.ct_entry.specs.declared.rows.Owner.{Owner}
+use Rattle.ct_entry.specs.declared.rows.Owner.TheVariants.{Compartment}
+use Rattle.ct_entry.specs.declared.rows.Kind.{Kind}
+use Rattle.ct_entry.specs.declared.rows.Kind.TheVariants as kind
+use Rattle.def_reach.specs.Roots.{Root, root_of, gate_for, listed_root, no_root, trusted_root}
+use Rattle.def_machine.specs.Image.{Fixed}
+use Rattle.def_step.specs.Firmware.{IsLawfulFirmware, Share, DeviceImport, code_length, table_length, text_offset, code_row, globals_row, switch_row, device_row, stack_row}
+use Rattle.def_step.specs.Boot.{first_number, slot_number, is_slot_kind, is_slot_at, head_from, head_number, code_number, globals_number, boot_cap, boot_word, made_for, return_sentry, region_at}
+use Rattle.law_entries.specs.Rows.{HasRow, HasShare, EntryIs, is_nothing, is_trusted, is_code, is_globals, is_switch, is_import, is_export, is_stack, export_row, export_place}
+use Rattle.law_entries.proofs.Numbers.{first_passes}
+use Rattle.law_entries.proofs.Entries.{entry_of, share_of}
+use Rattle.law_regions.specs.Held.{IsIn, Place, CodeOf, TableOf, GlobalsOf, StackOf, TrustedPlace, Held}
+use Rattle.law_regions.proofs.Apart.{each_at}
+use Rattle.law_regions.proofs.Roots.{root_of_row, one_kind, one_owner}
+use Rattle.law_regions.proofs.Where.{place_region, sentry_region}
+
+-- a slot's row: the switch, or an import of a device
+abbrev pub IsSlot : FirmwareRow → ℕ → Share → ℕ → Type 0
+IsSlot f b c n = HasRow f n (switch_row b) ⊎ ((j : ℕ) × (d : DeviceImport) × (slice_get c.imports j ≡ Some d) × HasRow f n (device_row b d))
+
+pub data BootIs (f : FirmwareRow) (cs : List Share) (x : ℕ) (c : Cap) : Type 0 where
+  boot_slot : (b : ℕ) (s : Share) (n : ℕ) → HasShare f cs b s → IsIn s.code (code_length s) x → IsSlot f b s n → c ≡ made_for f n → BootIs f cs x c
+  boot_code : (b : ℕ) (s : Share) → HasShare f cs b s → IsIn s.table (table_length s) x → c ≡ made_for f (code_number f b) → BootIs f cs x c
+  boot_globals : (b : ℕ) (s : Share) → HasShare f cs b s → IsIn s.table (table_length s) x → c ≡ made_for f (globals_number f b) → BootIs f cs x c
+  boot_sentry : f.trusted ≡ x → c ≡ return_sentry → BootIs f cs x c
+  boot_plain : c.tag ≡ false → BootIs f cs x c
+
+-- ---- slots
+
+abbrev slot_passes : FirmwareRow → ℕ → ℕ → Entry → Bool
+slot_passes f x n r = is_slot_kind r.kind && is_slot_at f x n r.owner
+
+no_slot : (f : FirmwareRow) (x n : ℕ) (r q : Entry) → root_of f.entries n ≡ listed_root (Some r) (gate_for f.entries.gates n) → HasRow f n q → is_slot_kind q.kind ≡ false → is_slot_kind r.kind ≡ true → ⊥
+no_slot f x n r q a row none is =
+    let same : is_slot_kind r.kind ≡ is_slot_kind q.kind = ap is_slot_kind (one_kind f n r q a row) in
+    let clash : true ≡ false = sym is ∙ same ∙ none in cc
+
+-- a slot of this owner is at an address in its code
+slot_there : (f : FirmwareRow) (cs : List Share) (x n b k : ℕ) (c : Share) (r : Entry) → HasShare f cs b c → r.owner ≡ Compartment b → is_slot_at f x n r.owner ≡ true → n ≡ code_number f b + 2 + k → k ≤ length c.imports → IsIn c.code (code_length c) x
+slot_there f cs x n b k c r has owner passes number few =
+    let P : Owner → Type 0 = λ o. is_slot_at f x n o ≡ true in
+    let here : nat_eq ((root_of f.entries (code_number f b)).base + 8 * (n - (code_number f b + 2))) x ≡ true = subst P owner passes in
+    let base : (root_of f.entries (code_number f b)).base ≡ c.code = ap (λ (z : Root). z.base) has.code.root_is in
+    let e : (root_of f.entries (code_number f b)).base + 8 * (n - (code_number f b + 2)) ≡ x = elim (eq_tells ((root_of f.entries (code_number f b)).base + 8 * (n - (code_number f b + 2))) x) [
+      | inl is ↦ is.1
+      | inr other ↦ absurd (let clash : true ≡ false = sym here ∙ other.0 in cc)
+    ] in
+    (omega (arith, base, e, number), omega (arith, base, e, number, few))
+
+by_slot : (f : FirmwareRow) (h : IsLawfulFirmware f) (x n m : ℕ) (r : Entry) (c : Cap) → n ≡ suc m → slice_get f.entries.rows m ≡ Some r → is_slot_kind r.kind ≡ true → is_slot_at f x n r.owner ≡ true → c ≡ made_for f n → EntryIs f h.shares h.stacks n → BootIs f h.shares x c
+by_slot f h x n m r c number there slot passes is (is_nothing e made) =
+    absurd (let same : listed_root (Some r) (gate_for f.entries.gates n) ≡ no_root = sym (root_of_row f m n r number there) ∙ e in let clash = ap (λ (z : Root). z.origin) same in cc)
+by_slot f h x n m r c number there slot passes is (is_trusted e root made) = absurd (omega (arith, e, number))
+by_slot f h x n m r c number there slot passes is (is_code b s has e row) = absurd (no_slot f x n r (code_row b s) (root_of_row f m n r number there) row refl slot)
+by_slot f h x n m r c number there slot passes is (is_globals b s has e row) = absurd (no_slot f x n r (globals_row b s) (root_of_row f m n r number there) row refl slot)
+by_slot f h x n m r c number there slot passes is (is_switch b s has e row) =
+    boot_slot b s n has (slot_there f h.shares x n b 0 s r has (one_owner f n r (switch_row b) (root_of_row f m n r number there) row) passes (omega (arith, e)) (omega arith)) (inl row) is
+by_slot f h x n m r c number there slot passes is (is_import b s j d has at e row) =
+    let few : j < length s.imports = slice_get_within s.imports j d at in
+    boot_slot b s n has (slot_there f h.shares x n b (1 + j) s r has (one_owner f n r (device_row b d) (root_of_row f m n r number there) row) passes (omega (arith, e)) (omega (arith, few))) (inr (j, d, at, row)) is
+by_slot f h x n m r c number there slot passes is (is_export e) = absurd (no_slot f x n r (export_row e.index (export_place e.share e.which)) (root_of_row f m n r number there) e.row refl slot)
+by_slot f h x n m r c number there slot passes is (is_stack t s has e row) = absurd (no_slot f x n r (stack_row t s) (root_of_row f m n r number there) row refl slot)
+
+-- ---- heads
+
+data HeadIs (f : FirmwareRow) (ds : List Share) (a x n : ℕ) : Type 0 where
+  no_head : n ≡ 0 → HeadIs f ds a x n
+  head_code : (j : ℕ) (c : Share) → slice_get ds j ≡ Some c → c.table ≡ x → n ≡ code_number f (a + j) → HeadIs f ds a x n
+  head_globals : (j : ℕ) (c : Share) → slice_get ds j ≡ Some c → c.table + 8 ≡ x → n ≡ globals_number f (a + j) → HeadIs f ds a x n
+
+further : (f : FirmwareRow) (d : Share) (ds : List Share) (a x n : ℕ) → HeadIs f ds (a + 1) x n → HeadIs f (d ∷ ds) a x n
+further f d ds a x n (no_head e) = no_head e
+further f d ds a x n (head_code j c is at e) = let next : (a + 1) + j ≡ a + suc j = omega arith in head_code (suc j) c is at (e ∙ ap (code_number f) next)
+further f d ds a x n (head_globals j c is at e) = let next : (a + 1) + j ≡ a + suc j = omega arith in head_globals (suc j) c is at (e ∙ ap (globals_number f) next)
+
+heads_tell : (f : FirmwareRow) (ds : List Share) (a x : ℕ) → HeadIs f ds a x (head_from f x a (map (λ (c : Share). c.table) ds))
+heads_tell f [] a x = no_head refl
+heads_tell f (d ∷ ds) a x =
+    let same : a ≡ a + 0 = omega arith in
+    elim (eq_tells d.table x) [
+      | inl is ↦ rw is.0 (head_code 0 d refl is.1 (ap (code_number f) same))
+      | inr other ↦ elim (eq_tells (d.table + 8) x) [
+        | inl is ↦ rw (other.0, is.0) (head_globals 0 d refl is.1 (ap (globals_number f) same))
+        | inr neither ↦ rw (other.0, neither.0) (further f d ds a x (head_from f x (a + 1) (map (λ (c : Share). c.table) ds)) (heads_tell f ds (a + 1) x))
+      ]
+    ]
+
+by_head : (f : FirmwareRow) (h : IsLawfulFirmware f) (x n : ℕ) (c : Cap) → (n ≡ 0 → ⊥) → c ≡ made_for f n → HeadIs f h.shares 0 x n → BootIs f h.shares x c
+by_head f h x n c some is (no_head e) = absurd (some e)
+by_head f h x n c some is (head_code j s there at e) =
+    let same : 0 + j ≡ j = omega arith in
+    boot_code j s (share_of f h j s there) (omega (arith, at), omega (arith, at)) (is ∙ ap (made_for f) (e ∙ ap (code_number f) same))
+by_head f h x n c some is (head_globals j s there at e) =
+    let same : 0 + j ≡ j = omega arith in
+    boot_globals j s (share_of f h j s there) (omega (arith, at), omega (arith, at)) (is ∙ ap (made_for f) (e ∙ ap (globals_number f) same))
+
+-- ---- whole
+
+pub boot_is : (f : FirmwareRow) (h : IsLawfulFirmware f) (x : ℕ) → BootIs f h.shares x (boot_cap f x)
+boot_is f h x = elim (eq_tells (slot_number f x) 0) [
+  | inl none ↦ elim (eq_tells (head_number f x) 0) [
+    | inl no_head_there ↦ elim (eq_tells f.trusted x) [
+      | inl is ↦ rw (none.0, no_head_there.0, is.0) (boot_sentry is.1 refl)
+      | inr other ↦ rw (none.0, no_head_there.0, other.0) (boot_plain refl)
+    ]
+    | inr some ↦ rw (none.0, some.0) (by_head f h x (head_number f x) (made_for f (head_number f x)) some.1 refl heads)
+  ]
+  | inr some ↦ elim (first_passes (slot_passes f x) 1 f.entries.rows) [
+    | inl none ↦ absurd (some.1 none)
+    | inr found ↦
+        let number : 1 + found.0 ≡ suc found.0 = omega arith in
+        rw some.0 (by_slot f h x (1 + found.0) found.0 found.1 (made_for f (slot_number f x)) number found.2 (both_left _ _ found.3) (both_right _ _ found.3) (ap (made_for f) found.4) (entry_of f h (1 + found.0)))
+  ]
+]
+  where
+    heads : HeadIs f h.shares 0 x (head_number f x)
+    heads = let P : List ℕ → Type 0 = λ z. HeadIs f h.shares 0 x (head_from f x 0 z) in subst P (sym h.tables) (heads_tell f h.shares 0 x)
+
+-- what is tagged is fixed
+pub tagged_fixed : (f : FirmwareRow) (h : IsLawfulFirmware f) (x : ℕ) → (boot_cap f x).tag ≡ true → region_at f x ≡ Fixed
+tagged_fixed f h x tagged = by (boot_cap f x) tagged (boot_is f h x)
+  where
+    by : (c : Cap) → c.tag ≡ true → BootIs f h.shares x c → region_at f x ≡ Fixed
+    by c is (boot_slot b s n has lies slot e) = place_region f h x (CodeOf b) (λ clash. cc) (s, has.there, lies)
+    by c is (boot_code b s has lies e) = place_region f h x (TableOf b) (λ clash. cc) (s, has.there, lies)
+    by c is (boot_globals b s has lies e) = place_region f h x (TableOf b) (λ clash. cc) (s, has.there, lies)
+    by c is (boot_sentry at e) = sentry_region f x at
+    by c is (boot_plain none) = absurd (let clash : true ≡ false = sym is ∙ none in cc)
