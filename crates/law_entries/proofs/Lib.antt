@@ -1,0 +1,5 @@
+pub mod Standing
+pub mod Numbers
+pub mod Gates
+pub mod Listing
+pub mod Classes
