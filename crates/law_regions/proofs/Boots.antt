@@ -17,7 +17,7 @@ use Rattle.def_step.specs.Firmware.{IsLawfulFirmware, Share, DeviceImport, code_
 use Rattle.def_step.specs.Boot.{first_number, slot_number, is_slot_kind, is_slot_at, head_from, head_number, code_number, globals_number, boot_cap, boot_word, made_for, return_sentry, region_at}
 use Rattle.law_entries.specs.Rows.{HasRow, HasShare, EntryIs, is_nothing, is_trusted, is_code, is_globals, is_switch, is_import, is_export, is_stack, export_row, export_place}
 use Rattle.law_entries.proofs.Numbers.{first_passes}
-use Rattle.law_entries.proofs.Entries.{entry_of, share_of}
+use Rattle.law_entries.proofs.Classes.{entry_of, share_of}
 use Rattle.law_regions.specs.Held.{IsIn, Place, CodeOf, TableOf, GlobalsOf, StackOf, TrustedPlace, Held}
 use Rattle.law_regions.proofs.Apart.{each_at}
 use Rattle.law_regions.proofs.Roots.{root_of_row, one_kind, one_owner}
