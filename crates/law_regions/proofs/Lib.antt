@@ -7,3 +7,7 @@ pub mod Granules
 pub mod Roots
 pub mod Boots
 pub mod Regions
+pub mod Made
+pub mod Reaching
+pub mod Stacks
+pub mod Heaps
