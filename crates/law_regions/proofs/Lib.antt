@@ -11,3 +11,5 @@ pub mod Made
 pub mod Reaching
 pub mod Stacks
 pub mod Heaps
+pub mod Booted
+pub mod Loads

@@ -6,10 +6,10 @@ use Rattle.ct_entry.specs.Listed.{FirmwareRow}
 use Rattle.ct_entry.specs.declared.rows.Kind.TheVariants as kind
 use Rattle.def_reach.specs.Roots.{Listing, TrustedPart, root_of, is_root}
 use Rattle.def_step.specs.Boot.{image_of, made_for}
-use Rattle.def_confined.specs.Partitioned.{BootMade}
+use Rattle.def_confined.specs.Partitioned.{BootMade, AwayFromHeap}
 
 pub record AreMade (f : FirmwareRow) : Type 0 where
   pub made : (n : ℕ) → is_root (root_of f.entries n).origin ≡ true → (made_for f n).tag ≡ true → BootMade (image_of f) n (made_for f n)
-  pub bases : (n : ℕ) → is_root (root_of f.entries n).origin ≡ true → (made_for f n).tag ≡ true → cap_base (made_for f n) ≡ (root_of f.entries n).base
+  pub away : (n : ℕ) → is_root (root_of f.entries n).origin ≡ true → (made_for f n).tag ≡ true → AwayFromHeap (image_of f) (cap_base (made_for f n))
   pub services : (n : ℕ) → (root_of f.entries n).origin ≡ Listing kind.Service → (made_for f n).tag ≡ true → cap_seal (made_for f n) ≡ 1
   pub trusted : (made_for f 0).tag ≡ true → cap_seal (made_for f 0) ≡ 5

@@ -1,0 +1,92 @@
+-- What an entry of a lawful firmware loads from.
+use Rattle.std.proofs.Common.{ℕ, ◌≡◌, ◌+◌, ◌-◌, ◌*◌, ◌/◌, ◌≤◌, ◌<◌, ◌⊎◌, inl, inr, true, false, Some, slice_get, refl, sym, ap, ◌∙◌, subst, arith, lit≤}
+use Rattle.def_words.specs.declared.Cap.{Cap}
+use Rattle.def_words.specs.Permissions.{bit, load_data, memory_capability}
+use Rattle.def_words.specs.Seals.{cap_seal}
+use Rattle.def_memory.specs.declared.Granule.{Granule}
+use Rattle.ct_entry.specs.Listed.{FirmwareRow}
+use Rattle.ct_entry.specs.declared.rows.Owner.{Owner}
+use Rattle.ct_entry.specs.declared.rows.Owner.TheVariants.{Compartment}
+use Rattle.def_reach.specs.Roots.{Root, root_of, is_root, is_stack as for_stack, is_owned}
+use Rattle.def_reach.specs.Sharing.{Reaches}
+use Rattle.def_machine.specs.Image.{Region, region, booted, granule_of, root}
+use Rattle.def_confined.specs.Partitioned.{Loads, BootHeld}
+use Rattle.def_step.specs.Firmware.{IsLawfulFirmware, Share, code_length}
+use Rattle.def_step.specs.Boot.{image_of, made_for, boot_cap}
+use Rattle.law_entries.specs.Rows.{HasRow, HasShare, HasStack, EntryIs, is_nothing, is_trusted, is_code, is_globals, is_switch, is_import, is_export, is_stack}
+use Rattle.law_entries.proofs.Classes.{entry_of}
+use Rattle.law_regions.specs.Held.{IsIn, Place, CodeOf, TableOf, GlobalsOf, StackOf, TrustedPlace, Held}
+use Rattle.law_regions.proofs.Apart.{same_place}
+use Rattle.law_regions.proofs.Roots.{import_away}
+use Rattle.law_regions.proofs.Where.{sentry_held}
+use Rattle.law_regions.proofs.Boots.{BootIs, boot_slot, boot_code, boot_globals, boot_sentry, boot_plain, IsSlot, boot_is}
+use Rattle.law_regions.proofs.Regions.{begins, granule_held, place_granule}
+use Rattle.law_regions.proofs.Stacks.{stack_entry_is}
+use Rattle.law_regions.proofs.Reaching.{native_outside, plain_device}
+use Rattle.law_regions.proofs.Booted.{no_object, no_return_off}
+use Rattle.law_regions.proofs.Made.{AreMade}
+
+module _ (f : FirmwareRow) (h : IsLawfulFirmware f) (m : AreMade f) where
+
+  slot_root : (b : ℕ) (s : Share) (n : ℕ) → IsSlot f b s n → (is_root (root_of f.entries n).origin ≡ true) × (for_stack (root_of f.entries n).origin ≡ false) × ((root_of f.entries n).owner ≡ Compartment b)
+  slot_root b s n (inl row) = (ap (λ (r : Root). is_root r.origin) row.root_is, ap (λ (r : Root). for_stack r.origin) row.root_is, ap (λ (r : Root). r.owner) row.root_is)
+  slot_root b s n (inr device) = (ap (λ (r : Root). is_root r.origin) device.3.root_is, ap (λ (r : Root). for_stack r.origin) device.3.root_is, ap (λ (r : Root). r.owner) device.3.root_is)
+
+  -- what stands in a slot of a compartment's code may be loaded through the code
+  held_slot : (n b : ℕ) (s : Share) (k : ℕ) (c : Cap) → (root_of f.entries n).owner ≡ Compartment b → IsSlot f b s k → c ≡ made_for f k → c.tag ≡ true → BootHeld (image_of f) n c
+  unfolding image_of
+  held_slot n b s k c owner slot e tagged =
+      let is = slot_root b s k slot in
+      let made = m.made k is.0 (ap (λ (z : Cap). z.tag) (sym e) ∙ tagged) in
+      let number : c.shadow.root ≡ k = ap (λ (z : Cap). z.shadow.root) e ∙ made.from in
+      let source : c.shadow.source ≡ 0 = ap (λ (z : Cap). z.shadow.source) e ∙ made.source in
+      record {
+        no_stack = ap (λ z. for_stack (root_of f.entries z).origin) number ∙ is.1;
+        no_heap = no_object f c source;
+        owner = λ owned d reaches.
+            let same : (root_of f.entries n).owner ≡ (root_of f.entries c.shadow.root).owner = owner ∙ sym is.2 ∙ ap (λ z. (root_of f.entries z).owner) (sym number) in
+            let P : Owner → Type 0 = λ o. Reaches f.entries o d in
+            subst P same reaches;
+        no_source = λ four. no_return_off f (made_for f k) made.source made.rooted (ap cap_seal (sym e) ∙ four);
+      }
+
+  held : (n b : ℕ) (c : Share) (x : ℕ) (d : Cap) → (root_of f.entries n).owner ≡ Compartment b → Held f h.shares h.stacks x (CodeOf b) → d.tag ≡ true → BootIs f h.shares x d → BootHeld (image_of f) n d
+  held n b c x d owner i tagged (boot_slot a s k has lies slot e) =
+      let same : CodeOf a ≡ CodeOf b = same_place f h.shares h.stacks x (CodeOf a) (CodeOf b) h.none_meet (s, has.there, lies) i in
+      let index : a ≡ b = cc in
+      held_slot n a s k d (owner ∙ ap Compartment (sym index)) slot e tagged
+  held n b c x d owner i tagged (boot_code a s has lies e) =
+      absurd (let same : TableOf a ≡ CodeOf b = same_place f h.shares h.stacks x (TableOf a) (CodeOf b) h.none_meet (s, has.there, lies) i in cc)
+  held n b c x d owner i tagged (boot_globals a s has lies e) =
+      absurd (let same : TableOf a ≡ CodeOf b = same_place f h.shares h.stacks x (TableOf a) (CodeOf b) h.none_meet (s, has.there, lies) i in cc)
+  held n b c x d owner i tagged (boot_sentry at e) =
+      absurd (let same : TrustedPlace ≡ CodeOf b = same_place f h.shares h.stacks x TrustedPlace (CodeOf b) h.none_meet (sentry_held f h.shares h.stacks x at) i in cc)
+  held n b c x d owner i tagged (boot_plain none) = absurd (let clash : true ≡ false = sym tagged ∙ none in cc)
+
+  abbrev LoadAt : ℕ → ℕ → Root → Type 0
+  LoadAt n x r = bit r.rights load_data ≡ true → bit r.rights memory_capability ≡ true → r.base ≤ x → x < r.top → Loads (image_of f) n (booted (image_of f) ((x - f.ram) / 8)).cap (region (image_of f) ((x - f.ram) / 8))
+
+  loaded : (n x : ℕ) → f.ram ≤ x → EntryIs f h.shares h.stacks n → LoadAt n x (root_of f.entries n)
+  unfolding bit image_of
+  loaded n x low (is_nothing e made) = subst (LoadAt n x) (sym e) (λ right carry from to. absurd (let clash : false ≡ true = right in cc))
+  loaded n x low (is_trusted e root_is made) = subst (LoadAt n x) (sym root_is) (λ right carry from to.
+      subst (Loads (image_of f) n (booted (image_of f) ((x - f.ram) / 8)).cap) (sym (native_outside f h 65552 8 x (lit≤ tt) (lit≤ tt) low from to)) tt)
+  loaded n x low (is_code b c has e row) = subst (LoadAt n x) (sym row.root_is) (λ right carry from to.
+      let i : Held f h.shares h.stacks x (CodeOf b) = (c, has.there, (from, to)) in
+      let at = place_granule f h x (CodeOf b) (λ clash. cc) i in
+      let Q : Granule → Type 0 = λ g. g.cap.tag ≡ true → BootHeld (image_of f) n g.cap in
+      subst (Loads (image_of f) n (booted (image_of f) ((x - f.ram) / 8)).cap) (sym at.0)
+          (ap (λ (r : Root). is_owned r.origin) row.root_is,
+          subst Q (sym at.1) (λ tagged. held n b c (begins f x) (boot_cap f (begins f x)) (ap (λ (r : Root). r.owner) row.root_is) (granule_held f h x (CodeOf b) i) tagged (boot_is f h (begins f x)))))
+  loaded n x low (is_globals b c has e row) = subst (LoadAt n x) (sym row.root_is) (λ right carry from to.
+      subst (Loads (image_of f) n (booted (image_of f) ((x - f.ram) / 8)).cap) (sym (place_granule f h x (GlobalsOf b) (λ clash. cc) (c, has.there, (from, to))).0) (ap (λ (r : Root). r.origin) row.root_is, ap (λ (r : Root). r.owner) row.root_is))
+  loaded n x low (is_switch b c has e row) = subst (LoadAt n x) (sym row.root_is) (λ right carry from to.
+      subst (Loads (image_of f) n (booted (image_of f) ((x - f.ram) / 8)).cap) (sym (native_outside f h 65536 8 x (lit≤ tt) (lit≤ tt) low from to)) tt)
+  loaded n x low (is_import b c j d has at e row) = subst (LoadAt n x) (sym row.root_is) (λ right carry from to. absurd (plain_device f h d.rights (import_away f h b c j d has.there at).1 carry))
+  loaded n x low (is_export e) = subst (LoadAt n x) (sym e.row.root_is) (λ right carry from to. absurd (let clash : false ≡ true = carry in cc))
+  loaded n x low (is_stack t s has e row) = subst (LoadAt n x) (sym row.root_is) (λ right carry from to.
+      subst (Loads (image_of f) n (booted (image_of f) ((x - f.ram) / 8)).cap) (sym (place_granule f h x (StackOf t) (λ clash. cc) (s, has.there, (from, to))).0) (ap (λ (r : Root). r.origin) row.root_is, e ∙ sym (stack_entry_is f h t has.few)))
+
+  pub loads : (n x : ℕ) → (image_of f).ram ≤ x → bit (root (image_of f) n).rights load_data ≡ true → bit (root (image_of f) n).rights memory_capability ≡ true → (root (image_of f) n).base ≤ x → x < (root (image_of f) n).top → Loads (image_of f) n (booted (image_of f) (granule_of (image_of f) x)).cap (region (image_of f) (granule_of (image_of f) x))
+  unfolding image_of
+  loads n x low right carry from to = loaded n x low (entry_of f h n) right carry from to
