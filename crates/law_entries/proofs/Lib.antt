@@ -3,3 +3,7 @@ pub mod Numbers
 pub mod Gates
 pub mod Listing
 pub mod Classes
+pub mod Fitting
+pub mod Makes
+pub mod ByCase
+pub mod Clauses
