@@ -17,7 +17,7 @@ use Rattle.def_step.specs.Boot.{image_of, made_for, return_sentry, boot_cap, cod
 use Rattle.law_entries.specs.Rows.{HasRow, HasShare}
 use Rattle.law_regions.proofs.Boots.{BootIs, boot_slot, boot_code, boot_globals, boot_sentry, boot_plain, IsSlot, boot_is}
 use Rattle.law_regions.proofs.Granules.{AsGranule, of_ram, past_ram, granule_is}
-use Rattle.law_regions.proofs.Made.{AreMade}
+use Rattle.law_regions.proofs.Made.{AreMade, made_away}
 
 -- no object of the heap is there at boot
 pub no_object : (f : FirmwareRow) (c : Cap) → c.shadow.source ≡ 0 → heap_cap (image_of f) c ≡ false
@@ -81,4 +81,4 @@ module _ (f : FirmwareRow) (h : IsLawfulFirmware f) (m : AreMade f) where
   boot_no_heap k fixed tagged = of_made (λ c. heap_cap (image_of f) c ≡ false) (λ n from is. no_object f (made_for f n) (m.made n from is).source) k tagged
 
   pub boot_away : (k : ℕ) → region (image_of f) k ≡ Fixed → (booted (image_of f) k).cap.tag ≡ true → AwayFromHeap (image_of f) (cap_base (booted (image_of f) k).cap)
-  boot_away k fixed tagged = of_made (λ c. AwayFromHeap (image_of f) (cap_base c)) (λ n from is. m.away n from is) k tagged
+  boot_away k fixed tagged = of_made (λ c. AwayFromHeap (image_of f) (cap_base c)) (λ n from is. made_away f h n is) k tagged
