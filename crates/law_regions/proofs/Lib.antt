@@ -13,3 +13,5 @@ pub mod Stacks
 pub mod Heaps
 pub mod Booted
 pub mod Loads
+pub mod Starts
+pub mod Confining
