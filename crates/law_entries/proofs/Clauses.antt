@@ -53,7 +53,7 @@ plain_seal : cap_seal (plain 0) ≡ 0
 unfolding cap_seal
 plain_seal = refl
 
-clash_of : {G : Type 0} (b : Bool) → b ≡ true → b ≡ false → G
+pub clash_of : {G : Type 0} (b : Bool) → b ≡ true → b ≡ false → G
 clash_of b up down = absurd (let clash : true ≡ false = sym up ∙ down in cc)
 
 module _ (f : FirmwareRow) (l : IsLawfulFirmware f) where

@@ -7,3 +7,6 @@ pub mod Fitting
 pub mod Makes
 pub mod ByCase
 pub mod Clauses
+pub mod Booted
+pub mod Own
+pub mod Wiring
