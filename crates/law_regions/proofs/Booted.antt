@@ -15,9 +15,11 @@ use Rattle.def_confined.specs.Partitioned.{BootMade, AwayFromHeap}
 use Rattle.def_step.specs.Firmware.{IsLawfulFirmware, Share, code_row, globals_row, switch_row, device_row}
 use Rattle.def_step.specs.Boot.{image_of, made_for, return_sentry, boot_cap, code_number, globals_number}
 use Rattle.law_entries.specs.Rows.{HasRow, HasShare}
-use Rattle.law_regions.proofs.Boots.{BootIs, boot_slot, boot_code, boot_globals, boot_sentry, boot_plain, IsSlot, boot_is}
-use Rattle.law_regions.proofs.Granules.{AsGranule, of_ram, past_ram, granule_is}
-use Rattle.law_regions.proofs.Made.{AreMade, made_away}
+use Rattle.law_regions.specs.Booted.{BootIs, boot_slot, boot_code, boot_globals, boot_sentry, boot_plain, IsSlot}
+use Rattle.law_regions.proofs.Boots.{boot_is}
+use Rattle.law_regions.specs.Held.{AsGranule, of_ram, past_ram}
+use Rattle.law_regions.proofs.Granules.{granule_is}
+use Rattle.law_regions.proofs.Made.{boot_made, made_away}
 
 -- no object of the heap is there at boot
 pub no_object : (f : FirmwareRow) (c : Cap) → c.shadow.source ≡ 0 → heap_cap (image_of f) c ≡ false
@@ -60,7 +62,7 @@ made_for_one f h x tagged = by (boot_cap f x) tagged (boot_is f h x)
     by c is (boot_sentry at e) = record { number = 0; is = e; from = trusted_is_root f }
     by c is (boot_plain none) = absurd (let clash : true ≡ false = sym is ∙ none in cc)
 
-module _ (f : FirmwareRow) (h : IsLawfulFirmware f) (m : AreMade f) where
+module _ (f : FirmwareRow) (h : IsLawfulFirmware f) where
 
   -- what holds of each capability that boot made for an entry holds of each tagged one in the image
   pub of_made : (P : Cap → Type 0) → ((n : ℕ) → is_root (root_of f.entries n).origin ≡ true → (made_for f n).tag ≡ true → P (made_for f n)) → (k : ℕ) → (booted (image_of f) k).cap.tag ≡ true → P (booted (image_of f) k).cap
@@ -75,10 +77,10 @@ module _ (f : FirmwareRow) (h : IsLawfulFirmware f) (m : AreMade f) where
           subst P (sym cap_is) (each one.number one.from (ap (λ (z : Cap). z.tag) (sym one.is) ∙ tag_there))
 
   pub boot_rooted : (k : ℕ) → region (image_of f) k ≡ Fixed → (booted (image_of f) k).cap.tag ≡ true → Rooted (image_of f) (booted (image_of f) k).cap
-  boot_rooted k fixed tagged = of_made (Rooted (image_of f)) (λ n from is. (m.made n from is).rooted) k tagged
+  boot_rooted k fixed tagged = of_made (Rooted (image_of f)) (λ n from is. (boot_made f h n from is).rooted) k tagged
 
   pub boot_no_heap : (k : ℕ) → region (image_of f) k ≡ Fixed → (booted (image_of f) k).cap.tag ≡ true → heap_cap (image_of f) (booted (image_of f) k).cap ≡ false
-  boot_no_heap k fixed tagged = of_made (λ c. heap_cap (image_of f) c ≡ false) (λ n from is. no_object f (made_for f n) (m.made n from is).source) k tagged
+  boot_no_heap k fixed tagged = of_made (λ c. heap_cap (image_of f) c ≡ false) (λ n from is. no_object f (made_for f n) (boot_made f h n from is).source) k tagged
 
   pub boot_away : (k : ℕ) → region (image_of f) k ≡ Fixed → (booted (image_of f) k).cap.tag ≡ true → AwayFromHeap (image_of f) (cap_base (booted (image_of f) k).cap)
   boot_away k fixed tagged = of_made (λ c. AwayFromHeap (image_of f) (cap_base c)) (λ n from is. made_away f h n is) k tagged

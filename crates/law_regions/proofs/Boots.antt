@@ -19,20 +19,10 @@ use Rattle.law_entries.specs.Rows.{HasRow, HasShare, EntryIs, is_nothing, is_tru
 use Rattle.law_entries.proofs.Numbers.{first_passes}
 use Rattle.law_entries.proofs.Classes.{entry_of, share_of}
 use Rattle.law_regions.specs.Held.{IsIn, Place, CodeOf, TableOf, GlobalsOf, StackOf, TrustedPlace, Held}
+use Rattle.law_regions.specs.Booted.{IsSlot, BootIs, boot_slot, boot_code, boot_globals, boot_sentry, boot_plain}
 use Rattle.law_regions.proofs.Apart.{each_at}
 use Rattle.law_regions.proofs.Roots.{root_of_row, one_kind, one_owner}
 use Rattle.law_regions.proofs.Where.{place_region, sentry_region}
-
--- a slot's row: the switch, or an import of a device
-abbrev pub IsSlot : FirmwareRow → ℕ → Share → ℕ → Type 0
-IsSlot f b c n = HasRow f n (switch_row b) ⊎ ((j : ℕ) × (d : DeviceImport) × (slice_get c.imports j ≡ Some d) × HasRow f n (device_row b d))
-
-pub data BootIs (f : FirmwareRow) (cs : List Share) (x : ℕ) (c : Cap) : Type 0 where
-  boot_slot : (b : ℕ) (s : Share) (n : ℕ) → HasShare f cs b s → IsIn s.code (code_length s) x → IsSlot f b s n → c ≡ made_for f n → BootIs f cs x c
-  boot_code : (b : ℕ) (s : Share) → HasShare f cs b s → IsIn s.table (table_length s) x → c ≡ made_for f (code_number f b) → BootIs f cs x c
-  boot_globals : (b : ℕ) (s : Share) → HasShare f cs b s → IsIn s.table (table_length s) x → c ≡ made_for f (globals_number f b) → BootIs f cs x c
-  boot_sentry : f.trusted ≡ x → c ≡ return_sentry → BootIs f cs x c
-  boot_plain : c.tag ≡ false → BootIs f cs x c
 
 -- ---- slots
 

@@ -16,12 +16,12 @@ use Rattle.law_places.proofs.Puts.{plain_kept, plain_region}
 use Rattle.def_step.specs.Firmware.{IsLawfulFirmware}
 use Rattle.def_step.specs.Boot.{image_of, boot_state, boot_granules, boot_granule, boot_cap}
 use Rattle.law_regions.proofs.Boots.{tagged_fixed}
-use Rattle.law_regions.proofs.Granules.{AsGranule, of_ram, past_ram, granule_is, how_many}
-use Rattle.law_regions.proofs.Made.{AreMade}
+use Rattle.law_regions.specs.Held.{AsGranule, of_ram, past_ram}
+use Rattle.law_regions.proofs.Granules.{granule_is, how_many}
 use Rattle.law_regions.proofs.Booted.{of_made}
 use Rattle.law_regions.proofs.Starts.{of_thread, kept_made, pcc_in, pcc_runs, register_in, register_kept, frame_holds, posture_fits, saved_kept}
 
-module _ (f : FirmwareRow) (h : IsLawfulFirmware f) (m : AreMade f) where
+module _ (f : FirmwareRow) (h : IsLawfulFirmware f) where
 
   -- what is tagged in the image is fixed, and nothing is marked
   fixed_there : (k : ℕ) → (booted (image_of f) k).cap.tag ≡ true → region (image_of f) k ≡ Fixed
@@ -57,7 +57,7 @@ module _ (f : FirmwareRow) (h : IsLawfulFirmware f) (m : AreMade f) where
       by_region Bare none = plain_region (image_of f) (boot_state f) k Bare g (λ clash. cc) none
 
   kept_there : (k : ℕ) → Kept (image_of f) (booted (image_of f) k).cap
-  kept_there k tagged = of_made f h m (Kept (image_of f)) (λ n from is. kept_made f h m n from) k tagged tagged
+  kept_there k tagged = of_made f h (Kept (image_of f)) (λ n from is. kept_made f h n from) k tagged tagged
 
   long_enough : (image_of f).heap_end ≤ (image_of f).ram + 8 * length (boot_state f).granules
   unfolding image_of boot_state boot_granules
@@ -70,15 +70,15 @@ module _ (f : FirmwareRow) (h : IsLawfulFirmware f) (m : AreMade f) where
   unfolding boot_state
   confined = record {
     granules = λ k. in_region k (granule (boot_state f) k) (same_granule k);
-    pcc = λ t. of_thread f (λ z. InFrames (image_of f) [] t z.frames z.pcc) t (pcc_in f h m t) refl;
-    registers = λ t n. of_thread f (λ z. InFrames (image_of f) [] t z.frames (register z n)) t (λ s there. register_in f h m t s there n) refl;
-    frames = λ t. of_thread f (λ z. FramesHold (image_of f) [] t z.frames) t (frame_holds f h m t) tt;
-    postures = λ t. of_thread f (λ z. PostureFits (image_of f) z z.frames) t (posture_fits f h m t) tt;
-    runs = λ t. of_thread f (λ z. z.pcc.tag ≡ true → IsPcc (image_of f) z.pcc) t (pcc_runs f h m t) (λ tagged. absurd (let clash : false ≡ true = tagged in cc));
+    pcc = λ t. of_thread f (λ z. InFrames (image_of f) [] t z.frames z.pcc) t (pcc_in f h t) refl;
+    registers = λ t n. of_thread f (λ z. InFrames (image_of f) [] t z.frames (register z n)) t (λ s there. register_in f h t s there n) refl;
+    frames = λ t. of_thread f (λ z. FramesHold (image_of f) [] t z.frames) t (frame_holds f h t) tt;
+    postures = λ t. of_thread f (λ z. PostureFits (image_of f) z z.frames) t (posture_fits f h t) tt;
+    runs = λ t. of_thread f (λ z. z.pcc.tag ≡ true → IsPcc (image_of f) z.pcc) t (pcc_runs f h t) (λ tagged. absurd (let clash : false ≡ true = tagged in cc));
     kept = record {
       granules = λ k. subst (λ (g : Granule). Kept (image_of f) g.cap) (sym (same_granule k)) (kept_there k);
-      registers = λ t n. of_thread f (λ z. Kept (image_of f) (register z n)) t (λ s there. register_kept f h m t s there n) none_kept;
-      frames = λ t. of_thread f (λ z. Each (SavedKept (image_of f)) z.frames) t (saved_kept f h m t) tt;
+      registers = λ t n. of_thread f (λ z. Kept (image_of f) (register z n)) t (λ s there. register_kept f h t s there n) none_kept;
+      frames = λ t. of_thread f (λ z. Each (SavedKept (image_of f)) z.frames) t (saved_kept f h t) tt;
     };
     live = λ t runs. absurd (let clash : None ≡ Some t = runs in cc);
     apart = tt;

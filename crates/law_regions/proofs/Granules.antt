@@ -7,6 +7,7 @@ use Rattle.def_memory.specs.declared.Granule.{Granule}
 use Rattle.def_memory.specs.Granules.{nothing}
 use Rattle.ct_entry.specs.Listed.{FirmwareRow}
 use Rattle.def_machine.specs.Image.{Region, Bare, region, booted, granule_of}
+use Rattle.law_regions.specs.Held.{AsGranule, of_ram, past_ram}
 use Rattle.def_step.specs.Boot.{region_at, regions_from, boot_granule, granules_from, boot_granules, image_of}
 
 nth_region : (f : FirmwareRow) (n x k : ℕ) → k < n → slice_index_or (regions_from f x n) k Bare ≡ region_at f (x + 8 * k)
@@ -32,11 +33,6 @@ no_granule f (suc n) x (suc k) more = no_granule f n (x + 8) k (omega (arith, mo
 pub how_many : (f : FirmwareRow) (n x : ℕ) → length (granules_from f x n) ≡ n
 how_many f zero x = refl
 how_many f (suc n) x = ap (λ k. suc k) (how_many f n (x + 8))
-
--- a granule of RAM, and one past its end
-pub data AsGranule (f : FirmwareRow) (k : ℕ) (r : Region) (g : Granule) : Type 0 where
-  of_ram : f.ram + 8 * k < f.ram + f.size → r ≡ region_at f (f.ram + 8 * k) → g ≡ boot_granule f (f.ram + 8 * k) → AsGranule f k r g
-  past_ram : f.ram + f.size ≤ f.ram + 8 * k → r ≡ Bare → g ≡ nothing → AsGranule f k r g
 
 pub granule_is : (f : FirmwareRow) (k : ℕ) → f.size % 16 ≡ 0 → AsGranule f k (region (image_of f) k) (booted (image_of f) k)
 unfolding image_of boot_granules

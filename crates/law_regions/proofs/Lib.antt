@@ -8,7 +8,7 @@ pub mod Roots
 pub mod Boots
 pub mod Regions
 pub mod Made
-pub mod Reaching
+pub mod Stores
 pub mod Stacks
 pub mod Heaps
 pub mod Booted

@@ -19,14 +19,15 @@ use Rattle.law_regions.specs.Held.{IsIn, Place, CodeOf, TableOf, GlobalsOf, Stac
 use Rattle.law_regions.proofs.Apart.{same_place}
 use Rattle.law_regions.proofs.Roots.{import_away}
 use Rattle.law_regions.proofs.Where.{sentry_held}
-use Rattle.law_regions.proofs.Boots.{BootIs, boot_slot, boot_code, boot_globals, boot_sentry, boot_plain, IsSlot, boot_is}
+use Rattle.law_regions.specs.Booted.{BootIs, boot_slot, boot_code, boot_globals, boot_sentry, boot_plain, IsSlot}
+use Rattle.law_regions.proofs.Boots.{boot_is}
 use Rattle.law_regions.proofs.Regions.{begins, granule_held, place_granule}
 use Rattle.law_regions.proofs.Stacks.{stack_entry_is}
-use Rattle.law_regions.proofs.Reaching.{native_outside, plain_device}
+use Rattle.law_regions.proofs.Stores.{native_outside, plain_device}
 use Rattle.law_regions.proofs.Booted.{no_object, no_return_off}
-use Rattle.law_regions.proofs.Made.{AreMade}
+use Rattle.law_regions.proofs.Made.{boot_made}
 
-module _ (f : FirmwareRow) (h : IsLawfulFirmware f) (m : AreMade f) where
+module _ (f : FirmwareRow) (h : IsLawfulFirmware f) where
 
   slot_root : (b : ℕ) (s : Share) (n : ℕ) → IsSlot f b s n → (is_root (root_of f.entries n).origin ≡ true) × (for_stack (root_of f.entries n).origin ≡ false) × ((root_of f.entries n).owner ≡ Compartment b)
   slot_root b s n (inl row) = (ap (λ (r : Root). is_root r.origin) row.root_is, ap (λ (r : Root). for_stack r.origin) row.root_is, ap (λ (r : Root). r.owner) row.root_is)
@@ -37,7 +38,7 @@ module _ (f : FirmwareRow) (h : IsLawfulFirmware f) (m : AreMade f) where
   unfolding image_of
   held_slot n b s k c owner slot e tagged =
       let is = slot_root b s k slot in
-      let made = m.made k is.0 (ap (λ (z : Cap). z.tag) (sym e) ∙ tagged) in
+      let made = boot_made f h k is.0 (ap (λ (z : Cap). z.tag) (sym e) ∙ tagged) in
       let number : c.shadow.root ≡ k = ap (λ (z : Cap). z.shadow.root) e ∙ made.from in
       let source : c.shadow.source ≡ 0 = ap (λ (z : Cap). z.shadow.source) e ∙ made.source in
       record {

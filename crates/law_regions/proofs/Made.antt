@@ -14,10 +14,12 @@ use Rattle.def_step.specs.Boot.{image_of, made_for}
 use Rattle.law_entries.specs.Fits.{RamFits}
 use Rattle.law_entries.proofs.Fitting.{ram_fits}
 use Rattle.law_entries.proofs.ByCase.{by_case}
+use Rattle.law_entries.proofs.Booted.{made_stands}
 
--- what the laws of regions take of them
-pub record AreMade (f : FirmwareRow) : Type 0 where
-  pub made : (n : ℕ) → is_root (root_of f.entries n).origin ≡ true → (made_for f n).tag ≡ true → BootMade (image_of f) n (made_for f n)
+-- each carries its entry's number and no source, and is what the entry says
+pub boot_made : (f : FirmwareRow) (h : IsLawfulFirmware f) (n : ℕ) → is_root (root_of f.entries n).origin ≡ true → (made_for f n).tag ≡ true → BootMade (image_of f) n (made_for f n)
+unfolding image_of
+boot_made f h n from tagged = made_stands f h n from tagged
 
 abbrev AwayAt : FirmwareRow → ℕ → Root → Cap → Type 0
 AwayAt f n r c = c.tag ≡ true → AwayFromHeap (image_of f) (cap_base c)

@@ -8,8 +8,10 @@ use Rattle.def_step.specs.Boot.{image_of, region_at, boot_granule}
 use Rattle.law_regions.specs.Held.{IsIn, Place, CodeOf, TableOf, GlobalsOf, StackOf, TrustedPlace, Held}
 use Rattle.law_regions.proofs.Apart.{base_of, size_of, lies_in}
 use Rattle.law_regions.proofs.Rounding.{granule_base, granule_in}
-use Rattle.law_regions.proofs.Where.{expected, within, in_ram, place_region, heap_region, InHeap}
-use Rattle.law_regions.proofs.Granules.{AsGranule, of_ram, past_ram, granule_is}
+use Rattle.law_regions.specs.Held.{expected, InHeap}
+use Rattle.law_regions.proofs.Where.{within, in_ram, place_region, heap_region}
+use Rattle.law_regions.specs.Held.{AsGranule, of_ram, past_ram}
+use Rattle.law_regions.proofs.Granules.{granule_is}
 
 -- where the granule of an address begins
 abbrev pub begins : FirmwareRow → ℕ → ℕ

@@ -12,8 +12,10 @@ use Rattle.law_entries.specs.Rows.{HasStack}
 use Rattle.law_entries.proofs.Standing.{present}
 use Rattle.law_entries.proofs.Classes.{stack_of}
 use Rattle.law_regions.specs.Held.{IsIn, Place, StackOf, Held}
-use Rattle.law_regions.proofs.Where.{expected, in_ram, place_region, is_stack_place}
-use Rattle.law_regions.proofs.Granules.{AsGranule, of_ram, past_ram, granule_is}
+use Rattle.law_regions.specs.Held.{expected}
+use Rattle.law_regions.proofs.Where.{in_ram, place_region, is_stack_place}
+use Rattle.law_regions.specs.Held.{AsGranule, of_ram, past_ram}
+use Rattle.law_regions.proofs.Granules.{granule_is}
 use Rattle.law_regions.proofs.Regions.{ram_granule}
 
 numbered_at : (number : ℕ → ℕ) (b n t : ℕ) → t < n → slice_index_or (numbered_from number b n) t 0 ≡ number (b + t)

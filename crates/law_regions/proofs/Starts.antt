@@ -36,7 +36,7 @@ use Rattle.law_entries.proofs.Classes.{export_of, stack_of}
 use Rattle.law_entries.proofs.Fitting.{ram_fits, share_fits, stack_fits}
 use Rattle.law_regions.proofs.Apart.{each_at}
 use Rattle.law_regions.proofs.Stacks.{stack_entry_is, stack_root}
-use Rattle.law_regions.proofs.Made.{AreMade, made_kept, made_runs}
+use Rattle.law_regions.proofs.Made.{boot_made, made_kept, made_runs}
 use Rattle.law_regions.proofs.Booted.{no_object, no_return_off}
 
 threads_tell : (f : FirmwareRow) (from : ℕ) (ss : List Starter) (t : ℕ) → ((s : Starter) × (slice_get ss t ≡ Some s) × (slice_index_or (first_threads f from ss) t nobody ≡ first_thread f (from + t) s)) ⊎ (slice_index_or (first_threads f from ss) t nobody ≡ nobody)
@@ -55,12 +55,12 @@ of_thread f P t starts none = elim (threads_tell f 0 f.threads t) [
   | inr away ↦ subst P (sym away) none
 ]
 
-module _ (f : FirmwareRow) (h : IsLawfulFirmware f) (m : AreMade f) where
+module _ (f : FirmwareRow) (h : IsLawfulFirmware f) where
 
   pub kept_made : (n : ℕ) → is_root (root_of f.entries n).origin ≡ true → Kept (image_of f) (made_for f n)
   unfolding image_of
   kept_made n from tagged =
-      let number : (made_for f n).shadow.root ≡ n = (m.made n from tagged).from in
+      let number : (made_for f n).shadow.root ≡ n = (boot_made f h n from tagged).from in
       let P : ℕ → Type 0 = λ k. ((root_of f.entries k).origin ≡ Listing kind.Service → cap_seal (made_for f n) ≡ 1) × ((root_of f.entries k).origin ≡ TrustedPart → cap_seal (made_for f n) ≡ 5) in
       subst P (sym number) (made_kept f h n tagged)
 
@@ -92,7 +92,7 @@ module _ (f : FirmwareRow) (h : IsLawfulFirmware f) (m : AreMade f) where
         → (is_stack (root_of f.entries n).origin ≡ true → (made_for f n).shadow.root ≡ n → Rooted (image_of f) (made_for f n) → OwnStack (image_of f) t (frame ∷ []) (made_for f n)) → InFrames (image_of f) [] t (frame ∷ []) (made_for f n)
     unfolding image_of
     placed_made n from owner own tagged =
-        let made = m.made n from tagged in
+        let made = boot_made f h n from tagged in
         record {
           rooted = made.rooted;
           object = λ heap. absurd (let clash : true ≡ false = sym heap ∙ no_object f (made_for f n) made.source in cc);
@@ -138,7 +138,7 @@ module _ (f : FirmwareRow) (h : IsLawfulFirmware f) (m : AreMade f) where
         placed_made (stack_number f t) (ap is_root stack_origin) (λ owned. absurd (let clash : true ≡ false = sym owned ∙ ap is_owned stack_origin in cc))
             (λ is from rooted.
                 (from ∙ sym (stack_entry_is f h t own_has.few),
-                let top = (rooted.range (no_object f (made_for f (stack_number f t)) (m.made (stack_number f t) (ap is_root stack_origin) tagged).source)).1 in
+                let top = (rooted.range (no_object f (made_for f (stack_number f t)) (boot_made f h (stack_number f t) (ap is_root stack_origin) tagged).source)).1 in
                 let Q : ℕ → Type 0 = λ k. cap_top (made_for f (stack_number f t)) ≤ (root_of f.entries k).top in
                 subst Q from top)) tagged
 
@@ -166,7 +166,7 @@ module _ (f : FirmwareRow) (h : IsLawfulFirmware f) (m : AreMade f) where
     pcc_runs tagged =
         let derived = address_derived (made_for f (code_number f home)) (gate_for f.entries.gates s.export).code gate_low tagged in
         let runs = address_runs (made_for f (code_number f home)) (gate_for f.entries.gates s.export).code gate_low (made_runs f h (code_number f home) code_origin) tagged in
-        let made = m.made (code_number f home) (ap is_root code_origin) derived.narrows.tagged in
+        let made = boot_made f h (code_number f home) (ap is_root code_origin) derived.narrows.tagged in
         let number : (first_pcc f s.export).shadow.root ≡ code_number f home = ap (λ z. z.root) derived.narrows.shadows ∙ made.from in
         record {
           unsealed = runs.0;

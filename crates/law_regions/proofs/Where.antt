@@ -8,28 +8,10 @@ use Rattle.ct_entry.specs.Listed.{FirmwareRow}
 use Rattle.def_machine.specs.Image.{Region, Fixed, Globals, HeapRam, Stack, Bare}
 use Rattle.def_step.specs.Firmware.{Share, StackRange, RegionRange, range, IsLawfulFirmware, IsShare, IsStack, IsPlaced, all_ranges, code_length, table_length, trusted_length, all_share_rows, stack_rows}
 use Rattle.def_step.specs.Boot.{is_covered, region_in, region_at, is_table_from, exports_from}
-use Rattle.law_regions.specs.Held.{IsIn, Place, CodeOf, TableOf, GlobalsOf, StackOf, TrustedPlace, Held}
+use Rattle.law_regions.specs.Held.{IsIn, Place, CodeOf, TableOf, GlobalsOf, StackOf, TrustedPlace, Held, expected, InHeap, Where, at_sentry, at_place, at_heap, at_bare}
 use Rattle.law_regions.proofs.Apart.{each_at, number, base_of, size_of, lies_in, listed_at, same_place}
 use Rattle.law_regions.proofs.Finding.{cover_tells, by_cover, Found, found_code, found_globals, found_stack, found_none, in_rows}
 use Rattle.law_regions.proofs.Tables.{exports_at, InTable, tables_tell}
-
--- what a place is, but for the trusted region, of which the first granule alone is fixed
-abbrev pub expected : Place → Region
-expected (CodeOf b) = Fixed
-expected (TableOf b) = Fixed
-expected (GlobalsOf b) = Globals b
-expected (StackOf t) = Stack t
-expected TrustedPlace = Bare
-
--- the heap from its base to RAM's end
-abbrev pub InHeap : FirmwareRow → ℕ → Type 0
-InHeap f x = (f.heap ≤ x) × (x < f.ram + f.size)
-
-pub data Where (f : FirmwareRow) (cs : List Share) (ss : List StackRange) (x : ℕ) (r : Region) : Type 0 where
-  at_sentry : f.trusted ≡ x → r ≡ Fixed → Where f cs ss x r
-  at_place : (p : Place) → (p ≡ TrustedPlace → ⊥) → Held f cs ss x p → r ≡ expected p → Where f cs ss x r
-  at_heap : InHeap f x → r ≡ HeapRam → Where f cs ss x r
-  at_bare : r ≡ Bare → (f.trusted ≡ x → ⊥) → ((p : Place) → (p ≡ TrustedPlace → ⊥) → Held f cs ss x p → ⊥) → (InHeap f x → ⊥) → Where f cs ss x r
 
 counted : (f : FirmwareRow) (h : IsLawfulFirmware f) (j : ℕ) (c : Share) → slice_get h.shares j ≡ Some c → exports_from (0 + j) f.entries.rows ≡ length c.exports
 counted f h j c is =
