@@ -115,7 +115,7 @@ listed_at f cs ss x TrustedPlace h = in_all f cs ss (past (length cs) (length ss
 same_number : (f : FirmwareRow) (cs : List Share) (ss : List StackRange) (x : ℕ) (p q : Place) → NoneMeet (all_ranges f cs ss) → Held f cs ss x p → Held f cs ss x q → number cs ss p ≡ number cs ss q
 same_number f cs ss x p q none a b =
     one_place (all_ranges f cs ss) x (number cs ss p) (number cs ss q) (range (base_of f cs ss x p a) (size_of f cs ss x p a)) (range (base_of f cs ss x q b) (size_of f cs ss x q b)) none
-        (listed_at f cs ss x p a) (listed_at f cs ss x q b) (lies_in f cs ss x p a) (lies_in f cs ss x q b)
+    (listed_at f cs ss x p a) (listed_at f cs ss x q b) (lies_in f cs ss x p a) (lies_in f cs ss x q b)
 
 -- how far the number of a place goes
 abbrev Bound : List Share → List StackRange → Place → Type 0

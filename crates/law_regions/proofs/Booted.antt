@@ -1,20 +1,17 @@
 -- What a lawful firmware's image boots: each tagged capability is one that boot made for an entry, with what
 -- follows from that.
-use Rattle.std.proofs.Common.{ℕ, ◌≡◌, ◌+◌, ◌*◌, ◌≤◌, ◌<◌, ◌⊎◌, inl, inr, ◌&&◌, Bool, true, false, not, nat_eq, Some, slice_get, refl, sym, ap, ◌∙◌, subst, arith}
+use Rattle.std.proofs.Common.{ℕ, ◌≡◌, ◌+◌, ◌*◌, inl, inr, ◌&&◌, Bool, true, false, not, nat_eq, refl, sym, ap, ◌∙◌, subst}
 use Rattle.def_words.specs.declared.Cap.{Cap}
-use Rattle.def_words.specs.Authority.{cap_base, cap_top}
+use Rattle.def_words.specs.Authority.{cap_base}
 use Rattle.def_words.specs.Seals.{cap_seal}
 use Rattle.def_memory.specs.declared.Granule.{Granule}
 use Rattle.ct_entry.specs.Listed.{FirmwareRow}
-use Rattle.ct_entry.specs.declared.rows.Owner.TheVariants.{Compartment}
-use Rattle.ct_entry.specs.declared.rows.Kind.TheVariants as kind
-use Rattle.def_reach.specs.Roots.{Root, Origin, Listing, TrustedPart, root_of, is_root, is_quota, is_stack, is_owned}
-use Rattle.def_machine.specs.Image.{Region, Fixed, region, booted, root}
+use Rattle.def_reach.specs.Roots.{Root, root_of, is_root, is_quota}
+use Rattle.def_machine.specs.Image.{Region, Fixed, region, booted}
 use Rattle.def_confined.specs.Capabilities.{Rooted, heap_cap}
-use Rattle.def_confined.specs.Partitioned.{BootMade, AwayFromHeap}
-use Rattle.def_step.specs.Firmware.{IsLawfulFirmware, Share, code_row, globals_row, switch_row, device_row}
-use Rattle.def_step.specs.Boot.{image_of, made_for, return_sentry, boot_cap, code_number, globals_number}
-use Rattle.law_entries.specs.Rows.{HasRow, HasShare}
+use Rattle.def_confined.specs.Partitioned.{AwayFromHeap}
+use Rattle.def_step.specs.Firmware.{IsLawfulFirmware, Share}
+use Rattle.def_step.specs.Boot.{image_of, made_for, boot_cap, code_number, globals_number}
 use Rattle.law_regions.specs.Booted.{BootIs, boot_slot, boot_code, boot_globals, boot_sentry, boot_plain, IsSlot}
 use Rattle.law_regions.proofs.Boots.{boot_is}
 use Rattle.law_regions.specs.Held.{AsGranule, of_ram, past_ram}
@@ -63,7 +60,6 @@ made_for_one f h x tagged = by (boot_cap f x) tagged (boot_is f h x)
     by c is (boot_plain none) = absurd (let clash : true ≡ false = sym is ∙ none in cc)
 
 module _ (f : FirmwareRow) (h : IsLawfulFirmware f) where
-
   -- what holds of each capability that boot made for an entry holds of each tagged one in the image
   pub of_made : (P : Cap → Type 0) → ((n : ℕ) → is_root (root_of f.entries n).origin ≡ true → (made_for f n).tag ≡ true → P (made_for f n)) → (k : ℕ) → (booted (image_of f) k).cap.tag ≡ true → P (booted (image_of f) k).cap
   of_made P each k tagged = by (region (image_of f) k) (booted (image_of f) k) tagged (granule_is f k h.ram.1)

@@ -1,26 +1,22 @@
 -- What stands at an address of a lawful firmware at boot: a capability for a slot in its compartment's code, for
 -- the head of an export table, the return sentry at the trusted region's base; else nothing that is tagged.
-use Rattle.std.proofs.Common.{ℕ, zero, suc, ◌≡◌, ◌+◌, ◌-◌, ◌*◌, ◌≤◌, ◌<◌, ◌⊎◌, inl, inr, ◌&&◌, Bool, true, false, not, cond, nat_eq, List, [], ◌∷◌, map, length, Option, Some, None, slice_get, refl, sym, ap, ◌∙◌, subst, arith}
+use Rattle.std.proofs.Common.{ℕ, suc, ◌≡◌, ◌+◌, ◌-◌, ◌*◌, ◌≤◌, ◌<◌, inl, inr, ◌&&◌, Bool, true, false, nat_eq, List, [], ◌∷◌, map, length, Some, slice_get, refl, sym, ap, ◌∙◌, subst, arith}
 use Rattle.std.proofs.lemmas.Option.{slice_get_within}
-use Rattle.law_lists.proofs.Tests.{bool_tells, eq_tells, both_left, both_right}
+use Rattle.law_lists.proofs.Tests.{eq_tells, both_left, both_right}
 use Rattle.def_words.specs.declared.Cap.{Cap}
-use Rattle.def_memory.specs.Granules.{plain}
 use Rattle.ct_entry.specs.Listed.{FirmwareRow}
 use Rattle.ct_entry.specs.declared.rows.Entry.{Entry}
 use Rattle.ct_entry.specs.declared.rows.Owner.{Owner}
 use Rattle.ct_entry.specs.declared.rows.Owner.TheVariants.{Compartment}
-use Rattle.ct_entry.specs.declared.rows.Kind.{Kind}
-use Rattle.ct_entry.specs.declared.rows.Kind.TheVariants as kind
-use Rattle.def_reach.specs.Roots.{Root, root_of, gate_for, listed_root, no_root, trusted_root}
+use Rattle.def_reach.specs.Roots.{Root, root_of, gate_for, listed_root, no_root}
 use Rattle.def_machine.specs.Image.{Fixed}
-use Rattle.def_step.specs.Firmware.{IsLawfulFirmware, Share, DeviceImport, code_length, table_length, text_offset, code_row, globals_row, switch_row, device_row, stack_row}
-use Rattle.def_step.specs.Boot.{first_number, slot_number, is_slot_kind, is_slot_at, head_from, head_number, code_number, globals_number, boot_cap, boot_word, made_for, return_sentry, region_at}
+use Rattle.def_step.specs.Firmware.{IsLawfulFirmware, Share, code_length, code_row, globals_row, switch_row, device_row, stack_row}
+use Rattle.def_step.specs.Boot.{slot_number, is_slot_kind, is_slot_at, head_from, head_number, code_number, globals_number, boot_cap, made_for, region_at}
 use Rattle.law_entries.specs.Rows.{HasRow, HasShare, EntryIs, is_nothing, is_trusted, is_code, is_globals, is_switch, is_import, is_export, is_stack, export_row, export_place}
 use Rattle.law_entries.proofs.Numbers.{first_passes}
 use Rattle.law_entries.proofs.Classes.{entry_of, share_of}
-use Rattle.law_regions.specs.Held.{IsIn, Place, CodeOf, TableOf, GlobalsOf, StackOf, TrustedPlace, Held}
-use Rattle.law_regions.specs.Booted.{IsSlot, BootIs, boot_slot, boot_code, boot_globals, boot_sentry, boot_plain}
-use Rattle.law_regions.proofs.Apart.{each_at}
+use Rattle.law_regions.specs.Held.{IsIn, CodeOf, TableOf}
+use Rattle.law_regions.specs.Booted.{BootIs, boot_slot, boot_code, boot_globals, boot_sentry, boot_plain}
 use Rattle.law_regions.proofs.Roots.{root_of_row, one_kind, one_owner}
 use Rattle.law_regions.proofs.Where.{place_region, sentry_region}
 

@@ -1,20 +1,18 @@
 -- The state that a lawful firmware boots is confined.
-use Rattle.std.proofs.Common.{ℕ, ◌≡◌, ◌+◌, ◌*◌, ◌/◌, ◌%◌, ◌≤◌, ◌<◌, inl, inr, Bool, true, false, List, [], ◌∷◌, length, Some, None, refl, sym, ap, ◌∙◌, subst, arith}
+use Rattle.std.proofs.Common.{ℕ, ◌≡◌, ◌+◌, ◌*◌, ◌/◌, ◌≤◌, inl, inr, true, false, [], length, Some, None, refl, sym, ap, ◌∙◌, subst, arith}
 use Rattle.law_lists.proofs.Tests.{bool_tells}
-use Rattle.def_words.specs.declared.Cap.{Cap}
 use Rattle.def_memory.specs.declared.Granule.{Granule}
 use Rattle.def_memory.specs.Granules.{plain}
 use Rattle.ct_entry.specs.Listed.{FirmwareRow}
-use Rattle.def_machine.specs.Image.{Image, Region, Fixed, Globals, Shared, HeapRam, Stack, Bare, region, booted}
-use Rattle.def_machine.specs.State as st
-use Rattle.def_machine.specs.State.{State, Frame, granule, register}
+use Rattle.def_machine.specs.Image.{Region, Fixed, Globals, Shared, HeapRam, Stack, Bare, region, booted}
+use Rattle.def_machine.specs.State.{granule, register}
 use Rattle.def_machine.specs.Objects.{Each}
 use Rattle.def_confined.specs.Capabilities.{Kept}
 use Rattle.def_confined.specs.Places.{InFrames, InRegion}
 use Rattle.def_confined.specs.Confined.{Confined, FramesHold, PostureFits, IsPcc, SavedKept}
 use Rattle.law_places.proofs.Puts.{plain_kept, plain_region}
 use Rattle.def_step.specs.Firmware.{IsLawfulFirmware}
-use Rattle.def_step.specs.Boot.{image_of, boot_state, boot_granules, boot_granule, boot_cap}
+use Rattle.def_step.specs.Boot.{image_of, boot_state, boot_granules}
 use Rattle.law_regions.proofs.Boots.{tagged_fixed}
 use Rattle.law_regions.specs.Held.{AsGranule, of_ram, past_ram}
 use Rattle.law_regions.proofs.Granules.{granule_is, how_many}
@@ -22,7 +20,6 @@ use Rattle.law_regions.proofs.Booted.{of_made}
 use Rattle.law_regions.proofs.Starts.{of_thread, kept_made, pcc_in, pcc_runs, register_in, register_kept, frame_holds, posture_fits, saved_kept}
 
 module _ (f : FirmwareRow) (h : IsLawfulFirmware f) where
-
   -- what is tagged in the image is fixed, and nothing is marked
   fixed_there : (k : ℕ) → (booted (image_of f) k).cap.tag ≡ true → region (image_of f) k ≡ Fixed
   fixed_there k tagged = by (region (image_of f) k) (booted (image_of f) k) tagged (granule_is f k h.ram.1)

@@ -1,11 +1,11 @@
 -- What region an address is part of by the rows of a firmware: of the first row of code, globals or a stack
 -- that covers it.
-use Rattle.std.proofs.Common.{ℕ, zero, suc, ◌≡◌, ◌+◌, ◌≤◌, ◌<◌, ◌⊎◌, inl, inr, Bool, true, false, cond, List, [], ◌∷◌, ◌++◌, map, length, Some, None, refl, sym, ap, ◌∙◌, subst, append_assoc, arith}
+use Rattle.std.proofs.Common.{ℕ, zero, suc, ◌≡◌, ◌+◌, ◌⊎◌, inl, inr, Bool, true, false, cond, List, [], ◌∷◌, ◌++◌, map, Some, None, refl, sym, ap, ◌∙◌, subst, append_assoc, arith}
 use Rattle.std.specs.Prelude.{slice_get}
-use Rattle.law_lists.proofs.Tests.{le_tells, lt_tells, chosen}
+use Rattle.law_lists.proofs.Tests.{le_tells, lt_tells}
 use Rattle.ct_entry.specs.declared.rows.Entry.{Entry}
 use Rattle.def_machine.specs.Image.{Region, Fixed, Globals, Stack}
-use Rattle.def_step.specs.Firmware.{Share, StackRange, DeviceImport, code_length, code_row, globals_row, switch_row, device_row, export_rows, share_rows, all_share_rows, stack_row, stack_rows}
+use Rattle.def_step.specs.Firmware.{Share, StackRange, DeviceImport, code_length, code_row, globals_row, switch_row, device_row, export_rows, share_rows, all_share_rows, stack_rows}
 use Rattle.def_step.specs.Boot.{is_covered, region_in}
 use Rattle.law_regions.specs.Held.{IsIn}
 
@@ -51,8 +51,8 @@ in_stacks : (ss : List StackRange) (b t x : ℕ) (rest : Region) → Found [] ss
 in_stacks [] b t x rest = found_none refl (λ j c is lies. nothing_there j c is) (λ j c is lies. nothing_there j c is) (λ j s is lies. let clash : None ≡ Some s = is in cc)
 in_stacks (s ∷ ss) b t x rest =
     by_cover (λ z. Found [] (s ∷ ss) b t x rest z) s.base s.size x (Stack t) (region_in (stack_rows (t + 1) ss) x rest)
-        (λ lies. found_stack 0 s refl lies (ap Stack (omega arith)))
-        (λ away. more_stack [] ss b t x rest (region_in (stack_rows (t + 1) ss) x rest) s away (in_stacks ss b (t + 1) x rest))
+    (λ lies. found_stack 0 s refl lies (ap Stack (omega arith)))
+    (λ away. more_stack [] ss b t x rest (region_in (stack_rows (t + 1) ss) x rest) s away (in_stacks ss b (t + 1) x rest))
 
 -- rows of devices and of exports are passed on
 pass : (covered : Bool) (r : Region) → cond covered r r ≡ r
@@ -102,8 +102,8 @@ in_rows (c ∷ cs) ss b t x rest =
     let after : Region = region_in (all_share_rows (b + 1) cs ++ stack_rows t ss) x rest in
     let slots : Region = region_in (switch_row b ∷ (map (device_row b) c.imports ++ (export_rows b (c.table + 16) c.exports ++ (all_share_rows (b + 1) cs ++ stack_rows t ss)))) x rest in
     subst Q (sym (rows_apart b c cs (stack_rows t ss)))
-        (by_cover P c.code (code_length c) x Fixed (cond (is_covered c.globals c.globals_length x) (Globals b) slots)
-            (λ lies. found_code 0 c refl lies refl)
-            (λ no_code. by_cover P c.globals c.globals_length x (Globals b) slots
-                (λ lies. found_globals 0 c refl lies (ap Globals (omega arith)))
-                (λ no_globals. subst P (sym (rest_of b c (all_share_rows (b + 1) cs ++ stack_rows t ss) x rest)) (more_share cs ss b t x rest after c no_code no_globals (in_rows cs ss (b + 1) t x rest)))))
+    (by_cover P c.code (code_length c) x Fixed (cond (is_covered c.globals c.globals_length x) (Globals b) slots)
+    (λ lies. found_code 0 c refl lies refl)
+    (λ no_code. by_cover P c.globals c.globals_length x (Globals b) slots
+    (λ lies. found_globals 0 c refl lies (ap Globals (omega arith)))
+    (λ no_globals. subst P (sym (rest_of b c (all_share_rows (b + 1) cs ++ stack_rows t ss) x rest)) (more_share cs ss b t x rest after c no_code no_globals (in_rows cs ss (b + 1) t x rest)))))

@@ -1,12 +1,10 @@
 -- The granules of a firmware's image by their number.
-use Rattle.std.proofs.Common.{ℕ, zero, suc, ◌≡◌, ◌+◌, ◌-◌, ◌*◌, ◌/◌, ◌%◌, ◌≤◌, ◌<◌, ◌⊎◌, inl, inr, List, [], ◌∷◌, length, refl, sym, ap, ◌∙◌, arith}
+use Rattle.std.proofs.Common.{ℕ, zero, suc, ◌≡◌, ◌+◌, ◌*◌, ◌/◌, ◌%◌, ◌≤◌, ◌<◌, inl, inr, length, refl, ap, ◌∙◌, arith}
 use Rattle.std.specs.Prelude.{slice_index_or}
-use Rattle.std.proofs.lemmas.Bool.{cases_lt}
 use Rattle.law_lists.proofs.Tests.{lt_tells}
-use Rattle.def_memory.specs.declared.Granule.{Granule}
 use Rattle.def_memory.specs.Granules.{nothing}
 use Rattle.ct_entry.specs.Listed.{FirmwareRow}
-use Rattle.def_machine.specs.Image.{Region, Bare, region, booted, granule_of}
+use Rattle.def_machine.specs.Image.{Bare, region, booted}
 use Rattle.law_regions.specs.Held.{AsGranule, of_ram, past_ram}
 use Rattle.def_step.specs.Boot.{region_at, regions_from, boot_granule, granules_from, boot_granules, image_of}
 

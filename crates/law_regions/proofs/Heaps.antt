@@ -1,5 +1,5 @@
 -- The heap of a lawful firmware's image.
-use Rattle.std.proofs.Common.{ℕ, ◌≡◌, ◌+◌, ◌≤◌, ◌<◌, refl, arith}
+use Rattle.std.proofs.Common.{ℕ, ◌≡◌, ◌≤◌, ◌<◌, refl, arith}
 use Rattle.ct_entry.specs.Listed.{FirmwareRow}
 use Rattle.def_machine.specs.Image.{HeapRam, region, granule_of}
 use Rattle.def_step.specs.Firmware.{IsLawfulFirmware}
@@ -9,7 +9,6 @@ use Rattle.law_regions.proofs.Where.{in_ram, sentry_held}
 use Rattle.law_regions.proofs.Regions.{heap_granule}
 
 module _ (f : FirmwareRow) (h : IsLawfulFirmware f) where
-
   -- the trusted region lies below it
   pub heap_high : f.ram < f.heap
   heap_high = let inside = in_ram f h f.trusted TrustedPlace (sentry_held f h.shares h.stacks f.trusted refl) in omega (arith, inside.0, inside.1)

@@ -1,5 +1,5 @@
 -- What an entry of a lawful firmware loads from.
-use Rattle.std.proofs.Common.{ℕ, ◌≡◌, ◌+◌, ◌-◌, ◌*◌, ◌/◌, ◌≤◌, ◌<◌, ◌⊎◌, inl, inr, true, false, Some, slice_get, refl, sym, ap, ◌∙◌, subst, arith, lit≤}
+use Rattle.std.proofs.Common.{ℕ, ◌≡◌, ◌-◌, ◌/◌, ◌≤◌, ◌<◌, inl, inr, true, false, sym, ap, ◌∙◌, subst, lit≤}
 use Rattle.def_words.specs.declared.Cap.{Cap}
 use Rattle.def_words.specs.Permissions.{bit, load_data, memory_capability}
 use Rattle.def_words.specs.Seals.{cap_seal}
@@ -9,13 +9,13 @@ use Rattle.ct_entry.specs.declared.rows.Owner.{Owner}
 use Rattle.ct_entry.specs.declared.rows.Owner.TheVariants.{Compartment}
 use Rattle.def_reach.specs.Roots.{Root, root_of, is_root, is_stack as for_stack, is_owned}
 use Rattle.def_reach.specs.Sharing.{Reaches}
-use Rattle.def_machine.specs.Image.{Region, region, booted, granule_of, root}
+use Rattle.def_machine.specs.Image.{region, booted, granule_of, root}
 use Rattle.def_confined.specs.Partitioned.{Loads, BootHeld}
-use Rattle.def_step.specs.Firmware.{IsLawfulFirmware, Share, code_length}
+use Rattle.def_step.specs.Firmware.{IsLawfulFirmware, Share}
 use Rattle.def_step.specs.Boot.{image_of, made_for, boot_cap}
-use Rattle.law_entries.specs.Rows.{HasRow, HasShare, HasStack, EntryIs, is_nothing, is_trusted, is_code, is_globals, is_switch, is_import, is_export, is_stack}
+use Rattle.law_entries.specs.Rows.{EntryIs, is_nothing, is_trusted, is_code, is_globals, is_switch, is_import, is_export, is_stack}
 use Rattle.law_entries.proofs.Classes.{entry_of}
-use Rattle.law_regions.specs.Held.{IsIn, Place, CodeOf, TableOf, GlobalsOf, StackOf, TrustedPlace, Held}
+use Rattle.law_regions.specs.Held.{CodeOf, TableOf, GlobalsOf, StackOf, TrustedPlace, Held}
 use Rattle.law_regions.proofs.Apart.{same_place}
 use Rattle.law_regions.proofs.Roots.{import_away}
 use Rattle.law_regions.proofs.Where.{sentry_held}
@@ -28,7 +28,6 @@ use Rattle.law_regions.proofs.Booted.{no_object, no_return_off}
 use Rattle.law_regions.proofs.Made.{boot_made}
 
 module _ (f : FirmwareRow) (h : IsLawfulFirmware f) where
-
   slot_root : (b : ℕ) (s : Share) (n : ℕ) → IsSlot f b s n → (is_root (root_of f.entries n).origin ≡ true) × (for_stack (root_of f.entries n).origin ≡ false) × ((root_of f.entries n).owner ≡ Compartment b)
   slot_root b s n (inl row) = (ap (λ (r : Root). is_root r.origin) row.root_is, ap (λ (r : Root). for_stack r.origin) row.root_is, ap (λ (r : Root). r.owner) row.root_is)
   slot_root b s n (inr device) = (ap (λ (r : Root). is_root r.origin) device.3.root_is, ap (λ (r : Root). for_stack r.origin) device.3.root_is, ap (λ (r : Root). r.owner) device.3.root_is)
@@ -76,9 +75,10 @@ module _ (f : FirmwareRow) (h : IsLawfulFirmware f) where
       let i : Held f h.shares h.stacks x (CodeOf b) = (c, has.there, (from, to)) in
       let at = place_granule f h x (CodeOf b) (λ clash. cc) i in
       let Q : Granule → Type 0 = λ g. g.cap.tag ≡ true → BootHeld (image_of f) n g.cap in
-      subst (Loads (image_of f) n (booted (image_of f) ((x - f.ram) / 8)).cap) (sym at.0)
-          (ap (λ (r : Root). is_owned r.origin) row.root_is,
-          subst Q (sym at.1) (λ tagged. held n b c (begins f x) (boot_cap f (begins f x)) (ap (λ (r : Root). r.owner) row.root_is) (granule_held f h x (CodeOf b) i) tagged (boot_is f h (begins f x)))))
+      subst (Loads (image_of f) n (booted (image_of f) ((x - f.ram) / 8)).cap) (sym at.0) (
+        ap (λ (r : Root). is_owned r.origin) row.root_is,
+        subst Q (sym at.1) (λ tagged. held n b c (begins f x) (boot_cap f (begins f x)) (ap (λ (r : Root). r.owner) row.root_is) (granule_held f h x (CodeOf b) i) tagged (boot_is f h (begins f x))),
+      ))
   loaded n x low (is_globals b c has e row) = subst (LoadAt n x) (sym row.root_is) (λ right carry from to.
       subst (Loads (image_of f) n (booted (image_of f) ((x - f.ram) / 8)).cap) (sym (place_granule f h x (GlobalsOf b) (λ clash. cc) (c, has.there, (from, to))).0) (ap (λ (r : Root). r.origin) row.root_is, ap (λ (r : Root). r.owner) row.root_is))
   loaded n x low (is_switch b c has e row) = subst (LoadAt n x) (sym row.root_is) (λ right carry from to.

@@ -1,15 +1,14 @@
 -- What is known of the capabilities that boot makes for a lawful firmware's entries.
-use Rattle.std.proofs.Common.{ℕ, ◌≡◌, ◌+◌, ◌*◌, ◌≤◌, ◌<◌, inl, inr, true, false, refl, sym, ap, ◌∙◌, subst, arith}
+use Rattle.std.proofs.Common.{ℕ, ◌≡◌, inl, inr, true, false, refl, sym, subst, arith}
 use Rattle.def_words.specs.declared.Cap.{Cap}
 use Rattle.def_words.specs.Authority.{cap_base}
 use Rattle.def_words.specs.Permissions.{bit, has, execute}
 use Rattle.def_words.specs.Seals.{cap_seal}
-use Rattle.def_memory.specs.Granules.{plain}
 use Rattle.ct_entry.specs.Listed.{FirmwareRow}
 use Rattle.ct_entry.specs.declared.rows.Kind.TheVariants as kind
-use Rattle.def_reach.specs.Roots.{Root, Origin, Listing, TrustedPart, Unknown, root_of, is_root}
+use Rattle.def_reach.specs.Roots.{Root, Listing, TrustedPart, Unknown, root_of, is_root}
 use Rattle.def_confined.specs.Partitioned.{BootMade, AwayFromHeap}
-use Rattle.def_step.specs.Firmware.{IsLawfulFirmware, AreApart, range}
+use Rattle.def_step.specs.Firmware.{IsLawfulFirmware}
 use Rattle.def_step.specs.Boot.{image_of, made_for}
 use Rattle.law_entries.specs.Fits.{RamFits}
 use Rattle.law_entries.proofs.Fitting.{ram_fits}

@@ -1,13 +1,13 @@
 -- The regions of a lawful firmware's image, by address.
-use Rattle.std.proofs.Common.{ℕ, ◌≡◌, ◌+◌, ◌-◌, ◌*◌, ◌/◌, ◌%◌, ◌≤◌, ◌<◌, inl, inr, true, false, refl, sym, ap, ◌∙◌, subst, arith}
+use Rattle.std.proofs.Common.{ℕ, ◌≡◌, ◌+◌, ◌-◌, ◌*◌, ◌/◌, ◌%◌, ◌≤◌, ◌<◌, ◌∙◌, arith}
 use Rattle.def_memory.specs.declared.Granule.{Granule}
 use Rattle.ct_entry.specs.Listed.{FirmwareRow}
-use Rattle.def_machine.specs.Image.{Region, Fixed, Globals, HeapRam, Stack, Bare, region, booted, granule_of, address_of}
+use Rattle.def_machine.specs.Image.{Region, HeapRam, Bare, region, booted}
 use Rattle.def_step.specs.Firmware.{IsLawfulFirmware}
 use Rattle.def_step.specs.Boot.{image_of, region_at, boot_granule}
 use Rattle.law_regions.specs.Held.{IsIn, Place, CodeOf, TableOf, GlobalsOf, StackOf, TrustedPlace, Held}
 use Rattle.law_regions.proofs.Apart.{base_of, size_of, lies_in}
-use Rattle.law_regions.proofs.Rounding.{granule_base, granule_in}
+use Rattle.law_regions.proofs.Rounding.{granule_in}
 use Rattle.law_regions.specs.Held.{expected, InHeap}
 use Rattle.law_regions.proofs.Where.{within, in_ram, place_region, heap_region}
 use Rattle.law_regions.specs.Held.{AsGranule, of_ram, past_ram}

@@ -1,10 +1,8 @@
 -- What a row of a firmware says of the root with its number, and where its devices are.
-use Rattle.std.proofs.Common.{ℕ, zero, suc, ◌≡◌, ◌+◌, ◌%◌, ◌≤◌, ◌<◌, ◌⊎◌, inl, inr, true, false, List, [], ◌∷◌, Option, Some, None, slice_get, refl, sym, ap, ◌∙◌, subst, arith}
+use Rattle.std.proofs.Common.{ℕ, suc, ◌≡◌, ◌%◌, ◌<◌, ◌⊎◌, inl, inr, List, [], ◌∷◌, Option, Some, slice_get, sym, ap, ◌∙◌, subst}
 use Rattle.ct_entry.specs.Listed.{FirmwareRow, DeviceRow}
 use Rattle.ct_entry.specs.declared.rows.Entry.{Entry}
-use Rattle.ct_entry.specs.declared.rows.Owner.{Owner}
-use Rattle.ct_entry.specs.declared.rows.Kind.{Kind}
-use Rattle.def_reach.specs.Roots.{Root, Origin, Listing, root_of, gate_for, listed_root}
+use Rattle.def_reach.specs.Roots.{Root, Listing, root_of, gate_for, listed_root}
 use Rattle.def_machine.specs.Objects.{Each}
 use Rattle.def_step.specs.Firmware.{IsLawfulFirmware, IsDevice, IsImport, IsShare, Share, DeviceImport, DeviceAt, AreApart, range, native_range}
 use Rattle.law_entries.specs.Rows.{HasRow}

@@ -1,18 +1,17 @@
 -- The stacks of a lawful firmware's image.
-use Rattle.std.proofs.Common.{ℕ, zero, suc, ◌≡◌, ◌+◌, ◌*◌, ◌≤◌, ◌<◌, ◌⊎◌, inl, inr, length, slice_index_or, Some, refl, sym, ap, ◌∙◌, subst, arith}
+use Rattle.std.proofs.Common.{ℕ, zero, suc, ◌≡◌, ◌+◌, ◌*◌, ◌≤◌, ◌<◌, inl, inr, length, slice_index_or, refl, sym, ap, ◌∙◌, arith}
 use Rattle.law_lists.proofs.Tests.{lt_tells}
 use Rattle.def_memory.specs.declared.Granule.{Granule}
 use Rattle.ct_entry.specs.Listed.{FirmwareRow}
 use Rattle.ct_entry.specs.declared.rows.Kind.TheVariants as kind
-use Rattle.def_reach.specs.Roots.{Root, Origin, TrustedPart, Listing, root_of}
+use Rattle.def_reach.specs.Roots.{Root, TrustedPart, Listing, root_of}
 use Rattle.def_machine.specs.Image.{Region, Bare, Stack, region, booted, root, stack_entry, stack_base, stack_top, address_of}
 use Rattle.def_step.specs.Firmware.{IsLawfulFirmware, StackRange}
-use Rattle.def_step.specs.Boot.{image_of, numbered_from, stack_number, region_at}
+use Rattle.def_step.specs.Boot.{image_of, numbered_from, stack_number}
 use Rattle.law_entries.specs.Rows.{HasStack}
 use Rattle.law_entries.proofs.Standing.{present}
 use Rattle.law_entries.proofs.Classes.{stack_of}
-use Rattle.law_regions.specs.Held.{IsIn, Place, StackOf, Held}
-use Rattle.law_regions.specs.Held.{expected}
+use Rattle.law_regions.specs.Held.{StackOf, Held}
 use Rattle.law_regions.proofs.Where.{in_ram, place_region, is_stack_place}
 use Rattle.law_regions.specs.Held.{AsGranule, of_ram, past_ram}
 use Rattle.law_regions.proofs.Granules.{granule_is}
@@ -29,7 +28,6 @@ numbered_past number b (suc n) zero more = absurd (omega (arith, more))
 numbered_past number b (suc n) (suc t) more = numbered_past number (b + 1) n t (omega (arith, more))
 
 module _ (f : FirmwareRow) (h : IsLawfulFirmware f) where
-
   pub stack_entry_is : (t : ℕ) → t < length h.stacks → stack_entry (image_of f) t ≡ stack_number f t
   unfolding image_of
   stack_entry_is t few =

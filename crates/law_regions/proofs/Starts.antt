@@ -1,12 +1,8 @@
 -- The thread of a lawful firmware as it starts: what it holds, and its one frame.
-use Rattle.std.proofs.Common.{ℕ, zero, suc, ◌≡◌, ◌+◌, ◌*◌, ◌%◌, ◌^◌, ◌≤◌, ◌<◌, ◌⊎◌, inl, inr, Bool, true, false, cond, List, [], ◌∷◌, length, Some, None, slice_get, slice_index_or, refl, sym, ap, ◌∙◌, subst, arith}
+use Rattle.std.proofs.Common.{ℕ, zero, suc, ◌≡◌, ◌+◌, ◌^◌, ◌≤◌, ◌<◌, ◌⊎◌, inl, inr, Bool, true, false, List, [], ◌∷◌, Some, slice_get, slice_index_or, refl, sym, ap, ◌∙◌, subst, arith}
 use Rattle.std.proofs.lemmas.Option.{slice_get_within}
-use Rattle.law_lists.proofs.Tests.{bool_tells}
-use Rattle.def_words.specs.declared.Cap.{Cap}
 use Rattle.def_words.specs.declared.Posture.{Posture}
 use Rattle.def_words.specs.Authority.{cap_top}
-use Rattle.def_words.specs.Capability.{with_address}
-use Rattle.def_words.specs.Permissions.{has, execute}
 use Rattle.def_words.specs.Seals.{cap_seal}
 use Rattle.def_memory.specs.Granules.{plain}
 use Rattle.ct_entry.specs.Listed.{FirmwareRow}
@@ -14,14 +10,13 @@ use Rattle.ct_entry.specs.declared.rows.Owner.{Owner}
 use Rattle.ct_entry.specs.declared.rows.Owner.TheVariants.{Compartment}
 use Rattle.ct_entry.specs.declared.rows.Kind.TheVariants as kind
 use Rattle.ct_entry.specs.declared.starting.Starter.{Starter}
-use Rattle.def_reach.specs.Roots.{Root, Origin, Listing, TrustedPart, root_of, gate_for, is_root, is_owned, is_stack, is_code}
+use Rattle.def_reach.specs.Roots.{Root, Listing, TrustedPart, root_of, gate_for, is_root, is_owned, is_stack, is_code}
 use Rattle.def_reach.specs.Sharing.{Reaches}
-use Rattle.def_machine.specs.Image.{root, stack_entry, stack_base, stack_top}
 use Rattle.def_machine.specs.State as st
 use Rattle.def_machine.specs.State.{Frame, nobody, thread, register}
 use Rattle.def_machine.specs.Objects.{Each}
 use Rattle.def_confined.specs.Capabilities.{Rooted, Kept, heap_cap}
-use Rattle.def_confined.specs.Places.{Placed, InFrames, OwnStack}
+use Rattle.def_confined.specs.Places.{InFrames, OwnStack}
 use Rattle.def_confined.specs.Confined.{FramesHold, PostureFits, IsPcc, SavedKept}
 use Rattle.law_places.proofs.Puts.{plain_kept}
 use Rattle.law_places.proofs.Reaching.{reaches_own, joined_is}
@@ -29,7 +24,7 @@ use Rattle.law_registers.proofs.Derives.{Bound, kept_bound, derived_in}
 use Rattle.law_made.proofs.Results.{address_derived, address_runs}
 use Rattle.law_calls.proofs.Pushes.{all_of}
 use Rattle.def_step.specs.Firmware.{IsLawfulFirmware, IsStarter, StackRange}
-use Rattle.def_step.specs.Boot.{image_of, boot_state, made_for, return_sentry, home_of, compartment_of, stack_top_of, stack_number, code_number, globals_number, first_frame, first_pcc, first_registers, first_posture, first_thread, first_threads}
+use Rattle.def_step.specs.Boot.{image_of, boot_state, made_for, home_of, compartment_of, stack_top_of, stack_number, code_number, globals_number, first_frame, first_pcc, first_registers, first_posture, first_thread, first_threads}
 use Rattle.law_entries.specs.Rows.{IsExportOf, HasStack}
 use Rattle.law_entries.proofs.Standing.{present}
 use Rattle.law_entries.proofs.Classes.{export_of, stack_of}
@@ -56,7 +51,6 @@ of_thread f P t starts none = elim (threads_tell f 0 f.threads t) [
 ]
 
 module _ (f : FirmwareRow) (h : IsLawfulFirmware f) where
-
   pub kept_made : (n : ℕ) → is_root (root_of f.entries n).origin ≡ true → Kept (image_of f) (made_for f n)
   unfolding image_of
   kept_made n from tagged =
@@ -65,7 +59,6 @@ module _ (f : FirmwareRow) (h : IsLawfulFirmware f) where
       subst P (sym number) (made_kept f h n tagged)
 
   module _ (t : ℕ) (s : Starter) (there : slice_get f.threads t ≡ Some s) where
-
     abbrev pub home : ℕ
     home = home_of f s.export
 
@@ -136,11 +129,12 @@ module _ (f : FirmwareRow) (h : IsLawfulFirmware f) where
     stack_in tagged =
         let P : ℕ → Type 0 = λ k. heap_cap (image_of f) (made_for f (stack_number f t)) ≡ false in
         placed_made (stack_number f t) (ap is_root stack_origin) (λ owned. absurd (let clash : true ≡ false = sym owned ∙ ap is_owned stack_origin in cc))
-            (λ is from rooted.
-                (from ∙ sym (stack_entry_is f h t own_has.few),
-                let top = (rooted.range (no_object f (made_for f (stack_number f t)) (boot_made f h (stack_number f t) (ap is_root stack_origin) tagged).source)).1 in
-                let Q : ℕ → Type 0 = λ k. cap_top (made_for f (stack_number f t)) ≤ (root_of f.entries k).top in
-                subst Q from top)) tagged
+        (λ is from rooted. (
+          from ∙ sym (stack_entry_is f h t own_has.few),
+          let top = (rooted.range (no_object f (made_for f (stack_number f t)) (boot_made f h (stack_number f t) (ap is_root stack_origin) tagged).source)).1 in
+              let Q : ℕ → Type 0 = λ k. cap_top (made_for f (stack_number f t)) ≤ (root_of f.entries k).top in
+              subst Q from top,
+        )) tagged
 
     -- the program counter
     gate_low : (gate_for f.entries.gates s.export).code < 2 ^ 32
@@ -202,21 +196,23 @@ module _ (f : FirmwareRow) (h : IsLawfulFirmware f) where
         let even = fits.place.even in
         let whole = fits.place.whole in
         let base_is = ends.1 in
-        let top_is = ends.2 in
-        (record {
-          stack = ends.0;
-          even = omega (arith, top, even, whole);
-          low = omega (arith, top, base_is);
-          high = omega (arith, top, top_is);
-          under = tt;
-          passes = tt;
-          returns = tt;
-          c1 = refl;
-          c2 = refl;
-          c3 = refl;
-          c8 = refl;
-          c9 = refl;
-        }, tt)
+        let top_is = ends.2 in (
+          record {
+            stack = ends.0;
+            even = omega (arith, top, even, whole);
+            low = omega (arith, top, base_is);
+            high = omega (arith, top, top_is);
+            under = tt;
+            passes = tt;
+            returns = tt;
+            c1 = refl;
+            c2 = refl;
+            c3 = refl;
+            c8 = refl;
+            c9 = refl;
+          },
+          tt,
+        )
 
     pub posture_fits : PostureFits (image_of f) (first_thread f t s) (frame ∷ [])
     unfolding image_of

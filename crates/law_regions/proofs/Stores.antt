@@ -1,15 +1,13 @@
 -- What an entry of a lawful firmware reaches in RAM.
-use Rattle.std.proofs.Common.{ℕ, ◌≡◌, ◌+◌, ◌-◌, ◌/◌, ◌≤◌, ◌<◌, ◌⊎◌, inl, inr, true, false, refl, sym, ap, ◌∙◌, subst, arith}
-use Rattle.def_words.specs.declared.Cap.{Cap}
-use Rattle.def_words.specs.Permissions.{bit, store_data, load_data, memory_capability}
-use Rattle.def_memory.specs.declared.Granule.{Granule}
+use Rattle.std.proofs.Common.{ℕ, ◌≡◌, ◌+◌, ◌-◌, ◌/◌, ◌≤◌, ◌<◌, ◌⊎◌, inl, inr, true, false, sym, ap, ◌∙◌, subst, arith}
+use Rattle.def_words.specs.Permissions.{bit, store_data, memory_capability}
 use Rattle.ct_entry.specs.Listed.{FirmwareRow}
 use Rattle.def_reach.specs.Roots.{Root, root_of}
-use Rattle.def_machine.specs.Image.{Region, Bare, region, granule_of, root}
-use Rattle.def_step.specs.Firmware.{IsLawfulFirmware, AreApart, range, native_range}
+use Rattle.def_machine.specs.Image.{Bare, region, granule_of, root}
+use Rattle.def_step.specs.Firmware.{IsLawfulFirmware, AreApart, range}
 use Rattle.def_step.specs.Boot.{image_of}
 use Rattle.def_confined.specs.Partitioned.{Open, Carries}
-use Rattle.law_entries.specs.Rows.{HasRow, HasShare, HasStack, EntryIs, is_nothing, is_trusted, is_code, is_globals, is_switch, is_import, is_export, is_stack}
+use Rattle.law_entries.specs.Rows.{EntryIs, is_nothing, is_trusted, is_code, is_globals, is_switch, is_import, is_export, is_stack}
 use Rattle.law_entries.proofs.Classes.{entry_of}
 use Rattle.law_regions.specs.Held.{GlobalsOf, StackOf}
 use Rattle.law_regions.proofs.Roots.{import_away}
@@ -18,7 +16,6 @@ use Rattle.law_regions.proofs.Regions.{place_granule, past_granule}
 use Rattle.law_regions.proofs.Stacks.{stack_entry_is}
 
 module _ (f : FirmwareRow) (h : IsLawfulFirmware f) where
-
   -- what lies outside RAM reaches no region
   pub outside : (base size x : ℕ) → AreApart (range base size) (range f.ram f.size) → f.ram ≤ x → base ≤ x → x < base + size → region (image_of f) ((x - f.ram) / 8) ≡ Bare
   outside base size x (inl below) low from to = absurd (omega (arith, below, low, from, to))
@@ -64,15 +61,17 @@ module _ (f : FirmwareRow) (h : IsLawfulFirmware f) where
   carried n x (is_nothing e made) = subst (CarryAt n x) (sym e) (λ right carry from to. absurd (let clash : false ≡ true = right in cc))
   carried n x (is_trusted e root_is made) = subst (CarryAt n x) (sym root_is) (λ right carry from to. absurd (let clash : false ≡ true = right in cc))
   carried n x (is_code b c has e row) = subst (CarryAt n x) (sym row.root_is) (λ right carry from to. absurd (let clash : false ≡ true = right in cc))
-  carried n x (is_globals b c has e row) = subst (CarryAt n x) (sym row.root_is) (λ right carry from to.
-      ((in_ram f h x (GlobalsOf b) (c, has.there, (from, to))).0,
-      subst (Carries (image_of f) n) (sym (place_granule f h x (GlobalsOf b) (λ clash. cc) (c, has.there, (from, to))).0) (ap (λ (r : Root). r.origin) row.root_is, ap (λ (r : Root). r.owner) row.root_is)))
+  carried n x (is_globals b c has e row) = subst (CarryAt n x) (sym row.root_is) (λ right carry from to. (
+    (in_ram f h x (GlobalsOf b) (c, has.there, (from, to))).0,
+    subst (Carries (image_of f) n) (sym (place_granule f h x (GlobalsOf b) (λ clash. cc) (c, has.there, (from, to))).0) (ap (λ (r : Root). r.origin) row.root_is, ap (λ (r : Root). r.owner) row.root_is),
+  ))
   carried n x (is_switch b c has e row) = subst (CarryAt n x) (sym row.root_is) (λ right carry from to. absurd (let clash : false ≡ true = right in cc))
   carried n x (is_import b c j d has at e row) = subst (CarryAt n x) (sym row.root_is) (λ right carry from to. absurd (plain_device d.rights (import_away f h b c j d has.there at).1 carry))
   carried n x (is_export e) = subst (CarryAt n x) (sym e.row.root_is) (λ right carry from to. absurd (let clash : false ≡ true = right in cc))
-  carried n x (is_stack t s has e row) = subst (CarryAt n x) (sym row.root_is) (λ right carry from to.
-      ((in_ram f h x (StackOf t) (s, has.there, (from, to))).0,
-      subst (Carries (image_of f) n) (sym (place_granule f h x (StackOf t) (λ clash. cc) (s, has.there, (from, to))).0) (ap (λ (r : Root). r.origin) row.root_is, e ∙ sym (stack_entry_is f h t has.few))))
+  carried n x (is_stack t s has e row) = subst (CarryAt n x) (sym row.root_is) (λ right carry from to. (
+    (in_ram f h x (StackOf t) (s, has.there, (from, to))).0,
+    subst (Carries (image_of f) n) (sym (place_granule f h x (StackOf t) (λ clash. cc) (s, has.there, (from, to))).0) (ap (λ (r : Root). r.origin) row.root_is, e ∙ sym (stack_entry_is f h t has.few)),
+  ))
 
   pub carries : (n x : ℕ) → bit (root (image_of f) n).rights store_data ≡ true → bit (root (image_of f) n).rights memory_capability ≡ true → (root (image_of f) n).base ≤ x → x < (root (image_of f) n).top → ((image_of f).ram ≤ x) × Carries (image_of f) n (region (image_of f) (granule_of (image_of f) x))
   unfolding image_of

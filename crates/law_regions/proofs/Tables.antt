@@ -1,10 +1,10 @@
 -- The export tables of a firmware: how many exports each compartment's rows have, and where its table is.
-use Rattle.std.proofs.Common.{ℕ, zero, suc, ◌≡◌, ◌≢◌, ◌+◌, ◌*◌, ◌≤◌, ◌<◌, ◌⊎◌, inl, inr, ◌||◌, Bool, true, false, cond, nat_eq, List, [], ◌∷◌, ◌++◌, map, length, Some, None, refl, sym, ap, ◌∙◌, subst, arith}
+use Rattle.std.proofs.Common.{ℕ, zero, suc, ◌≡◌, ◌+◌, ◌*◌, ◌<◌, ◌⊎◌, inl, inr, ◌||◌, Bool, true, false, nat_eq, List, [], ◌∷◌, ◌++◌, map, length, Some, None, refl, sym, ap, ◌∙◌, subst, arith}
 use Rattle.std.specs.Prelude.{slice_get}
 use Rattle.law_lists.proofs.Tests.{eq_tells}
 use Rattle.ct_entry.specs.declared.rows.Entry.{Entry}
 use Rattle.ct_entry.specs.Listed.{FirmwareRow}
-use Rattle.def_step.specs.Firmware.{Share, StackRange, DeviceImport, table_length, code_row, globals_row, switch_row, device_row, export_rows, all_share_rows, stack_rows}
+use Rattle.def_step.specs.Firmware.{Share, StackRange, DeviceImport, table_length, device_row, export_rows, all_share_rows, stack_rows}
 use Rattle.def_step.specs.Boot.{is_covered, exports_from, is_table_from}
 use Rattle.law_regions.specs.Held.{IsIn}
 use Rattle.law_regions.proofs.Finding.{cover_tells, rows_apart}
@@ -91,4 +91,4 @@ tables_tell f x a (d ∷ ds) counted =
     let there : Bool = is_table_from f x (a + 1) (map (λ (c : Share). c.table) ds) in
     let P : ℕ → Type 0 = λ n. InTable (d ∷ ds) x (is_covered d.table n x || there) in
     subst P (sym size) (in_either d ds x (is_covered d.table (table_length d) x) there (cover_tells d.table (table_length d) x)
-        (tables_tell f x (a + 1) ds (λ j c is. let next : (a + 1) + j ≡ a + suc j = omega arith in ap (λ (n : ℕ). exports_from n f.entries.rows) next ∙ counted (suc j) c is)))
+    (tables_tell f x (a + 1) ds (λ j c is. let next : (a + 1) + j ≡ a + suc j = omega arith in ap (λ (n : ℕ). exports_from n f.entries.rows) next ∙ counted (suc j) c is)))

@@ -1,16 +1,16 @@
 -- What region an address of a lawful firmware is part of.
-use Rattle.std.proofs.Common.{ℕ, zero, suc, ◌≡◌, ◌+◌, ◌-◌, ◌*◌, ◌%◌, ◌≤◌, ◌<◌, ◌⊎◌, inl, inr, ◌||◌, Bool, true, false, cond, nat_eq, List, [], ◌∷◌, ◌++◌, map, length, Some, None, refl, sym, ap, ◌∙◌, subst, arith}
+use Rattle.std.proofs.Common.{ℕ, ◌≡◌, ◌+◌, ◌-◌, ◌%◌, ◌≤◌, ◌<◌, ◌⊎◌, inl, inr, Bool, true, false, cond, nat_eq, List, [], ◌∷◌, length, Some, refl, sym, ap, ◌∙◌, subst, arith}
 use Rattle.std.specs.Prelude.{slice_get}
 use Rattle.law_lists.proofs.Tests.{eq_tells}
 use Rattle.ct_entry.specs.declared.rows.Entry.{Entry}
 use Rattle.ct_entry.specs.declared.starting.Starter.{Starter}
 use Rattle.ct_entry.specs.Listed.{FirmwareRow}
 use Rattle.def_machine.specs.Image.{Region, Fixed, Globals, HeapRam, Stack, Bare}
-use Rattle.def_step.specs.Firmware.{Share, StackRange, RegionRange, range, IsLawfulFirmware, IsShare, IsStack, IsPlaced, all_ranges, code_length, table_length, trusted_length, all_share_rows, stack_rows}
+use Rattle.def_step.specs.Firmware.{Share, StackRange, RegionRange, range, IsLawfulFirmware, IsShare, IsStack, IsPlaced, all_ranges, table_length, trusted_length}
 use Rattle.def_step.specs.Boot.{is_covered, region_in, region_at, is_table_from, exports_from}
 use Rattle.law_regions.specs.Held.{IsIn, Place, CodeOf, TableOf, GlobalsOf, StackOf, TrustedPlace, Held, expected, InHeap, Where, at_sentry, at_place, at_heap, at_bare}
 use Rattle.law_regions.proofs.Apart.{each_at, number, base_of, size_of, lies_in, listed_at, same_place}
-use Rattle.law_regions.proofs.Finding.{cover_tells, by_cover, Found, found_code, found_globals, found_stack, found_none, in_rows}
+use Rattle.law_regions.proofs.Finding.{cover_tells, Found, found_code, found_globals, found_stack, found_none, in_rows}
 use Rattle.law_regions.proofs.Tables.{exports_at, InTable, tables_tell}
 
 counted : (f : FirmwareRow) (h : IsLawfulFirmware f) (j : ℕ) (c : Share) → slice_get h.shares j ≡ Some c → exports_from (0 + j) f.entries.rows ≡ length c.exports

@@ -1,4 +1,3 @@
-use Rattle.std.proofs.Common.{◌≡◌}
 use Rattle.ct_entry.specs.Listed.{FirmwareRow}
 use Rattle.def_confined.specs.Partitioned.{Partitioned}
 use Rattle.def_step.specs.Firmware.{IsLawfulFirmware}
