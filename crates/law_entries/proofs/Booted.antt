@@ -1,21 +1,20 @@
 -- What boot makes for each entry is rooted in it.
-use Rattle.std.proofs.Common.{ℕ, zero, suc, ◌≡◌, ◌+◌, ◌*◌, ◌≤◌, ◌<◌, ◌⊎◌, inl, inr, Bool, true, false, ◌&&◌, not, nat_eq, refl, sym, ap, ◌∙◌, subst, arith, lit<}
+use Rattle.std.proofs.Common.{ℕ, ◌≡◌, ◌+◌, ◌<◌, ◌⊎◌, inl, inr, true, false, ◌&&◌, not, nat_eq, refl, sym, ap, ◌∙◌, arith, lit<}
 use Rattle.ct_entry.specs.Listed.{FirmwareRow}
-use Rattle.ct_entry.specs.declared.rows.Kind.TheVariants as kind
 use Rattle.def_words.specs.declared.Cap.{Cap}
 use Rattle.def_words.specs.declared.Shadow.{Shadow}
 use Rattle.def_words.specs.Authority.{cap_address, cap_base, cap_top}
 use Rattle.def_words.specs.Permissions.{IsLegal, bit, has, execute, global, store_local, normal_set, set_where, form_of}
 use Rattle.def_words.specs.Seals.{cap_seal}
-use Rattle.def_reach.specs.Roots.{Root, TrustedPart, Listing, is_root, is_quota, is_stack}
+use Rattle.def_reach.specs.Roots.{Root, is_root, is_quota, is_stack}
 use Rattle.def_machine.specs.Image.{Image, root, made_cap}
-use Rattle.def_confined.specs.Capabilities.{AsBoot, IsReturnType}
+use Rattle.def_confined.specs.Capabilities.{AsBoot}
 use Rattle.def_confined.specs.Partitioned.{BootMade}
 use Rattle.def_step.specs.Boot.{image_of, from_entry}
 use Rattle.def_step.specs.Firmware.{IsLawfulFirmware}
 use Rattle.law_made.proofs.Makes.{made_rooted}
 use Rattle.law_entries.specs.Fits.{MadeAs}
-use Rattle.law_entries.proofs.ByCase.{Cases, by_case}
+use Rattle.law_entries.proofs.ByCase.{by_case}
 use Rattle.law_entries.proofs.Clauses.{right_of, clash_of}
 
 -- a capability is what its entry says, and the entry's range and rights are in order

@@ -1,5 +1,5 @@
 -- What holds of each case holds of every entry number, with the capability that boot makes for it.
-use Rattle.std.proofs.Common.{ℕ, ◌≡◌, ◌+◌, ◌<◌, false, Some, List, length, refl, sym, subst}
+use Rattle.std.proofs.Common.{ℕ, ◌≡◌, ◌+◌, ◌<◌, false, Some, length, sym, subst}
 use Rattle.ct_entry.specs.Listed.{FirmwareRow}
 use Rattle.ct_entry.specs.declared.rows.Entry.{Entry}
 use Rattle.ct_entry.specs.declared.rows.Gate.{Gate}
@@ -8,8 +8,8 @@ use Rattle.def_memory.specs.Granules.{plain}
 use Rattle.def_reach.specs.Roots.{Root, root_of, gate_for, listed_root, no_root, trusted_root, is_disabled}
 use Rattle.def_step.specs.Boot.{made_for, made_by, return_sentry}
 use Rattle.def_step.specs.Firmware.{IsLawfulFirmware, Share, DeviceImport, StackRange, code_row, globals_row, switch_row, device_row, stack_row, code_length}
-use Rattle.law_entries.specs.Rows.{HasRow, HasShare, HasStack, EntryIs, is_nothing, is_trusted, is_code, is_globals, is_switch, is_import, is_export, is_stack, IsExportOf, export_row, export_place}
-use Rattle.law_entries.specs.Fits.{RamFits, ShareFits, ImportFits, StackFits, MadeAs}
+use Rattle.law_entries.specs.Rows.{HasRow, EntryIs, is_nothing, is_trusted, is_code, is_globals, is_switch, is_import, is_export, is_stack, export_row, export_place}
+use Rattle.law_entries.specs.Fits.{ShareFits, ImportFits, StackFits, MadeAs}
 use Rattle.law_entries.proofs.Standing.{within}
 use Rattle.law_entries.proofs.Classes.{entry_of}
 use Rattle.law_entries.proofs.Fitting.{ram_fits, share_fits, import_fits, stack_fits}
@@ -40,7 +40,7 @@ in_case f l P k n (is_switch b c share number row) = there f P n (switch_row b) 
 in_case f l P k n (is_import b c j x share at number row) = let fits = import_fits f l b c j x share.there at in there f P n (device_row b x) row (k.device n b x (gate_for f.entries.gates n) _ row.enabled fits (device_made f x n fits))
 in_case f l P k n (is_export e) =
     there f P n (export_row e.index (export_place e.share e.which)) e.row
-        (k.export n e.index e.share e.which (gate_for f.entries.gates n) e.row.enabled (share_fits f l e.index e.share e.has.there) (within e.share.exports e.which e.offset e.there))
+    (k.export n e.index e.share e.which (gate_for f.entries.gates n) e.row.enabled (share_fits f l e.index e.share e.has.there) (within e.share.exports e.which e.offset e.there))
 in_case f l P k n (is_stack t s stack number row) = let fits = stack_fits f l t s stack.there in there f P n (stack_row t s) row (k.stack n t s (gate_for f.entries.gates n) _ row.enabled fits (stack_made f s n (ram_fits f l) fits))
 
 pub by_case : (f : FirmwareRow) (l : IsLawfulFirmware f) (P : ℕ → Root → Cap → Type 0) → Cases f P → (n : ℕ) → P n (root_of f.entries n) (made_for f n)

@@ -1,16 +1,16 @@
 -- Each entry number of a lawful firmware is one of the cases.
-use Rattle.std.proofs.Common.{ℕ, zero, suc, ◌≡◌, ◌+◌, ◌*◌, ◌≤◌, ◌<◌, false, List, [], ◌∷◌, ◌++◌, length, Option, Some, None, slice_get, slice_index_or, refl, sym, ap, ◌∙◌, subst, arith}
-use Rattle.ct_entry.specs.Listed.{Listed, FirmwareRow}
+use Rattle.std.proofs.Common.{ℕ, zero, suc, ◌≡◌, ◌+◌, List, [], ◌∷◌, ◌++◌, length, Option, Some, None, slice_get, slice_index_or, refl, sym, ap, ◌∙◌, subst, arith}
+use Rattle.ct_entry.specs.Listed.{FirmwareRow}
 use Rattle.ct_entry.specs.declared.rows.Entry.{Entry}
 use Rattle.def_memory.specs.Granules.{plain}
 use Rattle.def_words.specs.declared.Cap.{Cap}
-use Rattle.def_reach.specs.Roots.{root_of, gate_for, listed_root, no_root, is_disabled}
-use Rattle.def_step.specs.Boot.{made_for, made_by, made_from, first_number, code_number, globals_number, stack_number}
-use Rattle.def_step.specs.Firmware.{IsLawfulFirmware, Share, DeviceImport, StackRange, first_export, all_share_rows, code_row, globals_row, switch_row, device_row, stack_row, stack_rows, all_gates, IsExportNumber}
+use Rattle.def_reach.specs.Roots.{root_of, gate_for, listed_root, is_disabled}
+use Rattle.def_step.specs.Boot.{made_by, made_from, first_number, code_number, globals_number, stack_number}
+use Rattle.def_step.specs.Firmware.{IsLawfulFirmware, Share, StackRange, first_export, all_share_rows, code_row, globals_row, switch_row, device_row, stack_row, stack_rows, IsExportNumber}
 use Rattle.law_entries.specs.Rows.{HasRow, HasShare, HasStack, EntryIs, is_nothing, is_trusted, is_code, is_globals, is_switch, is_import, is_export, is_stack, IsExportOf, export_row, export_place, export_gate}
 use Rattle.law_entries.proofs.Standing.{within, ShareAt, StackAt, share_there, stack_there, share_stands, stack_stands, after_shares, rows_begin, stack_row_there, export_among}
 use Rattle.law_entries.proofs.Numbers.{code_passes, globals_passes, stack_passes, code_found, globals_found, stack_found}
-use Rattle.law_entries.proofs.Gates.{gates_enabled, export_gate_there, export_at, ExportAt}
+use Rattle.law_entries.proofs.Gates.{gates_enabled, export_gate_there, export_at}
 use Rattle.law_entries.proofs.Listing.{RowIs, row_is, none_is, code_is, globals_is, switch_is, import_is, export_is, stack_is}
 
 -- ---- what boot makes
@@ -33,7 +33,6 @@ made_past n (x ∷ xs) (suc m) d is = made_past (n + 1) xs m d is
 -- ---- rows of a lawful firmware
 
 module _ (f : FirmwareRow) (l : IsLawfulFirmware f) where
-
   row_there : (m : ℕ) (o : Option Entry) → slice_get (all_share_rows 0 l.shares ++ stack_rows 0 l.stacks) m ≡ o → slice_get f.entries.rows m ≡ o
   row_there m o is = ap (λ rows. slice_get rows m) l.rows ∙ is
 

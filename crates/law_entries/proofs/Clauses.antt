@@ -1,9 +1,8 @@
 -- What a lawful firmware's entries are together: their kinds, ranges and rights, and the types of what boot makes.
-use Rattle.std.proofs.Common.{ℕ, zero, suc, ◌≡◌, ◌+◌, ◌*◌, ◌%◌, ◌^◌, ◌≤◌, ◌<◌, ◌⊎◌, inl, inr, Bool, true, false, Some, List, length, refl, sym, ap, ◌∙◌, subst, arith}
+use Rattle.std.proofs.Common.{ℕ, ◌≡◌, ◌+◌, ◌%◌, ◌^◌, ◌≤◌, ◌<◌, ◌⊎◌, inl, inr, Bool, true, false, refl, sym, ap, ◌∙◌, subst, arith}
 use Rattle.ct_entry.specs.Listed.{FirmwareRow}
 use Rattle.ct_entry.specs.declared.rows.Owner.TheVariants as owner
 use Rattle.ct_entry.specs.declared.rows.Kind.TheVariants as kind
-use Rattle.ct_entry.specs.declared.rows.Gate.{Gate}
 use Rattle.def_words.specs.declared.Cap.{Cap}
 use Rattle.def_words.specs.Permissions.{bit, execute, sealing, unsealing}
 use Rattle.def_words.specs.Seals.{cap_seal}
@@ -16,7 +15,7 @@ use Rattle.def_confined.specs.Partitioned.{AwayFromHeap}
 use Rattle.def_step.specs.Boot.{image_of}
 use Rattle.def_step.specs.Firmware.{IsLawfulFirmware}
 use Rattle.law_entries.proofs.Fitting.{ram_fits}
-use Rattle.law_entries.proofs.ByCase.{Cases, by_case}
+use Rattle.law_entries.proofs.ByCase.{by_case}
 
 -- what holds of the three sets of rights that an import has
 pub right_of : (Q : ℕ → Type 0) (r : ℕ) → (r ≡ 33) ⊎ (r ≡ 5) ⊎ (r ≡ 37) → Q 33 → Q 5 → Q 37 → Q r
@@ -124,21 +123,21 @@ module _ (f : FirmwareRow) (l : IsLawfulFirmware f) where
   pub stacks_are : (n : ℕ) → (root (image_of f) n).origin ≡ Listing kind.Stack → ((root (image_of f) n).rights ≡ stack_rights) × ((root (image_of f) n).top ≤ 4294967280)
   unfolding image_of
   stacks_are n is = (
-      (lawful n).stacks is,
-      (let ram = ram_fits f l in
-      let inside = ram.inside in
-      let small = ram.small in
-      by_case f l (λ n r d. r.origin ≡ Listing kind.Stack → r.top ≤ 4294967280) (record {
-        nothing = λ n no. absurd (let clash : Unknown ≡ Listing kind.Stack = no in cc);
-        trusted = λ m no. absurd (let clash : TrustedPart ≡ Listing kind.Stack = no in cc);
-        code = λ n b c g d on fits m no. absurd (let clash : Listing kind.Code ≡ Listing kind.Stack = no in cc);
-        globals = λ n b c g d on fits m no. absurd (let clash : Listing kind.Globals ≡ Listing kind.Stack = no in cc);
-        switch = λ n b g d on m no. absurd (let clash : Listing kind.Service ≡ Listing kind.Stack = no in cc);
-        device = λ n b y g d on fits m no. absurd (let clash : Listing kind.Device ≡ Listing kind.Stack = no in cc);
-        export = λ n b c j g on fits lt no. absurd (let clash : Listing kind.Export ≡ Listing kind.Stack = no in cc);
-        stack = λ n t s g d on fits m is. let high = fits.place.high in omega (arith, high, inside, small);
-      }) n is),
-    )
+    (lawful n).stacks is,
+    (let ram = ram_fits f l in
+        let inside = ram.inside in
+        let small = ram.small in
+        by_case f l (λ n r d. r.origin ≡ Listing kind.Stack → r.top ≤ 4294967280) (record {
+          nothing = λ n no. absurd (let clash : Unknown ≡ Listing kind.Stack = no in cc);
+          trusted = λ m no. absurd (let clash : TrustedPart ≡ Listing kind.Stack = no in cc);
+          code = λ n b c g d on fits m no. absurd (let clash : Listing kind.Code ≡ Listing kind.Stack = no in cc);
+          globals = λ n b c g d on fits m no. absurd (let clash : Listing kind.Globals ≡ Listing kind.Stack = no in cc);
+          switch = λ n b g d on m no. absurd (let clash : Listing kind.Service ≡ Listing kind.Stack = no in cc);
+          device = λ n b y g d on fits m no. absurd (let clash : Listing kind.Device ≡ Listing kind.Stack = no in cc);
+          export = λ n b c j g on fits lt no. absurd (let clash : Listing kind.Export ≡ Listing kind.Stack = no in cc);
+          stack = λ n t s g d on fits m is. let high = fits.place.high in omega (arith, high, inside, small);
+        }) n is),
+  )
 
   -- no root's range meets the heap
   pub roots_away : (n : ℕ) → is_root (root (image_of f) n).origin ≡ true → ((root (image_of f) n).top ≤ (image_of f).heap_base) ⊎ ((image_of f).heap_end ≤ (root (image_of f) n).base)

@@ -1,10 +1,10 @@
 -- Where the parts of a lawful firmware lie.
-use Rattle.std.proofs.Common.{ℕ, zero, suc, ◌≡◌, ◌+◌, ◌*◌, ◌/◌, ◌%◌, ◌≤◌, ◌<◌, ◌⊎◌, inl, inr, List, [], ◌∷◌, ◌++◌, length, Option, Some, None, slice_get, refl, sym, ap, ◌∙◌, subst, arith}
+use Rattle.std.proofs.Common.{ℕ, zero, suc, ◌≡◌, ◌+◌, ◌*◌, ◌%◌, ◌≤◌, ◌<◌, inl, inr, List, [], ◌∷◌, ◌++◌, length, Some, slice_get, sym, subst, arith}
 use Rattle.ct_entry.specs.Listed.{FirmwareRow, DeviceRow}
 use Rattle.ct_entry.specs.declared.starting.Starter.{Starter}
 use Rattle.def_machine.specs.Objects.{Each}
 use Rattle.def_step.specs.Firmware.{IsLawfulFirmware, Share, DeviceImport, StackRange, RegionRange, range, AreApart, native_range, IsPlaced, IsShare, IsStack, IsDevice, IsImport, DeviceAt, share_ranges, stack_ranges, trusted_length, code_length, table_length, in_sixteens, text_offset}
-use Rattle.law_entries.specs.Fits.{IsWhole, RamFits, ShareFits, ImportFits, StackFits}
+use Rattle.law_entries.specs.Fits.{RamFits, ShareFits, ImportFits, StackFits}
 use Rattle.law_entries.proofs.Standing.{each_at, each_left, each_right}
 
 pub record OfShare (P : RegionRange → Type 0) (c : Share) : Type 0 where

@@ -1,5 +1,5 @@
 -- The gates of a lawful firmware: all with interrupts on, one for each export.
-use Rattle.std.proofs.Common.{ℕ, zero, suc, ◌≡◌, ◌+◌, ◌*◌, ◌^◌, ◌≤◌, ◌<◌, ◌⊎◌, inl, inr, true, false, nat_eq, List, [], ◌∷◌, ◌++◌, length, Option, Some, None, slice_get, refl, sym, ap, ◌∙◌, subst, arith}
+use Rattle.std.proofs.Common.{ℕ, zero, suc, ◌≡◌, ◌+◌, ◌≤◌, ◌⊎◌, inl, inr, true, false, nat_eq, List, [], ◌∷◌, ◌++◌, length, Some, slice_get, refl, sym, ap, ◌∙◌, subst, arith}
 use Rattle.std.proofs.lemmas.Bool.{ne_eqb}
 use Rattle.law_lists.proofs.Tests.{chosen}
 use Rattle.ct_entry.specs.declared.rows.Gate.{Gate}
@@ -7,9 +7,8 @@ use Rattle.ct_entry.specs.declared.rows.Mode.TheVariants.{Enabled}
 use Rattle.def_reach.specs.Roots.{gate_for, no_gate, is_disabled}
 use Rattle.def_step.specs.Firmware.{Share, first_export, gates_from, all_gates, text_offset, IsExportNumber}
 use Rattle.law_entries.specs.Rows.{export_gate}
-use Rattle.law_entries.proofs.Standing.{ShareAt, next_number, within, share_low}
+use Rattle.law_entries.proofs.Standing.{ShareAt, next_number, share_low}
 use Rattle.law_entries.proofs.Numbers.{eq_self}
-
 
 -- what holds of the gate of none and of each export's holds of whichever is found
 pub each_gate : (P : Gate → Type 0) (n text : ℕ) (xs : List ℕ) (rest : List Gate) (k : ℕ)
@@ -18,10 +17,10 @@ unfolding gate_for
 each_gate P n text [] rest k each h = h
 each_gate P n text (x ∷ xs) rest k each h =
     chosen P (nat_eq n k) (record { entry = n; code = text + x; stack = 0; args = 6; posture = Enabled; capabilities = true }) (gate_for (gates_from (n + 1) text xs ++ rest) k)
-        (λ here. let same : n + 0 ≡ n = omega arith in subst (λ m. P (record { entry = m; code = text + x; stack = 0; args = 6; posture = Enabled; capabilities = true })) same (each zero x refl))
-        (λ other. each_gate P (n + 1) text xs rest k
-            (λ j y is. let same : n + suc j ≡ n + 1 + j = omega arith in subst (λ m. P (record { entry = m; code = text + y; stack = 0; args = 6; posture = Enabled; capabilities = true })) same (each (suc j) y is))
-            h)
+    (λ here. let same : n + 0 ≡ n = omega arith in subst (λ m. P (record { entry = m; code = text + x; stack = 0; args = 6; posture = Enabled; capabilities = true })) same (each zero x refl))
+    (λ other. each_gate P (n + 1) text xs rest k
+    (λ j y is. let same : n + suc j ≡ n + 1 + j = omega arith in subst (λ m. P (record { entry = m; code = text + y; stack = 0; args = 6; posture = Enabled; capabilities = true })) same (each (suc j) y is))
+    h)
 
 pub each_of_all : (P : Gate → Type 0) (b0 n0 : ℕ) (cs : List Share) (k : ℕ) → P no_gate
     → ((b n : ℕ) (c : Share) (j x : ℕ) → ShareAt b0 n0 cs b n c → slice_get c.exports j ≡ Some x → P (export_gate (first_export n c + j) c x)) → P (gate_for (all_gates n0 cs) k)

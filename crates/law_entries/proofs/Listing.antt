@@ -1,19 +1,11 @@
 -- Each entry number of a lawful firmware is one of the cases.
-use Rattle.std.proofs.Common.{ℕ, zero, suc, ◌≡◌, ◌+◌, ◌*◌, ◌≤◌, ◌<◌, ◌⊎◌, inl, inr, false, List, [], ◌∷◌, ◌++◌, length, map, Option, Some, None, option_map, slice_get, slice_index_or, refl, sym, ap, ◌∙◌, subst, arith, append_assoc}
+use Rattle.std.proofs.Common.{ℕ, zero, suc, ◌≡◌, ◌+◌, ◌<◌, inl, inr, List, [], ◌∷◌, ◌++◌, length, map, Option, Some, None, option_map, slice_get, refl, sym, ap, ◌∙◌, subst, arith, append_assoc}
 use Rattle.std.proofs.lemmas.List.{length-map}
 use Rattle.std.proofs.lemmas.Option.{slice_get-map}
-use Rattle.ct_entry.specs.Listed.{Listed, FirmwareRow}
 use Rattle.ct_entry.specs.declared.rows.Entry.{Entry}
-use Rattle.ct_entry.specs.declared.rows.Gate.{Gate}
-use Rattle.def_memory.specs.Granules.{plain}
-use Rattle.def_words.specs.declared.Cap.{Cap}
-use Rattle.def_reach.specs.Roots.{root_of, gate_for, listed_root, no_root, no_gate, is_disabled}
-use Rattle.def_machine.specs.Objects.{Each}
-use Rattle.def_step.specs.Boot.{made_for, made_by, made_from, return_sentry, code_number, globals_number, stack_number}
-use Rattle.def_step.specs.Firmware.{IsLawfulFirmware, Share, DeviceImport, StackRange, first_export, share_rows, all_share_rows, code_row, globals_row, switch_row, device_row, export_rows, stack_row, stack_rows, gates_from, all_gates, text_offset}
-use Rattle.law_entries.specs.Rows.{HasRow, HasShare, HasStack, EntryIs, is_nothing, is_trusted, is_code, is_globals, is_switch, is_import, is_export, is_stack, export_row, export_place, export_gate}
-use Rattle.law_entries.proofs.Standing.{split, present, within, ShareAt, StackAt, next_number, after_shares, row_count, share_there, stack_there, share_stands, stack_stands, export_count, export_there}
-use Rattle.law_entries.proofs.Numbers.{code_found, globals_found, stack_found}
+use Rattle.def_step.specs.Firmware.{Share, DeviceImport, StackRange, first_export, share_rows, all_share_rows, code_row, globals_row, switch_row, device_row, export_rows, stack_row, stack_rows}
+use Rattle.law_entries.specs.Rows.{export_row, export_place}
+use Rattle.law_entries.proofs.Standing.{split, present, ShareAt, StackAt, next_number, after_shares, row_count, export_there}
 
 -- ---- rows
 
@@ -51,7 +43,7 @@ stack_row_is b0 n0 t0 (r ∷ rs) zero = stack_is t0 n0 r (inl (refl, refl, refl)
 stack_row_is b0 n0 t0 (r ∷ rs) (suc m) =
     let next : n0 + 1 + m ≡ n0 + suc m = omega arith in
     later_stack b0 n0 t0 r rs (n0 + suc m) (slice_get (stack_rows (t0 + 1) rs) m)
-        (subst (λ k. RowIs b0 (n0 + 1) [] (t0 + 1) rs k (slice_get (stack_rows (t0 + 1) rs) m)) next (stack_row_is b0 (n0 + 1) (t0 + 1) rs m))
+    (subst (λ k. RowIs b0 (n0 + 1) [] (t0 + 1) rs k (slice_get (stack_rows (t0 + 1) rs) m)) next (stack_row_is b0 (n0 + 1) (t0 + 1) rs m))
 
 first_share : (b0 n0 : ℕ) (d : Share) (ds : List Share) (t0 : ℕ) (ss : List StackRange) (m : ℕ) → m < length (share_rows b0 d) → RowIs b0 n0 (d ∷ ds) t0 ss (n0 + m) (slice_get (share_rows b0 d) m)
 first_share b0 n0 d ds t0 ss zero lt = code_is b0 n0 d (inl (refl, refl, refl)) (omega arith) refl
@@ -63,14 +55,14 @@ first_share b0 n0 d ds t0 ss (suc (suc (suc i))) lt = elim (split (map (device_r
       let count = length-map d.imports (device_row b0) in
       let found = present d.imports i (omega (arith, under, count)) in
       import_is b0 n0 d i found.0 (inl (refl, refl, refl)) found.1 (omega arith)
-          (h.1 ∙ slice_get-map (device_row b0) d.imports i ∙ ap (λ o. option_map (device_row b0) o) found.1)
+      (h.1 ∙ slice_get-map (device_row b0) d.imports i ∙ ap (λ o. option_map (device_row b0) o) found.1)
   | inr h ↦
       let at = h.1 in
       let count = length-map d.imports (device_row b0) in
       let all = row_count b0 n0 d in
       let found = present d.exports h.0 (omega (arith, lt, at, count, all)) in
       export_is b0 n0 d h.0 found.0 (inl (refl, refl, refl)) found.1 (omega (arith, at, count))
-          (h.2 ∙ export_there b0 (d.table + 16) d.exports h.0 found.0 found.1)
+      (h.2 ∙ export_there b0 (d.table + 16) d.exports h.0 found.0 found.1)
 ]
 
 pub row_is : (b0 n0 : ℕ) (cs : List Share) (t0 : ℕ) (ss : List StackRange) (m : ℕ) → RowIs b0 n0 cs t0 ss (n0 + m) (slice_get (all_share_rows b0 cs ++ stack_rows t0 ss) m)

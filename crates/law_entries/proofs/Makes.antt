@@ -1,21 +1,19 @@
 -- What boot makes: each capability is exactly what its entry says.
-use Rattle.std.proofs.Common.{ℕ, zero, suc, ◌≡◌, ◌≢◌, ◌+◌, ◌*◌, ◌/◌, ◌%◌, ◌^◌, ◌≤◌, ◌<◌, ◌⊎◌, inl, inr, true, false, bit_and, refl, sym, subst, arith, lit<, lit≤}
+use Rattle.std.proofs.Common.{ℕ, zero, suc, ◌≡◌, ◌≢◌, ◌+◌, ◌*◌, ◌%◌, ◌^◌, ◌≤◌, ◌<◌, inl, inr, true, bit_and, refl, sym, subst, arith, lit<, lit≤}
 use Rattle.law_lists.proofs.Tests.{le_tells}
-use Rattle.def_words.specs.declared.Cap.{Cap}
 use Rattle.def_words.specs.Authority.{permission_bits}
 use Rattle.def_words.specs.LeastBounds.{floor_units, ceil_units, units, exponent_for, rounded_of}
-use Rattle.def_words.specs.Permissions.{IsLegal, bit, normal_set, set_where, form_of, unpacked}
-use Rattle.def_words.specs.Seals.{cap_seal, seal_type}
+use Rattle.def_words.specs.Permissions.{bit, normal_set, set_where, form_of, unpacked}
+use Rattle.def_words.specs.Seals.{seal_type}
 use Rattle.def_words.specs.Derive.{derive, memory_root, executable_root}
 use Rattle.def_words.specs.Narrows.{IsMade}
-use Rattle.def_memory.specs.Granules.{plain}
 use Rattle.law_words.specs.Facts.{IsRoot, KindFits}
 use Rattle.law_words.proofs.Leasts.{exponent_is}
 use Rattle.law_words.proofs.Making.{derive_makes}
 use Rattle.law_words.proofs.Exacts.{exponent_zero, exact_base, exact_top, exact_flag}
 use Rattle.ct_entry.specs.Listed.{FirmwareRow}
-use Rattle.def_step.specs.Boot.{made_by, from_entry, return_sentry}
-use Rattle.def_step.specs.Firmware.{Share, DeviceImport, StackRange, code_row, globals_row, switch_row, device_row, stack_row, code_length, code_rights, globals_rights, service_rights, stack_rights}
+use Rattle.def_step.specs.Boot.{from_entry, return_sentry}
+use Rattle.def_step.specs.Firmware.{Share, DeviceImport, StackRange, code_length}
 use Rattle.law_entries.specs.Fits.{IsWhole, RamFits, ShareFits, ImportFits, StackFits, MadeAs}
 
 -- ---- bounds

@@ -1,13 +1,11 @@
 -- The numbers that are looked up for code, globals and stacks are those where the rows stand.
-use Rattle.std.proofs.Common.{ℕ, zero, suc, ◌≡◌, ◌+◌, ◌≤◌, ◌<◌, ◌⊎◌, inl, inr, Bool, true, false, ◌&&◌, ◌==◌, cond, nat_eq, List, [], ◌∷◌, ◌++◌, length, map, Option, Some, None, slice_get, refl, sym, ap, ◌∙◌, subst, arith, append_assoc}
+use Rattle.std.proofs.Common.{ℕ, zero, suc, ◌≡◌, ◌+◌, ◌<◌, ◌⊎◌, inl, inr, Bool, true, false, ◌&&◌, nat_eq, List, [], ◌∷◌, ◌++◌, length, map, Some, slice_get, refl, sym, ap, ◌∙◌, subst, arith, append_assoc}
 use Rattle.std.proofs.lemmas.Bool.{ne_eqb, eqb-false, cases_Bool}
 use Rattle.law_lists.proofs.Tests.{bool_tells}
 use Rattle.ct_entry.specs.declared.rows.Entry.{Entry}
-use Rattle.ct_entry.specs.declared.rows.Owner.{Owner}
-use Rattle.ct_entry.specs.declared.rows.Kind.{Kind}
 use Rattle.def_machine.specs.Objects.{Each}
 use Rattle.def_step.specs.Boot.{is_compartment, is_thread, is_code_kind, is_globals_kind, is_stack_kind, first_number}
-use Rattle.def_step.specs.Firmware.{Share, StackRange, DeviceImport, share_rows, all_share_rows, code_row, globals_row, switch_row, device_row, export_rows, stack_row, stack_rows}
+use Rattle.def_step.specs.Firmware.{Share, StackRange, DeviceImport, share_rows, all_share_rows, code_row, globals_row, switch_row, device_row, export_rows, stack_rows}
 use Rattle.law_entries.specs.Rows.{export_row}
 use Rattle.law_entries.proofs.Standing.{ShareAt, StackAt, next_number, after_shares, row_count, share_there, stack_there, each_append}
 
@@ -30,11 +28,11 @@ first_passes passes n (x ∷ xs) = elim (bool_tells (passes n x)) [
       let same : n ≡ n + 0 = omega arith in
       inr (zero, x, refl, subst (λ k. passes k x ≡ true) same is, rw is same)
   | inr none ↦ elim (first_passes passes (n + 1) xs) [
-      | inl zeros ↦ inl (rw none zeros)
-      | inr found ↦
-          let same : n + 1 + found.0 ≡ n + suc found.0 = omega arith in
-          inr (suc found.0, found.1, found.2, subst (λ k. passes k found.1 ≡ true) same found.3, rw none (found.4 ∙ same))
-    ]
+    | inl zeros ↦ inl (rw none zeros)
+    | inr found ↦
+        let same : n + 1 + found.0 ≡ n + suc found.0 = omega arith in
+        inr (suc found.0, found.1, found.2, subst (λ k. passes k found.1 ≡ true) same found.3, rw none (found.4 ∙ same))
+  ]
 ]
 
 -- what holds of each row of an owner's holds of each of a share's
@@ -45,6 +43,7 @@ each_of_share P b c code globals switch device export =
     devices : (ds : List DeviceImport) → Each P (map (device_row b) ds)
     devices [] = tt
     devices (d ∷ ds) = (device d, devices ds)
+
     exports : (at : ℕ) (xs : List ℕ) → Each P (export_rows b at xs)
     exports at [] = tt
     exports at (x ∷ xs) = (export at, exports (at + 16) xs)

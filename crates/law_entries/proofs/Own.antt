@@ -1,26 +1,24 @@
 -- The numbers that the image keeps of code, globals and stacks; whose they are; gates and the return sentry.
-use Rattle.std.proofs.Common.{ℕ, zero, suc, ◌≡◌, ◌+◌, ◌*◌, ◌^◌, ◌≤◌, ◌<◌, ◌⊎◌, inl, inr, Bool, true, false, List, [], ◌∷◌, length, map, Option, Some, None, slice_get, slice_index_or, refl, sym, ap, ◌∙◌, subst, arith}
+use Rattle.std.proofs.Common.{ℕ, zero, suc, ◌≡◌, ◌+◌, ◌^◌, ◌≤◌, ◌<◌, inl, inr, true, length, slice_index_or, refl, sym, ap, ◌∙◌, subst, arith}
 use Rattle.std.proofs.lemmas.List.{length-map}
 use Rattle.law_lists.proofs.Tests.{lt_tells}
 use Rattle.ct_entry.specs.Listed.{FirmwareRow}
 use Rattle.ct_entry.specs.declared.rows.Entry.{Entry}
-use Rattle.ct_entry.specs.declared.rows.Gate.{Gate}
-use Rattle.ct_entry.specs.declared.rows.Owner.{Owner}
 use Rattle.ct_entry.specs.declared.rows.Owner.TheVariants.{Trusted, Compartment, Thread}
 use Rattle.ct_entry.specs.declared.rows.Kind.TheVariants as kind
 use Rattle.def_words.specs.declared.Cap.{Cap}
 use Rattle.def_words.specs.Permissions.{bit, has, execute}
 use Rattle.def_words.specs.Seals.{cap_seal}
-use Rattle.def_reach.specs.Roots.{Root, TrustedPart, Listing, root_of, gate_for, no_gate, listed_root}
+use Rattle.def_reach.specs.Roots.{Root, TrustedPart, Listing, root_of, gate_for}
 use Rattle.def_machine.specs.Image.{root, made_cap, code_entry, globals_entry, stack_entry}
 use Rattle.def_confined.specs.Partitioned.{IsOwnEntry}
-use Rattle.def_step.specs.Boot.{image_of, made_for, made_by, code_number, globals_number, stack_number, numbered_from}
-use Rattle.def_step.specs.Firmware.{IsLawfulFirmware, Share, StackRange, all_gates, first_export, text_offset, code_row, globals_row, code_length}
+use Rattle.def_step.specs.Boot.{image_of, made_for, code_number, globals_number, stack_number, numbered_from}
+use Rattle.def_step.specs.Firmware.{IsLawfulFirmware, Share, StackRange, code_length}
 use Rattle.law_entries.specs.Rows.{HasRow, HasShare, HasStack, EntryIs, is_nothing, is_trusted, is_code, is_globals, is_switch, is_import, is_export, is_stack}
-use Rattle.law_entries.specs.Fits.{RamFits, ShareFits, MadeAs}
-use Rattle.law_entries.proofs.Standing.{ShareAt, share_there}
+use Rattle.law_entries.specs.Fits.{MadeAs}
+use Rattle.law_entries.proofs.Standing.{share_there}
 use Rattle.law_entries.proofs.Gates.{each_of_all}
-use Rattle.law_entries.proofs.Classes.{entry_of, share_of}
+use Rattle.law_entries.proofs.Classes.{entry_of}
 use Rattle.law_entries.proofs.Fitting.{ram_fits, share_fits, stack_fits}
 use Rattle.law_entries.proofs.Makes.{sentry_made, code_made, globals_made, stack_made}
 
@@ -70,6 +68,7 @@ module _ (f : FirmwareRow) (l : IsLawfulFirmware f) where
           let both : Compartment k ≡ Compartment b = sym own ∙ sym (ap (λ (z : Root). z.owner) row.root_is) ∙ owner in
           let same : k ≡ b = cc in
           subst (λ x. (c : Share) × HasShare f l.shares x c) same (c, share)
+
       in_case : EntryIs f l.shares l.stacks n → (c : Share) × HasShare f l.shares b c
       in_case (is_nothing root_is made_is) = absurd (let clash : Trusted ≡ Compartment b = sym (ap (λ (z : Root). z.owner) root_is) ∙ owner in cc)
       in_case (is_trusted number root_is made_is) = absurd (let clash : Trusted ≡ Compartment b = sym (ap (λ (z : Root). z.owner) root_is) ∙ owner in cc)
@@ -134,16 +133,16 @@ module _ (f : FirmwareRow) (l : IsLawfulFirmware f) where
   unfolding image_of
   gates_small n = subst (λ gates. (gate_for gates n).code < 2 ^ 32) (sym l.gates)
       (each_of_all (λ g. g.code < 2 ^ 32) 0 1 l.shares n (omega arith) (λ b m c j x h is.
-          let place = share_there 0 1 l.shares b m c h in
-          let fits = share_fits f l place.0 c place.2 in
-          let ram = ram_fits f l in
-          let offset = fits.exports j x is in
-          let under = offset.1 in
-          let text = fits.text in
-          let high = fits.code.high in
-          let inside = ram.inside in
-          let small = ram.small in
-          omega (arith, under, text, high, inside, small)))
+      let place = share_there 0 1 l.shares b m c h in
+      let fits = share_fits f l place.0 c place.2 in
+      let ram = ram_fits f l in
+      let offset = fits.exports j x is in
+      let under = offset.1 in
+      let text = fits.text in
+      let high = fits.code.high in
+      let inside = ram.inside in
+      let small = ram.small in
+      omega (arith, under, text, high, inside, small)))
 
   pub sentry : (made_cap (image_of f) 0).tag ≡ true → cap_seal (made_cap (image_of f) 0) ≡ 5
   unfolding image_of

@@ -1,5 +1,5 @@
 -- Where shares and stacks stand among the rows: their index and the number of their first row.
-use Rattle.std.proofs.Common.{ℕ, zero, suc, ◌≡◌, ◌+◌, ◌*◌, ◌≤◌, ◌<◌, ◌⊎◌, inl, inr, List, [], ◌∷◌, ◌++◌, length, map, Option, Some, None, slice_get, refl, sym, ap, ◌∙◌, subst, arith, length-append, append_assoc}
+use Rattle.std.proofs.Common.{ℕ, zero, suc, ◌≡◌, ◌+◌, ◌*◌, ◌≤◌, ◌<◌, ◌⊎◌, inl, inr, List, [], ◌∷◌, ◌++◌, length, map, Some, slice_get, refl, sym, ap, ◌∙◌, subst, arith, length-append, append_assoc}
 use Rattle.std.proofs.lemmas.List.{length-map}
 use Rattle.ct_entry.specs.declared.rows.Entry.{Entry}
 use Rattle.def_machine.specs.Objects.{Each}
@@ -141,12 +141,15 @@ rows_begin b0 n0 (d ∷ ds) rest b n c (inr h) =
     let number = more.1 in (
       length (share_rows b0 d) + more.0,
       omega (arith, all, number),
-      (more.2.0, λ i.
-          let same : length (share_rows b0 d) + more.0 + i ≡ length (share_rows b0 d) + (more.0 + i) = omega arith in
-          ap (λ rows. slice_get rows (length (share_rows b0 d) + more.0 + i)) parts
-          ∙ ap (λ k. slice_get (share_rows b0 d ++ (all_share_rows (b0 + 1) ds ++ rest)) k) same
-          ∙ further (share_rows b0 d) (all_share_rows (b0 + 1) ds ++ rest) (more.0 + i)
-          ∙ more.2.1 i),
+      (
+        more.2.0,
+        λ i.
+            let same : length (share_rows b0 d) + more.0 + i ≡ length (share_rows b0 d) + (more.0 + i) = omega arith in
+            ap (λ rows. slice_get rows (length (share_rows b0 d) + more.0 + i)) parts
+            ∙ ap (λ k. slice_get (share_rows b0 d ++ (all_share_rows (b0 + 1) ds ++ rest)) k) same
+            ∙ further (share_rows b0 d) (all_share_rows (b0 + 1) ds ++ rest) (more.0 + i)
+            ∙ more.2.1 i,
+      ),
     )
 
 -- an element of a list put before another
@@ -187,8 +190,8 @@ stack_row_there b0 n0 (d ∷ ds) t0 ss t n s h =
       length (share_rows b0 d) + more.0,
       omega (arith, all, number),
       ap (λ rows. slice_get rows (length (share_rows b0 d) + more.0)) parts
-      ∙ further (share_rows b0 d) (all_share_rows (b0 + 1) ds ++ stack_rows t0 ss) more.0
-      ∙ more.2,
+          ∙ further (share_rows b0 d) (all_share_rows (b0 + 1) ds ++ stack_rows t0 ss) more.0
+          ∙ more.2,
     )
 
 -- a share's number isn't below the first's

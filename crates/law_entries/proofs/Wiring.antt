@@ -1,12 +1,11 @@
 -- A lawful firmware's board: devices are away from RAM and from the native routines, and reached by imports alone.
-use Rattle.std.proofs.Common.{ℕ, zero, suc, ◌≡◌, ◌+◌, ◌*◌, ◌≤◌, ◌<◌, ◌⊎◌, inl, inr, ◌&&◌, Bool, true, false, List, [], ◌∷◌, map, is_some, nat_le, nat_lt, cond, refl, sym, ap, ◌∙◌, subst, arith}
-use Rattle.law_lists.proofs.Tests.{bool_tells, le_tells, lt_tells}
+use Rattle.std.proofs.Common.{ℕ, ◌≡◌, ◌+◌, ◌≤◌, ◌<◌, ◌⊎◌, inl, inr, true, false, List, [], ◌∷◌, map, is_some, refl, sym, subst, arith}
+use Rattle.law_lists.proofs.Tests.{le_tells, lt_tells}
 use Rattle.ct_entry.specs.Listed.{FirmwareRow, DeviceRow}
 use Rattle.ct_entry.specs.declared.rows.Kind.TheVariants as kind
-use Rattle.def_words.specs.declared.Cap.{Cap}
 use Rattle.def_words.specs.Authority.{cap_address}
 use Rattle.def_words.specs.Permissions.{bit, load_data, store_data}
-use Rattle.def_reach.specs.Roots.{Root, Listing, is_native}
+use Rattle.def_reach.specs.Roots.{Listing, is_native}
 use Rattle.def_machine.specs.Objects.{Each}
 use Rattle.def_machine.specs.Image.{root, made_cap}
 use Rattle.def_step.specs.Boot.{image_of, board_of, bases_of}
@@ -15,15 +14,15 @@ use Rattle.def_step.specs.Firmware.{IsLawfulFirmware, IsDevice}
 use Rattle.def_step.specs.Instructions.{is_native_entry}
 use Rattle.def_board.specs.Wired.{Wired}
 use Rattle.law_entries.proofs.Fitting.{ram_fits}
-use Rattle.law_entries.proofs.ByCase.{Cases, by_case}
+use Rattle.law_entries.proofs.ByCase.{by_case}
 use Rattle.law_entries.proofs.Clauses.{clash_of, interrupts}
 
 not_of : (b x : ℕ) → (x < b) ⊎ (b + 16 ≤ x) → is_of b x ≡ false
 not_of b x out = elim (le_tells b x) [
   | inl from ↦ elim (lt_tells x (b + 16)) [
-      | inl to ↦ let low = from.1 in let high = to.1 in absurd (elim out [ inl a ↦ omega (arith, a, low) | inr a ↦ omega (arith, a, high) ])
-      | inr past ↦ rw (from.0, past.0) refl
-    ]
+    | inl to ↦ let low = from.1 in let high = to.1 in absurd (elim out [ inl a ↦ omega (arith, a, low) | inr a ↦ omega (arith, a, high) ])
+    | inr past ↦ rw (from.0, past.0) refl
+  ]
   | inr under ↦ rw under.0 refl
 ]
 

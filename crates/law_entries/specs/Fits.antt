@@ -3,7 +3,7 @@ use Rattle.std.specs.Prelude.{ℕ, ◌+◌, ◌%◌, ◌≡◌, ◌≤◌, ◌<�
 use Rattle.ct_entry.specs.Listed.{FirmwareRow}
 use Rattle.def_words.specs.declared.Cap.{Cap}
 use Rattle.def_words.specs.Narrows.{IsMade}
-use Rattle.def_step.specs.Boot.{made_for, from_entry}
+use Rattle.def_step.specs.Boot.{from_entry}
 use Rattle.def_step.specs.Firmware.{Share, DeviceImport, StackRange, AreApart, range, native_range, code_length, table_length, text_offset}
 
 -- a region begins and ends at multiples of 16, in RAM below the heap

@@ -1,6 +1,6 @@
 -- What each entry number of a lawful firmware stands for: nothing, the trusted part, a share's code, globals,
 -- switch, import or export, or a thread's stack. Shares go by index, and so do the imports and exports of each.
-use Rattle.std.specs.Prelude.{ℕ, ◌+◌, ◌*◌, ◌≡◌, ◌≤◌, ◌<◌, true, false, length, Option, Some, slice_get, List}
+use Rattle.std.specs.Prelude.{ℕ, ◌+◌, ◌*◌, ◌≡◌, ◌≤◌, ◌<◌, true, false, length, Some, slice_get, List}
 use Rattle.ct_entry.specs.Listed.{FirmwareRow}
 use Rattle.ct_entry.specs.declared.rows.Entry.{Entry}
 use Rattle.ct_entry.specs.declared.rows.Gate.{Gate}

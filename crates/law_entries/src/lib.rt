@@ -5,10 +5,10 @@
 
 mod boards;
 mod entries;
-mod parts;
 mod partitioned;
+mod parts;
 
 pub use boards::boards_wired;
 pub use entries::entries_are;
-pub use parts::{makes_stand, parts_fit};
 pub use partitioned::{made_partition, roots_away, rows_partition};
+pub use parts::{makes_stand, parts_fit};
