@@ -1,6 +1,6 @@
 -- What a lawful firmware's image boots: each tagged capability is one that boot made for an entry, with what
 -- follows from that.
-use Rattle.std.proofs.Common.{ℕ, ◌≡◌, ◌+◌, ◌*◌, inl, inr, ◌&&◌, Bool, true, false, not, nat_eq, refl, sym, ap, ◌∙◌, subst}
+use Rattle.std.proofs.Common.{ℕ, ◌≡◌, ◌+◌, ◌*◌, ◌&&◌, Bool, true, false, not, nat_eq, refl, sym, ap, ◌∙◌, subst}
 use Rattle.def_words.specs.declared.Cap.{Cap}
 use Rattle.def_words.specs.Authority.{cap_base}
 use Rattle.def_words.specs.Seals.{cap_seal}
@@ -10,9 +10,9 @@ use Rattle.def_reach.specs.Roots.{Root, root_of, is_root, is_quota}
 use Rattle.def_machine.specs.Image.{Region, Fixed, region, booted}
 use Rattle.def_confined.specs.Capabilities.{Rooted, heap_cap}
 use Rattle.def_confined.specs.Partitioned.{AwayFromHeap}
-use Rattle.def_step.specs.Firmware.{IsLawfulFirmware, Share}
+use Rattle.def_step.specs.Firmware.{IsLawfulFirmware}
 use Rattle.def_step.specs.Boot.{image_of, made_for, boot_cap, code_number, globals_number}
-use Rattle.law_regions.specs.Booted.{BootIs, boot_slot, boot_code, boot_globals, boot_sentry, boot_plain, IsSlot}
+use Rattle.law_regions.specs.Booted.{BootIs, boot_switch, boot_import, boot_code, boot_globals, boot_sentry, boot_plain}
 use Rattle.law_regions.proofs.Boots.{boot_is}
 use Rattle.law_regions.specs.Held.{AsGranule, of_ram, past_ram}
 use Rattle.law_regions.proofs.Granules.{granule_is}
@@ -41,10 +41,6 @@ pub record IsMadeFor (f : FirmwareRow) (c : Cap) : Type 0 where
   pub is : c ≡ made_for f number
   pub from : is_root (root_of f.entries number).origin ≡ true
 
-as_slot : (f : FirmwareRow) (b : ℕ) (s : Share) (n : ℕ) → IsSlot f b s n → is_root (root_of f.entries n).origin ≡ true
-as_slot f b s n (inl row) = ap (λ (r : Root). is_root r.origin) row.root_is
-as_slot f b s n (inr device) = ap (λ (r : Root). is_root r.origin) device.3.root_is
-
 trusted_is_root : (f : FirmwareRow) → is_root (root_of f.entries 0).origin ≡ true
 unfolding root_of
 trusted_is_root f = refl
@@ -53,11 +49,12 @@ pub made_for_one : (f : FirmwareRow) (h : IsLawfulFirmware f) (x : ℕ) → (boo
 made_for_one f h x tagged = by (boot_cap f x) tagged (boot_is f h x)
   where
     by : (c : Cap) → c.tag ≡ true → BootIs f h.shares x c → IsMadeFor f c
-    by c is (boot_slot b s n has lies slot e) = record { number = n; is = e; from = as_slot f b s n slot }
-    by c is (boot_code b s has lies e) = record { number = code_number f b; is = e; from = ap (λ (r : Root). is_root r.origin) has.code.root_is }
-    by c is (boot_globals b s has lies e) = record { number = globals_number f b; is = e; from = ap (λ (r : Root). is_root r.origin) has.globals.root_is }
+    by c is (boot_switch b s n has counted row at e) = record { number = n; is = e; from = ap (λ (r : Root). is_root r.origin) row.root_is }
+    by c is (boot_import b s j d n has there counted row at e) = record { number = n; is = e; from = ap (λ (r : Root). is_root r.origin) row.root_is }
+    by c is (boot_code b s has at e) = record { number = code_number f b; is = e; from = ap (λ (r : Root). is_root r.origin) has.code.root_is }
+    by c is (boot_globals b s has at e) = record { number = globals_number f b; is = e; from = ap (λ (r : Root). is_root r.origin) has.globals.root_is }
     by c is (boot_sentry at e) = record { number = 0; is = e; from = trusted_is_root f }
-    by c is (boot_plain none) = absurd (let clash : true ≡ false = sym is ∙ none in cc)
+    by c is (boot_plain e) = absurd (let clash : true ≡ false = sym is ∙ ap (λ (z : Cap). z.tag) e in cc)
 
 module _ (f : FirmwareRow) (h : IsLawfulFirmware f) where
   -- what holds of each capability that boot made for an entry holds of each tagged one in the image

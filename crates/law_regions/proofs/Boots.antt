@@ -10,13 +10,13 @@ use Rattle.ct_entry.specs.declared.rows.Owner.{Owner}
 use Rattle.ct_entry.specs.declared.rows.Owner.TheVariants.{Compartment}
 use Rattle.def_reach.specs.Roots.{Root, root_of, gate_for, listed_root, no_root}
 use Rattle.def_machine.specs.Image.{Fixed}
-use Rattle.def_step.specs.Firmware.{IsLawfulFirmware, Share, code_length, code_row, globals_row, switch_row, device_row, stack_row}
+use Rattle.def_step.specs.Firmware.{IsLawfulFirmware, Share, DeviceImport, code_length, table_length, code_row, globals_row, switch_row, device_row, stack_row}
 use Rattle.def_step.specs.Boot.{slot_number, is_slot_kind, is_slot_at, head_from, head_number, code_number, globals_number, boot_cap, made_for, region_at}
 use Rattle.law_entries.specs.Rows.{HasRow, HasShare, EntryIs, is_nothing, is_trusted, is_code, is_globals, is_switch, is_import, is_export, is_stack, export_row, export_place}
 use Rattle.law_entries.proofs.Numbers.{first_passes}
 use Rattle.law_entries.proofs.Classes.{entry_of, share_of}
 use Rattle.law_regions.specs.Held.{IsIn, CodeOf, TableOf}
-use Rattle.law_regions.specs.Booted.{BootIs, boot_slot, boot_code, boot_globals, boot_sentry, boot_plain}
+use Rattle.law_regions.specs.Booted.{BootIs, boot_switch, boot_import, boot_code, boot_globals, boot_sentry, boot_plain}
 use Rattle.law_regions.proofs.Roots.{root_of_row, one_kind, one_owner}
 use Rattle.law_regions.proofs.Where.{place_region, sentry_region}
 
@@ -30,9 +30,9 @@ no_slot f x n r q a row none is =
     let same : is_slot_kind r.kind ≡ is_slot_kind q.kind = ap is_slot_kind (one_kind f n r q a row) in
     let clash : true ≡ false = sym is ∙ same ∙ none in cc
 
--- a slot of this owner is at an address in its code
-slot_there : (f : FirmwareRow) (cs : List Share) (x n b k : ℕ) (c : Share) (r : Entry) → HasShare f cs b c → r.owner ≡ Compartment b → is_slot_at f x n r.owner ≡ true → n ≡ code_number f b + 2 + k → k ≤ length c.imports → IsIn c.code (code_length c) x
-slot_there f cs x n b k c r has owner passes number few =
+-- where a slot of this owner is
+slot_there : (f : FirmwareRow) (cs : List Share) (x n b k : ℕ) (c : Share) (r : Entry) → HasShare f cs b c → r.owner ≡ Compartment b → is_slot_at f x n r.owner ≡ true → n ≡ code_number f b + 2 + k → c.code + 8 * k ≡ x
+slot_there f cs x n b k c r has owner passes number =
     let P : Owner → Type 0 = λ o. is_slot_at f x n o ≡ true in
     let here : nat_eq ((root_of f.entries (code_number f b)).base + 8 * (n - (code_number f b + 2))) x ≡ true = subst P owner passes in
     let base : (root_of f.entries (code_number f b)).base ≡ c.code = ap (λ (z : Root). z.base) has.code.root_is in
@@ -40,7 +40,26 @@ slot_there f cs x n b k c r has owner passes number few =
       | inl is ↦ is.1
       | inr other ↦ absurd (let clash : true ≡ false = sym here ∙ other.0 in cc)
     ] in
-    (omega (arith, base, e, number), omega (arith, base, e, number, few))
+    omega (arith, base, e, number)
+
+-- slots lie in the code, heads in the export table
+pub slot_in : (c : Share) (k x : ℕ) → c.code + 8 * k ≡ x → k ≤ length c.imports → IsIn c.code (code_length c) x
+slot_in c k x at few = (omega (arith, at), omega (arith, at, few))
+
+pub head_in : (c : Share) (k x : ℕ) → c.table + k ≡ x → k ≤ 8 → IsIn c.table (table_length c) x
+head_in c k x at few = (omega (arith, at), omega (arith, at, few))
+
+pub import_in : (c : Share) (j x : ℕ) (d : DeviceImport) → slice_get c.imports j ≡ Some d → c.code + 8 * (1 + j) ≡ x → IsIn c.code (code_length c) x
+import_in c j x d is at = let few : j < length c.imports = slice_get_within c.imports j d is in slot_in c (1 + j) x at (omega (arith, few))
+
+pub switch_in : (c : Share) (x : ℕ) → c.code ≡ x → IsIn c.code (code_length c) x
+switch_in c x at = slot_in c 0 x (omega (arith, at)) (omega arith)
+
+pub code_head_in : (c : Share) (x : ℕ) → c.table ≡ x → IsIn c.table (table_length c) x
+code_head_in c x at = head_in c 0 x (omega (arith, at)) (omega arith)
+
+pub globals_head_in : (c : Share) (x : ℕ) → c.table + 8 ≡ x → IsIn c.table (table_length c) x
+globals_head_in c x at = head_in c 8 x at (omega arith)
 
 by_slot : (f : FirmwareRow) (h : IsLawfulFirmware f) (x n m : ℕ) (r : Entry) (c : Cap) → n ≡ suc m → slice_get f.entries.rows m ≡ Some r → is_slot_kind r.kind ≡ true → is_slot_at f x n r.owner ≡ true → c ≡ made_for f n → EntryIs f h.shares h.stacks n → BootIs f h.shares x c
 by_slot f h x n m r c number there slot passes is (is_nothing e made) =
@@ -49,10 +68,10 @@ by_slot f h x n m r c number there slot passes is (is_trusted e root made) = abs
 by_slot f h x n m r c number there slot passes is (is_code b s has e row) = absurd (no_slot f x n r (code_row b s) (root_of_row f m n r number there) row refl slot)
 by_slot f h x n m r c number there slot passes is (is_globals b s has e row) = absurd (no_slot f x n r (globals_row b s) (root_of_row f m n r number there) row refl slot)
 by_slot f h x n m r c number there slot passes is (is_switch b s has e row) =
-    boot_slot b s n has (slot_there f h.shares x n b 0 s r has (one_owner f n r (switch_row b) (root_of_row f m n r number there) row) passes (omega (arith, e)) (omega arith)) (inl row) is
+    let at = slot_there f h.shares x n b 0 s r has (one_owner f n r (switch_row b) (root_of_row f m n r number there) row) passes (omega (arith, e)) in
+    boot_switch b s n has e row (omega (arith, at)) is
 by_slot f h x n m r c number there slot passes is (is_import b s j d has at e row) =
-    let few : j < length s.imports = slice_get_within s.imports j d at in
-    boot_slot b s n has (slot_there f h.shares x n b (1 + j) s r has (one_owner f n r (device_row b d) (root_of_row f m n r number there) row) passes (omega (arith, e)) (omega (arith, few))) (inr (j, d, at, row)) is
+    boot_import b s j d n has at e row (slot_there f h.shares x n b (1 + j) s r has (one_owner f n r (device_row b d) (root_of_row f m n r number there) row) passes (omega (arith, e))) is
 by_slot f h x n m r c number there slot passes is (is_export e) = absurd (no_slot f x n r (export_row e.index (export_place e.share e.which)) (root_of_row f m n r number there) e.row refl slot)
 by_slot f h x n m r c number there slot passes is (is_stack t s has e row) = absurd (no_slot f x n r (stack_row t s) (root_of_row f m n r number there) row refl slot)
 
@@ -84,10 +103,10 @@ by_head : (f : FirmwareRow) (h : IsLawfulFirmware f) (x n : ℕ) (c : Cap) → (
 by_head f h x n c some is (no_head e) = absurd (some e)
 by_head f h x n c some is (head_code j s there at e) =
     let same : 0 + j ≡ j = omega arith in
-    boot_code j s (share_of f h j s there) (omega (arith, at), omega (arith, at)) (is ∙ ap (made_for f) (e ∙ ap (code_number f) same))
+    boot_code j s (share_of f h j s there) at (is ∙ ap (made_for f) (e ∙ ap (code_number f) same))
 by_head f h x n c some is (head_globals j s there at e) =
     let same : 0 + j ≡ j = omega arith in
-    boot_globals j s (share_of f h j s there) (omega (arith, at), omega (arith, at)) (is ∙ ap (made_for f) (e ∙ ap (globals_number f) same))
+    boot_globals j s (share_of f h j s there) at (is ∙ ap (made_for f) (e ∙ ap (globals_number f) same))
 
 -- ---- whole
 
@@ -116,8 +135,9 @@ pub tagged_fixed : (f : FirmwareRow) (h : IsLawfulFirmware f) (x : ℕ) → (boo
 tagged_fixed f h x tagged = by (boot_cap f x) tagged (boot_is f h x)
   where
     by : (c : Cap) → c.tag ≡ true → BootIs f h.shares x c → region_at f x ≡ Fixed
-    by c is (boot_slot b s n has lies slot e) = place_region f h x (CodeOf b) (λ clash. cc) (s, has.there, lies)
-    by c is (boot_code b s has lies e) = place_region f h x (TableOf b) (λ clash. cc) (s, has.there, lies)
-    by c is (boot_globals b s has lies e) = place_region f h x (TableOf b) (λ clash. cc) (s, has.there, lies)
+    by c is (boot_switch b s n has number row at e) = place_region f h x (CodeOf b) (λ clash. cc) (s, has.there, switch_in s x at)
+    by c is (boot_import b s j d n has there number row at e) = place_region f h x (CodeOf b) (λ clash. cc) (s, has.there, import_in s j x d there at)
+    by c is (boot_code b s has at e) = place_region f h x (TableOf b) (λ clash. cc) (s, has.there, code_head_in s x at)
+    by c is (boot_globals b s has at e) = place_region f h x (TableOf b) (λ clash. cc) (s, has.there, globals_head_in s x at)
     by c is (boot_sentry at e) = sentry_region f x at
-    by c is (boot_plain none) = absurd (let clash : true ≡ false = sym is ∙ none in cc)
+    by c is (boot_plain e) = absurd (let clash : true ≡ false = sym is ∙ ap (λ (z : Cap). z.tag) e in cc)

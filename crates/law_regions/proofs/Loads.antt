@@ -1,5 +1,5 @@
 -- What an entry of a lawful firmware loads from.
-use Rattle.std.proofs.Common.{ℕ, ◌≡◌, ◌-◌, ◌/◌, ◌≤◌, ◌<◌, inl, inr, true, false, sym, ap, ◌∙◌, subst, lit≤}
+use Rattle.std.proofs.Common.{ℕ, ◌≡◌, ◌-◌, ◌/◌, ◌≤◌, ◌<◌, true, false, sym, ap, ◌∙◌, subst, lit≤}
 use Rattle.def_words.specs.declared.Cap.{Cap}
 use Rattle.def_words.specs.Permissions.{bit, load_data, memory_capability}
 use Rattle.def_words.specs.Seals.{cap_seal}
@@ -19,8 +19,8 @@ use Rattle.law_regions.specs.Held.{CodeOf, TableOf, GlobalsOf, StackOf, TrustedP
 use Rattle.law_regions.proofs.Apart.{same_place}
 use Rattle.law_regions.proofs.Roots.{import_away}
 use Rattle.law_regions.proofs.Where.{sentry_held}
-use Rattle.law_regions.specs.Booted.{BootIs, boot_slot, boot_code, boot_globals, boot_sentry, boot_plain, IsSlot}
-use Rattle.law_regions.proofs.Boots.{boot_is}
+use Rattle.law_regions.specs.Booted.{BootIs, boot_switch, boot_import, boot_code, boot_globals, boot_sentry, boot_plain}
+use Rattle.law_regions.proofs.Boots.{boot_is, switch_in, import_in, code_head_in, globals_head_in}
 use Rattle.law_regions.proofs.Regions.{begins, granule_held, place_granule}
 use Rattle.law_regions.proofs.Stacks.{stack_entry_is}
 use Rattle.law_regions.proofs.Stores.{native_outside, plain_device}
@@ -28,40 +28,45 @@ use Rattle.law_regions.proofs.Booted.{no_object, no_return_off}
 use Rattle.law_regions.proofs.Made.{boot_made}
 
 module _ (f : FirmwareRow) (h : IsLawfulFirmware f) where
-  slot_root : (b : ℕ) (s : Share) (n : ℕ) → IsSlot f b s n → (is_root (root_of f.entries n).origin ≡ true) × (for_stack (root_of f.entries n).origin ≡ false) × ((root_of f.entries n).owner ≡ Compartment b)
-  slot_root b s n (inl row) = (ap (λ (r : Root). is_root r.origin) row.root_is, ap (λ (r : Root). for_stack r.origin) row.root_is, ap (λ (r : Root). r.owner) row.root_is)
-  slot_root b s n (inr device) = (ap (λ (r : Root). is_root r.origin) device.3.root_is, ap (λ (r : Root). for_stack r.origin) device.3.root_is, ap (λ (r : Root). r.owner) device.3.root_is)
+  -- an entry's row in a slot of compartment b
+  pub record IsSlot (b n : ℕ) : Type 0 where
+    pub from : is_root (root_of f.entries n).origin ≡ true
+    pub no_stack : for_stack (root_of f.entries n).origin ≡ false
+    pub owner : (root_of f.entries n).owner ≡ Compartment b
 
   -- what stands in a slot of a compartment's code may be loaded through the code
-  held_slot : (n b : ℕ) (s : Share) (k : ℕ) (c : Cap) → (root_of f.entries n).owner ≡ Compartment b → IsSlot f b s k → c ≡ made_for f k → c.tag ≡ true → BootHeld (image_of f) n c
+  held_slot : (n b k : ℕ) (c : Cap) → (root_of f.entries n).owner ≡ Compartment b → IsSlot b k → c ≡ made_for f k → c.tag ≡ true → BootHeld (image_of f) n c
   unfolding image_of
-  held_slot n b s k c owner slot e tagged =
-      let is = slot_root b s k slot in
-      let made = boot_made f h k is.0 (ap (λ (z : Cap). z.tag) (sym e) ∙ tagged) in
+  held_slot n b k c owner slot e tagged =
+      let made = boot_made f h k slot.from (ap (λ (z : Cap). z.tag) (sym e) ∙ tagged) in
       let number : c.shadow.root ≡ k = ap (λ (z : Cap). z.shadow.root) e ∙ made.from in
       let source : c.shadow.source ≡ 0 = ap (λ (z : Cap). z.shadow.source) e ∙ made.source in
       record {
-        no_stack = ap (λ z. for_stack (root_of f.entries z).origin) number ∙ is.1;
+        no_stack = ap (λ z. for_stack (root_of f.entries z).origin) number ∙ slot.no_stack;
         no_heap = no_object f c source;
         owner = λ owned d reaches.
-            let same : (root_of f.entries n).owner ≡ (root_of f.entries c.shadow.root).owner = owner ∙ sym is.2 ∙ ap (λ z. (root_of f.entries z).owner) (sym number) in
+            let same : (root_of f.entries n).owner ≡ (root_of f.entries c.shadow.root).owner = owner ∙ sym slot.owner ∙ ap (λ z. (root_of f.entries z).owner) (sym number) in
             let P : Owner → Type 0 = λ o. Reaches f.entries o d in
             subst P same reaches;
         no_source = λ four. no_return_off f (made_for f k) made.source made.rooted (ap cap_seal (sym e) ∙ four);
       }
 
   held : (n b : ℕ) (c : Share) (x : ℕ) (d : Cap) → (root_of f.entries n).owner ≡ Compartment b → Held f h.shares h.stacks x (CodeOf b) → d.tag ≡ true → BootIs f h.shares x d → BootHeld (image_of f) n d
-  held n b c x d owner i tagged (boot_slot a s k has lies slot e) =
-      let same : CodeOf a ≡ CodeOf b = same_place f h.shares h.stacks x (CodeOf a) (CodeOf b) h.none_meet (s, has.there, lies) i in
+  held n b c x d owner i tagged (boot_switch a s k has number row at e) =
+      let same : CodeOf a ≡ CodeOf b = same_place f h.shares h.stacks x (CodeOf a) (CodeOf b) h.none_meet (s, has.there, switch_in s x at) i in
       let index : a ≡ b = cc in
-      held_slot n a s k d (owner ∙ ap Compartment (sym index)) slot e tagged
-  held n b c x d owner i tagged (boot_code a s has lies e) =
-      absurd (let same : TableOf a ≡ CodeOf b = same_place f h.shares h.stacks x (TableOf a) (CodeOf b) h.none_meet (s, has.there, lies) i in cc)
-  held n b c x d owner i tagged (boot_globals a s has lies e) =
-      absurd (let same : TableOf a ≡ CodeOf b = same_place f h.shares h.stacks x (TableOf a) (CodeOf b) h.none_meet (s, has.there, lies) i in cc)
+      held_slot n a k d (owner ∙ ap Compartment (sym index)) (record { from = ap (λ (r : Root). is_root r.origin) row.root_is; no_stack = ap (λ (r : Root). for_stack r.origin) row.root_is; owner = ap (λ (r : Root). r.owner) row.root_is }) e tagged
+  held n b c x d owner i tagged (boot_import a s j z k has there number row at e) =
+      let same : CodeOf a ≡ CodeOf b = same_place f h.shares h.stacks x (CodeOf a) (CodeOf b) h.none_meet (s, has.there, import_in s j x z there at) i in
+      let index : a ≡ b = cc in
+      held_slot n a k d (owner ∙ ap Compartment (sym index)) (record { from = ap (λ (r : Root). is_root r.origin) row.root_is; no_stack = ap (λ (r : Root). for_stack r.origin) row.root_is; owner = ap (λ (r : Root). r.owner) row.root_is }) e tagged
+  held n b c x d owner i tagged (boot_code a s has at e) =
+      absurd (let same : TableOf a ≡ CodeOf b = same_place f h.shares h.stacks x (TableOf a) (CodeOf b) h.none_meet (s, has.there, code_head_in s x at) i in cc)
+  held n b c x d owner i tagged (boot_globals a s has at e) =
+      absurd (let same : TableOf a ≡ CodeOf b = same_place f h.shares h.stacks x (TableOf a) (CodeOf b) h.none_meet (s, has.there, globals_head_in s x at) i in cc)
   held n b c x d owner i tagged (boot_sentry at e) =
       absurd (let same : TrustedPlace ≡ CodeOf b = same_place f h.shares h.stacks x TrustedPlace (CodeOf b) h.none_meet (sentry_held f h.shares h.stacks x at) i in cc)
-  held n b c x d owner i tagged (boot_plain none) = absurd (let clash : true ≡ false = sym tagged ∙ none in cc)
+  held n b c x d owner i tagged (boot_plain e) = absurd (let clash : true ≡ false = sym tagged ∙ ap (λ (z : Cap). z.tag) e in cc)
 
   abbrev LoadAt : ℕ → ℕ → Root → Type 0
   LoadAt n x r = bit r.rights load_data ≡ true → bit r.rights memory_capability ≡ true → r.base ≤ x → x < r.top → Loads (image_of f) n (booted (image_of f) ((x - f.ram) / 8)).cap (region (image_of f) ((x - f.ram) / 8))
