@@ -115,6 +115,7 @@ row_count b n c =
 
 -- ---- where the rows of a share and of a stack begin
 
+-- from index m on the rows are these
 abbrev pub GoesOn : {A : Type 0} → List A → List A → ℕ → Type 0
 GoesOn rows tail m = (i : ℕ) → slice_get rows (m + i) ≡ slice_get tail i
 
