@@ -22,7 +22,7 @@ use Rattle.law_regions.proofs.Where.{place_region, sentry_region}
 
 -- ---- slots
 
-abbrev slot_passes : FirmwareRow → ℕ → ℕ → Entry → Bool
+abbrev pub slot_passes : FirmwareRow → ℕ → ℕ → Entry → Bool
 slot_passes f x n r = is_slot_kind r.kind && is_slot_at f x n r.owner
 
 no_slot : (f : FirmwareRow) (x n : ℕ) (r q : Entry) → root_of f.entries n ≡ listed_root (Some r) (gate_for f.entries.gates n) → HasRow f n q → is_slot_kind q.kind ≡ false → is_slot_kind r.kind ≡ true → ⊥
@@ -77,7 +77,7 @@ by_slot f h x n m r c number there slot passes is (is_stack t s has e row) = abs
 
 -- ---- heads
 
-data HeadIs (f : FirmwareRow) (ds : List Share) (a x n : ℕ) : Type 0 where
+pub data HeadIs (f : FirmwareRow) (ds : List Share) (a x n : ℕ) : Type 0 where
   no_head : n ≡ 0 → HeadIs f ds a x n
   head_code : (j : ℕ) (c : Share) → slice_get ds j ≡ Some c → c.table ≡ x → n ≡ code_number f (a + j) → HeadIs f ds a x n
   head_globals : (j : ℕ) (c : Share) → slice_get ds j ≡ Some c → c.table + 8 ≡ x → n ≡ globals_number f (a + j) → HeadIs f ds a x n
@@ -87,7 +87,7 @@ further f d ds a x n (no_head e) = no_head e
 further f d ds a x n (head_code j c is at e) = let next : (a + 1) + j ≡ a + suc j = omega arith in head_code (suc j) c is at (e ∙ ap (code_number f) next)
 further f d ds a x n (head_globals j c is at e) = let next : (a + 1) + j ≡ a + suc j = omega arith in head_globals (suc j) c is at (e ∙ ap (globals_number f) next)
 
-heads_tell : (f : FirmwareRow) (ds : List Share) (a x : ℕ) → HeadIs f ds a x (head_from f x a (map (λ (c : Share). c.table) ds))
+pub heads_tell : (f : FirmwareRow) (ds : List Share) (a x : ℕ) → HeadIs f ds a x (head_from f x a (map (λ (c : Share). c.table) ds))
 heads_tell f [] a x = no_head refl
 heads_tell f (d ∷ ds) a x =
     let same : a ≡ a + 0 = omega arith in

@@ -15,3 +15,5 @@ pub mod Booted
 pub mod Loads
 pub mod Starts
 pub mod Confining
+pub mod Slots
+pub mod Exact
