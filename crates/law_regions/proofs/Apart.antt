@@ -3,14 +3,9 @@ use Rattle.std.proofs.Common.{ℕ, zero, suc, ◌≡◌, ◌+◌, ◌*◌, ◌�
 use Rattle.std.specs.Prelude.{slice_get}
 use Rattle.std.proofs.lemmas.Option.{slice_get_within}
 use Rattle.ct_entry.specs.Listed.{FirmwareRow}
-use Rattle.def_machine.specs.Objects.{Each}
 use Rattle.def_step.specs.Firmware.{Share, StackRange, RegionRange, range, share_ranges, stack_ranges, all_ranges, AreApart, NoneMeet, code_length, table_length, trusted_length}
+use Rattle.law_entries.proofs.Standing.{each_at}
 use Rattle.law_regions.specs.Held.{IsIn, Place, CodeOf, TableOf, GlobalsOf, StackOf, TrustedPlace, Held}
-
-pub each_at : {A : Type 0} (P : A → Type 0) (xs : List A) (k : ℕ) (x : A) → Each P xs → slice_get xs k ≡ Some x → P x
-each_at P [] k x all is = absurd (let clash : None ≡ Some x = is in cc)
-each_at P (y ∷ ys) zero x all is = let same : y ≡ x = cc in subst P same all.0
-each_at P (y ∷ ys) (suc k) x all is = each_at P ys k x all.1 is
 
 abbrev pub Lies : ℕ → RegionRange → Type 0
 Lies x r = IsIn r.base r.size x

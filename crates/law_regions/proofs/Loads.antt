@@ -17,12 +17,12 @@ use Rattle.law_entries.specs.Rows.{EntryIs, is_nothing, is_trusted, is_code, is_
 use Rattle.law_entries.proofs.Classes.{entry_of}
 use Rattle.law_regions.specs.Held.{CodeOf, TableOf, GlobalsOf, StackOf, TrustedPlace, Held}
 use Rattle.law_regions.proofs.Apart.{same_place}
-use Rattle.law_regions.proofs.Roots.{import_away}
+use Rattle.law_entries.proofs.Fitting.{import_fits}
 use Rattle.law_regions.proofs.Where.{sentry_held}
 use Rattle.law_regions.specs.Booted.{BootIs, boot_switch, boot_import, boot_code, boot_globals, boot_sentry, boot_plain}
 use Rattle.law_regions.proofs.Boots.{boot_is, switch_in, import_in, code_head_in, globals_head_in}
 use Rattle.law_regions.proofs.Regions.{begins, granule_held, place_granule}
-use Rattle.law_regions.proofs.Stacks.{stack_entry_is}
+use Rattle.law_entries.proofs.Own.{stack_entry_is}
 use Rattle.law_regions.proofs.Stores.{native_outside, plain_device}
 use Rattle.law_regions.proofs.Booted.{no_object, no_return_off}
 use Rattle.law_regions.proofs.Made.{boot_made}
@@ -88,7 +88,7 @@ module _ (f : FirmwareRow) (h : IsLawfulFirmware f) where
       subst (Loads (image_of f) n (booted (image_of f) ((x - f.ram) / 8)).cap) (sym (place_granule f h x (GlobalsOf b) (λ clash. cc) (c, has.there, (from, to))).0) (ap (λ (r : Root). r.origin) row.root_is, ap (λ (r : Root). r.owner) row.root_is))
   loaded n x low (is_switch b c has e row) = subst (LoadAt n x) (sym row.root_is) (λ right carry from to.
       subst (Loads (image_of f) n (booted (image_of f) ((x - f.ram) / 8)).cap) (sym (native_outside f h 65536 8 x (lit≤ tt) (lit≤ tt) low from to)) tt)
-  loaded n x low (is_import b c j d has at e row) = subst (LoadAt n x) (sym row.root_is) (λ right carry from to. absurd (plain_device f h d.rights (import_away f h b c j d has.there at).1 carry))
+  loaded n x low (is_import b c j d has at e row) = subst (LoadAt n x) (sym row.root_is) (λ right carry from to. absurd (plain_device f h d.rights (import_fits f h b c j d has.there at).rights carry))
   loaded n x low (is_export e) = subst (LoadAt n x) (sym e.row.root_is) (λ right carry from to. absurd (let clash : false ≡ true = carry in cc))
   loaded n x low (is_stack t s has e row) = subst (LoadAt n x) (sym row.root_is) (λ right carry from to.
       subst (Loads (image_of f) n (booted (image_of f) ((x - f.ram) / 8)).cap) (sym (place_granule f h x (StackOf t) (λ clash. cc) (s, has.there, (from, to))).0) (ap (λ (r : Root). r.origin) row.root_is, e ∙ sym (stack_entry_is f h t has.few)))

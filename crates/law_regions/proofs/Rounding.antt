@@ -1,10 +1,6 @@
 -- An address and the granule that holds it.
-use Rattle.std.proofs.Common.{ℕ, ◌≡◌, ◌+◌, ◌-◌, ◌*◌, ◌/◌, ◌%◌, ◌≤◌, ◌<◌, arith}
+use Rattle.std.proofs.Common.{ℕ, ◌≡◌, ◌+◌, ◌-◌, ◌*◌, ◌/◌, ◌%◌, ◌≤◌, arith}
 use Rattle.law_regions.specs.Held.{IsIn}
-
--- where it begins, from RAM's base
-pub granule_base : (ram x : ℕ) → ram ≤ x → (ram + 8 * ((x - ram) / 8) ≤ x) × (x < ram + 8 * ((x - ram) / 8) + 8)
-granule_base ram x low = (omega (arith, low), omega (arith, low))
 
 -- what is whole in eights holds both or neither
 pub granule_in : (ram base size x : ℕ) → ram % 16 ≡ 0 → base % 16 ≡ 0 → size % 8 ≡ 0 → ram ≤ base → IsIn base size x → IsIn base size (ram + 8 * ((x - ram) / 8))

@@ -1,5 +1,5 @@
 -- The stacks of a lawful firmware's image.
-use Rattle.std.proofs.Common.{ℕ, zero, suc, ◌≡◌, ◌+◌, ◌*◌, ◌≤◌, ◌<◌, inl, inr, length, slice_index_or, refl, sym, ap, ◌∙◌, arith}
+use Rattle.std.proofs.Common.{ℕ, ◌≡◌, ◌+◌, ◌*◌, ◌≤◌, ◌<◌, inl, inr, length, sym, ap, ◌∙◌, arith}
 use Rattle.law_lists.proofs.Tests.{lt_tells}
 use Rattle.def_memory.specs.declared.Granule.{Granule}
 use Rattle.ct_entry.specs.Listed.{FirmwareRow}
@@ -7,43 +7,23 @@ use Rattle.ct_entry.specs.declared.rows.Kind.TheVariants as kind
 use Rattle.def_reach.specs.Roots.{Root, TrustedPart, Listing, root_of}
 use Rattle.def_machine.specs.Image.{Region, Bare, Stack, region, booted, root, stack_entry, stack_base, stack_top, address_of}
 use Rattle.def_step.specs.Firmware.{IsLawfulFirmware, StackRange}
-use Rattle.def_step.specs.Boot.{image_of, numbered_from, stack_number}
+use Rattle.def_step.specs.Boot.{image_of, stack_number}
 use Rattle.law_entries.specs.Rows.{HasStack}
 use Rattle.law_entries.proofs.Standing.{present}
 use Rattle.law_entries.proofs.Classes.{stack_of}
+use Rattle.law_entries.proofs.Own.{stack_entry_is, no_stack_entry}
 use Rattle.law_regions.specs.Held.{StackOf, Held}
 use Rattle.law_regions.proofs.Where.{in_ram, place_region, is_stack_place}
 use Rattle.law_regions.specs.Held.{AsGranule, of_ram, past_ram}
 use Rattle.law_regions.proofs.Granules.{granule_is}
 use Rattle.law_regions.proofs.Regions.{ram_granule}
 
-numbered_at : (number : ℕ → ℕ) (b n t : ℕ) → t < n → slice_index_or (numbered_from number b n) t 0 ≡ number (b + t)
-numbered_at number b zero t less = absurd (omega (arith, less))
-numbered_at number b (suc n) zero less = let same : b ≡ b + 0 = omega arith in ap number same
-numbered_at number b (suc n) (suc t) less = let next : (b + 1) + t ≡ b + suc t = omega arith in numbered_at number (b + 1) n t (omega (arith, less)) ∙ ap number next
-
-numbered_past : (number : ℕ → ℕ) (b n t : ℕ) → n ≤ t → slice_index_or (numbered_from number b n) t 0 ≡ 0
-numbered_past number b zero t more = refl
-numbered_past number b (suc n) zero more = absurd (omega (arith, more))
-numbered_past number b (suc n) (suc t) more = numbered_past number (b + 1) n t (omega (arith, more))
-
 module _ (f : FirmwareRow) (h : IsLawfulFirmware f) where
-  pub stack_entry_is : (t : ℕ) → t < length h.stacks → stack_entry (image_of f) t ≡ stack_number f t
-  unfolding image_of
-  stack_entry_is t few =
-      let as_many = h.one_stack_each in
-      let same : 0 + t ≡ t = omega arith in
-      numbered_at (stack_number f) 0 (length f.threads) t (omega (arith, few, as_many)) ∙ ap (stack_number f) same
-
-  no_stack_entry : (t : ℕ) → length h.stacks ≤ t → stack_entry (image_of f) t ≡ 0
-  unfolding image_of
-  no_stack_entry t past = let as_many = h.one_stack_each in numbered_past (stack_number f) 0 (length f.threads) t (omega (arith, past, as_many))
-
   -- the root of a thread's stack
   pub stack_root : (t : ℕ) (s : StackRange) → HasStack f h.stacks t s → (root (image_of f) (stack_entry (image_of f) t)).origin ≡ Listing kind.Stack × (stack_base (image_of f) t ≡ s.base) × (stack_top (image_of f) t ≡ s.base + s.size)
   unfolding image_of
   stack_root t s has =
-      let number : stack_entry (image_of f) t ≡ stack_number f t = stack_entry_is t has.few in
+      let number : stack_entry (image_of f) t ≡ stack_number f t = stack_entry_is f h t has.few in
       let is = ap (root_of f.entries) number ∙ has.row.root_is in
       (ap (λ (r : Root). r.origin) is, ap (λ (r : Root). r.base) is, ap (λ (r : Root). r.top) is)
 
@@ -72,7 +52,7 @@ module _ (f : FirmwareRow) (h : IsLawfulFirmware f) where
         let fits = h.heap.1 in
         (ram_granule f h k (omega (arith, below, fits))).0 ∙ place_region f h (f.ram + 8 * k) (StackOf t) (λ clash. cc) held
     | inr past ↦
-        let number : stack_entry (image_of f) t ≡ 0 = no_stack_entry t past.1 in
+        let number : stack_entry (image_of f) t ≡ 0 = no_stack_entry f h t past.1 in
         let clash : TrustedPart ≡ Listing kind.Stack = ap (λ n. (root (image_of f) n).origin) (sym number) ∙ is in
         cc
   ]

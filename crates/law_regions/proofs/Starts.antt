@@ -26,11 +26,11 @@ use Rattle.law_calls.proofs.Pushes.{all_of}
 use Rattle.def_step.specs.Firmware.{IsLawfulFirmware, IsStarter, StackRange}
 use Rattle.def_step.specs.Boot.{image_of, boot_state, made_for, home_of, compartment_of, stack_top_of, stack_number, code_number, globals_number, first_frame, first_pcc, first_registers, first_posture, first_thread, first_threads}
 use Rattle.law_entries.specs.Rows.{IsExportOf, HasStack}
-use Rattle.law_entries.proofs.Standing.{present}
+use Rattle.law_entries.proofs.Standing.{each_at, present}
 use Rattle.law_entries.proofs.Classes.{export_of, stack_of}
 use Rattle.law_entries.proofs.Fitting.{ram_fits, share_fits, stack_fits}
-use Rattle.law_regions.proofs.Apart.{each_at}
-use Rattle.law_regions.proofs.Stacks.{stack_entry_is, stack_root}
+use Rattle.law_entries.proofs.Own.{stack_entry_is}
+use Rattle.law_regions.proofs.Stacks.{stack_root}
 use Rattle.law_regions.proofs.Made.{boot_made, made_kept, made_runs}
 use Rattle.law_regions.proofs.Booted.{no_object, no_return_off}
 

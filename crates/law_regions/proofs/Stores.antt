@@ -10,10 +10,10 @@ use Rattle.def_confined.specs.Partitioned.{Open, Carries}
 use Rattle.law_entries.specs.Rows.{EntryIs, is_nothing, is_trusted, is_code, is_globals, is_switch, is_import, is_export, is_stack}
 use Rattle.law_entries.proofs.Classes.{entry_of}
 use Rattle.law_regions.specs.Held.{GlobalsOf, StackOf}
-use Rattle.law_regions.proofs.Roots.{import_away}
+use Rattle.law_entries.proofs.Fitting.{import_fits}
 use Rattle.law_regions.proofs.Where.{in_ram}
 use Rattle.law_regions.proofs.Regions.{place_granule, past_granule}
-use Rattle.law_regions.proofs.Stacks.{stack_entry_is}
+use Rattle.law_entries.proofs.Own.{stack_entry_is}
 
 module _ (f : FirmwareRow) (h : IsLawfulFirmware f) where
   -- what lies outside RAM reaches no region
@@ -38,7 +38,7 @@ module _ (f : FirmwareRow) (h : IsLawfulFirmware f) where
   stored n x low (is_code b c has e row) = subst (StoreAt x) (sym row.root_is) (λ right from to. absurd (let clash : false ≡ true = right in cc))
   stored n x low (is_globals b c has e row) = subst (StoreAt x) (sym row.root_is) (λ right from to. subst Open (sym (place_granule f h x (GlobalsOf b) (λ clash. cc) (c, has.there, (from, to))).0) tt)
   stored n x low (is_switch b c has e row) = subst (StoreAt x) (sym row.root_is) (λ right from to. absurd (let clash : false ≡ true = right in cc))
-  stored n x low (is_import b c j d has at e row) = subst (StoreAt x) (sym row.root_is) (λ right from to. subst Open (sym (outside d.base 16 x (import_away f h b c j d has.there at).0.away low from to)) tt)
+  stored n x low (is_import b c j d has at e row) = subst (StoreAt x) (sym row.root_is) (λ right from to. subst Open (sym (outside d.base 16 x (import_fits f h b c j d has.there at).away low from to)) tt)
   stored n x low (is_export e) = subst (StoreAt x) (sym e.row.root_is) (λ right from to. absurd (let clash : false ≡ true = right in cc))
   stored n x low (is_stack t s has e row) = subst (StoreAt x) (sym row.root_is) (λ right from to. subst Open (sym (place_granule f h x (StackOf t) (λ clash. cc) (s, has.there, (from, to))).0) tt)
 
@@ -66,7 +66,7 @@ module _ (f : FirmwareRow) (h : IsLawfulFirmware f) where
     subst (Carries (image_of f) n) (sym (place_granule f h x (GlobalsOf b) (λ clash. cc) (c, has.there, (from, to))).0) (ap (λ (r : Root). r.origin) row.root_is, ap (λ (r : Root). r.owner) row.root_is),
   ))
   carried n x (is_switch b c has e row) = subst (CarryAt n x) (sym row.root_is) (λ right carry from to. absurd (let clash : false ≡ true = right in cc))
-  carried n x (is_import b c j d has at e row) = subst (CarryAt n x) (sym row.root_is) (λ right carry from to. absurd (plain_device d.rights (import_away f h b c j d has.there at).1 carry))
+  carried n x (is_import b c j d has at e row) = subst (CarryAt n x) (sym row.root_is) (λ right carry from to. absurd (plain_device d.rights (import_fits f h b c j d has.there at).rights carry))
   carried n x (is_export e) = subst (CarryAt n x) (sym e.row.root_is) (λ right carry from to. absurd (let clash : false ≡ true = right in cc))
   carried n x (is_stack t s has e row) = subst (CarryAt n x) (sym row.root_is) (λ right carry from to. (
     (in_ram f h x (StackOf t) (s, has.there, (from, to))).0,

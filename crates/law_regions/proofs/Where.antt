@@ -8,8 +8,9 @@ use Rattle.ct_entry.specs.Listed.{FirmwareRow}
 use Rattle.def_machine.specs.Image.{Region, Fixed, Globals, HeapRam, Stack, Bare}
 use Rattle.def_step.specs.Firmware.{Share, StackRange, RegionRange, range, IsLawfulFirmware, IsShare, IsStack, IsPlaced, all_ranges, table_length, trusted_length}
 use Rattle.def_step.specs.Boot.{is_covered, region_in, region_at, is_table_from, exports_from}
+use Rattle.law_entries.proofs.Standing.{each_at}
 use Rattle.law_regions.specs.Held.{IsIn, Place, CodeOf, TableOf, GlobalsOf, StackOf, TrustedPlace, Held, expected, InHeap, Where, at_sentry, at_place, at_heap, at_bare}
-use Rattle.law_regions.proofs.Apart.{each_at, number, base_of, size_of, lies_in, listed_at, same_place}
+use Rattle.law_regions.proofs.Apart.{number, base_of, size_of, lies_in, listed_at, same_place}
 use Rattle.law_regions.proofs.Finding.{cover_tells, Found, found_code, found_globals, found_stack, found_none, in_rows}
 use Rattle.law_regions.proofs.Tables.{exports_at, InTable, tables_tell}
 
