@@ -8,8 +8,19 @@ use Rattle.def_step.specs.declared.Event.{Event}
 use Rattle.def_step.specs.Boot.{booted_machine, board_of, boot_state, image_of}
 use Rattle.def_step.specs.Events.{MachineRow, happens}
 use Rattle.def_step.specs.Firmware.{IsLawfulFirmware}
+use Rattle.law_boot.proofs.Whole.{image_partitioned}
+use Rattle.law_entries.proofs.Wiring.{wired}
+use Rattle.law_regions.proofs.Confining.{confined}
 use Rattle.law_events.proofs.Booting.{boot_ended}
 use Rattle.law_events.proofs.Events.{event_confined, event_ended, deed_licensed, span_licensed}
+
+pub at_boot : (f : FirmwareRow) → IsLawfulFirmware f → Guarded (booted_machine f)
+at_boot f l = record {
+  partitioned = image_partitioned f l;
+  wired = wired f l;
+  confined = confined f l;
+  ended_on = boot_ended f;
+}
 
 pub after_event : (m : MachineRow) (e : Event) → Guarded m → Guarded (record { board = m.board; state = (happens m.board m.state e).0 })
 after_event m e g = record {

@@ -7,8 +7,8 @@ ghost use Rattle.ct_boot.specs.Bootable.{empty_granules};
 ghost use Rattle.ct_machine.specs.Launching.{Launched, bank_of};
 
 use crate::copying::copy_firmware;
-use crate::launching::{Launch, launch_of};
 use crate::engine::Engine;
+use crate::launching::{Launch, launch_of};
 use crate::tally::Tally;
 use crate::works::Works;
 use ct_boot::boot;
