@@ -1,0 +1,6 @@
+pub mod Lists
+pub mod Places
+pub mod Sizes
+pub mod Rows
+pub mod Gates
+pub mod Imports
