@@ -4,3 +4,5 @@ pub mod Sizes
 pub mod Rows
 pub mod Gates
 pub mod Imports
+pub mod Words
+pub mod Parts

@@ -1,5 +1,5 @@
 -- What holds of each member of a list, and tests that tell.
-use Rattle.std.proofs.Common.{◌≡◌, ℕ, zero, suc, ◌+◌, ◌≤◌, ◌⊎◌, inl, inr, Bool, true, false, not, List, [], ◌∷◌, ◌++◌, map, Option, Some, None, option_map, slice_get, refl, sym, ap, ◌∙◌, arith}
+use Rattle.std.proofs.Common.{◌≡◌, ℕ, zero, suc, ◌+◌, ◌≤◌, ◌⊎◌, inl, inr, Bool, true, false, not, ◌&&◌, ◌||◌, List, [], ◌∷◌, ◌++◌, map, Option, Some, None, option_map, slice_get, refl, sym, ap, ◌∙◌, arith}
 use Rattle.std.specs.List.{list_all}
 use Rattle.std.proofs.lemmas.Bool.{and_parts}
 use Rattle.std.proofs.lemmas.Option.{slice_get-map}
@@ -46,3 +46,51 @@ apart_of a m b n h = elim (lt_tells a (b + n)) [
   ]
   | inr past ↦ inr past.1
 ]
+
+pub refuted : (b : Bool) → not b ≡ true → b ≡ false
+refuted true h = sym h
+refuted false h = refl
+
+-- the parts of a test of several
+pub three : (a b c : Bool) → (a && b && c) ≡ true → (a ≡ true) × (b ≡ true) × (c ≡ true)
+three true true true h = (refl, refl, refl)
+three true true false h = cc
+three true false c h = cc
+three false b c h = cc
+
+pub four : (a b c d : Bool) → (a && b && c && d) ≡ true → (a ≡ true) × (b ≡ true) × (c ≡ true) × (d ≡ true)
+four true true true true h = (refl, refl, refl, refl)
+four true true true false h = cc
+four true true false d h = cc
+four true false c d h = cc
+four false b c d h = cc
+
+pub five : (a b c d e : Bool) → (a && b && c && d && e) ≡ true → (a ≡ true) × (b ≡ true) × (c ≡ true) × (d ≡ true) × (e ≡ true)
+five true true true true true h = (refl, refl, refl, refl, refl)
+five true true true true false h = cc
+five true true true false e h = cc
+five true true false d e h = cc
+five true false c d e h = cc
+five false b c d e h = cc
+
+pub six : (a b c d e f : Bool) → (a && b && c && d && e && f) ≡ true → (a ≡ true) × (b ≡ true) × (c ≡ true) × (d ≡ true) × (e ≡ true) × (f ≡ true)
+six true true true true true true h = (refl, refl, refl, refl, refl, refl)
+six true true true true true false h = cc
+six true true true true false f h = cc
+six true true true false e f h = cc
+six true true false d e f h = cc
+six true false c d e f h = cc
+six false b c d e f h = cc
+
+pub second : (a b c d e f g h : Bool) → (a && b && c && d && e && f && g && h) ≡ true → b ≡ true
+second true true c d e f g h all = refl
+second true false c d e f g h all = cc
+second false b c d e f g h all = cc
+
+-- none of several tests passes
+pub none_of : (a b c d : Bool) → (a || b || c || d) ≡ false → (a ≡ false) × (b ≡ false) × (c ≡ false) × (d ≡ false)
+none_of false false false false h = (refl, refl, refl, refl)
+none_of false false false true h = cc
+none_of false false true d h = cc
+none_of false true c d h = cc
+none_of true b c d h = cc
