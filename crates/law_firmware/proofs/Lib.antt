@@ -6,3 +6,7 @@ pub mod Gates
 pub mod Imports
 pub mod Words
 pub mod Parts
+pub mod Made
+pub mod Regions
+pub mod Devices
+pub mod Lawful
