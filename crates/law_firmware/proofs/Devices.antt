@@ -1,8 +1,8 @@
 -- Devices lie at multiples of 16, away from RAM, from the native routines and from one another.
-use Rattle.std.proofs.Common.{◌≡◌, ℕ, zero, suc, ◌+◌, ◌≤◌, ◌⊎◌, inl, inr, false, ◌||◌, List, [], ◌∷◌, take, Some, slice_get, refl, arith}
+use Rattle.std.proofs.Common.{◌≡◌, ℕ, zero, suc, ◌+◌, ◌≤◌, ◌⊎◌, inl, inr, false, List, [], ◌∷◌, take, Some, slice_get, refl}
 use Rattle.std.specs.List.{list_any}
 use Rattle.std.proofs.lemmas.Bool.{or_parts}
-use Rattle.ct_entry.specs.Listed.{FirmwareRow, DeviceRow}
+use Rattle.ct_entry.specs.Listed.{DeviceRow}
 use Rattle.def_desc.specs.References.{meets_device}
 use Rattle.def_desc.specs.Rows.{DescRow}
 use Rattle.def_firmware.specs.Firmware.{firmware_of}
@@ -38,6 +38,7 @@ from_first d (x ∷ xs) none = (turned x.base 16 d.base 16 (apart_of x.base 16 d
 
 pub devices_apart : (ds : List DeviceRow) → MeetsNone ds → NoneMeet (device_ranges ds)
 devices_apart [] none = tt
-devices_apart (d ∷ ds) none =
-    (from_first d ds (λ i x is. (or_parts (meets_device x.base d) (list_any (meets_device x.base) (take i ds)) (none (suc i) x is)).0),
-    devices_apart ds (λ i x is. (or_parts (meets_device x.base d) (list_any (meets_device x.base) (take i ds)) (none (suc i) x is)).1))
+devices_apart (d ∷ ds) none = (
+  from_first d ds (λ i x is. (or_parts (meets_device x.base d) (list_any (meets_device x.base) (take i ds)) (none (suc i) x is)).0),
+  devices_apart ds (λ i x is. (or_parts (meets_device x.base d) (list_any (meets_device x.base) (take i ds)) (none (suc i) x is)).1),
+)

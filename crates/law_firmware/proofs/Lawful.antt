@@ -1,14 +1,13 @@
 -- The firmware of a well-formed description is lawful.
-use Rattle.std.proofs.Common.{◌≡◌, ℕ, ◌+◌, ◌%◌, ◌≤◌, true, false, ◌&&◌, nat_le, nat_eq, List, [], ◌∷◌, length, map, None, refl, sym, ap, ◌∙◌, subst, arith}
+use Rattle.std.proofs.Common.{◌≡◌, ℕ, ◌+◌, ◌%◌, true, false, nat_le, nat_eq, List, [], ◌∷◌, length, map, None, refl, sym, ap, ◌∙◌, subst, arith}
 use Rattle.std.specs.List.{list_all}
 use Rattle.std.proofs.lemmas.Bool.{and_parts, leb-true, eqb-true}
 use Rattle.std.proofs.lemmas.List.{length-map}
 use Rattle.serde_json.specs.Data.{Data}
-use Rattle.ct_entry.specs.Listed.{DeviceRow}
 use Rattle.def_desc.specs.Placing.{apart, compartment_is_placed, heap_is_placed, is_few, is_placed, lies, regions_of, thread_is_small}
 use Rattle.def_desc.specs.Reading.{rows_of}
 use Rattle.def_desc.specs.References.{meets_native}
-use Rattle.def_desc.specs.Rows.{CompartmentRow, ThreadRow, DescRow}
+use Rattle.def_desc.specs.Rows.{CompartmentRow, DescRow}
 use Rattle.def_desc.specs.WellFormed.{WellFormed, fault_of}
 use Rattle.def_firmware.specs.Firmware.{firmware_of, starter_of}
 use Rattle.def_machine.specs.Objects.{Each}

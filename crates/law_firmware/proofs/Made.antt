@@ -1,5 +1,5 @@
 -- Each compartment makes a share, each thread a stack and a starter, within their limits.
-use Rattle.std.proofs.Common.{◌≡◌, ℕ, ◌+◌, ◌*◌, ◌%◌, ◌<◌, ◌≤◌, Bool, true, ◌&&◌, nat_le, nat_lt, nat_eq, List, length, map, arith, subst, sym}
+use Rattle.std.proofs.Common.{◌≡◌, ◌%◌, ◌<◌, true, nat_le, nat_lt, nat_eq, List, length, map, arith}
 use Rattle.std.specs.List.{list_all}
 use Rattle.std.proofs.lemmas.Bool.{and_parts, leb-true, ltb-true, eqb-true}
 use Rattle.std.proofs.lemmas.List.{length-map}
@@ -38,8 +38,11 @@ is_share f c placed imports =
       bytes = text_bytes c;
       globals = rounded_fits c.globals (leb-true c.globals 8176 parts.3);
       imports = (each_of_map (IsImport f) (import_of f.devices) c.imports (each_gives (ImportPasses f.devices) (λ x. IsImport f (import_of f.devices x)) c.imports (is_import f) imports), omega (arith, slots, few_imports));
-      exports = (each_of_map (λ x. (x % 4 ≡ 0) × (x < length (text_of c))) (λ (e : ExportRow). e.at) c.exports
-          (each_gives (λ e. begins (text_size c) e ≡ true) (λ (e : ExportRow). (e.at % 4 ≡ 0) × (e.at < length (text_of c))) c.exports (export_begins c) (each_tested (begins (text_size c)) c.exports both.1)), omega (arith, offsets, few_exports));
+      exports = (
+        each_of_map (λ x. (x % 4 ≡ 0) × (x < length (text_of c))) (λ (e : ExportRow). e.at) c.exports
+            (each_gives (λ e. begins (text_size c) e ≡ true) (λ (e : ExportRow). (e.at % 4 ≡ 0) × (e.at < length (text_of c))) c.exports (export_begins c) (each_tested (begins (text_size c)) c.exports both.1)),
+        omega (arith, offsets, few_exports),
+      );
       fits = (omega (arith, slots, text), omega (arith, slots, text, few_imports, few_words));
     }
 

@@ -1,5 +1,5 @@
 -- What the rules say of the rows of RAM, devices, imports and threads.
-use Rattle.std.proofs.Common.{◌≡◌, ℕ, ◌+◌, ◌%◌, ◌<◌, ◌≤◌, Bool, true, false, not, ◌||◌, nat_le, nat_eq, List, map, take, Option, Some, None, option_map, slice_get, refl, sym, ap, ◌∙◌, subst, arith}
+use Rattle.std.proofs.Common.{◌≡◌, ℕ, ◌+◌, ◌%◌, ◌<◌, ◌≤◌, true, false, not, nat_le, nat_eq, List, map, take, Option, Some, None, option_map, slice_get, refl, sym, ap, ◌∙◌, subst, arith}
 use Rattle.std.specs.Prelude.{unwrap_or, option_and_then, is_some, codes}
 use Rattle.std.specs.List.{list_any}
 use Rattle.std.proofs.lemmas.Bool.{leb-true, eqb-true}
@@ -9,7 +9,7 @@ use Rattle.serde_json.specs.Find.{get, as_object}
 use Rattle.ct_entry.specs.Listed.{DeviceRow}
 use Rattle.def_desc.specs.declared.Part.TheVariants.{Firmware, Ram, Thread}
 use Rattle.def_desc.specs.declared.Ram.{Ram as RamRow}
-use Rattle.def_desc.specs.Kinds.{has_kinds, is_code}
+use Rattle.def_desc.specs.Kinds.{has_kinds}
 use Rattle.def_desc.specs.Limits.{ranges, is_multiple, is_address, keeps_limits, number_or}
 use Rattle.def_desc.specs.Members.{list_at, number_at, has_text, has_number, has_object, may_number, may_list}
 use Rattle.def_desc.specs.Names.{import_at}
@@ -39,7 +39,7 @@ ram_keeps v h =
     let base = number_at (codes "base") v in
     let size = number_at (codes "size") v in
     let all = five (ranges 0 (codes "size") 256 8388608 v) (is_multiple (codes "size") 16 v) (is_address (codes "base") v) (is_multiple (codes "base") 16 v)
-        (nat_le (number_or 0 (codes "base") v + number_or 0 (codes "size") v) 4294967280) h in
+    (nat_le (number_or 0 (codes "base") v + number_or 0 (codes "size") v) 4294967280) h in
     let range = ranged size 256 8388608 all.0 (omega arith) in
     let address = leb-true (number_or 0 (codes "base") v) 4294967295 all.2 in
     let end = leb-true (number_or 0 (codes "base") v + number_or 0 (codes "size") v) 4294967280 all.4 in
@@ -62,7 +62,7 @@ pub ram_passes : (d : Data) → RulesPass d → RamPasses (rows_of d).ram
 ram_passes d h =
     let kinds : has_kinds Firmware d ≡ true = holds (has_kinds Firmware d) h.kind.firmware in
     let object : has_object (codes "ram") d ≡ true = second (has_text (codes "firmware") d) (has_object (codes "ram") d) (has_number (codes "heapbase") d) (has_number (codes "trustedbase") d)
-        (may_number (codes "quantum") d) (may_list (codes "devices") d) (may_list (codes "compartments") d) (may_list (codes "threads") d) kinds in
+    (may_number (codes "quantum") d) (may_list (codes "devices") d) (may_list (codes "compartments") d) (may_list (codes "threads") d) kinds in
     ram_keeps (member_at (codes "ram") d) (passes_for keeps_limits Ram (get (codes "ram") d) (member_at (codes "ram") d) (there (get (codes "ram") d) object) h.limit.ram)
 
 -- ---- devices
@@ -107,11 +107,11 @@ pub imports_pass : (d : Data) → RulesPass d → Each (λ (c : CompartmentRow).
 imports_pass d h =
     each_of_map (λ (c : CompartmentRow). Each (ImportPasses (rows_of d).devices) c.imports) compartment_of (list_at (codes "compartments") d)
     (each_from (λ v. Each (ImportPasses (rows_of d).devices) (compartment_of v).imports) (list_at (codes "compartments") d) (λ i v is.
-      each_of_map (ImportPasses (rows_of d).devices) import_of (list_at (codes "imports") v)
-      (each_from (λ w. ImportPasses (rows_of d).devices (import_of w)) (list_at (codes "imports") v) (λ j w at.
-        import_passes (rows_of d) (import_at (rows_of d) i j) (import_of w)
-        (import_there (rows_of d) i j (compartment_of v) (import_of w) (mapped compartment_of (list_at (codes "compartments") d) i v is) (mapped import_of (list_at (codes "imports") v) j w at))
-        (h.reference.import i j v w is at) (h.right.import i j v w is at)))))
+    each_of_map (ImportPasses (rows_of d).devices) import_of (list_at (codes "imports") v)
+    (each_from (λ w. ImportPasses (rows_of d).devices (import_of w)) (list_at (codes "imports") v) (λ j w at.
+    import_passes (rows_of d) (import_at (rows_of d) i j) (import_of w)
+    (import_there (rows_of d) i j (compartment_of v) (import_of w) (mapped compartment_of (list_at (codes "compartments") d) i v is) (mapped import_of (list_at (codes "imports") v) j w at))
+    (h.reference.import i j v w is at) (h.right.import i j v w is at)))))
 
 -- ---- threads
 
@@ -143,6 +143,6 @@ pub threads_pass : (d : Data) → RulesPass d → Each (ThreadPasses (rows_of d)
 threads_pass d h =
     each_of_map (ThreadPasses (rows_of d).compartments) thread_of (list_at (codes "threads") d)
     (each_from (λ v. ThreadPasses (rows_of d).compartments (thread_of v)) (list_at (codes "threads") d) (λ i v is.
-      thread_passes (rows_of d).compartments v
-      (passes_for keeps_limits Thread (slice_get (list_at (codes "threads") d) i) v is (h.limit.thread i v is))
-      (named (rows_of d) (slice_get (rows_of d).threads i) (thread_of v) (mapped thread_of (list_at (codes "threads") d) i v is) (h.reference.thread i v is))))
+    thread_passes (rows_of d).compartments v
+    (passes_for keeps_limits Thread (slice_get (list_at (codes "threads") d) i) v is (h.limit.thread i v is))
+    (named (rows_of d) (slice_get (rows_of d).threads i) (thread_of v) (mapped thread_of (list_at (codes "threads") d) i v is) (h.reference.thread i v is))))

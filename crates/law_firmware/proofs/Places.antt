@@ -1,9 +1,9 @@
 -- At no place of the walk of a description without a fault does any rule fail.
-use Rattle.std.proofs.Common.{◌≡◌, ℕ, zero, suc, ◌+◌, List, [], ◌∷◌, ◌++◌, Bool, false, Option, Some, None, slice_get, refl, subst, arith}
+use Rattle.std.proofs.Common.{◌≡◌, ℕ, zero, suc, ◌+◌, List, [], ◌∷◌, ◌++◌, Bool, false, Some, None, slice_get, subst, arith}
 use Rattle.std.specs.Prelude.{codes}
 use Rattle.serde_json.specs.Data.{Data}
 use Rattle.def_desc.specs.declared.Part.{Part}
-use Rattle.def_desc.specs.declared.Part.TheVariants.{Firmware, Ram, Device, Compartment, Import, Export, Thread}
+use Rattle.def_desc.specs.declared.Part.TheVariants.{Firmware, Ram, Device, Import, Export, Thread}
 use Rattle.def_desc.specs.declared.Place.{Place}
 use Rattle.def_desc.specs.declared.Rule.{Rule}
 use Rattle.def_desc.specs.Kinds.{kind_fails}

@@ -1,18 +1,17 @@
 -- A firmware's ranges are the description's regions; they lie where they may, and none meets another.
-use Rattle.std.proofs.Common.{◌≡◌, ℕ, ◌+◌, ◌*◌, ◌%◌, ◌≤◌, ◌⊎◌, Bool, true, false, not, ◌&&◌, nat_le, nat_eq, List, [], ◌∷◌, ◌++◌, length, map, refl, sym, ap, ◌∙◌, subst, arith}
+use Rattle.std.proofs.Common.{◌≡◌, ℕ, ◌+◌, ◌*◌, ◌%◌, ◌≤◌, true, nat_le, nat_eq, List, [], ◌∷◌, ◌++◌, length, map, refl, sym, ap, ◌∙◌, subst, arith}
 use Rattle.std.specs.List.{list_all}
 use Rattle.std.proofs.lemmas.Bool.{and_parts, leb-true, eqb-true}
 use Rattle.std.proofs.lemmas.List.{length-map, map-append}
-use Rattle.ct_entry.specs.Listed.{FirmwareRow, DeviceRow}
-use Rattle.ct_entry.specs.declared.starting.Starter.{Starter}
+use Rattle.ct_entry.specs.Listed.{DeviceRow}
 use Rattle.def_desc.specs.declared.Region.{Region}
 use Rattle.def_desc.specs.declared.Ram.{Ram as RamRow}
-use Rattle.def_desc.specs.Placing.{apart, clear_of, lies, globals_size, code_size, table_size, regions_from, regions_of, regions_of_one, saves_size, stacks_from, region, trusted_size}
+use Rattle.def_desc.specs.Placing.{apart, clear_of, lies, globals_size, code_size, table_size, regions_from, regions_of, saves_size, stacks_from, region, trusted_size}
 use Rattle.def_desc.specs.References.{meets}
 use Rattle.def_desc.specs.Rows.{ExportRow, CompartmentRow, ThreadRow, DescRow}
 use Rattle.def_firmware.specs.Firmware.{firmware_of, starter_of}
 use Rattle.def_machine.specs.Objects.{Each}
-use Rattle.def_step.specs.Firmware.{RegionRange, range, share_ranges, stack_ranges, table_length, code_length, trusted_length, all_ranges, AreApart, NoneMeet, IsPlaced}
+use Rattle.def_step.specs.Firmware.{RegionRange, range, share_ranges, stack_ranges, table_length, trusted_length, all_ranges, AreApart, NoneMeet, IsPlaced}
 use Rattle.law_firmware.specs.Shares.{share_of, stack_of, shares_of, stacks_of}
 use Rattle.law_firmware.proofs.Lists.{apart_of, each_of_map, each_gives, each_tested, refuted, three}
 use Rattle.law_firmware.proofs.Sizes.{code_is}
@@ -72,9 +71,11 @@ clear_there g k h = apart_of g.base g.length k.base k.length (refuted (meets g.b
 none_meets : (gs : List Region) → apart gs ≡ true → NoneMeet (map range_of gs)
 none_meets [] h = tt
 none_meets (g ∷ gs) h =
-    let both = and_parts (list_all (clear_of g) gs) (apart gs) h in
-    (each_of_map (AreApart (range_of g)) range_of gs
-    (each_gives (λ k. clear_of g k ≡ true) (λ k. AreApart (range_of g) (range_of k)) gs (clear_there g) (each_tested (clear_of g) gs both.0)), none_meets gs both.1)
+    let both = and_parts (list_all (clear_of g) gs) (apart gs) h in (
+      each_of_map (AreApart (range_of g)) range_of gs
+          (each_gives (λ k. clear_of g k ≡ true) (λ k. AreApart (range_of g) (range_of k)) gs (clear_there g) (each_tested (clear_of g) gs both.0)),
+      none_meets gs both.1,
+    )
 
 pub none_meet : (r : DescRow) → apart (regions_of r) ≡ true → NoneMeet (all_ranges (firmware_of r) (shares_of r) (stacks_of r))
 none_meet r h = subst (λ rs. NoneMeet rs) (sym (ranges_are r)) (none_meets (regions_of r) h)

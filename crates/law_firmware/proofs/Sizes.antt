@@ -1,12 +1,12 @@
 -- Sizes of a compartment's text, code and globals.
-use Rattle.std.proofs.Common.{◌≡◌, ℕ, ◌+◌, ◌*◌, ◌/◌, ◌%◌, ◌<◌, ◌≤◌, cond, nat_lt, List, [], ◌∷◌, length, map, refl, sym, ap, ◌∙◌, inl, inr, arith}
+use Rattle.std.proofs.Common.{◌≡◌, ℕ, ◌+◌, ◌*◌, ◌%◌, ◌<◌, ◌≤◌, List, [], ◌∷◌, length, map, refl, ap, ◌∙◌, inl, inr, arith}
 use Rattle.std.specs.Prelude.{flat_map}
 use Rattle.std.proofs.lemmas.List.{length-map}
 use Rattle.def_desc.specs.Placing.{rounded, code_size}
 use Rattle.def_desc.specs.Rows.{CompartmentRow}
 use Rattle.def_firmware.specs.Firmware.{word_bytes, text_of}
 use Rattle.def_machine.specs.Objects.{Each}
-use Rattle.def_step.specs.Firmware.{DeviceImport, in_sixteens, text_offset, code_length}
+use Rattle.def_step.specs.Firmware.{in_sixteens, text_offset, code_length}
 use Rattle.ct_entry.specs.Listed.{DeviceRow}
 use Rattle.law_lists.proofs.Tests.{lt_tells}
 use Rattle.law_firmware.specs.Shares.{import_of, share_of}
