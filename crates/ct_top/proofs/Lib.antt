@@ -1,3 +1,7 @@
 pub mod Pieces
 pub mod Files
 pub mod Endings
+pub mod Digits
+pub mod Limits
+pub mod Counted
+pub mod Left
