@@ -9,10 +9,16 @@ use Rattle.def_step.specs.Events.{MachineRow, happens, run, told, end_of}
 use Rattle.def_port.specs.Bytes.{Rose, Appends, AppendsBefore}
 use Rattle.def_port.specs.Writes.{Writes, WriteFails}
 use Rattle.def_output.specs.Trace.{trace_line}
-use Rattle.def_output.specs.Runs.{steps_until, unless_ended, trace_from, run_lines, last_line}
+use Rattle.def_output.specs.Runs.{steps_until, unless_ended, trace_from, run_lines, last_line, run_text}
+use Rattle.def_desc.specs.Rows.{DescRow}
+use Rattle.def_report.specs.Report.{report_line}
+use Rattle.def_firmware.specs.Firmware.{firmware_of}
+use Rattle.def_step.specs.Boot.{booted_machine}
+use Rattle.ct_entry.specs.Listed.{FirmwareRow}
 use Rattle.law_lists.proofs.Added as added
 use Rattle.ct_top.specs.Left.{lines_left, state_left, Traced}
-use Rattle.ct_top.proofs.Counted.{one_step_more}
+use Rattle.ct_top.proofs.Counted.{one_step_more, none_yet}
+use Rattle.ct_top.proofs.Pieces.{first_fails, second_fails}
 
 -- ---- no step is left
 
@@ -137,3 +143,27 @@ whole_run first m limit before mid now faults counted after t wrote = record {
       (subst (λ s. Appends mid now (last_line s)) t.state wrote.added);
   same = wrote.same ∙ t.written.same;
 }
+
+pub last_fails : (first m : MachineRow) (limit : ℕ) (before mid now : Option (List ℕ)) (faults counted after : ℕ) →
+    Traced first m limit before mid faults counted → WriteFails mid now counted after (last_line m.state) → WriteFails before now faults after (run_lines first limit)
+unfolding run_lines, lines_left, state_left
+last_fails first m limit before mid now faults counted after t broke =
+    second_fails before mid now faults counted after (trace_from 1 (told first.board first.state (steps_until first.board first.state limit))) (last_line (run first.board first.state (steps_until first.board first.state limit)))
+    t.written (subst (λ s. WriteFails mid now counted after (last_line s)) t.state broke)
+
+pub trace_fails : (first : MachineRow) (limit : ℕ) (before now : Option (List ℕ)) (faults after : ℕ) →
+    WriteFails before now faults after (lines_left first.board first.state 1 limit) → WriteFails before now faults after (run_lines first limit)
+unfolding run_lines, lines_left
+trace_fails first limit before now faults after broke =
+    first_fails before now faults after (trace_from 1 (told first.board first.state (steps_until first.board first.state limit))) (last_line (run first.board first.state (steps_until first.board first.state limit))) broke
+
+-- ---- from a description
+
+pub text_is : (r : DescRow) (limit : ℕ) (report : List ℕ) (m : MachineRow) → report ≡ report_line r → m ≡ booted_machine (firmware_of r) → report ++ run_lines m limit ≡ run_text r limit
+unfolding run_text
+text_is r limit report m reports boots = rw (reports, boots) refl
+
+pub fresh : (f : FirmwareRow) (m : MachineRow) (limit : ℕ) → m ≡ booted_machine f → limit ≤ 4000000000 → m.state.counts.steps + limit ≤ 4000000000
+fresh f m limit boots short =
+    let none : m.state.counts.steps ≡ 0 = ap (λ (x : MachineRow). x.state.counts.steps) boots ∙ none_yet f in
+    omega (arith, none, short)
