@@ -58,7 +58,7 @@ fn has_words(value: &Value) -> bool
 fn is_kind(text: &str) -> bool
     ensures { result ≡ spec.is_kind text.now }
 {
-    text == "uart"
+    text == "uart" || text == "timer" || text == "gpio"
 }
 
 fn firmware_has_kinds(value: &Value) -> bool

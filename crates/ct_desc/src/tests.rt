@@ -21,6 +21,16 @@ fn is_lawful(alloc: Global, from: &str, to: &str) -> Option<bool> {
     }
 }
 
+/// Whether each of these changes leaves a description that is lawful, or each one that isn't.
+fn all_are(alloc: Global, changes: &[(&str, &str)], lawful: bool) -> bool {
+    for (from, to) in changes {
+        if is_lawful(alloc, from, to) != Some(lawful) {
+            return false;
+        }
+    }
+    true
+}
+
 #[test]
 fn tiny_is_read(rt: HostRuntime) {
     let desc = read(rt.alloc(), TINY.as_bytes()).expect(&rt, "tiny");
@@ -84,97 +94,93 @@ fn sizes_of_tiny(rt: HostRuntime) {
     assert!(rt; !is_call(b"appmain", b"app", b"main"));
 }
 
+/// Texts of the sample, each with what stands in its place.
+const REFUSED: [(&str, &str); 30] = [
+    ("{\"firmware\"", "{"),
+    ("\"firmware\":\"tiny\",", ""),
+    ("\"size\":4096", "\"size\":\"4096\""),
+    ("\"size\":4096", "\"size\":4096.0"),
+    ("\"ram\":{\"base\"", "\"quantum\":null,\"ram\":{\"base\""),
+    ("\"kind\":\"uart\"", "\"kind\":\"disk\""),
+    ("00000297", "0000029G"),
+    ("00000297", "0000297"),
+    ("\"size\":4096", "\"size\":4096,\"end\":1"),
+    ("\"at\":0", "\"at\":0,\"posture\":\"enabled\""),
+    ("{\"words\"", "{\"file\":\"a\",\"words\""),
+    ("\"tiny\"", "\"Tiny\""),
+    ("\"as\":\"uart\"", "\"as\":\"u-art\""),
+    ("\"as\":\"uart\"", "\"as\":\"\""),
+    ("\"as\":\"uart\"", "\"as\":\"switch\""),
+    ("\"name\":\"t\"", "\"name\":\"app\""),
+    (
+        "{\"name\":\"main\",\"at\":0}",
+        "{\"name\":\"main\",\"at\":0},{\"name\":\"main\",\"at\":4}",
+    ),
+    ("\"priority\":1", "\"priority\":16"),
+    ("\"frames\":2", "\"frames\":0"),
+    ("\"stack\":256", "\"stack\":248"),
+    ("\"size\":4096", "\"size\":4104"),
+    ("\"ram\":{\"base\"", "\"quantum\":0,\"ram\":{\"base\""),
+    ("\"device\":\"uart0\"", "\"device\":\"uart9\""),
+    ("app.main", "app.other"),
+    ("app.main", "appmain"),
+    ("\"rights\":\"W\"", "\"rights\":\"WR\""),
+    ("268435456", "268435464"),
+    ("268435456", "65536"),
+    ("268435456", "65552"),
+    ("268435456", "2147487728"),
+];
+
 #[test]
 fn what_is_refused(rt: HostRuntime) {
-    for (from, to) in [
-        ("{\"firmware\"", "{"),
-        ("\"firmware\":\"tiny\",", ""),
-        ("\"size\":4096", "\"size\":\"4096\""),
-        ("\"size\":4096", "\"size\":4096.0"),
-        ("\"ram\":{\"base\"", "\"quantum\":null,\"ram\":{\"base\""),
-        ("\"kind\":\"uart\"", "\"kind\":\"disk\""),
-        ("00000297", "0000029G"),
-        ("00000297", "0000297"),
-        ("\"size\":4096", "\"size\":4096,\"end\":1"),
-        ("\"at\":0", "\"at\":0,\"posture\":\"enabled\""),
-        ("{\"words\"", "{\"file\":\"a\",\"words\""),
-        ("\"tiny\"", "\"Tiny\""),
-        ("\"as\":\"uart\"", "\"as\":\"u-art\""),
-        ("\"as\":\"uart\"", "\"as\":\"\""),
-        ("\"as\":\"uart\"", "\"as\":\"switch\""),
-        ("\"name\":\"t\"", "\"name\":\"app\""),
-        (
-            "{\"name\":\"main\",\"at\":0}",
-            "{\"name\":\"main\",\"at\":0},{\"name\":\"main\",\"at\":4}",
-        ),
-        ("\"priority\":1", "\"priority\":16"),
-        ("\"frames\":2", "\"frames\":0"),
-        ("\"stack\":256", "\"stack\":248"),
-        ("\"size\":4096", "\"size\":4104"),
-        ("\"ram\":{\"base\"", "\"quantum\":0,\"ram\":{\"base\""),
-        ("\"device\":\"uart0\"", "\"device\":\"uart9\""),
-        ("app.main", "app.other"),
-        ("app.main", "appmain"),
-        ("\"rights\":\"W\"", "\"rights\":\"WR\""),
-        ("268435456", "268435464"),
-        ("268435456", "65536"),
-        ("268435456", "65552"),
-        ("268435456", "2147487728"),
-    ] {
-        assert!(rt;
-            is_lawful(rt.alloc(), from, to) == Some(false),
-            "{from} as {to}"
-        );
-    }
+    assert!(rt; all_are(rt.alloc(), &REFUSED, false));
     assert!(rt; matches!(read(rt.alloc(), b"{"), Err(DescFault::Bad)));
     assert!(rt; matches!(read(rt.alloc(), b"\xff"), Err(DescFault::Bad)));
     assert!(rt; matches!(read(rt.alloc(), b"[]"), Err(DescFault::Bad)));
 }
 
+/// Texts of the sample, each with what stands in its place.
+const MEETING: [(&str, &str); 10] = [
+    ("\"tablebase\":2147483696", "\"tablebase\":2147483664"),
+    ("\"tablebase\":2147483696", "\"tablebase\":2147483704"),
+    ("\"globalsbase\":2147483728", "\"globalsbase\":2147483712"),
+    ("\"stackbase\":2147483744", "\"stackbase\":2147483760"),
+    ("\"trustedbase\":2147484000", "\"trustedbase\":2147483984"),
+    ("\"codebase\":2147483648", "\"codebase\":2147483632"),
+    ("\"heapbase\":2147484304", "\"heapbase\":2147484288"),
+    ("\"heapbase\":2147484304", "\"heapbase\":2147487760"),
+    ("\"at\":0", "\"at\":2"),
+    ("\"at\":0", "\"at\":20"),
+];
+
 #[test]
 fn regions_that_meet(rt: HostRuntime) {
-    for (from, to) in [
-        ("\"tablebase\":2147483696", "\"tablebase\":2147483664"),
-        ("\"tablebase\":2147483696", "\"tablebase\":2147483704"),
-        ("\"globalsbase\":2147483728", "\"globalsbase\":2147483712"),
-        ("\"stackbase\":2147483744", "\"stackbase\":2147483760"),
-        ("\"trustedbase\":2147484000", "\"trustedbase\":2147483984"),
-        ("\"codebase\":2147483648", "\"codebase\":2147483632"),
-        ("\"heapbase\":2147484304", "\"heapbase\":2147484288"),
-        ("\"heapbase\":2147484304", "\"heapbase\":2147487760"),
-        ("\"at\":0", "\"at\":2"),
-        ("\"at\":0", "\"at\":20"),
-    ] {
-        assert!(rt;
-            is_lawful(rt.alloc(), from, to) == Some(false),
-            "{from} as {to}"
-        );
-    }
+    assert!(rt; all_are(rt.alloc(), &MEETING, false));
 }
+
+/// Texts of the sample, each with what stands in its place.
+const LAWFUL: [(&str, &str); 13] = [
+    ("tiny", "tiny"),
+    ("\"at\":0", "\"at\":16"),
+    ("\"heapbase\":2147484304", "\"heapbase\":2147487744"),
+    ("\"as\":\"uart\"", "\"as\":\"app\""),
+    ("main", "app"),
+    (
+        "\"globalsbase\":2147483728",
+        "\"globals\":16,\"globalsbase\":2147483728",
+    ),
+    ("268435456", "65520"),
+    ("268435456", "69632"),
+    ("268435456", "4294967280"),
+    ("268435456", "2147487744"),
+    ("\"rights\":\"W\"", "\"rights\":\"RW\""),
+    ("\"kind\":\"uart\"", "\"kind\":\"timer\""),
+    ("\"kind\":\"uart\"", "\"kind\":\"gpio\""),
+];
 
 #[test]
 fn what_is_lawful(rt: HostRuntime) {
-    for (from, to) in [
-        ("tiny", "tiny"),
-        ("\"at\":0", "\"at\":16"),
-        ("\"heapbase\":2147484304", "\"heapbase\":2147487744"),
-        ("\"as\":\"uart\"", "\"as\":\"app\""),
-        ("main", "app"),
-        (
-            "\"globalsbase\":2147483728",
-            "\"globals\":16,\"globalsbase\":2147483728",
-        ),
-        ("268435456", "65520"),
-        ("268435456", "69632"),
-        ("268435456", "4294967280"),
-        ("268435456", "2147487744"),
-        ("\"rights\":\"W\"", "\"rights\":\"RW\""),
-    ] {
-        assert!(rt;
-            is_lawful(rt.alloc(), from, to) == Some(true),
-            "{from} as {to}"
-        );
-    }
+    assert!(rt; all_are(rt.alloc(), &LAWFUL, true));
     let bare = r#"{"firmware":"a","ram":{"base":0,"size":256},"heapbase":256,"trustedbase":0}"#;
     assert!(rt; read(rt.alloc(), bare.as_bytes()).is_ok());
     let pair =

@@ -1,3 +1,5 @@
 pub mod Clears
 pub mod Executed
+pub mod Launches
 pub mod Sizes
+pub mod Starts

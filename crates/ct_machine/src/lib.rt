@@ -2,11 +2,14 @@
 #![tactic(auto)]
 
 mod active;
+mod copying;
 mod deciding;
+mod launching;
 mod machine;
 mod operands;
 mod presence;
 mod ran;
+mod starting;
 mod sweeping;
 mod tally;
 mod works;

@@ -5,3 +5,5 @@ pub mod Partitioned
 pub mod Made
 pub mod Changes
 pub mod Licensed
+pub mod Holding
+pub mod Telling

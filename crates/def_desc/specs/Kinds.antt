@@ -1,5 +1,5 @@
 -- Rules Kind and Member: which members a part has, and of which kind each is.
-use Rattle.std.specs.Prelude.{ℕ, List, [], ◌∷◌, Bool, true, false, not, ◌&&◌, Option, Some, None, codes}
+use Rattle.std.specs.Prelude.{ℕ, List, [], ◌∷◌, Bool, true, false, not, ◌&&◌, ◌||◌, Option, Some, None, codes}
 use Rattle.std.specs.List.{list_all}
 use Rattle.std.specs.Prelude.{bytes_eq}
 use Rattle.serde_json.specs.Data.{Data}
@@ -12,7 +12,7 @@ use Rattle.def_desc.specs.Walk.{value_at}
 
 -- a device's kind is one of those listed
 abbrev pub is_kind : List ℕ → Bool
-is_kind text = bytes_eq text (codes "uart")
+is_kind text = bytes_eq text (codes "uart") || bytes_eq text (codes "timer") || bytes_eq text (codes "gpio")
 
 -- code is an object with a list of words
 abbrev pub is_code : Data → Bool

@@ -39,7 +39,7 @@ fits_as i a b (f ∷ fs) e h =
     let P : Posture → Type 0 = λ p. p.off ≡ true → ((root i p.source).disabled ≡ true) × Reaches i.entries (root i p.source).owner f.actor in
     subst P (sym e) h
 
-jumps_confined : (i : Image) (s : State) (t to : ℕ) (pcc : Cap) (posture : Posture) (link : Cap) (w : Clockwork) → Jumps i s t pcc posture link → Confined i (changed s t (jumped (thread s t) pcc posture to link) s.running w)
+pub jumps_confined : (i : Image) (s : State) (t to : ℕ) (pcc : Cap) (posture : Posture) (link : Cap) (w : Clockwork) → Jumps i s t pcc posture link → Confined i (changed s t (jumped (thread s t) pcc posture to link) s.running w)
 jumps_confined i s t to pcc posture link w j = changed_confined i s t (jumped (thread s t) pcc posture to link) s.running w j.held (record {
   frames = refl;
   pcc = j.target;
@@ -133,7 +133,7 @@ forward_confined i s t from to p l w parts h tagged is runs opens other some lin
     })
 
 -- what is derived from an executable capability, unsealed and executable itself, is a program counter
-derived_runs : (i : Image) (objects : List Object) (t : ℕ) (fs : List Frame) (c p : Cap) → Partitioned i → (c.tag ≡ true → Bound i c) → Derived c p → InFrames i objects t fs c → (p.tag ≡ true → (cap_seal p ≡ 0) × (has p execute ≡ true)) → (c.tag ≡ true → heap_cap i c ≡ false) → p.tag ≡ true → IsPcc i p
+pub derived_runs : (i : Image) (objects : List Object) (t : ℕ) (fs : List Frame) (c p : Cap) → Partitioned i → (c.tag ≡ true → Bound i c) → Derived c p → InFrames i objects t fs c → (p.tag ≡ true → (cap_seal p ≡ 0) × (has p execute ≡ true)) → (c.tag ≡ true → heap_cap i c ≡ false) → p.tag ≡ true → IsPcc i p
 derived_runs i objects t fs c p parts bound x h says none tagged =
     let placed : InFrames i objects t fs p = derived_in i objects t fs c p bound x h in
     let here : Rooted i p = in_rooted i objects t fs p (derived_in i objects t fs c p bound x h) tagged in

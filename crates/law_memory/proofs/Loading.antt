@@ -13,8 +13,8 @@ use Rattle.def_machine.specs.State.{State, Frame, Object, thread, register, gran
 use Rattle.def_machine.specs.Objects.{Any}
 use Rattle.def_machine.specs.Memory.{filtered}
 use Rattle.def_machine.specs.Registers.{put_register}
-use Rattle.def_confined.specs.Capabilities.{heap_cap}
-use Rattle.def_confined.specs.Places.{Placed, InFrames, InRegion, OwnStack, NoStack, HeapDomain, LiveCovers, outer}
+use Rattle.def_confined.specs.Capabilities.{heap_cap, Kept}
+use Rattle.def_confined.specs.Places.{Placed, InFrames, InRegion, OwnStack, NoStack, HeapDomain, HasLive, LiveCovers, outer}
 use Rattle.def_confined.specs.Confined.{Confined}
 use Rattle.def_confined.specs.Partitioned.{Partitioned, Loads}
 use Rattle.def_confined.specs.Made.{Derived}
@@ -106,10 +106,16 @@ load_in i s t f gs by x w = elim (bool_tells (heap_cap i by)) [
       (w.held.granules (granule_of i x))
 ]
 
-pub load_confined : (i : Image) (s : State) (t n at x : ℕ) (d : Cap) → Partitioned i → Confined i s → s.running ≡ Some t → i.ram ≤ x → (register (thread s t) at).tag ≡ true → has (register (thread s t) at) load_data ≡ true
+-- what a register of the running thread gets by such a load may stand there
+pub record Loaded (i : Image) (s : State) (t : ℕ) (c : Cap) : Type 0 where
+  pub there : InFrames i s.objects t (thread s t).frames c
+  pub kept : Kept i c
+  pub live : HasLive i s.objects c
+
+pub load_stands : (i : Image) (s : State) (t at x : ℕ) (d : Cap) → Partitioned i → Confined i s → s.running ≡ Some t → i.ram ≤ x → (register (thread s t) at).tag ≡ true → has (register (thread s t) at) load_data ≡ true
     → cap_base (register (thread s t) at) ≤ x → x < cap_top (register (thread s t) at) → x % 8 ≡ 0 → Derived (granule s (granule_of i x)).cap d → (d.tag ≡ true → has (register (thread s t) at) memory_capability ≡ true)
-    → Confined i (put_register s t n (filtered i s d))
-load_confined i s t n at x d p h runs inside tagged loads low high aligned derived carries = elim (bool_tells d.tag) [
+    → Loaded i s t (filtered i s d)
+load_stands i s t at x d p h runs inside tagged loads low high aligned derived carries = elim (bool_tells d.tag) [
   | inl there ↦
       let head = headed i s.objects t (thread s t).frames (register (thread s t) at) (h.registers t at) tagged in
       let frames : (thread s t).frames ≡ head.0 ∷ head.1.0 = head.1.1 in
@@ -131,14 +137,23 @@ load_confined i s t n at x d p h runs inside tagged loads low high aligned deriv
       let mine : InFrames i s.objects t (thread s t).frames (granule s (granule_of i x)).cap = subst (λ (fs : List Frame). InFrames i s.objects t fs (granule s (granule_of i x)).cap) (sym frames) found in
       let bound = λ (is : (granule s (granule_of i x)).cap.tag ≡ true). kept_bound i (granule s (granule_of i x)).cap is (h.kept.granules (granule_of i x)) in
       let placed : InFrames i s.objects t (thread s t).frames d = derived_in i s.objects t (thread s t).frames (granule s (granule_of i x)).cap d bound derived mine in
-      put_register_confined i s t n (filtered i s d) h
-      (filter_in i s s.objects t (thread s t).frames d placed)
-      (filter_kept i s d (derived_kept i (granule s (granule_of i x)).cap d bound derived (h.kept.granules (granule_of i x))))
-      (λ is. filter_live i s d p h (in_object i s.objects t (thread s t).frames d placed))
+      record {
+        there = filter_in i s s.objects t (thread s t).frames d placed;
+        kept = filter_kept i s d (derived_kept i (granule s (granule_of i x)).cap d bound derived (h.kept.granules (granule_of i x)));
+        live = filter_live i s d p h (in_object i s.objects t (thread s t).frames d placed);
+      }
   | inr none ↦
       let placed : InFrames i s.objects t (thread s t).frames d = plain_in i s.objects t (thread s t).frames d none in
-      put_register_confined i s t n (filtered i s d) h
-      (filter_in i s s.objects t (thread s t).frames d placed)
-      (filter_kept i s d (λ is. absurd (let clash : true ≡ false = sym is ∙ none in cc)))
-      (λ is. filter_live i s d p h (in_object i s.objects t (thread s t).frames d placed))
+      record {
+        there = filter_in i s s.objects t (thread s t).frames d placed;
+        kept = filter_kept i s d (λ is. absurd (let clash : true ≡ false = sym is ∙ none in cc));
+        live = filter_live i s d p h (in_object i s.objects t (thread s t).frames d placed);
+      }
 ]
+
+pub load_confined : (i : Image) (s : State) (t n at x : ℕ) (d : Cap) → Partitioned i → Confined i s → s.running ≡ Some t → i.ram ≤ x → (register (thread s t) at).tag ≡ true → has (register (thread s t) at) load_data ≡ true
+    → cap_base (register (thread s t) at) ≤ x → x < cap_top (register (thread s t) at) → x % 8 ≡ 0 → Derived (granule s (granule_of i x)).cap d → (d.tag ≡ true → has (register (thread s t) at) memory_capability ≡ true)
+    → Confined i (put_register s t n (filtered i s d))
+load_confined i s t n at x d p h runs inside tagged loads low high aligned derived carries =
+    let l = load_stands i s t at x d p h runs inside tagged loads low high aligned derived carries in
+    put_register_confined i s t n (filtered i s d) h l.there l.kept (λ is. l.live)

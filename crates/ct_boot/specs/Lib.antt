@@ -1,0 +1,3 @@
+pub mod Bootable
+pub mod Searches
+pub mod Starting

@@ -1,0 +1,12 @@
+pub mod Standing
+pub mod Numbers
+pub mod Gates
+pub mod Listing
+pub mod Classes
+pub mod Fitting
+pub mod Makes
+pub mod ByCase
+pub mod Clauses
+pub mod Booted
+pub mod Own
+pub mod Wiring

@@ -1,0 +1,178 @@
+-- Ticks, inputs and steps, whole.
+use Rattle.std.proofs.Common.{ℕ, ◌≡◌, ◌+◌, ◌&&◌, true, false, not, List, [], ◌∷◌, Option, Some, None, refl, sym, ◌∙◌, slice_set}
+use Rattle.law_lists.proofs.Sets.{after_set}
+use Rattle.law_lists.proofs.Tests.{chosen}
+use Rattle.ct_entry.specs.declared.acts.Deed.{Deed}
+use Rattle.ct_entry.specs.declared.acts.Owned.{Owned}
+use Rattle.def_machine.specs.Image.{Image}
+use Rattle.def_machine.specs.State.{State, Frame, thread, nobody}
+use Rattle.def_machine.specs.Threads.{Clockwork, picked}
+use Rattle.def_step.specs.declared.Event.{Event}
+use Rattle.def_step.specs.declared.Event.TheVariants.{Step, Tick, Input}
+use Rattle.def_step.specs.Instructions.{Board, executed, actor_of}
+use Rattle.def_step.specs.Devices.{device, after_input}
+use Rattle.def_step.specs.Events.{noted, with_deed, preempted_from, preempted, is_ready, picked_from, scheduled, continued, one_more_step, stepped, interrupted, ticked, received, holder_by, holder, is_holder, begun_since, begun, happens}
+use Rattle.def_board.specs.Wired.{Wired}
+use Rattle.def_confined.specs.Confined.{Confined}
+use Rattle.def_confined.specs.Partitioned.{Partitioned}
+use Rattle.def_confined.specs.Licensed.{Licensed, OffLicensed}
+use Rattle.law_places.proofs.Turns.{clock_of}
+use Rattle.law_turns.proofs.Moves.{pick_confined, clock_confined}
+use Rattle.law_licensed.proofs.Deeds.{off_licensed}
+use Rattle.def_confined.specs.Holding.{EndedOn}
+use Rattle.law_events.proofs.Fairness.{Fair, IsOn, some_same, none_licensed}
+use Rattle.law_events.proofs.Steps.{executed_fair}
+
+-- ---- who runs, and the clockwork
+
+-- none runs that didn't
+stops_confined : (i : Image) (s : State) (run : Option ℕ) (w : Clockwork) → ((u : ℕ) → run ≡ Some u → s.running ≡ Some u) → Confined i s
+    → Confined i (record s { running = run; pending = w.pending; devices = w.devices; time = w.time; picks = w.picks; counts = w.counts })
+stops_confined i s run w stays h = record {
+  granules = h.granules;
+  pcc = h.pcc;
+  registers = h.registers;
+  frames = h.frames;
+  postures = h.postures;
+  runs = h.runs;
+  kept = record { granules = h.kept.granules; registers = h.kept.registers; frames = h.kept.frames };
+  live = λ t is n. h.live t (stays t is) n;
+  apart = h.apart;
+  numbered = h.numbered;
+  fits = h.fits;
+  marks = h.marks;
+  limits = h.limits;
+  size = h.size;
+}
+
+none_runs : (s : State) (u : ℕ) → None ≡ Some u → s.running ≡ Some u
+none_runs s u e = absurd (let clash : None ≡ Some u = e in cc)
+
+-- what an event leaves of a state
+pub record Kept (b : Board) (s new : State) : Type 0 where
+  pub confined : Confined b.image new
+  pub ended : EndedOn s → EndedOn new
+
+clock_kept : (b : Board) (s : State) (w : Clockwork) → Confined b.image s → Kept b s (record s { pending = w.pending; devices = w.devices; time = w.time; picks = w.picks; counts = w.counts })
+clock_kept b s w h = record { confined = clock_confined b.image s w h; ended = λ e. e }
+
+stops_kept : (b : Board) (s : State) (w : Clockwork) → Confined b.image s → Kept b s (record s { running = None; pending = w.pending; devices = w.devices; time = w.time; picks = w.picks; counts = w.counts })
+stops_kept b s w h = record { confined = stops_confined b.image s None w (none_runs s) h; ended = λ e. e }
+
+same_kept : (b : Board) (s : State) → Confined b.image s → Kept b s s
+same_kept b s h = record { confined = h; ended = λ e. e }
+
+then_kept : (b : Board) (s mid new : State) → Kept b s mid → Kept b mid new → Kept b s new
+then_kept b s mid new first second = record { confined = second.confined; ended = λ e. second.ended (first.ended e) }
+
+-- ---- before a step
+
+preempted_kept : (b : Board) (s : State) (o : Option ℕ) → Confined b.image s → Kept b s (preempted_from s o)
+preempted_kept b s None h = same_kept b s h
+preempted_kept b s (Some t) h = chosen (Kept b s) (s.pending && not (thread s t).posture.off) (record s { running = None; pending = false }) s
+    (λ is. stops_kept b s (record (clock_of s) { pending = false }) h)
+    (λ none. same_kept b s h)
+
+picked_kept : (b : Board) (s : State) (o : Option ℕ) → Partitioned b.image → Confined b.image s → Kept b s (picked_from b s o)
+picked_kept b s (Some t) parts h = same_kept b s h
+picked_kept b s None parts h = chosen (Kept b s) (is_ready (thread s 0).status)
+    (record s { running = Some 0; threads = slice_set s.threads 0 (picked b.image s (thread s 0)); picks = slice_set s.picks 0 s.counts.steps })
+    s
+    (λ is. record {
+      confined = pick_confined b.image s 0 (record (clock_of s) { picks = slice_set s.picks 0 s.counts.steps }) parts h;
+      ended = λ e u. after_set IsOn s.threads 0 u (picked b.image s (thread s 0)) nobody (e 0) (e u);
+    })
+    (λ none. same_kept b s h)
+
+-- ---- a step
+
+noted_fair : (b : Board) (s : State) (r : State × Option Deed) → Fair b s r → Fair b s (noted r)
+noted_fair b s r f = record {
+  confined = clock_confined b.image r.0 (record (clock_of r.0) { counts = with_deed r.0.counts r.1 }) f.confined;
+  licensed = f.licensed;
+  ended = f.ended;
+}
+
+continued_fair : (b : Board) (s : State) (o : Option ℕ) → s.running ≡ o → Partitioned b.image → Wired b → Confined b.image s → Fair b s (continued b s o)
+continued_fair b s None runs parts wired h = record { confined = h; licensed = none_licensed b; ended = λ e. e }
+continued_fair b s (Some t) runs parts wired h = noted_fair b s (executed b s t) (executed_fair b s t parts wired h runs)
+
+stepped_fair : (b : Board) (s : State) → Partitioned b.image → Wired b → Confined b.image s → Fair b s (stepped b s)
+stepped_fair b s parts wired h =
+    let counted = clock_kept b s (record (clock_of s) { counts = record s.counts { steps = s.counts.steps + 1 } }) h in
+    let before = preempted_kept b (one_more_step s) (one_more_step s).running counted.confined in
+    let chosen_one = picked_kept b (preempted (one_more_step s)) (preempted (one_more_step s)).running parts before.confined in
+    let here = scheduled b (preempted (one_more_step s)) in
+    let runs = continued_fair b (scheduled b (preempted (one_more_step s))) (scheduled b (preempted (one_more_step s))).running refl parts wired chosen_one.confined in
+    record { confined = runs.confined; licensed = runs.licensed; ended = λ e. runs.ended (chosen_one.ended (before.ended (counted.ended e))) }
+
+-- ---- a tick
+
+ticked_kept : (b : Board) (s : State) (o : Option ℕ) → Confined b.image s → Kept b s (interrupted s o)
+ticked_kept b s None h = same_kept b s h
+ticked_kept b s (Some t) h = chosen (Kept b s) (thread s t).posture.off (record s { pending = true }) (record s { running = None })
+    (λ is. clock_kept b s (record (clock_of s) { pending = true }) h)
+    (λ none. stops_kept b s (clock_of s) h)
+
+-- ---- spans with interrupts off
+
+owned : State → ℕ → ℕ → Owned
+owned s t source = record { thread = t; actor = actor_of (thread s t).frames; export = source }
+
+off_by_frames : (b : Board) (s : State) (t : ℕ) (fs : List Frame) → (thread s t).frames ≡ fs → Wired b → Confined b.image s → EndedOn s → (thread s t).posture.off ≡ true
+    → OffLicensed b.image.entries (record { thread = t; actor = actor_of fs; export = (thread s t).posture.source })
+off_by_frames b s t [] e wired h on off = absurd (let clash : true ≡ false = sym off ∙ on t e in cc)
+off_by_frames b s t (f ∷ fs) e wired h on off = off_licensed b.image s t f fs wired.gates h e off
+
+abbrev pub HolderFits : Board → State → Option (ℕ × ℕ) → Type 0
+HolderFits b s None = Unit {0}
+HolderFits b s (Some h) = OffLicensed b.image.entries (record { thread = h.0; actor = actor_of (thread s h.0).frames; export = h.1 })
+
+holder_fits : (b : Board) (s : State) (o : Option ℕ) → Wired b → Confined b.image s → EndedOn s → HolderFits b s (holder_by s o)
+holder_fits b s None wired h on = tt
+holder_fits b s (Some t) wired h on = chosen (HolderFits b s) (thread s t).posture.off (Some (t, (thread s t).posture.source)) None
+    (λ off. off_by_frames b s t (thread s t).frames refl wired h on off)
+    (λ none. tt)
+
+begun_fits : (b : Board) (s : State) (before now : Option (ℕ × ℕ)) → HolderFits b s now → (o : Owned) → begun_since before s now ≡ Some o → OffLicensed b.image.entries o
+begun_fits b s before None fits o e = absurd (let clash : None ≡ Some o = e in cc)
+begun_fits b s before (Some h) fits o e = chosen (λ (z : Option Owned). z ≡ Some o → OffLicensed b.image.entries o) (is_holder before h.0 h.1)
+    None
+    (Some (record { thread = h.0; actor = actor_of (thread s h.0).frames; export = h.1 }))
+    (λ is same. absurd (let clash : None ≡ Some o = same in cc))
+    (λ none same. some_same (OffLicensed b.image.entries) (record { thread = h.0; actor = actor_of (thread s h.0).frames; export = h.1 }) o same fits)
+    e
+
+pub spans_fit : (b : Board) (before after : State) (o : Owned) → Wired b → Confined b.image after → EndedOn after → begun before after ≡ Some o → OffLicensed b.image.entries o
+spans_fit b before after o wired h on = begun_fits b after (holder before) (holder after) (holder_fits b after after.running wired h on) o
+
+-- ---- an event
+
+event_fair : (b : Board) (s : State) (e : Event) → Partitioned b.image → Wired b → Confined b.image s → Fair b s ((happens b s e).0, (happens b s e).1.deed)
+event_fair b s Step parts wired h = stepped_fair b s parts wired h
+event_fair b s Tick parts wired h =
+    let counted = clock_kept b s (record (clock_of s) { time = s.time + 1; counts = record s.counts { ticks = s.counts.ticks + 1 } }) h in
+    let after = ticked_kept b (record s { time = s.time + 1; counts = record s.counts { ticks = s.counts.ticks + 1 } }) s.running counted.confined in
+    record { confined = after.confined; licensed = none_licensed b; ended = λ on. after.ended (counted.ended on) }
+event_fair b s (Input n byte) parts wired h =
+    let after = clock_kept b s (record (clock_of s) { devices = slice_set s.devices n (after_input (device s.devices n) byte); counts = record s.counts { inputs = s.counts.inputs + 1 } }) h in
+    record { confined = after.confined; licensed = none_licensed b; ended = after.ended }
+
+event_span : (b : Board) (s : State) (e : Event) (o : Owned) → Wired b → Confined b.image (happens b s e).0 → EndedOn (happens b s e).0 → (happens b s e).1.off ≡ Some o → OffLicensed b.image.entries o
+event_span b s Step o wired h on is = spans_fit b s (stepped b s).0 o wired h on is
+event_span b s Tick o wired h on is = spans_fit b s (ticked s) o wired h on is
+event_span b s (Input n byte) o wired h on is = spans_fit b s (received s n byte) o wired h on is
+
+-- ---- the laws
+
+pub event_confined : (b : Board) (s : State) (e : Event) → Partitioned b.image → Wired b → Confined b.image s → Confined b.image (happens b s e).0
+event_confined b s e parts wired h = (event_fair b s e parts wired h).confined
+
+pub event_ended : (b : Board) (s : State) (e : Event) → Partitioned b.image → Wired b → Confined b.image s → EndedOn s → EndedOn (happens b s e).0
+event_ended b s e parts wired h = (event_fair b s e parts wired h).ended
+
+pub deed_licensed : (b : Board) (s : State) (e : Event) (d : Deed) → Partitioned b.image → Wired b → Confined b.image s → (happens b s e).1.deed ≡ Some d → Licensed b.image.entries d
+deed_licensed b s e d parts wired h is = (event_fair b s e parts wired h).licensed d is
+
+pub span_licensed : (b : Board) (s : State) (e : Event) (o : Owned) → Partitioned b.image → Wired b → Confined b.image s → EndedOn s → (happens b s e).1.off ≡ Some o → OffLicensed b.image.entries o
+span_licensed b s e o parts wired h on is = event_span b s e o wired (event_confined b s e parts wired h) (event_ended b s e parts wired h on) is

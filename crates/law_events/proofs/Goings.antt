@@ -1,0 +1,64 @@
+-- What the running thread may do where its fetch passed, away from native entries.
+use Rattle.std.proofs.Common.{ℕ, ◌≡◌, true, false, Result, Ok, Err, refl}
+use Rattle.std.specs.Prelude.{unwrap_or}
+use Rattle.def_words.specs.declared.Cap.{Cap}
+use Rattle.def_words.specs.declared.Trap.{Trap}
+use Rattle.def_words.specs.Permissions.{has, execute}
+use Rattle.def_words.specs.Seals.{cap_seal}
+use Rattle.def_words.specs.Capability.{raised}
+use Rattle.def_words.specs.Jumped.{linked}
+use Rattle.def_memory.specs.Granules.{plain}
+use Rattle.def_reach.specs.Roots.{is_native}
+use Rattle.def_machine.specs.Image.{Image, root}
+use Rattle.def_machine.specs.State.{State, thread}
+use Rattle.def_step.specs.Jumps.{Flowed}
+use Rattle.def_confined.specs.Confined.{Confined}
+use Rattle.def_confined.specs.Partitioned.{Partitioned}
+use Rattle.def_confined.specs.Made.{Derived}
+use Rattle.law_registers.proofs.Moves.{not_native_bound}
+use Rattle.law_registers.proofs.Derives.{derived_in}
+use Rattle.law_jumps.proofs.Moves.{Jumps, fits_as, derived_runs, runs_no_heap, in_rooted}
+use Rattle.law_jumps.proofs.Linking.{link_in, link_kept, link_live}
+use Rattle.law_made.proofs.Results.{raised_derived, raised_runs, linked_links}
+use Rattle.law_events.proofs.Values.{Puts}
+use Rattle.law_events.proofs.Checking.{Fetched, MayTell}
+
+-- what a jump leaves may stand, and a trap may be told
+abbrev pub FlowFits : Image → State → ℕ → Result Flowed Trap → Type 0
+FlowFits i s t (Err w) = MayTell w
+FlowFits i s t (Ok f) = Jumps i s t f.pcc f.posture (unwrap_or f.link (plain 0))
+
+-- what the running thread has when its fetch passed, away from native entries
+pub record Fetching (i : Image) (s : State) (t : ℕ) : Type 0 where
+  pub parts : Partitioned i
+  pub held : Confined i s
+  pub fetched : Fetched (thread s t).pcc
+  pub other : is_native (root i (thread s t).pcc.shadow.root).origin ≡ false
+
+-- a new program counter derived from the old one, with what a register gets
+pub goes_to : (i : Image) (s : State) (t : ℕ) (p l : Cap) → Fetching i s t → Puts i s t l → Derived (thread s t).pcc p → (p.tag ≡ true → (cap_seal p ≡ 0) × (has p execute ≡ true)) → Jumps i s t p (thread s t).posture l
+goes_to i s t p l x puts derived says =
+    let bound = λ (is : (thread s t).pcc.tag ≡ true). not_native_bound i (thread s t).pcc x.other in
+    let here = in_rooted i s.objects t (thread s t).frames (thread s t).pcc (x.held.pcc t) x.fetched.tagged in
+    record {
+      held = x.held;
+      target = derived_in i s.objects t (thread s t).frames (thread s t).pcc p bound derived (x.held.pcc t);
+      runs = derived_runs i s.objects t (thread s t).frames (thread s t).pcc p x.parts bound derived (x.held.pcc t) says (λ is. runs_no_heap i (thread s t).pcc here x.fetched.executes);
+      fits = fits_as i (thread s t) (record (thread s t) { posture = (thread s t).posture }) (thread s t).frames refl (x.held.postures t);
+      link_there = puts.there;
+      link_kept = puts.kept;
+      link_live = puts.live;
+    }
+
+-- the program counter goes on after the instruction
+pub goes_on : (i : Image) (s : State) (t : ℕ) (l : Cap) → Fetching i s t → Puts i s t l → Jumps i s t (raised (thread s t).pcc 4) (thread s t).posture l
+goes_on i s t l x puts = goes_to i s t (raised (thread s t).pcc 4) l x puts (raised_derived (thread s t).pcc 4) (raised_runs (thread s t).pcc 4 x.fetched.executes)
+
+pub link_puts : (i : Image) (s : State) (t : ℕ) → Fetching i s t → Puts i s t (linked (thread s t).pcc (thread s t).posture)
+link_puts i s t x =
+    let links = linked_links (thread s t).pcc (thread s t).posture x.fetched.executes in
+    record {
+      there = link_in i s.objects t (thread s t) (thread s t).frames (linked (thread s t).pcc (thread s t).posture) links (x.held.runs t) x.other x.fetched.some (x.held.postures t) (x.held.pcc t);
+      kept = link_kept i (thread s t) (linked (thread s t).pcc (thread s t).posture) links x.other;
+      live = link_live i s.objects (thread s t) (linked (thread s t).pcc (thread s t).posture) links (x.held.runs t);
+    }

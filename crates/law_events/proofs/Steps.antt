@@ -1,0 +1,146 @@
+-- One instruction of the running thread, by what kind of work it is, and the fetch before it.
+use Rattle.std.proofs.Common.{ℕ, ◌≡◌, ◌<◌, ◌==◌, Bool, true, false, inl, inr, Option, Some, None, Result, Ok, Err, refl, sym, ap, ◌∙◌, subst, if◌then◌else◌, option_map}
+use Rattle.std.specs.Prelude.{unwrap_or}
+use Rattle.law_lists.proofs.Tests.{bool_tells}
+use Rattle.def_words.specs.declared.Cap.{Cap}
+use Rattle.def_words.specs.declared.Trap.{Trap}
+use Rattle.def_words.specs.Authority.{cap_address}
+use Rattle.def_words.specs.Capability.{integer, raised}
+use Rattle.def_memory.specs.Granules.{plain}
+use Rattle.ct_entry.specs.declared.acts.Act.{Act}
+use Rattle.ct_entry.specs.declared.acts.Deed.{Deed}
+use Rattle.def_instr.specs.declared.Instr.{Instr}
+use Rattle.def_instr.specs.Reading.{instruction_in}
+use Rattle.def_instr.specs.Results.{integer_result}
+use Rattle.def_capstep.specs.Results.{capability_result}
+use Rattle.def_reach.specs.Roots.{is_native}
+use Rattle.def_machine.specs.Image.{root, made_cap}
+use Rattle.def_machine.specs.State.{State, thread}
+use Rattle.def_step.specs.declared.Class.{Class}
+use Rattle.def_step.specs.declared.Class.TheVariants as class
+use Rattle.def_step.specs.declared.Next.{Next}
+use Rattle.def_step.specs.declared.Next.TheVariants.{Returning, Instruction, Nothing}
+use Rattle.def_step.specs.Checks.{no_system_registers, illegal_instruction, breakpoint, environment_call}
+use Rattle.def_step.specs.Accesses.{Space, Accessed, access_of, access_checks, access_address, access_result, accessed, unless}
+use Rattle.def_step.specs.Jumps.{Flowed, flow_result}
+use Rattle.def_step.specs.Operands.{operands_of, class_of}
+use Rattle.def_step.specs.Instructions.{Board, Done, Around, carried_out, flows, accesses, around, space_of, deed, put_done, ends, operand, goes_on, after_fetch, executed, fetch_checks, fetched, next_at, next_word, return_entry, is_native_entry}
+use Rattle.def_board.specs.Wired.{Wired}
+use Rattle.def_confined.specs.Confined.{Confined}
+use Rattle.def_confined.specs.Partitioned.{Partitioned}
+use Rattle.def_confined.specs.Licensed.{Licensed}
+use Rattle.law_jumps.proofs.Moves.{in_rooted}
+use Rattle.law_events.proofs.Accesses.{access_laws}
+use Rattle.law_events.proofs.Values.{Puts, untagged_puts, result_puts}
+use Rattle.law_events.proofs.Checking.{MayTell, Fetched, by_checks, access_tells, counter_tells, plain_tells, fetch_tells, fetch_passes}
+use Rattle.law_events.proofs.Smalls.{IsSmall, read_small}
+use Rattle.law_events.proofs.Goings.{FlowFits, Fetching}
+use Rattle.law_events.proofs.Goings as going
+use Rattle.law_events.proofs.Flows.{flow_fits}
+use Rattle.law_events.proofs.Fairness.{Fair, some_same, none_licensed, trapped_fair, returned_fair, has_frames, put_ended, moved_on, jumps_fair}
+
+-- ---- by the kind of work
+
+gives_fair : (b : Board) (s : State) (t to : ℕ) (value : Cap) → Fetching b.image s t → Puts b.image s t value → Fair b s (put_done s t (moved_on b s to value (raised (thread s t).pcc 4) (thread s t).posture), None)
+gives_fair b s t to value f puts = jumps_fair b s t to value (raised (thread s t).pcc 4) (thread s t).posture f.fetched.tagged (going.goes_on b.image s t value f puts)
+
+flow_fair : (b : Board) (s : State) (t to : ℕ) (x : Cap) (r : Result Flowed Trap) → Fetching b.image s t → FlowFits b.image s t r → Fair b s (ends b s t x (flows (around b s t) to r))
+flow_fair b s t to x (Err w) f fits = trapped_fair b s t w f.parts f.held fits
+flow_fair b s t to x (Ok j) f fits = jumps_fair b s t to (unwrap_or j.link (plain 0)) j.pcc j.posture f.fetched.tagged fits
+
+-- ---- accesses
+
+abbrev pub ErrTells : {A : Type 0} → Result A Trap → Type 0
+ErrTells (Err w) = MayTell w
+ErrTells (Ok d) = Unit {0}
+
+result_tells : (k : Instr) (x y : Cap) (p : Space) → (access_of k).by < 16 → ErrTells (access_result k x y p)
+unfolding access_result
+result_tells k x y p small = by_checks (λ o. ErrTells (unless o (accessed (access_of k) x y (access_address (access_of k) x) p)))
+    (access_checks (access_of k) x y (access_address (access_of k) x))
+    (access_tells (access_of k) x y (access_address (access_of k) x) small)
+    (λ w tells. tells)
+    (λ passes. tt)
+
+accesses_tell : (a : Around) (to : ℕ) (r : Result Accessed Trap) → ErrTells r → ErrTells (accesses a to r)
+accesses_tell a to (Err w) h = h
+accesses_tell a to (Ok m) h = tt
+
+act_licensed : (b : Board) (s : State) (t entry : ℕ) (o : Option Act) → ((a : Act) → o ≡ Some a → Licensed b.image.entries (deed s t entry a)) → (d : Deed) → option_map (deed s t entry) o ≡ Some d → Licensed b.image.entries d
+act_licensed b s t entry None h d e = none_licensed b d e
+act_licensed b s t entry (Some a) h d e = some_same (Licensed b.image.entries) (deed s t entry a) d e (h a refl)
+
+access_fair : (b : Board) (s : State) (t : ℕ) (k : Instr) (r : Result Done Trap) → Fetching b.image s t → Wired b → s.running ≡ Some t
+    → carried_out class.Access k (operands_of k).to (operand s t (operands_of k).first) (operand s t (operands_of k).second) (around b s t) ≡ r → ErrTells r → Fair b s (ends b s t (operand s t (operands_of k).first) r)
+access_fair b s t k (Err w) f wired runs e tells = trapped_fair b s t w f.parts f.held tells
+access_fair b s t k (Ok d) f wired runs e tells =
+    let laws = access_laws b s t k wired f runs in
+    record {
+      confined = laws.confined d e;
+      licensed = act_licensed b s t (operand s t (operands_of k).first).shadow.root d.act (λ a acts. laws.licensed d a e acts);
+      ended = put_ended s t d (has_frames b.image s.objects t (thread s t).frames (thread s t).pcc (f.held.pcc t) f.fetched.tagged);
+    }
+
+-- ---- an instruction
+
+class_fair : (b : Board) (s : State) (t : ℕ) (k : Instr) (c : Class) → class_of k ≡ c → Wired b → s.running ≡ Some t → Fetching b.image s t → (access_of k).by < 16
+    → Fair b s (ends b s t (operand s t (operands_of k).first) (carried_out c k (operands_of k).to (operand s t (operands_of k).first) (operand s t (operands_of k).second) (around b s t)))
+class_fair b s t k class.Integer e wired runs f small =
+    gives_fair b s t (operands_of k).to (integer (integer_result k (cap_address (operand s t (operands_of k).first)) (cap_address (operand s t (operands_of k).second)))) f (untagged_puts b.image s t _ refl)
+class_fair b s t k class.Capability e wired runs f small =
+    gives_fair b s t (operands_of k).to (capability_result k (operand s t (operands_of k).first) (operand s t (operands_of k).second) (thread s t).pcc) f
+    (result_puts b.image s t (operands_of k).first (operands_of k).second k f.parts f.held runs f.other)
+class_fair b s t k class.System e wired runs f small = trapped_fair b s t _ f.parts f.held (counter_tells no_system_registers (inr (inr (inr (inr refl)))))
+class_fair b s t k class.Jump e wired runs f small =
+    flow_fair b s t (operands_of k).to (operand s t (operands_of k).first) (flow_result k (operand s t (operands_of k).first) (operand s t (operands_of k).second) (thread s t).pcc (thread s t).posture 0) f
+    (flow_fits b s t (operands_of k).first (operands_of k).second k wired f e refl)
+class_fair b s t k class.Access e wired runs f small =
+    access_fair b s t k _ f wired runs refl
+    (accesses_tell (around b s t) (operands_of k).to (access_result k (operand s t (operands_of k).first) (operand s t (operands_of k).second) (space_of b s))
+    (result_tells k (operand s t (operands_of k).first) (operand s t (operands_of k).second) (space_of b s) small))
+class_fair b s t k class.Fence e wired runs f small = gives_fair b s t 0 (plain 0) f (untagged_puts b.image s t (plain 0) refl)
+class_fair b s t k class.Call e wired runs f small = trapped_fair b s t _ f.parts f.held (plain_tells environment_call (inr (inr (inr (inr (inr refl))))))
+class_fair b s t k class.Break e wired runs f small = trapped_fair b s t _ f.parts f.held (plain_tells breakpoint (inr (inr (inl refl))))
+class_fair b s t k class.Absent e wired runs f small = trapped_fair b s t _ f.parts f.held (plain_tells illegal_instruction (inr (inl refl)))
+
+-- ---- what stands at the program counter
+
+pub record StandsAt (p : Space) (at : ℕ) (k : Instr) : Type 0 where
+  pub away : is_native_entry at ≡ false
+  pub read : instruction_in (fetched p at) ≡ Some k
+
+choice : (back native : Bool) (o : Option Instr) (k : Instr) → (if back then Returning else if native then Nothing else next_word o) ≡ Instruction k → (native ≡ false) × (o ≡ Some k)
+choice true native o k h = absurd (let clash : Returning ≡ Instruction k = h in cc)
+choice false true o k h = absurd (let clash : Nothing ≡ Instruction k = h in cc)
+choice false false None k h = absurd (let clash : Nothing ≡ Instruction k = h in cc)
+choice false false (Some j) k h = (refl, (let both : Instruction j ≡ Instruction k = h in let same : j ≡ k = cc in ap (λ (z : Instr). Some z) same))
+
+stands_at : (p : Space) (at : ℕ) (k : Instr) → next_at p at ≡ Instruction k → StandsAt p at k
+stands_at p at k h = let parts = choice (at == return_entry) (is_native_entry at) (instruction_in (fetched p at)) k h in record { away = parts.0; read = parts.1 }
+
+-- no instruction is fetched through a capability of a native routine
+not_native : (b : Board) (s : State) (t : ℕ) → Wired b → Confined b.image s → (thread s t).pcc.tag ≡ true → is_native_entry (cap_address (thread s t).pcc) ≡ false → is_native (root b.image (thread s t).pcc.shadow.root).origin ≡ false
+not_native b s t wired h tagged away = elim (bool_tells (is_native (root b.image (thread s t).pcc.shadow.root).origin)) [
+  | inl native ↦
+      let at : cap_address (thread s t).pcc ≡ cap_address (made_cap b.image (thread s t).pcc.shadow.root) = (in_rooted b.image s.objects t (thread s t).frames (thread s t).pcc (h.pcc t) tagged).native native in
+      let entry : is_native_entry (cap_address (thread s t).pcc) ≡ true = ap is_native_entry at ∙ wired.natives (thread s t).pcc.shadow.root native in
+      absurd (let clash : true ≡ false = sym entry ∙ away in cc)
+  | inr other ↦ other
+]
+
+next_fair : (b : Board) (s : State) (t : ℕ) (n : Next) → next_at (space_of b s) (cap_address (thread s t).pcc) ≡ n → Partitioned b.image → Wired b → Confined b.image s → s.running ≡ Some t → Fetched (thread s t).pcc → Fair b s (goes_on b s t n)
+next_fair b s t Returning e parts wired h runs f = returned_fair b s t parts h
+next_fair b s t Nothing e parts wired h runs f = trapped_fair b s t _ parts h (plain_tells illegal_instruction (inr (inl refl)))
+next_fair b s t (Instruction k) e parts wired h runs f =
+    let stands = stands_at (space_of b s) (cap_address (thread s t).pcc) k e in
+    let other = not_native b s t wired h f.tagged stands.away in
+    let small : IsSmall (Some k) = subst IsSmall stands.read (read_small (fetched (space_of b s) (cap_address (thread s t).pcc))) in
+    class_fair b s t k (class_of k) refl wired runs (record { parts = parts; held = h; fetched = f; other = other }) small
+
+pub executed_fair : (b : Board) (s : State) (t : ℕ) → Partitioned b.image → Wired b → Confined b.image s → s.running ≡ Some t → Fair b s (executed b s t)
+unfolding executed
+executed_fair b s t parts wired h runs = by_checks (λ o. Fair b s (after_fetch b s t o))
+    (fetch_checks (thread s t).pcc)
+    (fetch_tells (thread s t).pcc)
+    (λ w tells. trapped_fair b s t w parts h tells)
+    (λ passes. next_fair b s t (next_at (space_of b s) (cap_address (thread s t).pcc)) refl parts wired h runs (fetch_passes (thread s t).pcc passes))
