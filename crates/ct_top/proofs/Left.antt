@@ -23,11 +23,11 @@ use Rattle.ct_top.proofs.Pieces.{first_fails, second_fails}
 -- ---- no step is left
 
 lines_of_none : (b : Board) (s : State) (k : ℕ) (n : ℕ) → steps_until b s n ≡ [] → lines_left b s k n ≡ []
-unfolding lines_left, trace_from, told
+unfolding lines_left trace_from told
 lines_of_none b s k n none = rw none refl
 
 state_of_none : (b : Board) (s : State) (n : ℕ) → steps_until b s n ≡ [] → state_left b s n ≡ s
-unfolding state_left, run
+unfolding state_left run
 state_of_none b s n none = rw none refl
 
 none_at_end : (b : Board) (s : State) (e : End) (n : ℕ) → end_of s ≡ Some e → steps_until b s n ≡ []
@@ -46,11 +46,11 @@ unfolding steps_until
 one_more b s n on = ap (λ o. unless_ended o (Step ∷ steps_until b (happens b s Step).0 n)) on
 
 next_lines : (b : Board) (s : State) (k n : ℕ) → end_of s ≡ None → lines_left b s k (suc n) ≡ trace_line k (happens b s Step).1 ++ lines_left b (happens b s Step).0 (k + 1) n
-unfolding lines_left, trace_from, told
+unfolding lines_left trace_from told
 next_lines b s k n on = ap (λ es. trace_from k (told b s es)) (one_more b s n on)
 
 next_state : (b : Board) (s : State) (n : ℕ) → end_of s ≡ None → state_left b s (suc n) ≡ state_left b (happens b s Step).0 n
-unfolding state_left, run
+unfolding state_left run
 next_state b s n on = ap (λ es. run b s es) (one_more b s n on)
 
 -- ---- the loop
@@ -137,7 +137,7 @@ breaks first m limit done before mid now faults counted after g more on broke =
 
 pub whole_run : (first m : MachineRow) (limit : ℕ) (before mid now : Option (List ℕ)) (faults counted after : ℕ) →
     Traced first m limit before mid faults counted → Writes mid now counted after (last_line m.state) → Writes before now faults after (run_lines first limit)
-unfolding run_lines, lines_left, state_left
+unfolding run_lines lines_left state_left
 whole_run first m limit before mid now faults counted after t wrote = record {
   added = added.appends_both before mid now (trace_from 1 (told first.board first.state (steps_until first.board first.state limit))) (last_line (run first.board first.state (steps_until first.board first.state limit))) t.written.added
       (subst (λ s. Appends mid now (last_line s)) t.state wrote.added);
@@ -146,14 +146,14 @@ whole_run first m limit before mid now faults counted after t wrote = record {
 
 pub last_fails : (first m : MachineRow) (limit : ℕ) (before mid now : Option (List ℕ)) (faults counted after : ℕ) →
     Traced first m limit before mid faults counted → WriteFails mid now counted after (last_line m.state) → WriteFails before now faults after (run_lines first limit)
-unfolding run_lines, lines_left, state_left
+unfolding run_lines lines_left state_left
 last_fails first m limit before mid now faults counted after t broke =
     second_fails before mid now faults counted after (trace_from 1 (told first.board first.state (steps_until first.board first.state limit))) (last_line (run first.board first.state (steps_until first.board first.state limit)))
     t.written (subst (λ s. WriteFails mid now counted after (last_line s)) t.state broke)
 
 pub trace_fails : (first : MachineRow) (limit : ℕ) (before now : Option (List ℕ)) (faults after : ℕ) →
     WriteFails before now faults after (lines_left first.board first.state 1 limit) → WriteFails before now faults after (run_lines first limit)
-unfolding run_lines, lines_left
+unfolding run_lines lines_left
 trace_fails first limit before now faults after broke =
     first_fails before now faults after (trace_from 1 (told first.board first.state (steps_until first.board first.state limit))) (last_line (run first.board first.state (steps_until first.board first.state limit))) broke
 

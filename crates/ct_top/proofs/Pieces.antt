@@ -1,5 +1,6 @@
 -- Two pieces that are written one after the other.
-use Rattle.std.proofs.Common.{◌≡◌, ℕ, ◌+◌, ◌-◌, ◌^◌, ◌≤◌, ◌==◌, true, min, List, [], ◌∷◌, ◌++◌, length, Option, Some, None, refl, ◌∙◌, ap, sym, subst}
+use Rattle.std.proofs.Common.{◌≡◌, ℕ, ◌+◌, ◌-◌, ◌^◌, ◌≤◌, ◌==◌, true, min, List, [], ◌∷◌, ◌++◌, length, Option, Some, None, refl, ◌∙◌, ap, sym, subst, arith}
+use Rattle.std.proofs.lemmas.Bool.{eqb-true}
 use Rattle.std.proofs.lemmas.List.{append_assoc, append-nil}
 use Rattle.def_port.specs.Bytes.{Rose, Appends, AppendsPart}
 use Rattle.def_port.specs.Writes.{Writes, WriteFails}
@@ -37,4 +38,4 @@ appends_none (Some before) = ap (λ t. Some t) (sym (append-nil before))
 -- a line that is empty needs no write
 pub wrote_nothing : (old : Option (List ℕ)) (faults : ℕ) (text : List ℕ) → (length text == 0) ≡ true → Writes old old faults faults text
 wrote_nothing old faults [] empty = record { added = appends_none old; same = refl }
-wrote_nothing old faults (c ∷ cs) empty = absurd (search rules)
+wrote_nothing old faults (c ∷ cs) empty = let none : length (c ∷ cs) ≡ 0 = eqb-true (length (c ∷ cs)) 0 empty in absurd (omega (arith, none))

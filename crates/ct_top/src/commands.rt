@@ -42,7 +42,7 @@ fn machine_of(alloc: Global, desc: &Desc) -> Result<Machine<Plain>, NoMemory>
 {
     let firmware = ct_firmware::firmware(alloc, desc)?;
     let mem = Plain::new(alloc, firmware.size)?;
-    crate::starting::start(alloc, &firmware, mem)
+    Machine::start(alloc, &firmware, mem)
 }
 
 /// Runs the firmware of a description, and writes its report line and the lines of the run.

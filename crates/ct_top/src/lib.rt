@@ -10,7 +10,6 @@ mod reading;
 mod running;
 #[cfg(test)]
 mod runs;
-mod starting;
 #[cfg(test)]
 mod tests;
 mod words;

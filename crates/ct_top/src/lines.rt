@@ -38,6 +38,16 @@ fn add_access(line: &mut Line, address: u32, width: u32, value: u64)
     add_hexadecimal(line, value_digits(width), value);
 }
 
+/// The length of an object, and its quota's charges.
+fn add_sizes(line: &mut Line, size: u32, live: u32)
+    requires { length line.old.bytes + 22 ≤ 192 }
+    ensures bytes { line.new.bytes ≡ line.old.bytes ++ spec.sizes_text size live }
+    ensures size { length line.new.bytes ≤ length line.old.bytes + 22 }
+{
+    add_after(line, " ", size);
+    add_after(line, " ", live);
+}
+
 /// An object of the heap, and its quota's charges.
 fn add_object(line: &mut Line, number: u32, base: u32, size: u32, live: u32)
     requires { length line.old.bytes + 43 ≤ 192 }
@@ -46,8 +56,7 @@ fn add_object(line: &mut Line, number: u32, base: u32, size: u32, live: u32)
 {
     add_after(line, " n", number);
     add_hexadecimal(line, 8, base as u64);
-    add_after(line, " ", size);
-    add_after(line, " ", live);
+    add_sizes(line, size, live);
 }
 
 fn add_trap(line: &mut Line, cause: u32, code: u32, register: u32)
@@ -117,6 +126,7 @@ fn add_act(line: &mut Line, step: u32, deed: &Deed)
 }
 
 /// The line of a deed, where there was one.
+#[tactic(auto, unfolding(def_output::specs::Trace::deed_line))]
 fn add_deed(line: &mut Line, step: u32, deed: &Option<Deed>)
     requires { length line.old.bytes + 100 ≤ 192 }
     ensures bytes { line.new.bytes ≡ line.old.bytes ++ spec.deed_part step deed.now }
@@ -132,6 +142,7 @@ fn add_deed(line: &mut Line, step: u32, deed: &Option<Deed>)
 }
 
 /// The line of a span with interrupts off, where one begins.
+#[tactic(auto, unfolding(def_output::specs::Trace::off_line))]
 fn add_off(line: &mut Line, step: u32, off: &Option<Owned>)
     requires { length line.old.bytes + 51 ≤ 192 }
     ensures bytes { line.new.bytes ≡ line.old.bytes ++ spec.off_part step off.now }
@@ -148,6 +159,7 @@ fn add_off(line: &mut Line, step: u32, off: &Option<Owned>)
 }
 
 /// What a step did, counted from 1: no line, one or two.
+#[tactic(auto, unfolding(def_output::specs::Trace::trace_line))]
 pub fn line_of(happened: &Happened, step: u32) -> Line
     ensures { result.bytes ≡ spec.trace_line step happened.now }
 {
@@ -177,6 +189,16 @@ fn add_events(line: &mut Line, totals: &Totals)
     add_after(line, " ticks ", totals.ticks);
 }
 
+fn add_rest(line: &mut Line, totals: &Totals)
+    requires { length line.old.bytes + 57 ≤ 192 }
+    ensures bytes { line.new.bytes ≡ line.old.bytes ++ spec.rest_text totals.now }
+    ensures size { length line.new.bytes ≤ length line.old.bytes + 57 }
+{
+    add_after(line, " allocations ", totals.allocations);
+    add_after(line, " frees ", totals.frees);
+    add_after(line, " traps ", totals.traps);
+}
+
 fn add_deeds(line: &mut Line, totals: &Totals)
     requires { length line.old.bytes + 93 ≤ 192 }
     ensures bytes { line.new.bytes ≡ line.old.bytes ++ spec.deeds_text totals.now }
@@ -184,12 +206,11 @@ fn add_deeds(line: &mut Line, totals: &Totals)
 {
     add_after(line, " calls ", totals.calls);
     add_after(line, " devices ", totals.devices);
-    add_after(line, " allocations ", totals.allocations);
-    add_after(line, " frees ", totals.frees);
-    add_after(line, " traps ", totals.traps);
+    add_rest(line, totals);
 }
 
 /// The summary of a run.
+#[tactic(auto, unfolding(def_output::specs::Trace::summary_line))]
 pub fn summary_of(totals: &Totals) -> Line
     ensures { result.bytes ≡ spec.summary_line totals.now }
 {

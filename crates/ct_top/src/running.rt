@@ -81,6 +81,7 @@ fn end_here<M: Memory + Drop>(machine: &Machine<M>) -> End
 }
 
 /// Writes the summary.
+#[tactic(auto, unfolding(def_output::specs::Runs::last_line))]
 fn write_last<M: Memory + Drop, S: Sink>(
     machine: &Machine<M>,
     sink: &mut S,

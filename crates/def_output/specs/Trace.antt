@@ -48,8 +48,11 @@ abbrev pub access_text : ℕ → ℕ → ℕ → List ℕ
 access_text address width value = after_space 8 address ++ (after (codes " ") width ++ after_space (value_digits width) value)
 
 -- an object of the heap, and the quota's charges after the deed
+abbrev pub sizes_text : ℕ → ℕ → List ℕ
+sizes_text length live = after (codes " ") length ++ after (codes " ") live
+
 abbrev pub object_text : ℕ → ℕ → ℕ → ℕ → List ℕ
-object_text number base length live = after (codes " n") number ++ (after_space 8 base ++ (after (codes " ") length ++ after (codes " ") live))
+object_text number base length live = after (codes " n") number ++ (after_space 8 base ++ sizes_text length live)
 
 abbrev pub trap_text : ℕ → ℕ → ℕ → List ℕ
 trap_text cause code register = after (codes " ") cause ++ (after (codes " ") code ++ after (codes " ") register)
@@ -91,10 +94,11 @@ end_text Idle = codes "end idle steps "
 abbrev pub events_text : Totals → List ℕ
 events_text t = after (end_text t.end) t.steps ++ after (codes " ticks ") t.ticks
 
+abbrev pub rest_text : Totals → List ℕ
+rest_text t = after (codes " allocations ") t.allocations ++ (after (codes " frees ") t.frees ++ after (codes " traps ") t.traps)
+
 abbrev pub deeds_text : Totals → List ℕ
-deeds_text t =
-    after (codes " calls ") t.calls ++ (after (codes " devices ") t.devices ++ (after (codes " allocations ") t.allocations
-    ++ (after (codes " frees ") t.frees ++ after (codes " traps ") t.traps)))
+deeds_text t = after (codes " calls ") t.calls ++ (after (codes " devices ") t.devices ++ rest_text t)
 
 unfoldable pub summary_line : Totals → List ℕ
 summary_line t = (events_text t ++ deeds_text t) ++ 10 ∷ []
