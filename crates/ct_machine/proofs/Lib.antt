@@ -3,3 +3,4 @@ pub mod Executed
 pub mod Launches
 pub mod Sizes
 pub mod Starts
+pub mod Guards

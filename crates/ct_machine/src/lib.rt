@@ -4,6 +4,7 @@
 mod active;
 mod copying;
 mod deciding;
+mod engine;
 mod launching;
 mod machine;
 mod operands;

@@ -1,4 +1,4 @@
-//! A machine before its first event.
+//! An engine before its first event.
 
 ghost use Rattle.std.specs.Prelude.{◌≡◌, IfOk};
 ghost use Rattle.def_step.specs.Boot.{boot_granules, booted_machine};
@@ -7,8 +7,8 @@ ghost use Rattle.ct_boot.specs.Bootable.{empty_granules};
 ghost use Rattle.ct_machine.specs.Launching.{Launched, bank_of};
 
 use crate::copying::copy_firmware;
+use crate::engine::Engine;
 use crate::launching::{Launch, launch_of};
-use crate::machine::Machine;
 use crate::tally::Tally;
 use crate::works::Works;
 use ct_boot::boot;
@@ -18,8 +18,8 @@ use ct_mem::Memory;
 use def_refusals::NoMemory;
 use std::alloc::Global;
 
-/// A machine of its parts, before its first event.
-fn put_together<M: Memory + Drop>(firmware: Firmware, bus: Bus, mem: M, launch: Launch) -> Machine<M>
+/// An engine of its parts, before its first event.
+fn put_together<M: Memory + Drop>(firmware: Firmware, bus: Bus, mem: M, launch: Launch) -> Engine<M>
     requires lawful { IsLawfulFirmware firmware }
     requires bus { bus ≡ bank_of firmware }
     requires booted { M.granules mem ≡ boot_granules firmware }
@@ -27,7 +27,7 @@ fn put_together<M: Memory + Drop>(firmware: Firmware, bus: Bus, mem: M, launch: 
     ensures { result ≡ booted_machine firmware }
 {
     let ram = firmware.ram;
-    Machine {
+    Engine {
         firmware,
         works: Works {
             active: launch.active,
@@ -54,13 +54,9 @@ fn put_together<M: Memory + Drop>(firmware: Firmware, bus: Bus, mem: M, launch: 
     }
 }
 
-impl<M: Memory + Drop> Machine<M> {
-    /// The machine of a firmware, booted: its memory, devices and thread are as *Boot state* says,
-    /// and no event has come.
-    ///
-    /// The memory reads as zero and has the size of the firmware's RAM. `NoMemory` where the
-    /// allocator has no room for the devices and for the copy of the firmware that the machine keeps.
-    pub fn start(alloc: Global, image: &Firmware, mem: M) -> Result<Machine<M>, NoMemory>
+impl<M: Memory + Drop> Engine<M> {
+    /// The engine of a firmware, booted.
+    pub(crate) fn start(alloc: Global, image: &Firmware, mem: M) -> Result<Engine<M>, NoMemory>
         requires lawful { IsLawfulFirmware image.now }
         requires empty { M.granules mem ≡ empty_granules image.now.size }
         ensures { IfOk result (λ m. m ≡ booted_machine image.now) }

@@ -4,7 +4,7 @@ use Rattle.def_step.specs.Events.{MachineRow, run_on}
 use Rattle.ct_machine.specs.Deciding.{granules_by, deed_by}
 use Rattle.ct_machine.specs.Parts.{only}
 use Rattle.ct_machine.proofs.Executed.{carried_is}
-use Rattle.ct_machine.proofs.machine.Machine.carry_on.Goals as goal
+use Rattle.ct_machine.proofs.engine.Engine.carry_on.Goals as goal
 
 pub returns-clause-is : goal.returns-clause-is
 returns-clause-is g c =

@@ -1,0 +1,53 @@
+-- A machine that starts is guarded, and every event keeps it so.
+use Rattle.std.proofs.Common.{◌≡◌, subst, sym}
+use Rattle.ct_entry.specs.Listed.{FirmwareRow}
+use Rattle.ct_entry.specs.declared.acts.Happened.{Happened}
+use Rattle.def_board.specs.Guarded.{Guarded}
+use Rattle.def_confined.specs.Telling.{IsLicensedEvent}
+use Rattle.def_machine.specs.State.{State}
+use Rattle.def_step.specs.declared.Event.{Event}
+use Rattle.def_step.specs.Instructions.{Board}
+use Rattle.def_step.specs.Boot.{booted_machine, board_of, boot_state, image_of}
+use Rattle.def_step.specs.Events.{MachineRow, happens}
+use Rattle.def_step.specs.Firmware.{IsLawfulFirmware}
+use Rattle.law_boot.proofs.Whole.{image_partitioned}
+use Rattle.law_entries.proofs.Wiring.{wired}
+use Rattle.law_regions.proofs.Confining.{confined}
+use Rattle.law_events.proofs.Booting.{boot_ended}
+use Rattle.law_events.proofs.Events.{event_confined, event_ended, deed_licensed, span_licensed}
+
+pub at_boot : (f : FirmwareRow) → IsLawfulFirmware f → Guarded (booted_machine f)
+at_boot f l = record {
+  partitioned = image_partitioned f l;
+  wired = wired f l;
+  confined = confined f l;
+  ended_on = boot_ended f;
+}
+
+pub after_event : (m : MachineRow) (e : Event) → Guarded m → Guarded (record { board = m.board; state = (happens m.board m.state e).0 })
+after_event m e g = record {
+  partitioned = g.partitioned;
+  wired = g.wired;
+  confined = event_confined m.board m.state e g.partitioned g.wired g.confined;
+  ended_on = event_ended m.board m.state e g.partitioned g.wired g.confined g.ended_on;
+}
+
+pub event_licensed : (m : MachineRow) (e : Event) → Guarded m → IsLicensedEvent m.board.image.entries (happens m.board m.state e).1
+event_licensed m e g = record {
+  deed = λ d is. deed_licensed m.board m.state e d g.partitioned g.wired g.confined is;
+  off = λ o is. span_licensed m.board m.state e o g.partitioned g.wired g.confined g.ended_on is;
+}
+
+pub kept_by : (m n : MachineRow) (e : Event) → Guarded m → n.state ≡ (happens m.board m.state e).0 → n.board ≡ m.board → Guarded n
+kept_by m n e g state board = whole n.board n.state board state
+  where
+    whole : (b : Board) (s : State) → b ≡ m.board → s ≡ (happens m.board m.state e).0 → Guarded (record { board = b; state = s })
+    whole b s is_board is_state = rw (is_board, is_state) (after_event m e g)
+
+pub told_by : (m n : MachineRow) (e : Event) (h : Happened) → Guarded m → m ≡ n → h ≡ (happens m.board m.state e).1 → IsLicensedEvent n.board.image.entries h
+told_by m n e h g same told =
+    let here : IsLicensedEvent m.board.image.entries h = subst (λ (x : Happened). IsLicensedEvent m.board.image.entries x) (sym told) (event_licensed m e g) in
+    subst (λ (x : MachineRow). IsLicensedEvent x.board.image.entries h) same here
+
+pub booted_by : (f : FirmwareRow) (m : MachineRow) → IsLawfulFirmware f → m ≡ booted_machine f → Guarded m
+booted_by f m l is = subst Guarded (sym is) (at_boot f l)

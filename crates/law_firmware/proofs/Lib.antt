@@ -1,0 +1,12 @@
+pub mod Lists
+pub mod Places
+pub mod Sizes
+pub mod Rows
+pub mod Gates
+pub mod Imports
+pub mod Words
+pub mod Parts
+pub mod Made
+pub mod Regions
+pub mod Devices
+pub mod Lawful
