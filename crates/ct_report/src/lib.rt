@@ -12,7 +12,7 @@ mod values;
 
 ghost use Rattle.std.specs.Prelude.{◌≡◌, IfOk, string_bytes, true};
 ghost use Rattle.def_desc.specs.Placing.{is_placed};
-ghost use Rattle.def_report.specs.Entries.{entries_of};
+ghost use Rattle.def_report.specs.Entries.{entries_of, number_of};
 ghost use Rattle.def_report.specs.Report.{report_line};
 
 use ct_desc::Desc;
@@ -41,4 +41,14 @@ pub fn text(alloc: Global, desc: &Desc) -> Result<String, NoMemory>
     ensures { IfOk result (λ s. string_bytes s ≡ report_line desc.now) }
 {
     Ok(report::line_of(alloc, desc)?)
+}
+
+/// The entry number of the export `compartment.export` that an entry names, or 0 where there is none.
+/// The condition is that of `entries`.
+#[tactic(auto, using(crate::proofs::Placed::all_fit, crate::proofs::Placed::few_compartments))]
+pub fn entry_number(desc: &Desc, entry: &str) -> u32
+    requires { is_placed desc.now ≡ true }
+    ensures { result ≡ number_of entry.now desc.now.compartments }
+{
+    gates::number_of(entry, desc.compartments.as_slice())
 }

@@ -8,9 +8,9 @@ use Rattle.def_desc.specs.Placing.{is_placed}
 use Rattle.def_desc.specs.WellFormed.{WellFormed}
 use Rattle.def_output.specs.Answers.{Holds, IsLarge, IsFile, Exceeds, WasRead}
 use Rattle.def_output.specs.Commands.{most}
-use Rattle.ct_top.specs.Steps.{IsReport, NoReport, Prepared, ReadButLarge, Stopped}
-use Rattle.ct_top.specs.declared.audit.Stop.{Stop}
-use Rattle.ct_top.specs.declared.audit.Stop.TheVariants.{Unread, Large, Bad, NoMemory}
+use Rattle.ct_top.specs.Steps.{NoDescription, Described, ReadButLarge, Stopped}
+use Rattle.ct_top.specs.declared.reading.Stop.{Stop}
+use Rattle.ct_top.specs.declared.reading.Stop.TheVariants.{Unread, Large, Bad, NoMemory}
 use Rattle.law_desc.proofs.Firsts.{well_placed}
 
 pub placed : (bytes : List ℕ) (rows : DescRow) → WellFormed bytes rows → is_placed rows ≡ true
@@ -55,15 +55,15 @@ too_large name told before after faults now v r size =
       large = record { bytes = v; gives = r.gives; size = exact; large = large told v r.gives exact };
     }
 
-pub ready : (name : List ℕ) (told : Told) (before after : List Call) (faults now : ℕ) (v line : List ℕ) → Reads name most told before after faults now v → length v ≤ most → IsReport v line → Prepared name told before after faults now line
-ready name told before after faults now v line r size report = record {
+pub described : (name : List ℕ) (told : Told) (before after : List Call) (faults now : ℕ) (v : List ℕ) (rows : DescRow) → Reads name most told before after faults now v → length v ≤ most → WellFormed v rows → Described name told before after faults now rows
+described name told before after faults now v rows r size lawful = record {
   read = read_of name told before after faults now v r;
   bytes = v;
   file = file_of name told before after faults now v r size;
-  report = report;
+  lawful = lawful;
 }
 
-pub unready : (name : List ℕ) (told : Told) (before after : List Call) (faults now : ℕ) (v : List ℕ) (stop : Stop) → Reads name most told before after faults now v → length v ≤ most → NoReport v stop → Stopped name told before after faults now stop
+pub unready : (name : List ℕ) (told : Told) (before after : List Call) (faults now : ℕ) (v : List ℕ) (stop : Stop) → Reads name most told before after faults now v → length v ≤ most → NoDescription v stop → Stopped name told before after faults now stop
 unready name told before after faults now v Unread r size none = elim none [ ]
 unready name told before after faults now v Large r size none = elim none [ ]
 unready name told before after faults now v Bad r size bad = record {

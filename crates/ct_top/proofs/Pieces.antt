@@ -1,6 +1,7 @@
 -- Two pieces that are written one after the other.
-use Rattle.std.proofs.Common.{◌≡◌, ℕ, ◌+◌, ◌-◌, ◌^◌, ◌≤◌, min, List, ◌++◌, Option, ◌∙◌, ap, sym, subst}
-use Rattle.std.proofs.lemmas.List.{append_assoc}
+use Rattle.std.proofs.Common.{◌≡◌, ℕ, ◌+◌, ◌-◌, ◌^◌, ◌≤◌, ◌==◌, true, min, List, [], ◌∷◌, ◌++◌, length, Option, Some, None, refl, ◌∙◌, ap, sym, subst, arith}
+use Rattle.std.proofs.lemmas.Bool.{eqb-true}
+use Rattle.std.proofs.lemmas.List.{append_assoc, append-nil}
 use Rattle.def_port.specs.Bytes.{Rose, Appends, AppendsPart}
 use Rattle.def_port.specs.Writes.{Writes, WriteFails}
 use Rattle.law_lists.proofs.Added.{appends_both}
@@ -29,3 +30,12 @@ second_fails old mid new f g h first second a b = record {
   };
   rose = let P : ℕ → Type 0 = λ n. Rose n h in subst P a.same b.rose;
 }
+
+appends_none : (old : Option (List ℕ)) → Appends old old []
+appends_none None = tt
+appends_none (Some before) = ap (λ t. Some t) (sym (append-nil before))
+
+-- a line that is empty needs no write
+pub wrote_nothing : (old : Option (List ℕ)) (faults : ℕ) (text : List ℕ) → (length text == 0) ≡ true → Writes old old faults faults text
+wrote_nothing old faults [] empty = record { added = appends_none old; same = refl }
+wrote_nothing old faults (c ∷ cs) empty = let none : length (c ∷ cs) ≡ 0 = eqb-true (length (c ∷ cs)) 0 empty in absurd (omega (arith, none))

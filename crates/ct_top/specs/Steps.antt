@@ -4,34 +4,27 @@ use Rattle.def_port.specs.Writes.{Writes, WriteFails}
 use Rattle.def_port.specs.Told.{Told, Call}
 use Rattle.def_desc.specs.Rows.{DescRow}
 use Rattle.def_desc.specs.WellFormed.{WellFormed, Malformed}
-use Rattle.def_report.specs.Report.{report_line}
 use Rattle.def_output.specs.Answers.{NothingRead, WasRead, WasRefused, IsFile, Exceeds}
 use Rattle.def_output.specs.Lines.{read_line, large_line, description_line}
 use Rattle.def_output.specs.declared.Status.{Status}
-use Rattle.def_output.specs.declared.Status.TheVariants.{ReadFault, TooLarge, Description, WriteFault}
+use Rattle.def_output.specs.declared.Status.TheVariants.{Done, ReadFault, TooLarge, Description, WriteFault}
 use Rattle.def_output.specs.declared.Status.TheVariants as status
-use Rattle.ct_top.specs.declared.audit.Stop.{Stop}
-use Rattle.ct_top.specs.declared.audit.Stop.TheVariants.{Unread, Large, Bad, NoMemory}
+use Rattle.ct_top.specs.declared.reading.Stop.{Stop}
+use Rattle.ct_top.specs.declared.reading.Stop.TheVariants.{Unread, Large, Bad, NoMemory}
 
--- the bytes are a well-formed description, and the line is its report
-pub record IsReport (bytes line : List ℕ) : Type 0 where
-  pub rows : DescRow
-  pub lawful : WellFormed bytes rows
-  pub is : line ≡ report_line rows
+-- why bytes gave no description
+abbrev pub NoDescription : List ℕ → Stop → Type 0
+NoDescription bytes Unread = ⊥
+NoDescription bytes Large = ⊥
+NoDescription bytes Bad = Malformed bytes
+NoDescription bytes NoMemory = Unit {0}
 
--- why bytes gave no report
-abbrev pub NoReport : List ℕ → Stop → Type 0
-NoReport bytes Unread = ⊥
-NoReport bytes Large = ⊥
-NoReport bytes Bad = Malformed bytes
-NoReport bytes NoMemory = Unit {0}
-
--- a file was read, and its report is the line
-pub record Prepared (name : List ℕ) (told : Told) (before after : List Call) (faults now : ℕ) (line : List ℕ) : Type 0 where
+-- a file was read, and it is a description
+pub record Described (name : List ℕ) (told : Told) (before after : List Call) (faults now : ℕ) (rows : DescRow) : Type 0 where
   pub read : WasRead name before after faults now
   pub bytes : List ℕ
   pub file : IsFile told bytes
-  pub report : IsReport bytes line
+  pub lawful : WellFormed bytes rows
 
 pub record ReadButLarge (name : List ℕ) (told : Told) (before after : List Call) (faults now : ℕ) : Type 0 where
   pub read : WasRead name before after faults now
@@ -43,7 +36,7 @@ pub record ReadButBad (name : List ℕ) (told : Told) (before after : List Call)
   pub file : IsFile told bytes
   pub bad : Malformed bytes
 
--- why a file gave no report
+-- why a file gave no description
 abbrev pub Stopped : List ℕ → Told → List Call → List Call → ℕ → ℕ → Stop → Type 0
 Stopped name told before after faults now Unread = WasRefused name before after faults now
 Stopped name told before after faults now Large = ReadButLarge name told before after faults now
@@ -60,6 +53,10 @@ pub record Silent (old new : Option (List ℕ)) (faults now : ℕ) (result : Sta
   pub is : result ≡ status.NoMemory
   pub written : new ≡ old
   pub same : now ≡ faults
+
+-- the text was written and the call is done, or a write failed; or memory was wanted before
+abbrev pub Settles : Option (List ℕ) → Option (List ℕ) → ℕ → ℕ → List ℕ → Status → Type 0
+Settles old new faults now text result = Closes old new faults now text Done result ⊎ Silent old new faults now result
 
 -- the line of a refusal was written
 abbrev pub Refuses : List ℕ → Stop → Option (List ℕ) → Option (List ℕ) → ℕ → ℕ → Status → Type 0

@@ -2,22 +2,31 @@
 //! each status, from what it comes and what was written; the definitions stand in def_output.
 #![tactic(auto)]
 
-mod audit;
+mod commands;
+mod lines;
+mod numbers;
 mod output;
+mod reading;
+mod running;
+#[cfg(test)]
+mod runs;
 #[cfg(test)]
 mod tests;
+mod words;
 
-ghost use Rattle.std.specs.Prelude.{◌≡◌, map, option_map, string_bytes};
+ghost use Rattle.std.specs.Prelude.{map, string_bytes};
 ghost use Rattle.def_output.specs.Answers.{Answers, Ends, ReadsInOrder};
-ghost use Rattle.def_output.specs.Commands.{Audit, form_of as form_in};
 
+use commands::perform;
 use ct_port::{Folder, Sink};
 pub use def_output::Status;
-use output::{refuse_usage, report};
+use output::refuse_usage;
 use std::alloc::Global;
+use words::form_of;
 
 /// Runs one command. The words are those after the program's name: `audit DESC` writes the report
-/// line of the description in the file DESC.
+/// line of the description in the file DESC; `run DESC LIMIT` runs its firmware for at most LIMIT
+/// steps, and writes the report line, the lines of what happened and the summary.
 ///
 /// Every answer has its cause (clause `answer`), and in every answer the names read are a prefix of
 /// those that are due, and no read but the last failed (clause `names`). No memory is taken after
@@ -76,23 +85,7 @@ fn command<F: Folder, S: Sink>(
     } in Answers e result }
 {
     match form_of(words) {
-        Some(name) => report(alloc, name, folder, sink),
+        Some(form) => perform(alloc, &form, folder, sink),
         None => refuse_usage(sink),
-    }
-}
-
-/// The file of `audit DESC`.
-fn form_of<'a>(words: &'a [String]) -> Option<&'a str>
-    ensures { option_map (λ name. Audit name.now) result ≡ form_in (map string_bytes words.now) }
-{
-    match words {
-        [word, name] => {
-            if word.as_str() == "audit" {
-                Some(name.as_str())
-            } else {
-                None
-            }
-        }
-        _ => None,
     }
 }

@@ -1,16 +1,13 @@
-//! What is written: the report line, or the line of a refusal, in pieces and with no memory taken.
+//! Texts that end a call, and the lines of refusals, in pieces and with no memory taken.
 
-ghost use Rattle.std.specs.Prelude.{◌≡◌, ◌++◌, ◌∷◌, [], List, ℕ, MatchResult, None, Some};
+ghost use Rattle.std.specs.Prelude.{◌≡◌, ◌++◌, ◌∷◌, [], MatchResult};
 ghost use Rattle.def_port.specs.Writes.{Writes, WriteFails};
-ghost use Rattle.def_output.specs.Answers.{Answers, Ends};
-ghost use Rattle.def_output.specs.Commands.{Audit, form_of};
 ghost use Rattle.def_output.specs.Lines.{description_line, usage_line};
 ghost use Rattle.ct_top.specs.Steps.{Closes, Refuses};
 
-use crate::audit::{Stop, prepare};
-use ct_port::{Folder, Sink, WriteFailed};
+use crate::reading::Stop;
+use ct_port::{Sink, WriteFailed};
 use def_output::Status;
-use std::alloc::Global;
 
 /// Writes two pieces.
 #[tactic(auto, using(crate::proofs::Pieces::both, crate::proofs::Pieces::first_fails, crate::proofs::Pieces::second_fails))]
@@ -49,7 +46,7 @@ fn close_named<S: Sink>(text: &[u8], name: &str, status: Status, sink: &mut S) -
 }
 
 /// Writes a text, and ends with a status.
-fn close<S: Sink>(text: &[u8], status: Status, sink: &mut S) -> Status
+pub fn close<S: Sink>(text: &[u8], status: Status, sink: &mut S) -> Status
     ensures { Closes (S.bytes sink.old) (S.bytes sink.new) (S.faults sink.old) (S.faults sink.new) text.now status result }
 {
     match sink.write(text) {
@@ -59,7 +56,7 @@ fn close<S: Sink>(text: &[u8], status: Status, sink: &mut S) -> Status
 }
 
 /// Writes the line of a refusal; for want of memory nothing is written.
-fn refuse<S: Sink>(stop: Stop, name: &str, sink: &mut S) -> Status
+pub fn refuse<S: Sink>(stop: Stop, name: &str, sink: &mut S) -> Status
     ensures { Refuses name.now stop (S.bytes sink.old) (S.bytes sink.new) (S.faults sink.old) (S.faults sink.new) result }
 {
     match stop {
@@ -75,25 +72,4 @@ pub fn refuse_usage<S: Sink>(sink: &mut S) -> Status
     ensures { Closes (S.bytes sink.old) (S.bytes sink.new) (S.faults sink.old) (S.faults sink.new) usage_line Status.Usage result }
 {
     close(b"refused 1 usage\n", Status::Usage, sink)
-}
-
-/// `audit DESC`: writes the report line of the description in the file of this name.
-pub fn report<F: Folder, S: Sink>(alloc: Global, name: &str, folder: &mut F, sink: &mut S) -> Status
-    ensures { (words : List (List ℕ)) → form_of words ≡ Some (Audit name.now) → let e : Ends = record {
-      words = words;
-      told = F.file folder.old;
-      calls = F.calls folder.old;
-      calls_after = F.calls folder.new;
-      read_faults = F.faults folder.old;
-      read_faults_after = F.faults folder.new;
-      bytes = S.bytes sink.old;
-      bytes_after = S.bytes sink.new;
-      write_faults = S.faults sink.old;
-      write_faults_after = S.faults sink.new;
-    } in Answers e result }
-{
-    match prepare(alloc, name, folder) {
-        Ok(line) => close(line.as_bytes(), Status::Done, sink),
-        Err(stop) => refuse(stop, name, sink),
-    }
 }

@@ -1,13 +1,13 @@
-//! The rows of `audit`, over files and output in memory.
+//! The rows of `audit`, and what every command refuses, over files and output in memory.
 
 use crate::{Status, capfw};
 use ct_port::{FolderMem, SinkMem, SteadyFolder, SteadySink};
 use std::alloc::{AllocError, Global};
 
-const TINY: &str =
+pub(crate) const TINY: &str =
     r#"{"firmware":"tiny","ram":{"base":2147483648,"size":4096},"heapbase":2147484304,"trustedbase":2147484000,"devices":[{"name":"uart0","kind":"uart","base":268435456}],"compartments":[{"name":"app","code":{"words":["00000297","ff82b283","04100513","00a2a023","00008067"]},"codebase":2147483648,"tablebase":2147483696,"globalsbase":2147483728,"imports":[{"as":"uart","device":"uart0","rights":"W"}],"exports":[{"name":"main","at":0}]}],"threads":[{"name":"t","entry":"app.main","priority":1,"stack":256,"frames":2,"stackbase":2147483744}]}"#;
 
-const REPORT: &str =
+pub(crate) const REPORT: &str =
     r#"{"compartments":["app"],"devices":[{"base":268435456,"kind":"uart","name":"uart0"}],"edges":[],"entries":[{"base":2147483648,"kind":"code","length":48,"number":1,"owner":"app","rights":"GL LG LM LD MC EX"},{"base":2147483728,"kind":"globals","length":16,"number":2,"owner":"app","rights":"GL LG SD LM LD MC"},{"base":65536,"kind":"service","length":8,"name":"switch","number":3,"of":"switch","owner":"app","rights":"GL LD MC EX"},{"base":268435456,"kind":"device","length":16,"name":"uart","number":4,"of":"uart0","owner":"app","rights":"GL SD"},{"args":6,"base":2147483712,"kind":"export","length":16,"name":"main","number":5,"owner":"app","passes":"capabilities","posture":"enabled","rights":"GL LD","stack":0},{"base":2147483744,"kind":"stack","length":256,"number":6,"owner":"t","rights":"LG SD LM SL LD MC"}],"firmware":"tiny","heap":{"base":2147484304,"length":3440},"libraries":[],"quantum":100,"threads":[{"entry":5,"name":"t","priority":1}]}
 "#;
 
@@ -22,7 +22,7 @@ fn words_of(alloc: Global, words: &[&str]) -> Result<Vec<String>, AllocError> {
 
 /// Runs a command over one file and a sink with room and a failing call, 0 for none, and gives the
 /// status and whether the output is the text.
-fn outcome(
+pub(crate) fn outcome(
     alloc: Global,
     words: &[&str],
     file: &[u8],
@@ -60,6 +60,15 @@ fn refusals(rt: HostRuntime) {
         &["audit"],
         &["run", "tiny.json"],
         &["audit", "tiny.json", "1"],
+        &["run", "tiny.json", "0"],
+        &["run", "tiny.json", "01"],
+        &["run", "tiny.json", "4000000001"],
+        &["run", "tiny.json", "+1"],
+        &["run", "tiny.json", ""],
+        &["run", "tiny.json", "1 "],
+        &["run", "tiny.json", "18446744073709551617"],
+        &["walk", "tiny.json", "1"],
+        &["run", "tiny.json", "1", "script"],
     ] {
         assert!(rt; outcome(alloc, words, tiny, 100, 0, usage) == Some((Status::Usage, true)));
     }

@@ -5,10 +5,10 @@ use Rattle.def_port.specs.Told.{Told, Silent, Absent, File, Gives, Call}
 use Rattle.def_port.specs.Reads.{recorded}
 use Rattle.def_desc.specs.Rows.{DescRow}
 use Rattle.def_desc.specs.WellFormed.{WellFormed, Malformed}
-use Rattle.def_report.specs.Report.{report_line}
 use Rattle.def_output.specs.declared.Status.{Status}
 use Rattle.def_output.specs.declared.Status.TheVariants.{Done, Usage, ReadFault, TooLarge, Description, WriteFault, NoMemory}
-use Rattle.def_output.specs.Commands.{Command, Audit, form_of, due_names, most}
+use Rattle.def_output.specs.Commands.{Command, form_of, file_of, due_names, most}
+use Rattle.def_output.specs.Runs.{due_text}
 use Rattle.def_output.specs.Lines.{usage_line, read_line, large_line, description_line}
 
 -- both ends of a call: the words, what the folder tells, its calls and its count of faults, and the
@@ -67,14 +67,14 @@ pub record Exceeds (told : Told) : Type 0 where
 -- ---- causes: what a status rests on, and the text that is due
 
 pub record DoneCause (e : Ends) (text : List ℕ) : Type 0 where
-  pub name : List ℕ
-  pub form : form_of e.words ≡ Some (Audit name)
-  pub read : WasRead name e.calls e.calls_after e.read_faults e.read_faults_after
+  pub command : Command
+  pub form : form_of e.words ≡ Some command
+  pub read : WasRead (file_of command) e.calls e.calls_after e.read_faults e.read_faults_after
   pub bytes : List ℕ
-  pub file : IsFile (e.told name) bytes
+  pub file : IsFile (e.told (file_of command)) bytes
   pub rows : DescRow
   pub lawful : WellFormed bytes rows
-  pub due : text ≡ report_line rows
+  pub due : text ≡ due_text command rows
 
 pub record UsageCause (e : Ends) (text : List ℕ) : Type 0 where
   pub form : form_of e.words ≡ None
@@ -82,24 +82,24 @@ pub record UsageCause (e : Ends) (text : List ℕ) : Type 0 where
   pub due : text ≡ usage_line
 
 pub record ReadCause (e : Ends) (text : List ℕ) : Type 0 where
-  pub name : List ℕ
-  pub form : form_of e.words ≡ Some (Audit name)
-  pub read : WasRefused name e.calls e.calls_after e.read_faults e.read_faults_after
-  pub due : text ≡ read_line name
+  pub command : Command
+  pub form : form_of e.words ≡ Some command
+  pub read : WasRefused (file_of command) e.calls e.calls_after e.read_faults e.read_faults_after
+  pub due : text ≡ read_line (file_of command)
 
 pub record LargeCause (e : Ends) (text : List ℕ) : Type 0 where
-  pub name : List ℕ
-  pub form : form_of e.words ≡ Some (Audit name)
-  pub read : WasRead name e.calls e.calls_after e.read_faults e.read_faults_after
-  pub large : Exceeds (e.told name)
-  pub due : text ≡ large_line name
+  pub command : Command
+  pub form : form_of e.words ≡ Some command
+  pub read : WasRead (file_of command) e.calls e.calls_after e.read_faults e.read_faults_after
+  pub large : Exceeds (e.told (file_of command))
+  pub due : text ≡ large_line (file_of command)
 
 pub record DescriptionCause (e : Ends) (text : List ℕ) : Type 0 where
-  pub name : List ℕ
-  pub form : form_of e.words ≡ Some (Audit name)
-  pub read : WasRead name e.calls e.calls_after e.read_faults e.read_faults_after
+  pub command : Command
+  pub form : form_of e.words ≡ Some command
+  pub read : WasRead (file_of command) e.calls e.calls_after e.read_faults e.read_faults_after
   pub bytes : List ℕ
-  pub file : IsFile (e.told name) bytes
+  pub file : IsFile (e.told (file_of command)) bytes
   pub bad : Malformed bytes
   pub due : text ≡ description_line
 
@@ -131,10 +131,10 @@ pub record Broken (e : Ends) : Type 0 where
 
 -- memory was wanted: the words are a form, nothing is written, and no read failed
 pub record Wanting (e : Ends) : Type 0 where
-  pub name : List ℕ
-  pub form : form_of e.words ≡ Some (Audit name)
+  pub command : Command
+  pub form : form_of e.words ≡ Some command
   pub read : NothingRead e.calls e.calls_after e.read_faults e.read_faults_after
-      ⊎ WasRead name e.calls e.calls_after e.read_faults e.read_faults_after
+      ⊎ WasRead (file_of command) e.calls e.calls_after e.read_faults e.read_faults_after
   pub written : e.bytes_after ≡ e.bytes
   pub same : e.write_faults_after ≡ e.write_faults
 

@@ -1,4 +1,6 @@
 pub mod Commands
 pub mod Lines
+pub mod Trace
+pub mod Runs
 pub mod Answers
 pub mod Codes

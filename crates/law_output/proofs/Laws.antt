@@ -6,19 +6,19 @@ use Rattle.def_desc.specs.Rows.{DescRow}
 use Rattle.def_desc.specs.WellFormed.{WellFormed, Malformed, fault_of}
 use Rattle.def_output.specs.declared.Status.{Status}
 use Rattle.def_output.specs.declared.Status.TheVariants.{Done, Usage, ReadFault, TooLarge, Description, WriteFault, NoMemory}
-use Rattle.def_output.specs.Commands.{Command, Audit, form_of, most}
+use Rattle.def_output.specs.Commands.{Command, form_of, file_of, most}
 use Rattle.def_output.specs.Answers.{Ends, Answers, Holds, IsLarge}
-use Rattle.law_output.specs.Ends.{Audits, DoneOrMemory, IsSteady, NoFault}
+use Rattle.law_output.specs.Ends.{Commands, DoneOrMemory, IsSteady, NoFault}
 
-abbrev audited : Option Command → List ℕ
-audited None = []
-audited (Some (Audit name)) = name
+abbrev file_in : Option Command → List ℕ
+file_in None = []
+file_in (Some command) = file_of command
 
-same_name : (e : Ends) (a b : List ℕ) → form_of e.words ≡ Some (Audit a) → form_of e.words ≡ Some (Audit b) → a ≡ b
-same_name e a b p q = ap audited (sym p ∙ q)
+same_file : (e : Ends) (a b : Command) → form_of e.words ≡ Some a → form_of e.words ≡ Some b → file_of a ≡ file_of b
+same_file e a b p q = ap file_in (sym p ∙ q)
 
-not_both : (e : Ends) (a : List ℕ) → form_of e.words ≡ None → form_of e.words ≡ Some (Audit a) → ⊥
-not_both e a p q = let same : Some (Audit a) ≡ None = sym q ∙ p in cc
+not_both : (e : Ends) (a : Command) → form_of e.words ≡ None → form_of e.words ≡ Some a → ⊥
+not_both e a p q = let same : Some a ≡ None = sym q ∙ p in cc
 
 -- the file that is told is the one that was read
 told_is : (t : Told) (all bytes : List ℕ) → t ≡ File all → Holds t bytes → all ≡ bytes
@@ -39,16 +39,16 @@ not_malformed bytes rows good (inr bad) =
     let both : None ≡ Some bad.1 = sym good.1.1 ∙ ap fault_of is ∙ bad.2.1 in
     cc
 
-pub completes : (e : Ends) (s : Status) (all : List ℕ) (rows : DescRow) → Answers e s → NoFault e → Audits e all → WellFormed all rows → DoneOrMemory s
+pub completes : (e : Ends) (s : Status) (all : List ℕ) (rows : DescRow) → Answers e s → NoFault e → Commands e all → WellFormed all rows → DoneOrMemory s
 completes e Done all rows a none file good = inl refl
-completes e Usage all rows a none file good = elim (not_both e file.name a.cause.form file.form) [ ]
+completes e Usage all rows a none file good = elim (not_both e file.command a.cause.form file.form) [ ]
 completes e ReadFault all rows a none file good = elim (none.reads a.cause.read.rose) [ ]
 completes e TooLarge all rows a none file good =
-    let is : e.told a.cause.name ≡ File all = ap e.told (same_name e a.cause.name file.name a.cause.form file.form) ∙ file.told in
-    elim (too_large (e.told a.cause.name) all is file.size a.cause.large.large) [ ]
+    let is : e.told (file_of a.cause.command) ≡ File all = ap e.told (same_file e a.cause.command file.command a.cause.form file.form) ∙ file.told in
+    elim (too_large (e.told (file_of a.cause.command)) all is file.size a.cause.large.large) [ ]
 completes e Description all rows a none file good =
-    let is : e.told a.cause.name ≡ File all = ap e.told (same_name e a.cause.name file.name a.cause.form file.form) ∙ file.told in
-    let same : all ≡ a.cause.bytes = told_is (e.told a.cause.name) all a.cause.bytes is a.cause.file.holds in
+    let is : e.told (file_of a.cause.command) ≡ File all = ap e.told (same_file e a.cause.command file.command a.cause.form file.form) ∙ file.told in
+    let same : all ≡ a.cause.bytes = told_is (e.told (file_of a.cause.command)) all a.cause.bytes is a.cause.file.holds in
     elim (not_malformed a.cause.bytes rows (subst (λ b. WellFormed b rows) same good) a.cause.bad) [ ]
 completes e WriteFault all rows a none file good = elim (none.writes a.rose) [ ]
 completes e NoMemory all rows a none file good = inr refl
@@ -71,10 +71,10 @@ pub constant : (e : Ends) → e.read_faults ≡ 0 → e.read_faults_after ≡ 0 
 constant e a b c d = record { reads = still e.read_faults e.read_faults_after a b; writes = still e.write_faults e.write_faults_after c d }
 
 pub misuse : (e : Ends) (s : Status) → Answers e s → form_of e.words ≡ None → (s ≡ Usage) ⊎ (s ≡ WriteFault)
-misuse e Done a none = elim (not_both e a.cause.name none a.cause.form) [ ]
+misuse e Done a none = elim (not_both e a.cause.command none a.cause.form) [ ]
 misuse e Usage a none = inl refl
-misuse e ReadFault a none = elim (not_both e a.cause.name none a.cause.form) [ ]
-misuse e TooLarge a none = elim (not_both e a.cause.name none a.cause.form) [ ]
-misuse e Description a none = elim (not_both e a.cause.name none a.cause.form) [ ]
+misuse e ReadFault a none = elim (not_both e a.cause.command none a.cause.form) [ ]
+misuse e TooLarge a none = elim (not_both e a.cause.command none a.cause.form) [ ]
+misuse e Description a none = elim (not_both e a.cause.command none a.cause.form) [ ]
 misuse e WriteFault a none = inr refl
-misuse e NoMemory a none = elim (not_both e a.name none a.form) [ ]
+misuse e NoMemory a none = elim (not_both e a.command none a.form) [ ]

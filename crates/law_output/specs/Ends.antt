@@ -4,7 +4,7 @@ use Rattle.def_port.specs.Bytes.{Rose}
 use Rattle.def_port.specs.Told.{File}
 use Rattle.def_output.specs.declared.Status.{Status}
 use Rattle.def_output.specs.declared.Status.TheVariants.{Done, Usage, ReadFault, TooLarge, Description, WriteFault, NoMemory}
-use Rattle.def_output.specs.Commands.{Audit, form_of, most}
+use Rattle.def_output.specs.Commands.{Command, form_of, file_of, most}
 use Rattle.def_output.specs.Answers.{Ends}
 
 -- the status of a folder and a sink that never fail
@@ -22,11 +22,11 @@ pub record NoFault (e : Ends) : Type 0 where
   pub reads : Rose e.read_faults e.read_faults_after → ⊥
   pub writes : Rose e.write_faults e.write_faults_after → ⊥
 
--- the command audits a file that the folder tells, of a lawful size
-pub record Audits (e : Ends) (all : List ℕ) : Type 0 where
-  pub name : List ℕ
-  pub form : form_of e.words ≡ Some (Audit name)
-  pub told : e.told name ≡ File all
+-- the words are a form, and its file is one that the folder tells, of a lawful size
+pub record Commands (e : Ends) (all : List ℕ) : Type 0 where
+  pub command : Command
+  pub form : form_of e.words ≡ Some command
+  pub told : e.told (file_of command) ≡ File all
   pub size : length all ≤ most
 
 abbrev pub DoneOrMemory : Status → Type 0

@@ -1,4 +1,4 @@
-//! Laws of the program's answers over their definitions alone: an audit of a well-formed description
+//! Laws of the program's answers over their definitions alone: a command on a well-formed description
 //! without a fault is done or wants memory, and a folder and a sink that never fail leave no status
 //! of a fault.
 #![tactic(auto)]
@@ -10,12 +10,12 @@ ghost use Rattle.def_output.specs.declared.Status.{Status};
 ghost use Rattle.def_output.specs.declared.Status.TheVariants.{Usage, WriteFault};
 ghost use Rattle.def_output.specs.Answers.{Answers, Ends};
 ghost use Rattle.def_output.specs.Commands.{form_of};
-ghost use Rattle.law_output.specs.Ends.{Audits, DoneOrMemory, IsSteady, NoFault};
+ghost use Rattle.law_output.specs.Ends.{Commands, DoneOrMemory, IsSteady, NoFault};
 
-/// Completeness: where no fault is counted, and the words audit a file that holds a well-formed
+/// Completeness: where no fault is counted, and the words are a form whose file holds a well-formed
 /// description of a lawful size, the status is Done or NoMemory.
 pub fn completes()
-    ensures { (e : Ends) (s : Status) (all : List ℕ) (rows : DescRow) → Answers e s → NoFault e → Audits e all → WellFormed all rows → DoneOrMemory s }
+    ensures { (e : Ends) (s : Status) (all : List ℕ) (rows : DescRow) → Answers e s → NoFault e → Commands e all → WellFormed all rows → DoneOrMemory s }
 {}
 
 /// Where no fault is counted no status of a fault is answered; the counts of `SteadyFolder` and

@@ -3,4 +3,4 @@ use Rattle.ct_top.proofs.Endings.{misused}
 use Rattle.ct_top.proofs.command.Goals as goal
 
 pub returns-in-None : goal.returns-in-None
-returns-in-None g c = misused _ c.refuse_usage.result (sym c.in-None.ensures) (record { calls = refl; same = refl }) c.refuse_usage.ensures
+returns-in-None g c = misused _ c.refuse_usage.result (sym c.in-None.ensures.command) (record { calls = refl; same = refl }) c.refuse_usage.ensures

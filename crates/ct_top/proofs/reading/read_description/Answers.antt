@@ -1,8 +1,8 @@
-use Rattle.std.proofs.Common.{◌<◌, ◌≤◌, length, arith, string_bytes}
+use Rattle.std.proofs.Common.{◌<◌, ◌≤◌, length, arith}
 use Rattle.std.proofs.lemmas.Result.{MatchResult-weaker}
 use Rattle.def_output.specs.Commands.{most}
-use Rattle.ct_top.proofs.Files.{too_large, ready, unready}
-use Rattle.ct_top.proofs.audit.prepare.Goals as goal
+use Rattle.ct_top.proofs.Files.{too_large, described, unready}
+use Rattle.ct_top.proofs.reading.read_description.Goals as goal
 
 pub returns-then-len-gt-MOST : goal.returns-then-len-gt-MOST
 returns-then-len-gt-MOST g c =
@@ -13,6 +13,6 @@ pub returns : goal.returns
 returns g c =
     let size : length c.in-Ok.bytes.items ≤ most = omega (arith, c.if-len-gt-MOST.false, c.len.ensures, c.in-Ok.bytes.ok) in
     let read = c.in-Ok.ensures.answer in
-    MatchResult-weaker c.line_of.result (rw c.as_slice.ensures.value at c.line_of.ensures)
-    (λ s r. ready _ _ _ _ _ _ c.in-Ok.bytes.items (string_bytes s) read size r)
+    MatchResult-weaker c.description_of.result (rw c.as_slice.ensures.value at c.description_of.ensures)
+    (λ d w. described _ _ _ _ _ _ c.in-Ok.bytes.items d read size w)
     (λ stop n. unready _ _ _ _ _ _ c.in-Ok.bytes.items stop read size n)

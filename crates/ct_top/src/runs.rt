@@ -1,0 +1,132 @@
+//! The rows of `run`, over files and output in memory.
+
+use crate::Status;
+use crate::tests::{REPORT, TINY, outcome};
+use std::alloc::{AllocError, Global};
+
+/// The words of the sample's code.
+const WORDS: &str = r#"["00000297","ff82b283","04100513","00a2a023","00008067"]"#;
+
+/// The status of `run` on the sample with other words and so many bytes of code, and whether the
+/// output is the report line and these lines.
+fn run(
+    alloc: Global,
+    words: &str,
+    size: &str,
+    limit: &str,
+    lines: &str,
+) -> Result<Option<(Status, bool)>, AllocError> {
+    let description = TINY.replace(alloc, WORDS, words)?;
+    let member = format!(in alloc; "\"kind\":\"code\",\"length\":{size},")?;
+    let mut text = REPORT.replace(alloc, "\"kind\":\"code\",\"length\":48,", member.as_str())?;
+    text.push_str(lines)?;
+    let command = ["run", "tiny.json", limit];
+    Ok(outcome(
+        alloc,
+        &command,
+        description.as_bytes(),
+        100000,
+        0,
+        text.as_str(),
+    ))
+}
+
+/// Whether such a run is done with this output.
+fn runs(alloc: Global, words: &str, size: &str, limit: &str, lines: &str) -> bool {
+    match run(alloc, words, size, limit, lines) {
+        Ok(answer) => answer == Some((Status::Done, true)),
+        Err(_) => false,
+    }
+}
+
+#[test]
+fn tiny_run(rt: HostRuntime) {
+    assert!(rt;
+        runs(
+            rt.alloc(),
+            WORDS,
+            "48",
+            "100",
+            "4 store t0 c0 e4 10000000 4 00000041\nend finished steps 6 ticks 0 calls 0 devices 1 allocations 0 frees 0 traps 0\n",
+        )
+    );
+    assert!(rt;
+        runs(
+            rt.alloc(),
+            WORDS,
+            "48",
+            "3",
+            "end limit steps 3 ticks 0 calls 0 devices 0 allocations 0 frees 0 traps 0\n",
+        )
+    );
+}
+
+#[test]
+fn outside_the_device(rt: HostRuntime) {
+    assert!(rt;
+        runs(
+            rt.alloc(),
+            r#"["00000297","ff82b283","00a2a823"]"#,
+            "32",
+            "100",
+            "3 trap t0 c0 28 1 5\nend finished steps 3 ticks 0 calls 0 devices 0 allocations 0 frees 0 traps 1\n",
+        )
+    );
+}
+
+#[test]
+fn a_load_under_rights_to_write(rt: HostRuntime) {
+    assert!(rt;
+        runs(
+            rt.alloc(),
+            r#"["00000297","ff82b283","0002a503"]"#,
+            "32",
+            "100",
+            "3 trap t0 c0 28 18 5\nend finished steps 3 ticks 0 calls 0 devices 0 allocations 0 frees 0 traps 1\n",
+        )
+    );
+}
+
+#[test]
+fn a_division_by_zero(rt: HostRuntime) {
+    assert!(rt;
+        runs(
+            rt.alloc(),
+            r#"["00000297","ff82b283","00700513","020555b3","00b2a023","00008067"]"#,
+            "48",
+            "4000000000",
+            "5 store t0 c0 e4 10000000 4 ffffffff\nend finished steps 7 ticks 0 calls 0 devices 1 allocations 0 frees 0 traps 0\n",
+        )
+    );
+}
+
+#[test]
+fn one_word(rt: HostRuntime) {
+    assert!(rt;
+        runs(
+            rt.alloc(),
+            r#"["00000813"]"#,
+            "32",
+            "100",
+            "1 trap t0 c0 2 0 0\nend finished steps 1 ticks 0 calls 0 devices 0 allocations 0 frees 0 traps 1\n",
+        )
+    );
+    assert!(rt;
+        runs(
+            rt.alloc(),
+            r#"["0000006f"]"#,
+            "32",
+            "5",
+            "end limit steps 5 ticks 0 calls 0 devices 0 allocations 0 frees 0 traps 0\n",
+        )
+    );
+}
+
+#[test]
+fn second_write_fails(rt: HostRuntime) {
+    let words = ["run", "tiny.json", "100"];
+    let answer = outcome(rt.alloc(), &words, TINY.as_bytes(), 100000, 2, REPORT);
+    assert!(rt; answer == Some((Status::WriteFault, true)));
+    let answer = outcome(rt.alloc(), &words, TINY.as_bytes(), 100000, 1, "");
+    assert!(rt; answer == Some((Status::WriteFault, true)));
+}
