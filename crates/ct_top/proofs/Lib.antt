@@ -6,3 +6,4 @@ pub mod Joins
 pub mod Limits
 pub mod Counted
 pub mod Left
+pub mod Licences

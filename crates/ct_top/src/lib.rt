@@ -14,7 +14,11 @@ mod runs;
 mod tests;
 mod words;
 
-ghost use Rattle.std.specs.Prelude.{map, string_bytes};
+ghost use Rattle.std.specs.Prelude.{◌≡◌, ℕ, List, Some, map, string_bytes};
+ghost use Rattle.def_desc.specs.Rows.{DescRow};
+ghost use Rattle.def_desc.specs.WellFormed.{WellFormed};
+ghost use Rattle.def_output.specs.Commands.{Command, form_of as form_in};
+ghost use Rattle.def_output.specs.Licences.{IsLicensedCommand};
 ghost use Rattle.def_output.specs.Answers.{Answers, Ends, ReadsInOrder};
 
 use commands::perform;
@@ -29,8 +33,9 @@ use words::form_of;
 /// steps, and writes the report line, the lines of what happened and the summary.
 ///
 /// Every answer has its cause (clause `answer`), and in every answer the names read are a prefix of
-/// those that are due, and no read but the last failed (clause `names`). No memory is taken after
-/// the first write.
+/// those that are due, and no read but the last failed (clause `names`). Each deed, and each span with
+/// interrupts off, of the run that `run` asks for is licensed by the report's entries, whatever the
+/// code words are (clause `licensed`). No memory is taken after the first write.
 pub fn capfw<F: Folder, S: Sink>(
     alloc: Global,
     words: &[String],
@@ -61,6 +66,7 @@ pub fn capfw<F: Folder, S: Sink>(
       write_faults = S.faults sink.old;
       write_faults_after = S.faults sink.new;
     } in ReadsInOrder e }
+    ensures licensed { (asked : Command) (bytes : List ℕ) (rows : DescRow) → form_in (map string_bytes words.now) ≡ Some asked → WellFormed bytes rows → IsLicensedCommand asked rows }
 {
     command(alloc, words, folder, sink)
 }

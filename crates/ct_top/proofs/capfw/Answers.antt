@@ -1,5 +1,9 @@
 use Rattle.ct_top.proofs.Endings.{in_order}
+use Rattle.ct_top.proofs.Licences.{licensed_command}
 use Rattle.ct_top.proofs.capfw.Goals as goal
 
 pub returns-clause-names : goal.returns-clause-names
 returns-clause-names g c = in_order _ c.command.result c.command.ensures
+
+pub returns-clause-licensed : goal.returns-clause-licensed
+returns-clause-licensed g c = λ asked bytes rows form lawful. licensed_command asked bytes rows lawful
