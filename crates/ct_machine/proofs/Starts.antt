@@ -43,6 +43,6 @@ kept f gs presence active base h granules launched =
 
 pub started_kept : (f : FirmwareRow) (gs : List Granule) (presence : Presence) (active : Thread) (base ram : ℕ) → IsLawfulFirmware f → gs ≡ boot_granules f → Launched f presence active base → ram ≡ f.ram → IsKept (image_of f) ram base (top_of active) (length gs) presence × IsCounted no_counts 0
 started_kept f gs presence active base ram h granules launched same = (
-    subst (λ (x : ℕ). IsKept (image_of f) x base (top_of active) (length gs) presence) (sym same) (kept f gs presence active base h granules launched),
-    record { steps = omega arith; ticks = omega arith; inputs = omega arith; deeds = omega arith; clock = omega arith },
-  )
+  subst (λ (x : ℕ). IsKept (image_of f) x base (top_of active) (length gs) presence) (sym same) (kept f gs presence active base h granules launched),
+  record { steps = omega arith; ticks = omega arith; inputs = omega arith; deeds = omega arith; clock = omega arith },
+)

@@ -19,7 +19,12 @@ use def_refusals::NoMemory;
 use std::alloc::Global;
 
 /// A machine of its parts, before its first event.
-fn put_together<M: Memory + Drop>(firmware: Firmware, bus: Bus, mem: M, launch: Launch) -> Machine<M>
+fn put_together<M: Memory + Drop>(
+    firmware: Firmware,
+    bus: Bus,
+    mem: M,
+    launch: Launch,
+) -> Machine<M>
     requires lawful { IsLawfulFirmware firmware }
     requires bus { bus ≡ bank_of firmware }
     requires booted { M.granules mem ≡ boot_granules firmware }
