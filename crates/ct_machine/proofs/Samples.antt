@@ -1,10 +1,10 @@
 -- The firmware of the tests is lawful.
-use Rattle.std.proofs.Common.{ℕ, zero, suc, ◌+◌, ◌*◌, ◌/◌, ◌%◌, ◌≡◌, ◌<◌, ◌≤◌, ◌⊎◌, inl, inr, List, [], ◌∷◌, length, refl, arith}
+use Rattle.std.proofs.Common.{ℕ, suc, ◌+◌, ◌*◌, ◌/◌, ◌%◌, ◌≡◌, ◌<◌, ◌≤◌, ◌⊎◌, inl, inr, List, [], ◌∷◌, length, refl, arith}
 use Rattle.std.proofs.Math.ListN.{get_or}
 use Rattle.std.proofs.lemmas.Bool.{leb-true, ltb-true}
 use Rattle.ct_entry.specs.declared.hardware.DeviceKind.{DeviceKind}
 use Rattle.def_machine.specs.Objects.{Each}
-use Rattle.def_step.specs.Firmware.{IsLawfulFirmware, IsShare, IsPlaced, Share, StackRange, RegionRange, range, code_length}
+use Rattle.def_step.specs.Firmware.{IsLawfulFirmware, Share, StackRange}
 use Rattle.ct_machine.specs.Sample.{sample}
 
 pub each_small : (xs : List ℕ) → ((k : ℕ) → k < length xs → get_or xs k 0 < 256) → Each (λ x. x < 256) xs

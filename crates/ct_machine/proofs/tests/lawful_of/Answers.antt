@@ -1,7 +1,5 @@
-use Rattle.std.proofs.Common.{◌≡◌, ◌<◌, ◌≤◌, ◌*◌, ◌%◌, length, sym, subst, arith}
-use Rattle.ct_entry.specs.Listed.{FirmwareRow}
+use Rattle.std.proofs.Common.{◌<◌, arith}
 use Rattle.def_machine.specs.Objects.{Each}
-use Rattle.def_step.specs.Firmware.{IsLawfulFirmware}
 use Rattle.ct_machine.proofs.Samples.{lawful_sample}
 use Rattle.ct_machine.proofs.tests.lawful_of.Goals as goal
 

@@ -1,4 +1,4 @@
-use Rattle.std.proofs.Common.{◌≡◌, ◌<◌, length, arith}
+use Rattle.std.proofs.Common.{arith}
 use Rattle.ct_machine.proofs.Samples.{each_small}
 use Rattle.ct_machine.proofs.tests.see_bytes.Goals as goal
 
