@@ -1,13 +1,13 @@
 -- The thread of a lawful firmware: where its stack lies, and that it is the only one.
-use Rattle.std.proofs.Common.{ℕ, zero, suc, ◌+◌, ◌-◌, ◌*◌, ◌/◌, ◌%◌, ◌≡◌, ◌≤◌, ◌<◌, ◌∙◌, Bool, false, true, ◌&&◌, List, [], ◌∷◌, ◌++◌, Some, None, length, map, refl, ap, sym, subst, arith, slice_get}
-use Rattle.ct_entry.specs.Listed.{FirmwareRow, Listed}
+use Rattle.std.proofs.Common.{ℕ, suc, ◌+◌, ◌-◌, ◌/◌, ◌%◌, ◌≡◌, ◌≤◌, ◌<◌, ◌∙◌, false, ◌&&◌, List, [], ◌∷◌, ◌++◌, Some, None, length, map, refl, ap, sym, subst, arith, slice_get}
+use Rattle.ct_entry.specs.Listed.{FirmwareRow}
 use Rattle.ct_entry.specs.declared.rows.Entry.{Entry}
 use Rattle.ct_entry.specs.declared.starting.Starter.{Starter}
 use Rattle.def_machine.specs.Image.{stack_base}
 use Rattle.def_machine.specs.Objects.{Each}
 use Rattle.def_machine.specs.State.{Thread}
 use Rattle.def_reach.specs.Roots.{root_of}
-use Rattle.def_step.specs.Boot.{first_number, is_stack_kind, is_thread, stack_number, stack_top_of, image_of, first_thread}
+use Rattle.def_step.specs.Boot.{first_number, is_stack_kind, is_thread, stack_number, image_of, first_thread}
 use Rattle.def_step.specs.Firmware.{IsLawfulFirmware, IsPlaced, IsStack, Share, StackRange, DeviceImport, share_rows, all_share_rows, export_rows, device_row, stack_row, stack_rows, share_ranges, stack_ranges, range, trusted_length}
 use Rattle.ct_boot.proofs.Lawful.{both, before, after}
 use Rattle.ct_boot.proofs.Rooted.{root_found}

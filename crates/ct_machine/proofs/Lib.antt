@@ -1,6 +1,7 @@
 pub mod Clears
 pub mod Executed
 pub mod Launches
+pub mod Samples
 pub mod Sizes
 pub mod Starts
 pub mod Guards

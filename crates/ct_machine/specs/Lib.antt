@@ -1,3 +1,4 @@
 pub mod Parts
 pub mod Deciding
 pub mod Launching
+pub mod Sample

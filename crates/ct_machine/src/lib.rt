@@ -17,3 +17,6 @@ mod works;
 
 pub use def_step::Event;
 pub use machine::Machine;
+
+#[cfg(test)]
+mod tests;

@@ -1,4 +1,4 @@
-use Rattle.std.proofs.Common.{◌≡◌, ◌∙◌, sym}
+use Rattle.std.proofs.Common.{◌∙◌, sym}
 use Rattle.ct_machine.proofs.Launches.{launched_alive, launched_absent}
 use Rattle.ct_machine.proofs.launching.launch_of.Goals as goal
 

@@ -1,4 +1,4 @@
-use Rattle.std.proofs.Common.{◌≡◌, ◌∙◌, ap}
+use Rattle.std.proofs.Common.{ap}
 use Rattle.ct_machine.proofs.Starts.{started_is, started_kept}
 use Rattle.ct_machine.proofs.starting.put_together.Goals as goal
 
