@@ -214,9 +214,10 @@ fn carry_access<M: Memory>(
                 None => integer(0),
             };
             advance(active, operands.to, value);
+            let used = x.cap.shadow.root;
             Ran::Went {
                 act: moved.device,
-                entry: x.cap.shadow.root,
+                entry: used,
             }
         }
         Err(trap) => Ran::Trapped { trap },
