@@ -1,5 +1,5 @@
 -- A step counts as one.
-use Rattle.std.proofs.Common.{◌≡◌, ℕ, ◌+◌, ◌&&◌, not, Bool, true, false, List, [], ◌∷◌, Option, Some, None, Result, Ok, Err, refl, sym, ap, ◌∙◌}
+use Rattle.std.proofs.Common.{◌≡◌, ℕ, ◌+◌, ◌&&◌, not, List, [], ◌∷◌, Option, Some, None, Result, Ok, Err, refl, ap, ◌∙◌}
 use Rattle.ct_entry.specs.declared.acts.Act.{Act}
 use Rattle.ct_entry.specs.declared.acts.Act.TheVariants.{Call, Load, Store, Allocate, Free, Trap}
 use Rattle.ct_entry.specs.declared.acts.Deed.{Deed}
@@ -7,17 +7,16 @@ use Rattle.ct_entry.specs.Listed.{FirmwareRow}
 use Rattle.def_words.specs.declared.Cap.{Cap}
 use Rattle.def_words.specs.declared.Trap as trap_words
 use Rattle.def_words.specs.Authority.{cap_address}
-use Rattle.def_instr.specs.declared.Instr.{Instr}
 use Rattle.def_machine.specs.Image.{Image}
-use Rattle.def_machine.specs.State.{State, Frame, Counts, Status, thread}
+use Rattle.def_machine.specs.State.{State, Frame, Counts, thread}
 use Rattle.def_machine.specs.Frames.{returned, unwound}
 use Rattle.def_step.specs.declared.Next.{Next}
 use Rattle.def_step.specs.declared.Next.TheVariants.{Returning, Instruction, Nothing}
 use Rattle.def_step.specs.declared.Event.TheVariants.{Step}
 use Rattle.def_step.specs.Checks.{first_failed}
 use Rattle.def_step.specs.Operands.{operands_of, class_of}
-use Rattle.def_step.specs.Instructions.{Board, Done, executed, after_fetch, goes_on, instructed, ends, trapped, fetch_checks, next_at, space_of, operand, carried_out, around}
-use Rattle.def_step.specs.Events.{happens, stepped, run_on, continued, noted, with_deed, with_act, scheduled, picked_from, preempted, preempted_from, one_more_step, is_ready}
+use Rattle.def_step.specs.Instructions.{Board, Done, executed, after_fetch, goes_on, ends, fetch_checks, next_at, space_of, operand, carried_out, around}
+use Rattle.def_step.specs.Events.{happens, stepped, continued, with_deed, with_act, scheduled, picked_from, preempted, preempted_from, one_more_step, is_ready}
 use Rattle.def_step.specs.Boot.{boot_state}
 use Rattle.law_lists.proofs.Tests.{chosen}
 

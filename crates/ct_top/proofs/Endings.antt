@@ -1,23 +1,21 @@
 -- From what a file gave and what was written, the answer of the call.
-use Rattle.std.proofs.Common.{◌≡◌, ℕ, Bool, true, false, List, [], ◌∷◌, Option, Some, None, refl, sym, ap, ◌∙◌, subst, ◌⊎◌, inl, inr}
-use Rattle.def_port.specs.Writes.{Writes, WriteFails}
+use Rattle.std.proofs.Common.{◌≡◌, ℕ, Bool, true, false, List, [], ◌∷◌, Some, None, refl, sym, ap, ◌∙◌, subst, ◌⊎◌, inl, inr}
 use Rattle.def_output.specs.declared.Status.{Status}
 use Rattle.def_output.specs.declared.Status.TheVariants.{Done, Usage, ReadFault, TooLarge, Description, WriteFault}
 use Rattle.def_output.specs.declared.Status.TheVariants as status
 use Rattle.def_output.specs.Commands.{Command, form_of, file_of, due_names}
 use Rattle.def_output.specs.Runs.{due_text}
 use Rattle.def_desc.specs.Rows.{DescRow}
-use Rattle.def_output.specs.Answers.{Ends, Answers, Cause, Whole, Broken, NothingRead, WasRead, ReadsInOrder}
+use Rattle.def_output.specs.Answers.{Ends, Answers, Cause, Whole, NothingRead, WasRead, ReadsInOrder}
 use Rattle.def_port.specs.Reads.{recorded}
 use Rattle.std.proofs.lemmas.List.{append-nil}
 use Rattle.def_output.specs.Lines.{usage_line, read_line, large_line, description_line}
 use Rattle.ct_top.specs.declared.reading.Stop.{Stop}
 use Rattle.ct_top.specs.declared.reading.Stop.TheVariants.{Unread, Large, Bad, NoMemory}
-use Rattle.ct_top.specs.Forms.{command_for, command_of}
-use Rattle.ct_top.specs.declared.words.Form.{Form}
+use Rattle.ct_top.specs.Forms.{command_for}
 use Rattle.ct_top.specs.declared.words.Task.{Task}
 use Rattle.ct_top.specs.declared.words.Task.TheVariants.{Audit, Run}
-use Rattle.ct_top.specs.Steps.{Described, Stopped, Closes, Refuses, Settles, Silent}
+use Rattle.ct_top.specs.Steps.{Described, Stopped, Closes, Refuses, Settles}
 
 -- a status that isn't WriteFault and isn't NoMemory answers where it is whole
 abbrev Speaks : Status → Type 0

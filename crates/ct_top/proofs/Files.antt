@@ -1,12 +1,12 @@
 -- A file that was given whole, or that is too large, and a description that was read.
-use Rattle.std.proofs.Common.{◌≡◌, ℕ, suc, ◌+◌, ◌<◌, ◌≤◌, List, length, take, refl, sym, ap, ◌∙◌, arith, min, subst, true, inr}
+use Rattle.std.proofs.Common.{◌≡◌, ℕ, ◌+◌, ◌<◌, ◌≤◌, List, length, take, sym, ap, ◌∙◌, arith, min, subst, true, inr}
 use Rattle.std.proofs.lemmas.List.{length-take, take_all}
 use Rattle.def_port.specs.Told.{Told, Silent, Absent, File, Gives, Call}
 use Rattle.def_port.specs.Reads.{Reads}
 use Rattle.def_desc.specs.Rows.{DescRow}
 use Rattle.def_desc.specs.Placing.{is_placed}
 use Rattle.def_desc.specs.WellFormed.{WellFormed}
-use Rattle.def_output.specs.Answers.{Holds, IsLarge, IsFile, Exceeds, WasRead}
+use Rattle.def_output.specs.Answers.{Holds, IsLarge, IsFile, WasRead}
 use Rattle.def_output.specs.Commands.{most}
 use Rattle.ct_top.specs.Steps.{NoDescription, Described, ReadButLarge, Stopped}
 use Rattle.ct_top.specs.declared.reading.Stop.{Stop}

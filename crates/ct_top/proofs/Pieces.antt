@@ -1,8 +1,8 @@
 -- Two pieces that are written one after the other.
-use Rattle.std.proofs.Common.{◌≡◌, ℕ, ◌+◌, ◌-◌, ◌^◌, ◌≤◌, ◌==◌, true, min, List, [], ◌∷◌, ◌++◌, length, Option, Some, None, refl, ◌∙◌, ap, sym, subst, arith}
+use Rattle.std.proofs.Common.{◌≡◌, ℕ, ◌==◌, true, List, [], ◌∷◌, ◌++◌, length, Option, Some, None, refl, ◌∙◌, ap, sym, subst, arith}
 use Rattle.std.proofs.lemmas.Bool.{eqb-true}
 use Rattle.std.proofs.lemmas.List.{append_assoc, append-nil}
-use Rattle.def_port.specs.Bytes.{Rose, Appends, AppendsPart}
+use Rattle.def_port.specs.Bytes.{Rose, Appends}
 use Rattle.def_port.specs.Writes.{Writes, WriteFails}
 use Rattle.law_lists.proofs.Added.{appends_both}
 

@@ -1,4 +1,4 @@
-use Rattle.std.proofs.Common.{refl, sym, ◌∙◌}
+use Rattle.std.proofs.Common.{refl, sym}
 use Rattle.ct_top.proofs.Endings.{misused}
 use Rattle.ct_top.proofs.command.Goals as goal
 
