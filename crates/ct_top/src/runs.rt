@@ -122,6 +122,36 @@ fn one_word(rt: HostRuntime) {
     );
 }
 
+/// The status of `run` on the sample with a gpio that may be read and written, and whether the output
+/// is as the row says.
+fn run_of_pins(alloc: Global) -> Result<Option<(Status, bool)>, AllocError> {
+    let kind = TINY.replace(alloc, "\"kind\":\"uart\"", "\"kind\":\"gpio\"")?;
+    let rights = kind.replace(alloc, "\"rights\":\"W\"", "\"rights\":\"RW\"")?;
+    let words = r#"["00000297","ff82b283","04100513","00a2a023","0002a583","00008067"]"#;
+    let description = rights.replace(alloc, WORDS, words)?;
+    let report = REPORT.replace(alloc, "\"kind\":\"uart\"", "\"kind\":\"gpio\"")?;
+    let mut text = report.replace(alloc, "\"GL SD\"", "\"GL SD LD\"")?;
+    text.push_str("4 store t0 c0 e4 10000000 4 00000041\n")?;
+    text.push_str("5 load t0 c0 e4 10000000 4 00000041\n")?;
+    text.push_str(
+        "end finished steps 7 ticks 0 calls 0 devices 2 allocations 0 frees 0 traps 0\n",
+    )?;
+    let command = ["run", "tiny.json", "100"];
+    Ok(outcome(
+        alloc,
+        &command,
+        description.as_bytes(),
+        100000,
+        0,
+        text.as_str(),
+    ))
+}
+
+#[test]
+fn pins_written_and_read(rt: HostRuntime) {
+    assert!(rt; matches!(run_of_pins(rt.alloc()), Ok(Some((Status::Done, true)))));
+}
+
 #[test]
 fn second_write_fails(rt: HostRuntime) {
     let words = ["run", "tiny.json", "100"];
