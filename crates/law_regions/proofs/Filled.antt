@@ -11,10 +11,10 @@ use Rattle.ct_entry.specs.declared.rows.Entry.{Entry}
 use Rattle.ct_entry.specs.declared.rows.Owner.{Owner}
 use Rattle.ct_entry.specs.declared.rows.Owner.TheVariants.{Trusted, Compartment, Library, Thread}
 use Rattle.def_reach.specs.Roots.{Root, root_of, gate_for, listed_root, no_root}
-use Rattle.def_step.specs.Firmware.{IsLawfulFirmware, Share, DeviceImport, code_row, globals_row, switch_row, device_row, stack_row, text_offset}
+use Rattle.def_step.specs.Firmware.{IsLawfulFirmware, IsShare, Share, DeviceImport, code_row, globals_row, switch_row, device_row, stack_row, text_offset}
 use Rattle.def_step.specs.Boot.{is_compartment, is_slot_kind, is_slot_at, is_export_kind, slot_number, head_number, head_from, code_number, globals_number, made_for, return_sentry, export_at, export_first, export_second, text_base, text_word, text_from, boot_word, boot_cap}
 use Rattle.law_entries.specs.Rows.{HasRow, HasShare, IsExportOf, EntryIs, is_nothing, is_trusted, is_code, is_globals, is_switch, is_import, is_export, is_stack, export_row, export_place}
-use Rattle.law_entries.proofs.Standing.{present}
+use Rattle.law_entries.proofs.Standing.{each_at, present}
 use Rattle.law_entries.proofs.Numbers.{first_passes, eq_self}
 use Rattle.law_entries.proofs.Classes.{entry_of, share_of}
 use Rattle.law_entries.proofs.Fitting.{share_fits}
@@ -181,6 +181,16 @@ module _ (f : FirmwareRow) (h : IsLawfulFirmware f) where
       (in_code (own.share.code + 8 * own.which) own.which own.index own.share (made_for f (1 + m)) own.there (own.share, own.there, slot_in own.share own.which (own.share.code + 8 * own.which) refl own.few) refl (sym own.made)))
 
   -- ---- texts
+
+  pub text_short : (b : ℕ) (t : List ℕ) → slice_get f.texts b ≡ Some t → length t ≤ 4096
+  text_short b t is =
+      let count = ap (λ (z : List (List ℕ)). length z) h.texts ∙ length-map h.shares (λ (c : Share). c.text) in
+      let listed : b < length f.texts = slice_get_within f.texts b t is in
+      let found = present h.shares b (omega (arith, listed, count)) in
+      let text : found.0.text ≡ t = (let same : Some found.0.text ≡ Some t = sym (text_there b found.0 found.1) ∙ is in cc) in
+      let size : length found.0.text ≡ length t = ap (λ (z : List ℕ). length z) text in
+      let most = (each_at (IsShare f) h.shares b found.0 h.each_share found.1).words.1 in
+      omega (arith, size, most)
 
   pub puts_text : (b w : ℕ) (t : List ℕ) → slice_get f.texts b ≡ Some t → 8 * w < length t → Puts f (text_base f b + 8 * w) (plain (text_word t (8 * w)))
   puts_text b w t is less =
