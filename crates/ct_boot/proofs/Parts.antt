@@ -1,7 +1,6 @@
--- What stands in RAM for a compartment: its entries, its text and the head of its table.
-use Rattle.std.proofs.Common.{ℕ, suc, ◌+◌, ◌-◌, ◌*◌, ◌/◌, ◌^◌, ◌≡◌, ◌<◌, ◌≤◌, ◌⊎◌, ◌∙◌, inl, inr, true, false, List, Some, None, slice_get, length, refl, ap, sym, subst, arith}
-use Rattle.std.proofs.lemmas.List.{length-map}
-use Rattle.std.proofs.lemmas.Option.{slice_get-map, slice_get_within}
+-- What stands in RAM for a compartment: its entries, one after another, and its text.
+use Rattle.std.proofs.Common.{ℕ, ◌+◌, ◌-◌, ◌*◌, ◌^◌, ◌≡◌, ◌<◌, ◌≤◌, ◌⊎◌, ◌∙◌, inl, inr, true, false, List, Some, slice_get, length, refl, ap, sym, subst, arith}
+use Rattle.std.proofs.lemmas.Option.{slice_get_within}
 use Rattle.law_lists.proofs.Tests.{lt_tells}
 use Rattle.ct_entry.specs.Listed.{FirmwareRow}
 use Rattle.ct_entry.specs.declared.rows.Entry.{Entry}
@@ -10,22 +9,13 @@ use Rattle.def_memory.specs.declared.Granule.{Granule}
 use Rattle.def_memory.specs.Granules.{plain}
 use Rattle.def_reach.specs.Roots.{Root, root_of, gate_for}
 use Rattle.def_step.specs.Firmware.{IsLawfulFirmware}
-use Rattle.def_step.specs.Boot.{code_number, text_base, is_compartment, is_slot_kind, is_export_kind, export_first, export_second, made_for}
+use Rattle.def_step.specs.Boot.{is_compartment, is_slot_kind, is_export_kind, export_first, export_second}
 use Rattle.law_regions.specs.Filled.{Puts, slot_place, HeadAt, SlotAt, ExportAt, RowAt, RowsAt, TextAt, PartAt}
 use Rattle.law_regions.proofs.Roots.{root_of_row}
 use Rattle.law_regions.proofs.Filled.{owner_is, puts_first, puts_second}
 use Rattle.ct_boot.specs.declared.places.Part.{Part}
 use Rattle.ct_boot.specs.Growing.{Booting, Stage, IsPart, IndexAt, RowsTo, PartsTo, WordsTo}
 use Rattle.ct_boot.proofs.Stages.{stage_none, stage_then, stage_as, puts_as}
-
--- ---- heads
-
-pub head_stage : (f : FirmwareRow) (b table : ℕ) (old now : List Granule) → slice_get f.tables b ≡ Some table → Stage f old now (λ x. (x ≡ table) ⊎ (x ≡ table + 8)) → Stage f old now (HeadAt f b)
-head_stage f b table old now there stage = stage_as f old now (λ x. (x ≡ table) ⊎ (x ≡ table + 8)) (HeadAt f b) stage
-    (λ x h. let both : Some h.0 ≡ Some table = sym h.1 ∙ there in let same : h.0 ≡ table = cc in let P : ℕ → Type 0 = λ t. (x ≡ t) ⊎ (x ≡ t + 8) in subst P same h.2)
-
-pub no_head : (f : FirmwareRow) (b : ℕ) (gs : List Granule) → Booting f gs → slice_get f.tables b ≡ None → Stage f gs gs (HeadAt f b)
-no_head f b gs h none = stage_none f gs (HeadAt f b) h (λ x at. let clash : None ≡ Some at.0 = sym none ∙ at.1 in cc)
 
 -- ---- slots
 
@@ -47,7 +37,6 @@ pub first_word : (f : FirmwareRow) (l : IsLawfulFirmware f) (p : Part) (m n : �
     → Puts f r.base (plain ((gate_for f.entries.gates n).code - p.text + (gate_for f.entries.gates n).stack * 2 ^ 32))
 first_word f l p m n r part there own is number =
     let owner : (root_of f.entries (1 + m)).owner ≡ Compartment p.of = ap (λ (z : Root). z.owner) (root_of_row f m (1 + m) r (omega arith) there) ∙ owner_is p.of r.owner own in
-    let g = gate_for f.entries.gates in
     let word : (gate_for f.entries.gates n).code - p.text + (gate_for f.entries.gates n).stack * 2 ^ 32 ≡ export_first f (gate_for f.entries.gates (1 + m)) (root_of f.entries (1 + m)).owner =
     ap (λ k. (gate_for f.entries.gates k).code - p.text + (gate_for f.entries.gates k).stack * 2 ^ 32) number
     ∙ ap (λ t. (gate_for f.entries.gates (1 + m)).code - t + (gate_for f.entries.gates (1 + m)).stack * 2 ^ 32) part.text
@@ -65,16 +54,6 @@ no_row f b n r gs h none = stage_none f gs (RowAt f b n r) h (λ x at. let clash
 
 pub row_stage : (f : FirmwareRow) (b n : ℕ) (r : Entry) (old mid now : List Granule) → Stage f old mid (SlotAt f b n r) → Stage f mid now (ExportAt r) → Stage f old now (RowAt f b n r)
 row_stage f b n r old mid now slot export = stage_then f old mid now (SlotAt f b n r) (ExportAt r) (RowAt f b n r) slot export (λ x at. at.1)
-
-pub index_stage : (f : FirmwareRow) (b m : ℕ) (r : Entry) (old now : List Granule) → slice_get f.entries.rows m ≡ Some r → Stage f old now (RowAt f b (1 + m) r) → Stage f old now (IndexAt f b m)
-index_stage f b m r old now there stage = stage_as f old now (RowAt f b (1 + m) r) (IndexAt f b m) stage
-    (λ x h. let both : Some h.0 ≡ Some r = sym h.1 ∙ there in let same : h.0 ≡ r = cc in subst (λ (z : Entry). RowAt f b (1 + m) z x) same h.2)
-
-pub no_index : (f : FirmwareRow) (b m : ℕ) (gs : List Granule) → Booting f gs → slice_get f.entries.rows m ≡ None → Stage f gs gs (IndexAt f b m)
-no_index f b m gs h none = stage_none f gs (IndexAt f b m) h (λ x at. let clash : None ≡ Some at.0 = sym none ∙ at.1 in cc)
-
-pub rows_start : (f : FirmwareRow) (b : ℕ) (gs : List Granule) → Booting f gs → Stage f gs gs (RowsTo f b 0)
-rows_start f b gs h = stage_none f gs (RowsTo f b 0) h (λ x at. let lt = at.1 in omega (arith, lt))
 
 row_next : (f : FirmwareRow) (b n x : ℕ) → RowsTo f b (n + 1) x → RowsTo f b n x ⊎ IndexAt f b n x
 row_next f b n x h = elim (lt_tells h.0 n) [
@@ -95,9 +74,6 @@ rows_end f b n old now all so_far = stage_as f old now (RowsTo f b n) (RowsAt f 
 
 -- ---- words
 
-pub words_start : (f : FirmwareRow) (base : ℕ) (text : List ℕ) (gs : List Granule) → Booting f gs → Stage f gs gs (WordsTo base text 0)
-words_start f base text gs h = stage_none f gs (WordsTo base text 0) h (λ x at. let lt = at.1 in omega (arith, lt))
-
 word_next : (base n : ℕ) (text : List ℕ) (x : ℕ) → WordsTo base text (n + 1) x → WordsTo base text n x ⊎ ((8 * n < length text) × (x ≡ base + 8 * n))
 word_next base n text x h = elim (lt_tells h.0 n) [
   | inl less ↦ inl (h.0, less.1, h.2, h.3)
@@ -113,34 +89,12 @@ word_next base n text x h = elim (lt_tells h.0 n) [
 pub words_next : (f : FirmwareRow) (base n : ℕ) (text : List ℕ) (old mid now : List Granule) → Stage f old mid (WordsTo base text n) → Stage f mid now (λ x. (8 * n < length text) × (x ≡ base + 8 * n)) → Stage f old now (WordsTo base text (n + 1))
 words_next f base n text old mid now so_far next = stage_then f old mid now (WordsTo base text n) (λ x. (8 * n < length text) × (x ≡ base + 8 * n)) (WordsTo base text (n + 1)) so_far next (λ x h. word_next base n text x h)
 
-pub no_word : (f : FirmwareRow) (base n : ℕ) (text : List ℕ) (gs : List Granule) → Booting f gs → length text ≤ 8 * n → Stage f gs gs (λ x. (8 * n < length text) × (x ≡ base + 8 * n))
-no_word f base n text gs h past = stage_none f gs (λ x. (8 * n < length text) × (x ≡ base + 8 * n)) h (λ x at. let lt = at.0 in omega (arith, past, lt))
-
-pub text_stage : (f : FirmwareRow) (p : Part) (text : List ℕ) (old now : List Granule) → IsPart f p → slice_get f.texts p.of ≡ Some text → Stage f old now (WordsTo p.text text (length text / 8 + 1)) → Stage f old now (TextAt f p.of)
-text_stage f p text old now part there stage = stage_as f old now (WordsTo p.text text (length text / 8 + 1)) (TextAt f p.of) stage by
-  where
-    by : (x : ℕ) → TextAt f p.of x → WordsTo p.text text (length text / 8 + 1) x
-    by x h =
-        let both : Some h.0 ≡ Some text = sym h.2 ∙ there in
-        let same : h.0 ≡ text = cc in
-        let size : length h.0 ≡ length text = ap (λ (z : List ℕ). length z) same in
-        let lt = h.3 in
-        let at = h.4 in
-        let base = part.text in
-        (h.1, omega (arith, lt, size), omega (arith, lt, size), omega (arith, at, base))
-
-pub no_text : (f : FirmwareRow) (b : ℕ) (gs : List Granule) → Booting f gs → slice_get f.texts b ≡ None → Stage f gs gs (TextAt f b)
-no_text f b gs h none = stage_none f gs (TextAt f b) h (λ x at. let clash : None ≡ Some at.0 = sym none ∙ at.2 in cc)
-
 -- ---- whole compartments
 
 pub part_stage : (f : FirmwareRow) (b : ℕ) (old first second now : List Granule) → Stage f old first (HeadAt f b) → Stage f first second (RowsAt f b) → Stage f second now (TextAt f b) → Stage f old now (PartAt f b)
 part_stage f b old first second now head rows text =
     stage_then f old first now (HeadAt f b) (λ x. RowsAt f b x ⊎ TextAt f b x) (PartAt f b) head
     (stage_then f first second now (RowsAt f b) (TextAt f b) (λ x. RowsAt f b x ⊎ TextAt f b x) rows text (λ x h. h)) (λ x h. h)
-
-pub parts_start : (f : FirmwareRow) (gs : List Granule) → Booting f gs → Stage f gs gs (PartsTo f 0)
-parts_start f gs h = stage_none f gs (PartsTo f 0) h (λ x at. let lt = at.1 in omega (arith, lt))
 
 part_next : (f : FirmwareRow) (n x : ℕ) → PartsTo f (n + 1) x → PartsTo f n x ⊎ PartAt f n x
 part_next f n x h = elim (lt_tells h.0 n) [

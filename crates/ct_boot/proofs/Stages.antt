@@ -1,23 +1,20 @@
 -- RAM while it is booted, granule by granule, and at the end.
-use Rattle.std.proofs.Common.{ℕ, zero, suc, false, ◌+◌, ◌-◌, ◌*◌, ◌/◌, ◌%◌, ◌≡◌, ◌<◌, ◌≤◌, ◌⊎◌, ◌∙◌, inl, inr, List, [], ◌∷◌, Some, slice_get, length, replicate, refl, ap, sym, subst, arith}
+use Rattle.std.proofs.Common.{ℕ, zero, suc, false, ◌+◌, ◌-◌, ◌*◌, ◌/◌, ◌≡◌, ◌<◌, ◌⊎◌, ◌∙◌, inl, inr, List, [], ◌∷◌, length, replicate, refl, ap, sym, subst, arith}
 use Rattle.std.proofs.Math.ListN.{get_or, set}
 use Rattle.std.proofs.lemmas.List.{length-set}
-use Rattle.std.proofs.lemmas.Option.{slice_get_within}
-use Rattle.std.proofs.lemmas.Bool.{cases_eq}
 use Rattle.law_lists.proofs.Sets.{after_set_at}
 use Rattle.ct_entry.specs.Listed.{FirmwareRow}
-use Rattle.ct_entry.specs.declared.rows.Entry.{Entry}
 use Rattle.def_words.specs.declared.Cap.{Cap}
 use Rattle.def_memory.specs.declared.Granule.{Granule}
 use Rattle.def_memory.specs.Granules.{plain, nothing, granule_at}
 use Rattle.def_memory.specs.Accesses.{stored_cap}
 use Rattle.def_step.specs.Firmware.{IsLawfulFirmware}
 use Rattle.def_step.specs.Boot.{boot_cap, boot_granule, boot_granules}
-use Rattle.law_regions.specs.Filled.{Puts, Filled, PartAt, RowAt, RowsAt}
+use Rattle.law_regions.specs.Filled.{Puts}
 use Rattle.law_regions.proofs.Granules.{nth_granule, how_many}
 use Rattle.law_regions.proofs.Filled.{filled}
 use Rattle.ct_boot.specs.Bootable.{empty_granules}
-use Rattle.ct_boot.specs.Growing.{IsDone, Booting, Stage, RowsTo, PartsTo, WordsTo}
+use Rattle.ct_boot.specs.Growing.{IsDone, Booting, Stage, PartsTo}
 
 pub stage_none : (f : FirmwareRow) (gs : List Granule) (Of : ℕ → Type 0) → Booting f gs → ((x : ℕ) → Of x → ⊥) → Stage f gs gs Of
 stage_none f gs Of h none = record { booting = h; keeps = λ k d. d; done = λ k of. absurd (none (f.ram + 8 * k) of) }

@@ -93,7 +93,12 @@ fn put_words_of<M: Memory>(firmware: &Firmware, mem: &mut M, part: Part, number:
     ensures { Stage firmware.now (M.granules mem.old) (M.granules mem.new) (λ x. (x ≡ base) ⊎ (x ≡ base + 8)) }
 {
     let gate = gate_of(&firmware.entries, number);
-    put(firmware, mem, base as u64, plain(export_first(part.text, gate)));
+    put(
+        firmware,
+        mem,
+        base as u64,
+        plain(export_first(part.text, gate)),
+    );
     put(firmware, mem, base as u64 + 8, plain(export_second(gate)));
 }
 

@@ -1,6 +1,6 @@
 -- The words of the rows of exports of a lawful firmware: each row stands at its address alone, and boot puts
 -- nothing else there.
-use Rattle.std.proofs.Common.{ℕ, suc, ◌≡◌, ◌+◌, ◌-◌, ◌*◌, ◌≤◌, ◌<◌, ◌⊎◌, inl, inr, ◌&&◌, Bool, true, false, nat_eq, nat_le, List, length, Some, slice_get, refl, sym, ap, ◌∙◌, subst, arith}
+use Rattle.std.proofs.Common.{ℕ, suc, ◌≡◌, ◌+◌, ◌-◌, ◌*◌, ◌≤◌, ◌<◌, ◌⊎◌, inl, inr, ◌&&◌, Bool, true, false, nat_eq, length, Some, slice_get, refl, sym, ap, ◌∙◌, subst, arith}
 use Rattle.std.proofs.lemmas.Option.{slice_get_within}
 use Rattle.law_lists.proofs.Tests.{eq_tells, le_tells, both_left, both_right}
 use Rattle.def_words.specs.declared.Cap.{Cap}
@@ -8,10 +8,9 @@ use Rattle.def_memory.specs.Granules.{plain}
 use Rattle.ct_entry.specs.Listed.{FirmwareRow}
 use Rattle.ct_entry.specs.declared.rows.Entry.{Entry}
 use Rattle.ct_entry.specs.declared.rows.Owner.TheVariants.{Compartment}
-use Rattle.ct_entry.specs.declared.rows.Kind.{Kind}
 use Rattle.def_reach.specs.Roots.{Root, root_of, gate_for, listed_root, no_root}
-use Rattle.def_step.specs.Firmware.{IsLawfulFirmware, Share, code_row, globals_row, switch_row, device_row, stack_row, table_length}
-use Rattle.def_step.specs.Boot.{code_number, made_for, is_export_kind, export_at, export_first, export_second, text_from, boot_word, boot_cap}
+use Rattle.def_step.specs.Firmware.{IsLawfulFirmware, Share, code_row, globals_row, switch_row, device_row, stack_row}
+use Rattle.def_step.specs.Boot.{code_number, is_export_kind, export_at, export_first, export_second, text_from, boot_word, boot_cap}
 use Rattle.law_entries.specs.Rows.{HasRow, IsExportOf, EntryIs, is_nothing, is_trusted, is_code, is_globals, is_switch, is_import, is_export, is_stack, export_row, export_place}
 use Rattle.law_entries.proofs.Numbers.{first_passes, eq_self}
 use Rattle.law_entries.proofs.Classes.{entry_of}

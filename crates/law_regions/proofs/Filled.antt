@@ -1,6 +1,6 @@
 -- What boot puts into RAM for a lawful firmware, at every address that something of it asks for; every other
 -- granule reads as zero.
-use Rattle.std.proofs.Common.{ℕ, suc, ◌≡◌, ◌+◌, ◌-◌, ◌*◌, ◌/◌, ◌%◌, ◌≤◌, ◌<◌, ◌⊎◌, inl, inr, true, false, nat_eq, List, [], ◌∷◌, map, length, Option, Some, None, slice_get, option_map, refl, sym, ap, ◌∙◌, subst, arith}
+use Rattle.std.proofs.Common.{ℕ, suc, ◌≡◌, ◌+◌, ◌-◌, ◌*◌, ◌/◌, ◌%◌, ◌≤◌, ◌<◌, ◌⊎◌, inl, inr, true, false, nat_eq, List, [], ◌∷◌, map, length, Some, slice_get, option_map, refl, sym, ap, ◌∙◌, subst, arith}
 use Rattle.std.proofs.lemmas.List.{length-map}
 use Rattle.std.proofs.lemmas.Option.{slice_get-map, slice_get_within}
 use Rattle.law_lists.proofs.Tests.{eq_tells, le_tells, both_left, both_right}
@@ -11,18 +11,17 @@ use Rattle.ct_entry.specs.declared.rows.Entry.{Entry}
 use Rattle.ct_entry.specs.declared.rows.Owner.{Owner}
 use Rattle.ct_entry.specs.declared.rows.Owner.TheVariants.{Trusted, Compartment, Library, Thread}
 use Rattle.def_reach.specs.Roots.{Root, root_of, gate_for, listed_root, no_root}
-use Rattle.def_step.specs.Firmware.{IsLawfulFirmware, IsShare, Share, DeviceImport, code_row, globals_row, switch_row, device_row, stack_row, text_offset}
-use Rattle.def_step.specs.Boot.{is_compartment, is_slot_kind, is_slot_at, is_export_kind, slot_number, head_number, head_from, code_number, globals_number, made_for, return_sentry, export_at, export_first, export_second, text_base, text_word, text_from, boot_word, boot_cap}
-use Rattle.law_entries.specs.Rows.{HasRow, HasShare, IsExportOf, EntryIs, is_nothing, is_trusted, is_code, is_globals, is_switch, is_import, is_export, is_stack, export_row, export_place}
+use Rattle.def_step.specs.Firmware.{IsLawfulFirmware, IsShare, Share, code_row, globals_row, switch_row, device_row, stack_row, text_offset}
+use Rattle.def_step.specs.Boot.{is_compartment, is_slot_kind, is_slot_at, is_export_kind, slot_number, head_number, head_from, code_number, globals_number, made_for, return_sentry, export_at, export_first, export_second, text_base, text_word, boot_word, boot_cap}
+use Rattle.law_entries.specs.Rows.{EntryIs, is_nothing, is_trusted, is_code, is_globals, is_switch, is_import, is_export, is_stack, export_row, export_place}
 use Rattle.law_entries.proofs.Standing.{each_at, present}
 use Rattle.law_entries.proofs.Numbers.{first_passes, eq_self}
 use Rattle.law_entries.proofs.Classes.{entry_of, share_of}
 use Rattle.law_entries.proofs.Fitting.{share_fits}
-use Rattle.law_regions.specs.Held.{IsIn, Held, Place, CodeOf, TableOf, TrustedPlace}
-use Rattle.law_regions.specs.Filled.{Puts, slot_place, HeadAt, SlotAt, ExportAt, RowAt, RowsAt, TextAt, PartAt, Filled}
-use Rattle.law_regions.proofs.Apart.{base_of}
+use Rattle.law_regions.specs.Held.{Held, Place, CodeOf, TableOf, TrustedPlace}
+use Rattle.law_regions.specs.Filled.{Puts, slot_place, Filled}
 use Rattle.law_regions.proofs.Where.{in_ram, sentry_held, within}
-use Rattle.law_regions.proofs.Roots.{root_of_row, one_kind, one_owner}
+use Rattle.law_regions.proofs.Roots.{root_of_row, one_owner}
 use Rattle.law_regions.proofs.Boots.{slot_passes, no_slot, slot_in, head_in}
 use Rattle.law_regions.proofs.Exact.{switch_exact, import_exact, code_exact, globals_exact, sentry_exact}
 use Rattle.law_regions.proofs.Counts.{text_base_is}

@@ -1,14 +1,12 @@
 -- The words of texts of a lawful firmware: each text stands after the slots of its code, and boot puts nothing
 -- else there.
-use Rattle.std.proofs.Common.{ℕ, zero, suc, ◌≡◌, ◌+◌, ◌-◌, ◌*◌, ◌≤◌, ◌<◌, ◌⊎◌, inl, inr, ◌&&◌, true, false, nat_le, nat_lt, List, [], ◌∷◌, map, length, Some, None, slice_get, refl, sym, ap, ◌∙◌, subst, arith}
+use Rattle.std.proofs.Common.{ℕ, zero, suc, ◌≡◌, ◌+◌, ◌-◌, ◌<◌, ◌⊎◌, inl, inr, List, [], ◌∷◌, map, length, Some, None, slice_get, refl, sym, ap, ◌∙◌, subst, arith}
 use Rattle.law_lists.proofs.Tests.{le_tells, lt_tells}
-use Rattle.def_words.specs.declared.Cap.{Cap}
 use Rattle.def_memory.specs.Granules.{plain}
 use Rattle.ct_entry.specs.Listed.{FirmwareRow}
-use Rattle.ct_entry.specs.declared.rows.Entry.{Entry}
-use Rattle.def_step.specs.Firmware.{IsLawfulFirmware, Share, code_length, text_offset}
-use Rattle.def_step.specs.Boot.{boot_cap, boot_word, export_at, text_base, text_from, text_word}
-use Rattle.law_entries.specs.Rows.{IsExportOf, export_place}
+use Rattle.def_step.specs.Firmware.{IsLawfulFirmware, Share, text_offset}
+use Rattle.def_step.specs.Boot.{boot_cap, export_at, text_base, text_from, text_word}
+use Rattle.law_entries.specs.Rows.{export_place}
 use Rattle.law_entries.proofs.Fitting.{share_fits}
 use Rattle.law_regions.specs.Held.{IsIn, Held, CodeOf, TableOf, TrustedPlace}
 use Rattle.law_regions.proofs.Apart.{same_place}

@@ -1,8 +1,7 @@
-use Rattle.std.proofs.Common.{ℕ, ◌≡◌, ◌+◌, ◌*◌, ◌∙◌, inl, inr, ap, sym}
+use Rattle.std.proofs.Common.{◌∙◌, inl, inr, ap, sym}
 use Rattle.law_regions.proofs.Filled.{puts_sentry}
-use Rattle.ct_boot.specs.Growing.{PartsTo}
 use Rattle.ct_boot.proofs.Lawful.{lawful_boots}
-use Rattle.ct_boot.proofs.Stages.{empty_booting, puts_as, stage_then, whole}
+use Rattle.ct_boot.proofs.Stages.{empty_booting, puts_as, whole}
 use Rattle.ct_boot.proofs.filling.boot.Goals as goal
 
 pub put_parts-requires-clause-bootable : goal.put_parts-requires-clause-bootable

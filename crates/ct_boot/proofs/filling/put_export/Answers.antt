@@ -1,4 +1,4 @@
-use Rattle.std.proofs.Common.{◌≡◌, ◌+◌, ◌∙◌, sym, arith, inl, inr, ◌⊎◌}
+use Rattle.std.proofs.Common.{◌≡◌, ◌+◌, ◌∙◌, sym, arith, ◌⊎◌}
 use Rattle.law_regions.specs.Filled.{ExportAt}
 use Rattle.ct_boot.proofs.Stages.{stage_as}
 use Rattle.ct_boot.proofs.Parts.{first_word, second_word, no_export}

@@ -1,4 +1,4 @@
-use Rattle.std.proofs.Common.{sym, subst}
+use Rattle.std.proofs.Common.{subst}
 use Rattle.law_regions.specs.Filled.{RowsAt, TextAt}
 use Rattle.ct_boot.specs.Growing.{Stage}
 use Rattle.ct_boot.proofs.Parts.{part_stage}

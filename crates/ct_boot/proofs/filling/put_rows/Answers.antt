@@ -1,4 +1,4 @@
-use Rattle.std.proofs.Common.{◌≡◌, ◌≤◌, ◌∙◌, length, ap, sym, arith}
+use Rattle.std.proofs.Common.{length, ap, arith}
 use Rattle.ct_boot.proofs.Parts.{rows_next, rows_end}
 use Rattle.ct_boot.proofs.filling.put_rows.Goals as goal
 

@@ -1,4 +1,4 @@
-use Rattle.std.proofs.Common.{◌≡◌, ◌+◌, ◌∙◌, refl, ap, sym, arith}
+use Rattle.std.proofs.Common.{◌≡◌, ◌+◌, ◌∙◌, ap, sym, arith}
 use Rattle.def_step.specs.Boot.{made_for}
 use Rattle.law_regions.specs.Filled.{SlotAt, slot_place}
 use Rattle.law_regions.proofs.Filled.{puts_slot}

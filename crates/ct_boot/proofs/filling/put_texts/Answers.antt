@@ -1,4 +1,4 @@
-use Rattle.std.proofs.Common.{ℕ, ◌≡◌, ◌+◌, ◌*◌, ◌≤◌, ◌∙◌, Some, slice_get, option_map, length, refl, ap, sym, arith}
+use Rattle.std.proofs.Common.{◌≡◌, ◌+◌, ◌*◌, ◌∙◌, Some, slice_get, option_map, refl, ap, sym, arith}
 use Rattle.law_regions.proofs.Filled.{puts_text, text_short}
 use Rattle.ct_boot.proofs.Stages.{puts_as}
 use Rattle.ct_boot.proofs.filling.put_texts.Goals as goal
