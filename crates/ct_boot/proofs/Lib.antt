@@ -1,6 +1,6 @@
-pub mod Booted
 pub mod Lawful
 pub mod Made
+pub mod Parts
 pub mod Rooted
-pub mod Texts
+pub mod Stages
 pub mod Tops

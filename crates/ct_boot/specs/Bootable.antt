@@ -1,12 +1,11 @@
 -- What booting asks of a firmware; each lawful one has it.
-use Rattle.std.specs.Prelude.{ℕ, ◌+◌, ◌-◌, ◌/◌, ◌%◌, ◌≡◌, ◌<◌, List, ◌++◌, length, replicate}
+use Rattle.std.specs.Prelude.{ℕ, ◌+◌, ◌/◌, ◌%◌, ◌≡◌, ◌<◌, List, length, replicate}
 use Rattle.ct_entry.specs.Listed.{FirmwareRow}
 use Rattle.ct_entry.specs.declared.rows.Entry.{Entry}
 use Rattle.ct_entry.specs.declared.rows.Kind.TheVariants as kind
 use Rattle.def_memory.specs.declared.Granule.{Granule}
 use Rattle.def_memory.specs.Granules.{nothing}
 use Rattle.def_machine.specs.Objects.{Each}
-use Rattle.def_step.specs.Boot.{granules_from}
 
 -- entries, tables and texts are named by 32-bit numbers
 pub record IsNumbered (f : FirmwareRow) : Type 0 where
@@ -31,7 +30,3 @@ pub record IsBootable (f : FirmwareRow) : Type 0 where
 -- RAM before boot: every granule reads as zero and isn't marked
 abbrev pub empty_granules : ℕ → List Granule
 empty_granules size = replicate (size / 8) nothing
-
--- so many granules of RAM are booted, and the others aren't yet
-unfoldable pub booted_to : FirmwareRow → ℕ → List Granule
-booted_to f n = granules_from f f.ram n ++ replicate (f.size / 8 - n) nothing

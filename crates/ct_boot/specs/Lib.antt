@@ -1,3 +1,4 @@
 pub mod Bootable
 pub mod Searches
 pub mod Starting
+pub mod Growing

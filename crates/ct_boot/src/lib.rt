@@ -5,7 +5,7 @@
 //! entry's number. docs/machine.md tells the same in prose.
 #![tactic(auto)]
 
-mod granules;
+mod filling;
 mod looking;
 mod making;
 mod places;
@@ -13,5 +13,5 @@ mod starting;
 mod wanted;
 mod words;
 
-pub use granules::boot;
+pub use filling::boot;
 pub use starting::{First, first_of, stack_base};

@@ -1,6 +1,6 @@
 //! What a search among the entries looks for.
 
-ghost use Rattle.std.specs.Prelude.{◌≡◌, ◌&&◌, ◌==◌};
+ghost use Rattle.std.specs.Prelude.{◌≡◌, ◌&&◌};
 ghost use Rattle.def_step.specs.Boot.{is_compartment, is_thread, is_code_kind, is_globals_kind, is_stack_kind, is_export_kind, is_slot_kind};
 ghost use Rattle.ct_boot.specs.Searches.{passes};
 
@@ -15,8 +15,6 @@ pub enum Wanted {
     Globals { of: u32 },
     /// A thread's stack.
     Stack { of: u32 },
-    /// The export whose row stands at an address.
-    Export { at: u32 },
 }
 
 /// Whether it is a compartment of this index.
@@ -100,6 +98,5 @@ pub(crate) fn is_wanted(wanted: Wanted, row: Entry) -> bool
         Wanted::Code { of } => is_code(row.kind) && is_compartment(row.owner, of),
         Wanted::Globals { of } => is_globals(row.kind) && is_compartment(row.owner, of),
         Wanted::Stack { of } => is_stack(row.kind) && is_thread(row.owner, of),
-        Wanted::Export { at } => is_export(row.kind) && row.base == at,
     }
 }

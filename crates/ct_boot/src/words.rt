@@ -58,6 +58,14 @@ pub(crate) fn export_second(gate: Gate) -> u64
         + gate.entry as u64 * (1 << 32)
 }
 
+/// The first word of an export's row: where its code is in the text, which begins at an address, and its stack.
+pub(crate) fn export_first(text: u64, gate: Gate) -> u64
+    ensures { result ≡ gate.code - text + gate.stack * 2 ^ 32 }
+{
+    let offset = (gate.code as u64).saturating_sub(text);
+    offset + gate.stack as u64 * (1 << 32)
+}
+
 /// The index of a compartment, 0 for the trusted part.
 pub(crate) fn compartment_of(owner: Owner) -> u32
     ensures { result ≡ compartment_of owner }

@@ -25,7 +25,7 @@ use Rattle.law_regions.proofs.Where.{place_region, sentry_region}
 abbrev pub slot_passes : FirmwareRow → ℕ → ℕ → Entry → Bool
 slot_passes f x n r = is_slot_kind r.kind && is_slot_at f x n r.owner
 
-no_slot : (f : FirmwareRow) (x n : ℕ) (r q : Entry) → root_of f.entries n ≡ listed_root (Some r) (gate_for f.entries.gates n) → HasRow f n q → is_slot_kind q.kind ≡ false → is_slot_kind r.kind ≡ true → ⊥
+pub no_slot : (f : FirmwareRow) (x n : ℕ) (r q : Entry) → root_of f.entries n ≡ listed_root (Some r) (gate_for f.entries.gates n) → HasRow f n q → is_slot_kind q.kind ≡ false → is_slot_kind r.kind ≡ true → ⊥
 no_slot f x n r q a row none is =
     let same : is_slot_kind r.kind ≡ is_slot_kind q.kind = ap is_slot_kind (one_kind f n r q a row) in
     let clash : true ≡ false = sym is ∙ same ∙ none in cc

@@ -32,7 +32,7 @@ module _ (f : FirmwareRow) (h : IsLawfulFirmware f) where
   spot x c tagged (boot_sentry at e) = in_trusted (sentry_held f h.shares h.stacks x at) e
   spot x c tagged (boot_plain e) = absurd (let clash : true ≡ false = sym tagged ∙ ap (λ (z : Cap). z.tag) e in cc)
 
-  one_share : (a b : ℕ) (s c : Share) → a ≡ b → slice_get h.shares a ≡ Some s → slice_get h.shares b ≡ Some c → s ≡ c
+  pub one_share : (a b : ℕ) (s c : Share) → a ≡ b → slice_get h.shares a ≡ Some s → slice_get h.shares b ≡ Some c → s ≡ c
   one_share a b s c e at_a at_b = let same : Some s ≡ Some c = sym at_a ∙ ap (slice_get h.shares) e ∙ at_b in cc
 
   at_slot : (x b k : ℕ) (s : Share) (c : Cap) → slice_get h.shares b ≡ Some s → Held f h.shares h.stacks x (CodeOf b) → s.code + 8 * k ≡ x → Spot x c → c ≡ made_for f (code_number f b + 2 + k)

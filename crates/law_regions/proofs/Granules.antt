@@ -18,7 +18,7 @@ no_region f zero x k more = refl
 no_region f (suc n) x zero more = absurd (omega (arith, more))
 no_region f (suc n) x (suc k) more = no_region f n (x + 8) k (omega (arith, more))
 
-nth_granule : (f : FirmwareRow) (n x k : ℕ) → k < n → slice_index_or (granules_from f x n) k nothing ≡ boot_granule f (x + 8 * k)
+pub nth_granule : (f : FirmwareRow) (n x k : ℕ) → k < n → slice_index_or (granules_from f x n) k nothing ≡ boot_granule f (x + 8 * k)
 nth_granule f zero x k less = absurd (omega (arith, less))
 nth_granule f (suc n) x zero less = let same : x ≡ x + 8 * 0 = omega arith in ap (boot_granule f) same
 nth_granule f (suc n) x (suc k) less = let next : (x + 8) + 8 * k ≡ x + 8 * suc k = omega arith in nth_granule f n (x + 8) k (omega (arith, less)) ∙ ap (boot_granule f) next

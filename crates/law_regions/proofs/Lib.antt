@@ -17,3 +17,7 @@ pub mod Starts
 pub mod Confining
 pub mod Slots
 pub mod Exact
+pub mod Exports
+pub mod Counts
+pub mod Texts
+pub mod Filled

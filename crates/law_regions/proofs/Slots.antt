@@ -29,7 +29,7 @@ map_there g (y ∷ xs) zero x is = let same : y ≡ x = cc in ap (λ z. Some (g 
 map_there g (y ∷ xs) (suc j) x is = map_there g xs j x is
 
 -- where a row passes, the first that passes has a number
-first_some : (passes : ℕ → Entry → Bool) (n : ℕ) (rows : List Entry) (m : ℕ) (r : Entry) → 1 ≤ n → slice_get rows m ≡ Some r → passes (n + m) r ≡ true → first_number passes n rows ≡ 0 → ⊥
+pub first_some : (passes : ℕ → Entry → Bool) (n : ℕ) (rows : List Entry) (m : ℕ) (r : Entry) → 1 ≤ n → slice_get rows m ≡ Some r → passes (n + m) r ≡ true → first_number passes n rows ≡ 0 → ⊥
 first_some passes n [] m r some there is none = let clash : None ≡ Some r = there in cc
 first_some passes n (x ∷ rows) zero r some there is none =
     let same : x ≡ r = cc in

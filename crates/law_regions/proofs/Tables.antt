@@ -9,7 +9,7 @@ use Rattle.def_step.specs.Boot.{is_covered, exports_from, is_table_from}
 use Rattle.law_regions.specs.Held.{IsIn}
 use Rattle.law_regions.proofs.Finding.{cover_tells, rows_apart}
 
-same_number_tells : (n : ℕ) → nat_eq n n ≡ true
+pub same_number_tells : (n : ℕ) → nat_eq n n ≡ true
 same_number_tells n = elim (eq_tells n n) [ inl is ↦ is.0 | inr not_same ↦ absurd (not_same.1 refl) ]
 
 none_of_devices : (b a : ℕ) (ds : List DeviceImport) (more : List Entry) → exports_from b (map (device_row a) ds ++ more) ≡ exports_from b more
@@ -32,7 +32,7 @@ none_of_stacks : (b t : ℕ) (ss : List StackRange) → exports_from b (stack_ro
 none_of_stacks b t [] = refl
 none_of_stacks b t (s ∷ ss) = let e : exports_from b (stack_rows (t + 1) ss) ≡ 0 = none_of_stacks b (t + 1) ss in omega (arith, e)
 
-not_same : (a b : ℕ) → (a ≡ b → ⊥) → nat_eq a b ≡ false
+pub not_same : (a b : ℕ) → (a ≡ b → ⊥) → nat_eq a b ≡ false
 not_same a b h = elim (eq_tells a b) [ inl is ↦ absurd (h is.1) | inr is ↦ is.0 ]
 
 of_rows : (b : ℕ) (es more : List Entry) (n : ℕ) → exports_from b es ≡ n → es ≡ more → exports_from b more ≡ n

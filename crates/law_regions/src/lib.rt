@@ -5,5 +5,5 @@
 mod booting;
 mod reaching;
 
-pub use booting::{boot_confined, boot_exact, boot_partition};
+pub use booting::{boot_confined, boot_exact, boot_partition, boot_words};
 pub use reaching::{addresses_held, regions_partition};
