@@ -152,6 +152,44 @@ fn pins_written_and_read(rt: HostRuntime) {
     assert!(rt; matches!(run_of_pins(rt.alloc()), Ok(Some((Status::Done, true)))));
 }
 
+/// Programs that try to make authority, each with the size of its code and what its run tells.
+const HOSTILE: [(&str, &str, &str); 5] = [
+    (
+        r#"["7e3c0537","10050513","0001a023","00a1a223","0001b283","0002a583"]"#,
+        "48",
+        "6 trap t0 c0 28 2 5\nend finished steps 6 ticks 0 calls 0 devices 0 allocations 0 frees 0 traps 1\n",
+    ),
+    (
+        r#"["0021b023","0001b283","0002a503"]"#,
+        "32",
+        "3 trap t0 c0 28 2 5\nend finished steps 3 ticks 0 calls 0 devices 0 allocations 0 frees 0 traps 1\n",
+    ),
+    (
+        r#"["0111a2db","0002a503"]"#,
+        "32",
+        "2 trap t0 c0 28 2 5\nend finished steps 2 ticks 0 calls 0 devices 0 allocations 0 frees 0 traps 1\n",
+    ),
+    (
+        r#"["2ca182db","0002a503"]"#,
+        "32",
+        "2 trap t0 c0 28 2 5\nend finished steps 2 ticks 0 calls 0 devices 0 allocations 0 frees 0 traps 1\n",
+    ),
+    (
+        r#"["00028067"]"#,
+        "32",
+        "1 trap t0 c0 2 0 0\nend finished steps 1 ticks 0 calls 0 devices 0 allocations 0 frees 0 traps 1\n",
+    ),
+];
+
+/// The root's word stored as numbers and loaded, the stack's capability passed through the globals,
+/// bounds past the globals, a high word set, and a register jump that isn't carried out.
+#[test]
+fn no_authority_is_made(rt: HostRuntime) {
+    for (words, size, lines) in &HOSTILE {
+        assert!(rt; runs(rt.alloc(), words, size, "100", lines));
+    }
+}
+
 #[test]
 fn second_write_fails(rt: HostRuntime) {
     let words = ["run", "tiny.json", "100"];
