@@ -217,6 +217,9 @@ fn the_largest_description(rt: HostRuntime) {
     let words = ["audit", "tiny.json"];
     let answer = outcome(rt.alloc(), &words, text.as_bytes(), 100000000, 0, "");
     assert!(rt; answer == Some((Status::Done, false)));
+    let run = ["run", "tiny.json", "1"];
+    let answer = outcome(rt.alloc(), &run, text.as_bytes(), 100000000, 0, "");
+    assert!(rt; answer == Some((Status::Done, false)));
     let more = text
         .replace(rt.alloc(), "\"c63.last\"", "\"c63.none\"")
         .expect(&rt, "memory");
