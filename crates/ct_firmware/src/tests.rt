@@ -2,7 +2,7 @@
 
 use crate::firmware;
 use ct_desc::read;
-use ct_entry::{DeviceKind, Firmware, Starter};
+use ct_entry::{Device, DeviceKind, Firmware, Starter};
 use std::alloc::Global;
 
 const TINY: &str =
@@ -15,34 +15,54 @@ fn tiny(alloc: Global) -> Option<Firmware> {
     }
 }
 
-#[test]
-fn firmware_of_tiny(rt: HostRuntime) {
-    let all = tiny(rt.alloc()).expect(&rt, "memory");
-    assert_eq!(rt; all.entries.rows.len(), 6);
-    assert_eq!(rt; all.entries.gates.len(), 1);
-    assert_eq!(rt; all.ram, 0x80000000);
-    assert_eq!(rt; all.size, 4096);
-    assert_eq!(rt; all.tables.as_slice(), [0x80000030].as_slice());
-    assert_eq!(rt; all.trusted, 0x80000160);
-    assert_eq!(rt; all.heap, 0x80000290);
-    assert_eq!(rt; all.devices.rows.len(), 1);
-    for device in all.devices.rows.as_slice() {
-        assert_eq!(rt; device.name.as_str(), "uart0");
-        assert_eq!(rt; device.kind, DeviceKind::Uart);
-        assert_eq!(rt; device.base, 0x10000000);
+fn has_places(all: &Firmware) -> bool {
+    all.ram == 0x80000000
+        && all.size == 4096
+        && all.trusted == 0x80000160
+        && all.heap == 0x80000290
+        && all.tables.as_slice() == [0x80000030].as_slice()
+}
+
+fn has_devices(devices: &[Device]) -> bool {
+    match devices {
+        [device] => {
+            device.name.as_str() == "uart0"
+                && device.kind == DeviceKind::Uart
+                && device.base == 0x10000000
+        }
+        _ => false,
     }
-    assert_eq!(rt; all.texts.len(), 1);
+}
+
+fn has_texts(texts: &[Vec<u8>]) -> bool {
     let bytes = [
         0x97, 0x02, 0, 0, 0x83, 0xb2, 0x82, 0xff, 0x13, 0x05, 0x10, 0x04, 0x23, 0xa0, 0xa2, 0,
         0x67, 0x80, 0, 0,
     ];
-    for text in all.texts.as_slice() {
-        assert_eq!(rt; text.as_slice(), bytes.as_slice());
+    match texts {
+        [text] => text.as_slice() == bytes.as_slice(),
+        _ => false,
     }
-    let starter = Starter {
-        export: 5,
-        priority: 1,
-        frames: 2,
-    };
-    assert_eq!(rt; all.threads.as_slice(), [starter].as_slice());
+}
+
+fn has_threads(threads: &[Starter]) -> bool {
+    match threads {
+        [thread] => thread.export == 5 && thread.priority == 1 && thread.frames == 2,
+        _ => false,
+    }
+}
+
+fn is_tiny(all: &Firmware) -> bool {
+    all.entries.rows.len() == 6
+        && all.entries.gates.len() == 1
+        && has_places(all)
+        && has_devices(all.devices.rows.as_slice())
+        && has_texts(all.texts.as_slice())
+        && has_threads(all.threads.as_slice())
+}
+
+#[test]
+fn firmware_of_tiny(rt: HostRuntime) {
+    let all = tiny(rt.alloc()).expect(&rt, "memory");
+    assert!(rt; is_tiny(&all));
 }
