@@ -1,16 +1,15 @@
 -- A machine put together from booted parts: what contracts see of it, and that it is kept so.
-use Rattle.std.proofs.Common.{ℕ, ◌+◌, ◌*◌, ◌/◌, ◌%◌, ◌≡◌, ◌≤◌, ◌∙◌, false, List, length, map, refl, ap, sym, subst, arith}
+use Rattle.std.proofs.Common.{ℕ, ◌/◌, ◌≡◌, ◌∙◌, false, List, length, refl, ap, sym, subst, arith}
 use Rattle.ct_entry.specs.Listed.{FirmwareRow}
 use Rattle.def_memory.specs.declared.Granule.{Granule}
-use Rattle.def_machine.specs.Image.{Image}
 use Rattle.def_machine.specs.State.{Thread}
-use Rattle.def_step.specs.Boot.{boot_granules, boot_state, booted_machine, image_of, bases_of, no_counts}
+use Rattle.def_step.specs.Boot.{boot_granules, boot_state, booted_machine, image_of, no_counts}
 use Rattle.def_step.specs.Devices.{Bank}
 use Rattle.def_step.specs.Events.{MachineRow}
 use Rattle.def_step.specs.Firmware.{IsLawfulFirmware}
-use Rattle.ct_boot.proofs.Booted.{all_booted, booted_length}
+use Rattle.law_regions.proofs.Granules.{how_many}
 use Rattle.ct_machine.specs.declared.presence.Presence.{Presence}
-use Rattle.ct_machine.specs.Parts.{state_by, top_of, IsKept, IsCounted, IsRam}
+use Rattle.ct_machine.specs.Parts.{state_by, top_of, IsKept, IsCounted}
 use Rattle.ct_machine.specs.Launching.{Launched, bank_of}
 
 abbrev pub row_of : FirmwareRow → List Granule → Bank → Presence → Thread → MachineRow
@@ -24,7 +23,8 @@ unfolding boot_state
 started_is f gs k presence active base granules bank launched = rw (granules, bank, launched.threads, launched.picks, launched.running) refl
 
 boot_length : (f : FirmwareRow) → length (boot_granules f) ≡ f.size / 8
-boot_length f = ap length (sym (all_booted f)) ∙ booted_length f (f.size / 8) (omega arith)
+unfolding boot_granules
+boot_length f = how_many f (f.size / 8) f.ram
 
 image_ram : (f : FirmwareRow) → f.ram ≡ (image_of f).ram
 unfolding image_of
