@@ -1,0 +1,11 @@
+//! The numbers of this profile, each once, for definitions and code alike: permission bits and the
+//! rights of each kind of entry, seal types, the roots' words, where native routines stand, traps,
+//! how firmware is laid out in RAM, and the limits of firmware. Nothing here computes.
+#![tactic(auto)]
+
+pub mod layout;
+pub mod limits;
+pub mod native;
+pub mod rights;
+pub mod seals;
+pub mod traps;
