@@ -1,6 +1,6 @@
 -- Descriptions as values, and alterations of them.
-use Rattle.std.specs.Prelude.{ℕ, List, [], ◌∷◌, ◌++◌, codes, bytes_eq, if◌then◌else◌, Bool, not}
-use Rattle.serde_json.specs.Data.{Data, null, number, string, array, object, unsigned, Items, no_items, item, Members, no_members, member}
+use Rattle.std.specs.Prelude.{ℕ, List, [], ◌∷◌, codes, bytes_eq, if◌then◌else◌}
+use Rattle.serde_json.specs.Data.{Data, number, string, array, object, unsigned, Items, no_items, item, Members, no_members, member}
 use Rattle.def_description.specs.declared.faults.Fault.{Fault}
 use Rattle.def_description.specs.declared.faults.PartWord.{PartWord}
 use Rattle.def_description.specs.Walk.{place}
@@ -8,7 +8,7 @@ use Rattle.def_description.specs.WellFormed.{fault}
 
 -- the fault of this number at this place
 abbrev pub at : ℕ → PartWord → ℕ → ℕ → Fault
-at number part index item = fault number (place part index item)
+at n word i j = fault n (place word i j)
 
 abbrev pub items : List Data → Items
 items [] = no_items

@@ -1,4 +1,5 @@
 use Rattle.std.proofs.Common.{refl}
+use Rattle.std.specs.Fmt.{digits}
 use Rattle.def_description.specs.WellFormed.{first_fault}
 use Rattle.def_description.specs.Walk.{spots_of}
 use Rattle.def_description.specs.Tables.{members_of, outer_lists, inner_lists, kind_of, posture_of, library_posture_of, passes_of, service_of, form_names, righted_names, code_names, device_rights, shared_rights}
@@ -9,5 +10,5 @@ unfolding first_fault spots_of members_of outer_lists inner_lists kind_of postur
 returns-clause-at c = refl
 
 pub returns-clause-keys : goal.returns-clause-keys
-unfolding first_fault spots_of members_of outer_lists inner_lists kind_of posture_of library_posture_of passes_of service_of form_names righted_names code_names device_rights shared_rights
+unfolding first_fault spots_of members_of outer_lists inner_lists kind_of posture_of library_posture_of passes_of service_of form_names righted_names code_names device_rights shared_rights digits
 returns-clause-keys c = refl
