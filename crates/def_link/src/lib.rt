@@ -1,6 +1,6 @@
 //! What a description and its sources are linked to: the parts of one image, or the first fault in
 //! the order in which they are judged. The written definition stands in specs/; nothing here
-//! computes. docs/use/image.md tells the same in prose.
+//! computes. docs/use/description.md tells the same in prose.
 #![tactic(auto)]
 
 use ct_entry::Owner;
