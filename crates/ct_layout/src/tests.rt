@@ -1,0 +1,47 @@
+//! The regions of the smallest sample, by hand.
+
+use crate::{LayoutFault, Region, Sizes, place};
+
+/// Code, export table, globals, stack and trusted region of the smallest sample.
+fn tiny(rt: &HostRuntime, size: u32) -> Sizes {
+    let regions = vec![in rt.alloc(); 36u32, 32, 0, 256, 304].unwrap(rt);
+    Sizes {
+        base: 0x8000_0000,
+        size,
+        regions,
+    }
+}
+
+#[test]
+fn regions_of_tiny(rt: HostRuntime) {
+    let places = place(rt.alloc(), &tiny(&rt, 4096)).unwrap(&rt);
+    let wanted = [
+        (0x8000_0000u32, 48u32),
+        (0x8000_0030, 32),
+        (0x8000_0050, 16),
+        (0x8000_0060, 256),
+        (0x8000_0160, 304),
+    ];
+    for (index, (base, length)) in wanted.iter().enumerate() {
+        let region = places.regions[index];
+        assert_eq!(rt; (region.base, region.length), (*base, *length));
+    }
+    let heap = Region {
+        base: 0x8000_0290,
+        length: 3440,
+    };
+    assert_eq!(rt; places.heap, heap);
+}
+
+#[test]
+fn ram_of_tiny(rt: HostRuntime) {
+    let refused = LayoutFault::NoRoom {
+        needed: 656,
+        has: 640,
+    };
+    assert!(rt; place(rt.alloc(), &tiny(&rt, 656)).is_ok());
+    match place(rt.alloc(), &tiny(&rt, 640)) {
+        Ok(_) => assert!(rt; false),
+        Err(fault) => assert_eq!(rt; fault, refused),
+    }
+}
