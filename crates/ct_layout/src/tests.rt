@@ -1,20 +1,22 @@
 //! The regions of the smallest sample, by hand.
 
 use crate::{LayoutFault, Region, Sizes, place};
+use std::alloc::{AllocError, Global};
 
 /// Code, export table, globals, stack and trusted region of the smallest sample.
-fn tiny(rt: &HostRuntime, size: u32) -> Sizes {
-    let regions = vec![in rt.alloc(); 36u32, 32, 0, 256, 304].unwrap(rt);
-    Sizes {
+fn tiny(alloc: Global, size: u32) -> Result<Sizes, AllocError> {
+    let regions = vec![in alloc; 36u32, 32, 0, 256, 304]?;
+    Ok(Sizes {
         base: 0x8000_0000,
         size,
         regions,
-    }
+    })
 }
 
 #[test]
 fn regions_of_tiny(rt: HostRuntime) {
-    let places = place(rt.alloc(), &tiny(&rt, 4096)).unwrap(&rt);
+    let sizes = tiny(rt.alloc(), 4096).expect(&rt, "memory");
+    let places = place(rt.alloc(), &sizes).expect(&rt, "room");
     let wanted = [
         (0x8000_0000u32, 48u32),
         (0x8000_0030, 32),
@@ -39,8 +41,10 @@ fn ram_of_tiny(rt: HostRuntime) {
         needed: 656,
         has: 640,
     };
-    assert!(rt; place(rt.alloc(), &tiny(&rt, 656)).is_ok());
-    match place(rt.alloc(), &tiny(&rt, 640)) {
+    let enough = tiny(rt.alloc(), 656).expect(&rt, "memory");
+    assert!(rt; place(rt.alloc(), &enough).is_ok());
+    let less = tiny(rt.alloc(), 640).expect(&rt, "memory");
+    match place(rt.alloc(), &less) {
         Ok(_) => assert!(rt; false),
         Err(fault) => assert_eq!(rt; fault, refused),
     }
