@@ -7,6 +7,8 @@
 //! follow the CHERIoT Architecture Specification in this project's encoding (docs/use/machine.md).
 #![tactic(auto)]
 
+pub mod shapes;
+
 /// One instruction, with its operands.
 ///
 /// Registers (`rd`, `rs1`, `rs2`) are numbers below 16. `immediate` and `offset` are the 32-bit
