@@ -6,6 +6,7 @@ mod capability;
 mod fields;
 mod flow;
 mod formats;
+mod instructions;
 mod integer;
 mod memory;
 mod rows;
@@ -14,11 +15,12 @@ mod system;
 #[cfg(test)]
 mod tests;
 
-ghost use Rattle.std.specs.Prelude.{◌≡◌, ℕ, IsNone, IfSome, Some};
+ghost use Rattle.std.specs.Prelude.{◌≡◌, ◌↔◌, ℕ, IsNone, IfSome, Some};
 ghost use Rattle.def_instr.specs.Table.{EncodesTo, InRange, word_of};
 ghost use Rattle.def_instr.specs.Reading.{instruction_in};
 ghost use Rattle.def_instr.specs.declared.Instr.{Instr};
 
+pub use crate::instructions::instruction;
 pub use crate::shapes::shape;
 pub use def_instr::Instr;
 
@@ -32,6 +34,7 @@ pub fn decode(word: u32) -> Option<Instr>
     ensures only { (i : Instr) → EncodesTo i word → result ≡ Some i }
     ensures none { IsNone result → (i : Instr) → ¬ EncodesTo i word }
     ensures value { result ≡ instruction_in word }
+    ensures reading { (i : Instr) → (instruction_in word ≡ Some i) ↔ EncodesTo i word }
 {
     by_opcode(word)
 }

@@ -16,7 +16,8 @@ use def_instr::shapes::{
 
 /// The shape of an instruction.
 pub fn shape(instruction: Instr) -> Shape
-    ensures { result ≡ shape_of instruction }
+    ensures value { result ≡ shape_of instruction }
+    ensures back { shaped result ≡ instruction }
 {
     match instruction {
         Instr::Jal { rd, offset } => Shape::Jump { rd, offset },
@@ -33,14 +34,40 @@ pub fn shape(instruction: Instr) -> Shape
         Instr::Clc { rd, rs1, immediate } => load(LoadOperation::Clc, rd, rs1, immediate),
         Instr::Lbu { rd, rs1, immediate } => load(LoadOperation::Lbu, rd, rs1, immediate),
         Instr::Lhu { rd, rs1, immediate } => load(LoadOperation::Lhu, rd, rs1, immediate),
-        Instr::Sb { rs1, rs2, immediate } => store(StoreOperation::Sb, rs1, rs2, immediate),
-        Instr::Sh { rs1, rs2, immediate } => store(StoreOperation::Sh, rs1, rs2, immediate),
-        Instr::Sw { rs1, rs2, immediate } => store(StoreOperation::Sw, rs1, rs2, immediate),
-        Instr::Csc { rs1, rs2, immediate } => store(StoreOperation::Csc, rs1, rs2, immediate),
+        Instr::Sb {
+            rs1,
+            rs2,
+            immediate,
+        } => store(StoreOperation::Sb, rs1, rs2, immediate),
+        Instr::Sh {
+            rs1,
+            rs2,
+            immediate,
+        } => store(StoreOperation::Sh, rs1, rs2, immediate),
+        Instr::Sw {
+            rs1,
+            rs2,
+            immediate,
+        } => store(StoreOperation::Sw, rs1, rs2, immediate),
+        Instr::Csc {
+            rs1,
+            rs2,
+            immediate,
+        } => store(StoreOperation::Csc, rs1, rs2, immediate),
         Instr::Fence { immediate } => Shape::Fence { immediate },
         Instr::Ecall => Shape::Call,
         Instr::Ebreak => Shape::Break,
-        Instr::Csr { function, rd, source, number } => Shape::Status { function, rd, source, number },
+        Instr::Csr {
+            function,
+            rd,
+            source,
+            number,
+        } => Shape::Status {
+            function,
+            rd,
+            source,
+            number,
+        },
         Instr::CSpecialRw { rd, rs1, number } => Shape::Special { rd, rs1, number },
         _ => computing_shape(instruction),
     }
@@ -49,7 +76,8 @@ pub fn shape(instruction: Instr) -> Shape
 /// The shape of an integer instruction, or of one on capabilities.
 fn computing_shape(instruction: Instr) -> Shape
     requires { IsTrue (is_integer instruction) ⊎ IsTrue (is_capability instruction) }
-    ensures { result ≡ shape_of instruction }
+    ensures value { result ≡ shape_of instruction }
+    ensures back { shaped result ≡ instruction }
 {
     match instruction {
         Instr::Lui { rd, immediate } => upper(UpperOperation::Lui, rd, immediate),
@@ -87,15 +115,36 @@ fn computing_shape(instruction: Instr) -> Shape
 /// The shape of an instruction on capabilities.
 fn capability_shape(instruction: Instr) -> Shape
     requires { IsTrue (is_capability instruction) }
-    ensures { result ≡ shape_of instruction }
+    ensures value { result ≡ shape_of instruction }
+    ensures back { shaped result ≡ instruction }
 {
     match instruction {
         Instr::AuiPcc { rd, immediate } => upper(UpperOperation::AuiPcc, rd, immediate),
         Instr::AuiCgp { rd, immediate } => upper(UpperOperation::AuiCgp, rd, immediate),
-        Instr::CIncAddrImm { rd, rs1, immediate } => numbered(ImmediateOperation::CIncAddrImm, rd, rs1, immediate),
-        Instr::CSetBoundsImm { rd, rs1, immediate } => numbered(ImmediateOperation::CSetBoundsImm, rd, rs1, immediate),
-        Instr::CSetBounds { rd, rs1, rs2 } => capability(CapabilityOperation::CSetBounds, rd, rs1, rs2),
-        Instr::CSetBoundsExact { rd, rs1, rs2 } => capability(CapabilityOperation::CSetBoundsExact, rd, rs1, rs2),
+        Instr::CIncAddrImm { rd, rs1, immediate } => numbered(
+            ImmediateOperation::CIncAddrImm,
+            rd,
+            rs1,
+            immediate,
+        ),
+        Instr::CSetBoundsImm { rd, rs1, immediate } => numbered(
+            ImmediateOperation::CSetBoundsImm,
+            rd,
+            rs1,
+            immediate,
+        ),
+        Instr::CSetBounds { rd, rs1, rs2 } => capability(
+            CapabilityOperation::CSetBounds,
+            rd,
+            rs1,
+            rs2,
+        ),
+        Instr::CSetBoundsExact { rd, rs1, rs2 } => capability(
+            CapabilityOperation::CSetBoundsExact,
+            rd,
+            rs1,
+            rs2,
+        ),
         Instr::CSeal { rd, rs1, rs2 } => capability(CapabilityOperation::CSeal, rd, rs1, rs2),
         Instr::CUnseal { rd, rs1, rs2 } => capability(CapabilityOperation::CUnseal, rd, rs1, rs2),
         Instr::CAndPerm { rd, rs1, rs2 } => capability(CapabilityOperation::CAndPerm, rd, rs1, rs2),
@@ -103,8 +152,18 @@ fn capability_shape(instruction: Instr) -> Shape
         Instr::CIncAddr { rd, rs1, rs2 } => capability(CapabilityOperation::CIncAddr, rd, rs1, rs2),
         Instr::CSub { rd, rs1, rs2 } => capability(CapabilityOperation::CSub, rd, rs1, rs2),
         Instr::CSetHigh { rd, rs1, rs2 } => capability(CapabilityOperation::CSetHigh, rd, rs1, rs2),
-        Instr::CTestSubset { rd, rs1, rs2 } => capability(CapabilityOperation::CTestSubset, rd, rs1, rs2),
-        Instr::CSetEqualExact { rd, rs1, rs2 } => capability(CapabilityOperation::CSetEqualExact, rd, rs1, rs2),
+        Instr::CTestSubset { rd, rs1, rs2 } => capability(
+            CapabilityOperation::CTestSubset,
+            rd,
+            rs1,
+            rs2,
+        ),
+        Instr::CSetEqualExact { rd, rs1, rs2 } => capability(
+            CapabilityOperation::CSetEqualExact,
+            rd,
+            rs1,
+            rs2,
+        ),
         Instr::CGetPerm { rd, rs1 } => one_source(SourceOperation::CGetPerm, rd, rs1),
         Instr::CGetType { rd, rs1 } => one_source(SourceOperation::CGetType, rd, rs1),
         Instr::CGetBase { rd, rs1 } => one_source(SourceOperation::CGetBase, rd, rs1),

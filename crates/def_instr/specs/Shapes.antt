@@ -97,6 +97,7 @@ shape_of (instr.CGetAddr rd rs1) = shape.OneSource sources.CGetAddr rd rs1
 shape_of (instr.CGetHigh rd rs1) = shape.OneSource sources.CGetHigh rd rs1
 shape_of (instr.CGetTop rd rs1) = shape.OneSource sources.CGetTop rd rs1
 
+-- back
 abbrev pub shaped : Shape → Instr
 shaped (shape.Upper uppers.Lui rd immediate) = instr.Lui rd immediate
 shaped (shape.Upper uppers.AuiPcc rd immediate) = instr.AuiPcc rd immediate
@@ -179,7 +180,7 @@ shaped (shape.OneSource sources.CGetTop rd rs1) = instr.CGetTop rd rs1
 
 -- ---- kinds of instructions
 
--- the shapes that have an integer result from words alone
+-- those that have an integer result from words alone
 abbrev pub is_integer_shape : Shape → Bool
 is_integer_shape (shape.Registers (registers.Integer operation) rd rs1 rs2) = true
 is_integer_shape (shape.Immediate (immediates.Signed operation) rd rs1 n) = true
@@ -190,7 +191,7 @@ is_integer_shape _ = false
 abbrev pub is_integer : Instr → Bool
 is_integer i = is_integer_shape (shape_of i)
 
--- the shapes that write a result made of capabilities
+-- those that write a result made of capabilities
 abbrev pub is_capability_shape : Shape → Bool
 is_capability_shape (shape.Registers (registers.Capability operation) rd rs1 rs2) = true
 is_capability_shape (shape.Immediate immediates.CIncAddrImm rd rs1 n) = true
@@ -202,3 +203,31 @@ is_capability_shape _ = false
 
 abbrev pub is_capability : Instr → Bool
 is_capability i = is_capability_shape (shape_of i)
+
+-- those that name a system register: they trap whatever they name
+abbrev pub is_system_shape : Shape → Bool
+is_system_shape (shape.Status function rd source number) = true
+is_system_shape (shape.Special rd rs1 number) = true
+is_system_shape _ = false
+
+abbrev pub is_system : Instr → Bool
+is_system i = is_system_shape (shape_of i)
+
+-- loads and stores
+abbrev pub is_access_shape : Shape → Bool
+is_access_shape (shape.Load operation rd rs1 n) = true
+is_access_shape (shape.Store operation rs1 rs2 n) = true
+is_access_shape _ = false
+
+abbrev pub is_access : Instr → Bool
+is_access i = is_access_shape (shape_of i)
+
+-- branches and jumps
+abbrev pub is_jump_shape : Shape → Bool
+is_jump_shape (shape.Branch operation rs1 rs2 offset) = true
+is_jump_shape (shape.Jump rd offset) = true
+is_jump_shape (shape.RegisterJump rd rs1 n) = true
+is_jump_shape _ = false
+
+abbrev pub is_jump : Instr → Bool
+is_jump i = is_jump_shape (shape_of i)

@@ -10,7 +10,6 @@ use Rattle.def_instr.specs.declared.shapes.IntegerOperation.{IntegerOperation}
 use Rattle.def_instr.specs.declared.shapes.IntegerOperation.TheVariants as integers
 use Rattle.def_instr.specs.declared.shapes.CapabilityOperation.{CapabilityOperation}
 use Rattle.def_instr.specs.declared.shapes.CapabilityOperation.TheVariants as capabilities
-use Rattle.def_instr.specs.declared.shapes.RegisterOperation.{RegisterOperation}
 use Rattle.def_instr.specs.declared.shapes.RegisterOperation.TheVariants as registers
 use Rattle.def_instr.specs.declared.shapes.SignedOperation.{SignedOperation}
 use Rattle.def_instr.specs.declared.shapes.SignedOperation.TheVariants as signeds
