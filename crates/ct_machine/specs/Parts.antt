@@ -1,5 +1,5 @@
 -- What the machine's state is, from what the code keeps of it.
-use Rattle.std.specs.Prelude.{ℕ, ◌+◌, ◌*◌, ◌%◌, ◌≡◌, ◌≤◌, Bool, List, [], ◌∷◌, Option, Some, None, if◌then◌else◌}
+use Rattle.std.specs.Prelude.{ℕ, ◌+◌, ◌*◌, ◌%◌, ◌≡◌, ◌≤◌, Bool, false, List, [], ◌∷◌, Option, Some, None, if◌then◌else◌}
 use Rattle.def_words.specs.declared.Cap.{Cap}
 use Rattle.def_words.specs.declared.Posture.{Posture}
 use Rattle.def_memory.specs.declared.Granule.{Granule}
@@ -18,7 +18,7 @@ use Rattle.ct_machine.specs.declared.presence.Presence.TheVariants.{Absent, Gone
 
 -- the outermost frame, which has no caller
 abbrev pub outermost : ℕ → ℕ → ℕ → Frame
-outermost actor export top = record { actor = actor; export = export; top = top; c1 = plain 0; c2 = plain 0; c3 = plain 0; c8 = plain 0; c9 = plain 0 }
+outermost actor export top = record { actor = actor; export = export; top = top; handling = false; c1 = plain 0; c2 = plain 0; c3 = plain 0; c8 = plain 0; c9 = plain 0 }
 
 abbrev pub thread_of : Cap → List Cap → Posture → ℕ → ℕ → ℕ → Thread
 thread_of pcc registers posture actor export top = record { pcc = pcc; registers = registers; frames = outermost actor export top ∷ []; status = Ready; posture = posture }
@@ -46,6 +46,8 @@ state_by granules presence t runs pending devices time picked counts = record {
   pending = pending;
   objects = [];
   next = 1;
+  tokens = [];
+  front = None;
   devices = devices;
   time = time;
   picks = picks_by presence picked;

@@ -25,7 +25,7 @@ impl Model for Tally {
 
     ghost Value = { Counts };
 
-    ghost view = { λ t. record { steps = t.steps; ticks = t.ticks; inputs = t.inputs; calls = t.calls; loads = t.loads; stores = t.stores; frees = t.frees; traps = t.traps } };
+    ghost view = { λ t. record { steps = t.steps; ticks = t.ticks; sweeps = 0; inputs = t.inputs; calls = t.calls; loads = t.loads; stores = t.stores; frees = t.frees; traps = t.traps } };
 }
 
 impl Tally {

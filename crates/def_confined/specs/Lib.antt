@@ -1,6 +1,7 @@
 pub mod Capabilities
 pub mod Places
 pub mod Confined
+pub mod Swept
 pub mod Partitioned
 pub mod Made
 pub mod Changes

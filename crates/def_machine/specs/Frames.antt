@@ -1,5 +1,5 @@
 -- Calls, returns and unwinds, whole.
-use Rattle.std.specs.Prelude.{ℕ, ◌+◌, ◌-◌, true, List, [], ◌∷◌, Option, cond, nat_lt, slice_set}
+use Rattle.std.specs.Prelude.{ℕ, ◌+◌, ◌-◌, true, false, List, [], ◌∷◌, Option, cond, nat_lt, slice_set}
 use Rattle.def_words.specs.declared.Cap.{Cap}
 use Rattle.def_words.specs.declared.Posture.{Posture}
 use Rattle.def_words.specs.Capability.{untagged, with_address}
@@ -49,6 +49,7 @@ pushed_frame old callee export high = record {
   actor = callee;
   export = export;
   top = high;
+  handling = false;
   c1 = register old 1;
   c2 = register old 2;
   c3 = register old 3;

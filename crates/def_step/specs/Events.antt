@@ -12,6 +12,7 @@ use Rattle.def_machine.specs.State.{State, Thread, Status, Ready, Sleeping, Wait
 use Rattle.def_machine.specs.Threads.{picked}
 use Rattle.def_step.specs.declared.Event.{Event}
 use Rattle.def_step.specs.declared.Event.TheVariants.{Step, Tick, Input}
+use Rattle.def_machine.specs.Heap.{swept}
 use Rattle.def_step.specs.Devices.{device, after_input}
 use Rattle.def_step.specs.Instructions.{Board, executed, actor_of}
 
@@ -88,6 +89,11 @@ interrupted s (Some t) = if (thread s t).posture.off then record s { pending = t
 
 abbrev pub ticked : State → State
 ticked s = interrupted (record s { time = s.time + 1; counts = record s.counts { ticks = s.counts.ticks + 1 } }) s.running
+
+-- ---- Sweep
+
+abbrev pub swept_on : Board → State → State
+swept_on b s = swept b.image (record s { counts = record s.counts { sweeps = s.counts.sweeps + 1 } })
 
 -- ---- Input
 
