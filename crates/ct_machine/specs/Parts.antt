@@ -61,6 +61,7 @@ deeds_of c = c.calls + c.loads + c.stores + c.frees + c.traps
 pub record IsCounted (c : Counts) (time : ℕ) : Type 0 where
   pub steps : c.steps ≤ most_events
   pub ticks : c.ticks ≤ most_events
+  pub sweeps : c.sweeps ≤ most_events
   pub inputs : c.inputs ≤ most_events
   pub deeds : deeds_of c ≤ c.steps
   pub clock : time ≤ c.ticks

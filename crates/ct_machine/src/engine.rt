@@ -58,6 +58,7 @@ impl<M: Memory + Drop> Engine<M> {
         match event {
             Event::Step => self.counts.steps < 4_000_000_000,
             Event::Tick => self.counts.ticks < 4_000_000_000,
+            Event::Sweep => self.counts.sweeps < 4_000_000_000,
             Event::Input { device, .. } => self.counts.inputs < 4_000_000_000
                 && (device as usize) < self.works.bus.count(),
         }
@@ -244,6 +245,18 @@ impl<M: Memory + Drop> Engine<M> {
         }
     }
 
+    /// One slice of the revoker. With no object in the heap nothing is quarantined, so no sweep begins.
+    fn sweep(&mut self) -> Happened
+        requires { IsTrue (is_lawful self.old.state event.Sweep) }
+        ensures is { (self.new.state, result) ≡ happens self.old.board self.old.state event.Sweep }
+        ensures board { self.new.board ≡ self.old.board }
+    {
+        let before = self.holder();
+        self.counts.sweeps += 1;
+        let off = self.begun(before);
+        Happened { deed: None, off }
+    }
+
     /// One byte comes at a device.
     fn input(&mut self, device: u32, byte: u8) -> Happened
         requires { IsTrue (is_lawful self.old.state (event.Input device byte)) }
@@ -267,6 +280,7 @@ impl<M: Memory + Drop> Engine<M> {
         match event {
             Event::Step => self.step(),
             Event::Tick => self.tick(),
+            Event::Sweep => self.sweep(),
             Event::Input { device, byte } => self.input(device, byte),
         }
     }

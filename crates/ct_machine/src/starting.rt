@@ -44,6 +44,7 @@ fn put_together<M: Memory + Drop>(firmware: Firmware, bus: Bus, mem: M, launch: 
         counts: Tally {
             steps: 0,
             ticks: 0,
+            sweeps: 0,
             inputs: 0,
             calls: 0,
             loads: 0,

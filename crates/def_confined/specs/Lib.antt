@@ -7,4 +7,5 @@ pub mod Made
 pub mod Changes
 pub mod Licensed
 pub mod Holding
+pub mod Keeps
 pub mod Telling

@@ -11,7 +11,7 @@ use Rattle.ct_entry.specs.declared.acts.Totals.{Totals}
 use Rattle.def_machine.specs.State.{State, Thread, Status, Ready, Sleeping, Waiting, Ended, Counts, thread}
 use Rattle.def_machine.specs.Threads.{picked}
 use Rattle.def_step.specs.declared.Event.{Event}
-use Rattle.def_step.specs.declared.Event.TheVariants.{Step, Tick, Input}
+use Rattle.def_step.specs.declared.Event.TheVariants.{Step, Tick, Sweep, Input}
 use Rattle.def_machine.specs.Heap.{swept}
 use Rattle.def_step.specs.Devices.{device, after_input}
 use Rattle.def_step.specs.Instructions.{Board, executed, actor_of}
@@ -132,6 +132,7 @@ told_of before r = (r.0, record { deed = r.1; off = begun before r.0 })
 abbrev pub happens : Board → State → Event → State × Happened
 happens b s Step = told_of s (stepped b s)
 happens b s Tick = told_of s (ticked s, None)
+happens b s Sweep = told_of s (swept_on b s, None)
 happens b s (Input n byte) = told_of s (received s n byte, None)
 
 -- ---- runs
@@ -152,6 +153,7 @@ most_events = 4000000000
 abbrev pub is_lawful : State → Event → Bool
 is_lawful s Step = nat_lt s.counts.steps most_events
 is_lawful s Tick = nat_lt s.counts.ticks most_events
+is_lawful s Sweep = nat_lt s.counts.sweeps most_events
 is_lawful s (Input n byte) = nat_lt s.counts.inputs most_events && nat_lt n (length s.devices)
 
 -- each event of the list may come when it comes
