@@ -3,7 +3,8 @@ use Rattle.std.specs.Prelude.{ℕ, false, List, [], ◌∷◌}
 use Rattle.def_words.specs.declared.Cap.{Cap}
 use Rattle.def_words.specs.declared.Posture.{Posture}
 use Rattle.def_memory.specs.Granules.{plain}
-use Rattle.def_machine.specs.State.{Thread, Frame, Ready}
+use Rattle.def_machine.specs.State.{Thread, Frame}
+use Rattle.def_sched.specs.declared.Status.TheVariants.{Ready}
 
 -- the outermost frame, which has no caller
 abbrev pub first_in : ℕ → ℕ → ℕ → Frame

@@ -5,7 +5,8 @@ use Rattle.def_words.specs.declared.Posture.{Posture}
 use Rattle.def_memory.specs.declared.Granule.{Granule}
 use Rattle.def_memory.specs.Granules.{plain}
 use Rattle.def_machine.specs.Image.{Image, stack_base}
-use Rattle.def_machine.specs.State.{State, Thread, Frame, DeviceState, Counts, Ready, nobody}
+use Rattle.def_machine.specs.State.{State, Thread, Frame, DeviceState, Counts, nobody}
+use Rattle.def_sched.specs.declared.Status.TheVariants.{Ready}
 use Rattle.def_instr.specs.Table.{InRange}
 use Rattle.def_step.specs.declared.Next.{Next}
 use Rattle.def_step.specs.declared.Next.TheVariants.{Returning, Instruction, Nothing}

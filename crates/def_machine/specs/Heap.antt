@@ -1,5 +1,7 @@
 -- *Heap*: places, allocation, free and the sweep.
-use Rattle.std.specs.Prelude.{ℕ, ◌+◌, ◌-◌, ◌*◌, ◌/◌, ◌%◌, ◌≡◌, ◌≤◌, ◌<◌, ◌&&◌, Bool, true, false, cond, nat_le, List, [], ◌∷◌, map, length, min, nat_lt, Option, Some, None}
+use Rattle.std.specs.Prelude.{ℕ, ◌+◌, ◌-◌, ◌*◌, ◌/◌, ◌%◌, ◌≡◌, ◌≤◌, ◌<◌, ◌==◌, ◌&&◌, ◌||◌, Bool, true, false, cond, nat_le, List, [], ◌∷◌, map, length, min, nat_lt, find, Option, Some, None}
+use Rattle.std.specs.List.{range_with_len, list_all}
+use Rattle.def_profile.specs.declared.rights.TheConstants.{HEAP_RIGHTS}
 use Rattle.def_words.specs.declared.Cap.{Cap}
 use Rattle.def_words.specs.LeastBounds.{round_length_of, alignment_of}
 use Rattle.def_words.specs.Derive.{derive, memory_root}
@@ -31,9 +33,19 @@ pub record IsPlaceFor (i : Image) (objects : List Object) (length base : ℕ) : 
   pub fits : Fits i objects length base
   pub least : (b : ℕ) → b < base → Fits i objects length b → ⊥
 
--- GL LG SD LM LD MC
+-- the same as tests: the chunk of an object of this length at this base meets none of these
+abbrev pub is_apart : ℕ → ℕ → Object → Bool
+is_apart length base q = nat_le (base + length + 8) q.base || nat_le (q.base + q.length + 8) base
+
+abbrev pub is_place : Image → List Object → ℕ → ℕ → Bool
+is_place i objects length base =
+    (base % 8 == 0) && (base % alignment_of length == 0) && nat_le (i.heap_base + 8) base && nat_le (base + length) i.heap_end && list_all (is_apart length base) objects
+
+abbrev pub place_of : Image → List Object → ℕ → Option ℕ
+place_of i objects length = find (is_place i objects length) (range_with_len i.heap_base (i.heap_end - i.heap_base))
+
 abbrev pub object_rights : ℕ
-object_rights = 111
+object_rights = HEAP_RIGHTS
 
 -- a new object of this size at this place, charged to this quota
 abbrev pub new_object : State → ℕ → ℕ → ℕ → Object

@@ -20,8 +20,8 @@ pub data Region : Type 0 where
 -- `made` has for each entry's number the capability that boot makes for it, and at 0 the return sentry;
 -- `regions` and `boot` go by granule; `codes` and `globals` have by compartment the number of the entry of
 -- its code and of its globals, and `handlers` that of its error handler's export, 0 where it has none; `stacks`
--- has by thread that of its stack; `frames` says by thread how many it may have; `trusted` is where the threads'
--- areas begin; `sweep` is how many granules a slice passes. Addresses count bytes.
+-- has by thread that of its stack; `frames` says by thread how many it may have, and `priorities` its priority, greater
+-- first; `trusted` is where the threads' areas begin; `sweep` is how many granules a slice passes. Addresses count bytes.
 pub record Image : Type 0 where
   pub entries : Listed
   pub made : List Cap
@@ -33,6 +33,7 @@ pub record Image : Type 0 where
   pub handlers : List ℕ
   pub stacks : List ℕ
   pub frames : List ℕ
+  pub priorities : List ℕ
   pub trusted : ℕ
   pub sweep : ℕ
   pub heap_base : ℕ

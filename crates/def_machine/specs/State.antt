@@ -4,6 +4,8 @@ use Rattle.def_words.specs.declared.Cap.{Cap}
 use Rattle.def_words.specs.declared.Posture.{Posture}
 use Rattle.def_memory.specs.declared.Granule.{Granule}
 use Rattle.def_memory.specs.Granules.{plain, granule_at}
+use Rattle.def_sched.specs.declared.Status.{Status}
+use Rattle.def_sched.specs.declared.Status.TheVariants.{Ended}
 
 -- A frame: its compartment, its export's entry number, its top, whether its error handler was entered, and the caller's
 -- saved registers. Of a thread's outermost frame, which has no caller, the saved registers are plain.
@@ -17,13 +19,6 @@ pub record Frame : Type 0 where
   pub c3 : Cap
   pub c8 : Cap
   pub c9 : Cap
-
--- a sleeping thread has the ticks that are left, a waiting one the address of its word
-pub data Status : Type 0 where
-  Ready : Status
-  Sleeping : ℕ → Status
-  Waiting : ℕ → Status
-  Ended : Status
 
 -- frames stand innermost first; an ended thread has none
 pub record Thread : Type 0 where
@@ -69,8 +64,8 @@ pub record Token : Type 0 where
   pub key : Option ℕ
 
 -- `objects` stand by their bases; `next` is the number of the next allocation, one more than there were;
--- `picks` has for each thread when it was picked last; `front` is how far the running sweep has come, an
--- offset in RAM
+-- `picks` are the threads in the order of their last picks, those never picked first; `front` is how far the
+-- running sweep has come, an offset in RAM
 pub record State : Type 0 where
   pub granules : List Granule
   pub threads : List Thread

@@ -19,11 +19,13 @@ use Rattle.def_words.specs.Capability.{with_address}
 use Rattle.def_words.specs.Derive.{derive, memory_root, executable_root}
 use Rattle.def_memory.specs.declared.Granule.{Granule}
 use Rattle.def_memory.specs.Granules.{plain}
-use Rattle.def_reach.specs.Roots.{gate_for, root_of}
+use Rattle.def_reach.specs.Roots.{gate_for, root_of, compartment_of}
 use Rattle.def_machine.specs.Image.{Image, Region, Fixed, Globals, HeapRam, Stack, Bare}
 use Rattle.def_machine.specs.State as st
-use Rattle.def_machine.specs.State.{State, Frame, DeviceState, Serial, Clock, Pins, Counts, Ready, interrupts_on}
+use Rattle.def_machine.specs.State.{State, Frame, DeviceState, Serial, Clock, Pins, Counts, interrupts_on}
+use Rattle.def_sched.specs.declared.Status.TheVariants.{Ready}
 use Rattle.def_step.specs.Instructions.{Board, return_entry}
+use Rattle.def_sched.specs.Picks.{first_order}
 use Rattle.def_step.specs.Events.{MachineRow}
 
 -- ---- rows of the report by what they are
@@ -149,12 +151,6 @@ posture_byte mode.Inherit = 1
 posture_byte mode.Disabled = 2
 posture_byte mode.Enabled = 3
 
-abbrev pub compartment_of : Owner → ℕ
-compartment_of Trusted = 0
-compartment_of (Compartment b) = b
-compartment_of (Library l) = l
-compartment_of (Thread t) = t
-
 abbrev pub export_first : FirmwareRow → Gate → Owner → ℕ
 export_first f g o = g.code - text_base f (compartment_of o) + g.stack * 2 ^ 32
 
@@ -259,6 +255,7 @@ image_of f = record {
   handlers = map (λ t. 0) f.tables;
   stacks = numbered_from (stack_number f) 0 (length f.threads);
   frames = map (λ t. t.frames) f.threads;
+  priorities = map (λ t. t.priority) f.threads;
   trusted = f.trusted + 16;
   sweep = 64;
   heap_base = f.heap;
@@ -329,7 +326,7 @@ boot_state f = record {
   front = None;
   devices = map (λ d. fresh_device d.kind) f.devices;
   time = 0;
-  picks = replicate (length f.threads) 0;
+  picks = first_order (length f.threads);
   counts = no_counts;
 }
 

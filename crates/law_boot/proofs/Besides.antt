@@ -1,9 +1,9 @@
 -- What stands beside *Confined* holds of the state that a lawful firmware boots.
-use Rattle.std.proofs.Common.{ℕ, zero, suc, ◌≡◌, ◌+◌, ◌*◌, ◌/◌, ◌%◌, ◌≤◌, false, List, [], ◌∷◌, ◌++◌, map, length, Option, None, refl, sym, ap, ◌∙◌, arith}
+use Rattle.std.proofs.Common.{ℕ, zero, suc, ◌≡◌, ◌+◌, ◌-◌, ◌*◌, ◌/◌, ◌%◌, ◌≤◌, false, List, [], ◌∷◌, ◌++◌, map, length, Option, None, refl, sym, ap, ◌∙◌, arith}
 use Rattle.std.proofs.Math.ListN.{get_or}
 use Rattle.ct_entry.specs.Listed.{FirmwareRow}
 use Rattle.ct_entry.specs.declared.starting.Starter.{Starter}
-use Rattle.def_machine.specs.Image.{Image, areas_size}
+use Rattle.def_machine.specs.Image.{areas_size, area_of}
 use Rattle.def_machine.specs.State.{Thread, Frame, nobody}
 use Rattle.def_machine.specs.Objects.{Each}
 use Rattle.def_step.specs.Boot.{image_of, boot_state, boot_granules, first_threads, first_frame}
@@ -21,13 +21,13 @@ unfolding boot_state
 boot_swept f = record {
   granules = λ k passed. absurd passed;
   registers = λ t n stops passed. absurd passed;
-  frames = λ t. idle (get_or (first_threads f 0 f.threads) t nobody).frames;
+  frames = λ t. idle (area_of (image_of f) t - (image_of f).ram) (get_or (first_threads f 0 f.threads) t nobody).frames;
   idle = λ none. tt;
 }
   where
-    idle : {area : ℕ} (fs : List Frame) → FramesSwept (image_of f) [] None area fs
-    idle [] = tt
-    idle (g ∷ gs) = (record { c1 = λ p. absurd p; c2 = λ p. absurd p; c3 = λ p. absurd p; c8 = λ p. absurd p; c9 = λ p. absurd p }, idle gs)
+    idle : (area : ℕ) (fs : List Frame) → FramesSwept (image_of f) [] None area fs
+    idle area [] = tt
+    idle area (g ∷ gs) = (record { c1 = λ p. absurd p; c2 = λ p. absurd p; c3 = λ p. absurd p; c8 = λ p. absurd p; c9 = λ p. absurd p }, idle area gs)
 
 -- each thread has one frame and sixteen registers
 first_deep : (f : FirmwareRow) (t : ℕ) (ss : List Starter) (u : ℕ) → Each (IsStarter f) ss → length (get_or (first_threads f t ss) u nobody).frames ≤ get_or (map (λ s. s.frames) ss) u 0
@@ -66,11 +66,11 @@ ends_below : (f : FirmwareRow) → IsLawfulFirmware f → f.trusted + 16 + areas
 unfolding boot_granules
 ends_below f l =
     let here = trusted_placed f (share_ranges l.shares) (stack_ranges l.stacks) (range f.trusted (trusted_length f.threads)) l.placed in
-    let even = l.ram.1.0 in
+    let even = l.ram.1 in
     omega (arith, here.high, areas_are f.threads, l.heap.1, how_many f (f.size / 8) f.ram, even)
 
 boot_bounded : (f : FirmwareRow) → IsLawfulFirmware f → Bounded (image_of f) (boot_state f)
-unfolding image_of, boot_state
+unfolding image_of boot_state
 boot_bounded f l =
     let here = trusted_placed f (share_ranges l.shares) (stack_ranges l.stacks) (range f.trusted (trusted_length f.threads)) l.placed in
     record {

@@ -109,6 +109,7 @@ small = record {
   handlers = [];
   stacks = 18 ∷ [];
   frames = 4 ∷ [];
+  priorities = 1 ∷ [];
   trusted = 0;
   sweep = 64;
   heap_base = 2147483920;

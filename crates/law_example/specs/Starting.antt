@@ -3,7 +3,8 @@ use Rattle.std.specs.Prelude.{[], ◌∷◌, None, false}
 use Rattle.def_words.specs.declared.Cap.{Cap}
 use Rattle.def_words.specs.Derive.{executable_root}
 use Rattle.def_memory.specs.Granules.{plain}
-use Rattle.def_machine.specs.State.{State, Thread, Frame, Serial, Ready, interrupts_on}
+use Rattle.def_machine.specs.State.{State, Thread, Frame, Serial, interrupts_on}
+use Rattle.def_sched.specs.declared.Status.TheVariants.{Ready}
 use Rattle.law_example.specs.Small.{made, held, made_0, made_1, made_2, made_3, made_4, made_5, made_6, made_7, made_8, made_9, made_11, made_12, made_13, made_14, made_18}
 
 abbrev pub first_pcc : Cap

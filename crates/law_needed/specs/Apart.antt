@@ -8,7 +8,8 @@ use Rattle.ct_entry.specs.declared.rows.Owner.TheVariants.{Compartment, Thread}
 use Rattle.ct_entry.specs.declared.rows.Kind.TheVariants as kinds
 use Rattle.ct_entry.specs.Listed.{Listed}
 use Rattle.def_machine.specs.Image.{Image, Fixed, Globals, Stack}
-use Rattle.def_machine.specs.State.{State, Frame, Ready, interrupts_on}
+use Rattle.def_machine.specs.State.{State, Frame, interrupts_on}
+use Rattle.def_sched.specs.declared.Status.TheVariants.{Ready}
 use Rattle.def_machine.specs.State as state
 use Rattle.law_example.specs.Small.{row, gate, made}
 
@@ -37,6 +38,7 @@ two = record {
   handlers = [];
   stacks = 6 ∷ [];
   frames = 4 ∷ [];
+  priorities = 1 ∷ [];
   trusted = 0;
   sweep = 64;
   heap_base = 2147483776;
