@@ -34,13 +34,14 @@ running_by Absent r = None
 running_by Gone r = None
 running_by Alive r = if r then Some 0 else None
 
-abbrev pub picks_by : Presence → ℕ → List ℕ
-picks_by Absent n = []
-picks_by Gone n = n ∷ []
-picks_by Alive n = n ∷ []
+-- the one thread is first in the order of last picks, and last
+abbrev pub picks_by : Presence → List ℕ
+picks_by Absent = []
+picks_by Gone = 0 ∷ []
+picks_by Alive = 0 ∷ []
 
-abbrev pub state_by : List Granule → Presence → Thread → Bool → Bool → List DeviceState → ℕ → ℕ → Counts → State
-state_by granules presence t runs pending devices time picked counts = record {
+abbrev pub state_by : List Granule → Presence → Thread → Bool → Bool → List DeviceState → ℕ → Counts → State
+state_by granules presence t runs pending devices time counts = record {
   granules = granules;
   threads = threads_by presence t;
   running = running_by presence runs;
@@ -51,7 +52,7 @@ state_by granules presence t runs pending devices time picked counts = record {
   front = None;
   devices = devices;
   time = time;
-  picks = picks_by presence picked;
+  picks = picks_by presence;
   counts = counts;
 }
 

@@ -29,7 +29,6 @@ pub(crate) struct Engine<M: Memory + Drop> {
     pub(crate) running: bool,
     pub(crate) pending: bool,
     pub(crate) time: u64,
-    pub(crate) picked: u32,
     pub(crate) counts: Tally,
 }
 
@@ -43,7 +42,7 @@ impl<M: Memory + Drop> Model for Engine<M> {
 
     ghost view = { λ m. record {
       board = record { image = image_of m.firmware; bases = m.works.bus.bases };
-      state = state_by (M.granules m.works.mem) m.presence m.works.active m.running m.pending m.works.bus.states m.time m.picked m.counts;
+      state = state_by (M.granules m.works.mem) m.presence m.works.active m.running m.pending m.works.bus.states m.time m.counts;
     } };
 
     ghost invariant = { λ m. IsKept (image_of m.firmware) m.ram m.stack (top_of m.works.active) (length (M.granules m.works.mem)) m.presence × IsCounted m.counts m.time };
@@ -169,7 +168,6 @@ impl<M: Memory + Drop> Engine<M> {
         let _top = self.works.active.top;
         pass_works(&mut self.works, ram);
         self.running = true;
-        self.picked = self.counts.steps;
     }
 
     /// The running thread carries on, by one instruction or native routine.
@@ -217,6 +215,8 @@ impl<M: Memory + Drop> Engine<M> {
         ensures is { (self.new.state, result) ≡ happens self.old.board self.old.state event.Tick }
         ensures board { self.new.board ≡ self.old.board }
     {
+        // Opened, a thread that goes on is seen to be ready, so that none sleeps.
+        let _top = self.works.active.top;
         let before = self.holder();
         self.time += 1;
         self.counts.ticks += 1;

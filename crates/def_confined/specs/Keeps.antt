@@ -2,14 +2,14 @@
 use Rattle.def_machine.specs.Image.{Image}
 use Rattle.def_machine.specs.State.{State}
 use Rattle.def_confined.specs.Confined.{Confined}
-use Rattle.def_confined.specs.Holding.{EndedOn}
+use Rattle.def_confined.specs.Holding.{EndsFit}
 use Rattle.def_confined.specs.Swept.{Swept, Bounded}
 
--- part 8, where the places of threads are, and who may hold interrupts off
+-- part 8, where the places of threads are, and which threads have ended
 pub record Beside (i : Image) (s : State) : Type 0 where
   pub swept : Swept i s
   pub bounded : Bounded i s
-  pub ended_on : EndedOn s
+  pub ends : EndsFit s
 
 pub record Keeps (i : Image) (s : State) : Type 0 where
   pub confined : Confined i s

@@ -6,10 +6,11 @@ use Rattle.ct_entry.specs.declared.starting.Starter.{Starter}
 use Rattle.def_machine.specs.Image.{areas_size, area_of}
 use Rattle.def_machine.specs.State.{Thread, Frame, nobody}
 use Rattle.def_machine.specs.Objects.{Each}
+use Rattle.def_sched.specs.declared.Status.TheVariants.{Ready, Ended}
 use Rattle.def_step.specs.Boot.{image_of, boot_state, boot_granules, first_threads, first_frame}
 use Rattle.def_step.specs.Firmware.{IsLawfulFirmware, IsStarter, IsPlaced, RegionRange, range, share_ranges, stack_ranges, trusted_length}
 use Rattle.def_confined.specs.Confined.{Confined}
-use Rattle.def_confined.specs.Holding.{EndedOn}
+use Rattle.def_confined.specs.Holding.{EndFits, EndsFit}
 use Rattle.def_confined.specs.Keeps.{Beside, Keeps}
 use Rattle.def_confined.specs.Swept.{FramesSwept, Swept, Bounded}
 use Rattle.law_regions.proofs.Confining.{confined}
@@ -44,10 +45,13 @@ first_many : (f : FirmwareRow) (t : ℕ) (ss : List Starter) → length (first_t
 first_many f t [] = omega arith
 first_many f t (s ∷ ss) = let rest = first_many f (t + 1) ss in omega (arith, rest)
 
-first_on : (f : FirmwareRow) (t : ℕ) (ss : List Starter) (u : ℕ) → (get_or (first_threads f t ss) u nobody).frames ≡ [] → (get_or (first_threads f t ss) u nobody).posture.off ≡ false
-first_on f t [] u = λ e. refl
-first_on f t (s ∷ ss) zero = λ e. absurd (let clash : (first_frame f t s.export ∷ []) ≡ [] = e in cc)
-first_on f t (s ∷ ss) (suc u) = first_on f (t + 1) ss u
+first_ends : (f : FirmwareRow) (t : ℕ) (ss : List Starter) (u : ℕ) → EndFits (get_or (first_threads f t ss) u nobody)
+first_ends f t [] u = record { over = λ e. refl; none = λ e. (refl, refl) }
+first_ends f t (s ∷ ss) zero = record {
+  over = λ e. absurd (let clash : Ready ≡ Ended = e in cc);
+  none = λ e. absurd (let clash : (first_frame f t s.export ∷ []) ≡ [] = e in cc);
+}
+first_ends f t (s ∷ ss) (suc u) = first_ends f (t + 1) ss u
 
 -- the trusted region is the last of the regions that lie below the heap
 trusted_placed : (f : FirmwareRow) (rs ss : List RegionRange) (r : RegionRange) → Each (IsPlaced f) (rs ++ ss ++ r ∷ []) → IsPlaced f r
@@ -81,12 +85,12 @@ boot_bounded f l =
       fits = ends_below f l;
     }
 
-boot_ended : (f : FirmwareRow) → EndedOn (boot_state f)
+boot_ends : (f : FirmwareRow) → EndsFit (boot_state f)
 unfolding boot_state
-boot_ended f = λ u. first_on f 0 f.threads u
+boot_ends f = λ u. first_ends f 0 f.threads u
 
 pub boot_keeps : (f : FirmwareRow) → IsLawfulFirmware f → Keeps (image_of f) (boot_state f)
 boot_keeps f l = record {
   confined = confined f l;
-  beside = record { swept = boot_swept f; bounded = boot_bounded f l; ended_on = boot_ended f };
+  beside = record { swept = boot_swept f; bounded = boot_bounded f l; ends = boot_ends f };
 }

@@ -1,5 +1,5 @@
 -- Ticks, inputs and steps, whole.
-use Rattle.std.proofs.Common.{ℕ, ◌≡◌, ◌+◌, ◌&&◌, ◌≤◌, true, false, not, List, [], ◌∷◌, length, Option, Some, None, refl, sym, ◌∙◌, slice_set, arith}
+use Rattle.std.proofs.Common.{ℕ, ◌≡◌, ◌+◌, ◌&&◌, ◌≤◌, true, false, not, List, [], ◌∷◌, length, Option, Some, None, refl, sym, ◌∙◌, slice_set, map, arith}
 use Rattle.std.proofs.lemmas.List.{length-map}
 use Rattle.law_lists.proofs.Tests.{chosen}
 use Rattle.ct_entry.specs.declared.acts.Deed.{Deed}
@@ -7,12 +7,13 @@ use Rattle.ct_entry.specs.declared.acts.Owned.{Owned}
 use Rattle.def_machine.specs.Image.{Image}
 use Rattle.def_machine.specs.State.{State, Frame, thread}
 use Rattle.def_machine.specs.Memory.{filtered}
-use Rattle.def_machine.specs.Threads.{Clockwork, picked}
+use Rattle.def_sched.specs.Picks.{pick, moved_last}
+use Rattle.def_machine.specs.Threads.{Clockwork, picked, timed, statuses_of}
 use Rattle.def_step.specs.declared.Event.{Event}
 use Rattle.def_step.specs.declared.Event.TheVariants.{Step, Tick, Sweep, Input}
 use Rattle.def_step.specs.Instructions.{Board, executed, actor_of}
 use Rattle.def_step.specs.Devices.{device, after_input}
-use Rattle.def_step.specs.Events.{noted, with_deed, preempted_from, preempted, is_ready, picked_from, scheduled, continued, one_more_step, stepped, interrupted, ticked, swept_on, received, holder_by, holder, is_holder, begun_since, begun, happens}
+use Rattle.def_step.specs.Events.{noted, with_deed, preempted_from, preempted, picked_as, picked_from, scheduled, continued, one_more_step, stepped, interrupted, ticked, swept_on, received, holder_by, holder, is_holder, begun_since, begun, happens}
 use Rattle.def_board.specs.Wired.{Wired}
 use Rattle.def_confined.specs.Confined.{Confined}
 use Rattle.def_confined.specs.Partitioned.{Partitioned}
@@ -20,9 +21,10 @@ use Rattle.def_confined.specs.Licensed.{Licensed, OffLicensed}
 use Rattle.law_places.proofs.Turns.{clock_of}
 use Rattle.law_turns.proofs.Moves.{pick_confined, clock_confined}
 use Rattle.law_licensed.proofs.Deeds.{off_licensed}
-use Rattle.def_confined.specs.Holding.{EndedOn}
+use Rattle.def_confined.specs.Holding.{EndedOn, EndsFit}
 use Rattle.def_confined.specs.Keeps.{Beside, Keeps}
 use Rattle.law_sweeps.proofs.Ends.{swept_keeps}
+use Rattle.law_sweeps.proofs.Ticks.{timed_keeps}
 use Rattle.law_sweeps.proofs.Moves.{ThreadLeft, ram_same, moved_beside, clock_beside, stopped_beside}
 use Rattle.law_events.proofs.Fairness.{Fair, some_same, none_licensed}
 use Rattle.law_events.proofs.Steps.{executed_fair}
@@ -84,19 +86,19 @@ picked_left i s t idle h = record {
   };
   deep = h.bounded.deep t;
   few = omega (arith, h.bounded.few t, length-map (thread s t).registers (filtered i s));
-  on = h.ended_on t;
+  ends = λ e. record { over = e.over; none = e.none };
 }
 
 picked_kept : (b : Board) (s : State) (o : Option ℕ) → s.running ≡ o → Partitioned b.image → Confined b.image s → Kept b s (picked_from b s o)
 picked_kept b s (Some t) runs parts h = same_kept b s h
-picked_kept b s None idle parts h = chosen (Kept b s) (is_ready (thread s 0).status)
-    (record s { running = Some 0; threads = slice_set s.threads 0 (picked b.image s (thread s 0)); picks = slice_set s.picks 0 s.counts.steps })
-    s
-    (λ is. record {
-      confined = pick_confined b.image s 0 (record (clock_of s) { picks = slice_set s.picks 0 s.counts.steps }) parts h;
-      beside = λ e. moved_beside b.image s 0 s.granules (picked b.image s (thread s 0)) (Some 0) (record (clock_of s) { picks = slice_set s.picks 0 s.counts.steps }) (ram_same b.image s) (picked_left b.image s 0 idle e) e;
-    })
-    (λ none. same_kept b s h)
+picked_kept b s None idle parts h = as_kept (pick b.image.priorities (statuses_of s.threads) s.picks)
+  where
+    as_kept : (p : Option ℕ) → Kept b s (picked_as b s p)
+    as_kept None = same_kept b s h
+    as_kept (Some t) = record {
+      confined = pick_confined b.image s t (record (clock_of s) { picks = moved_last t s.picks }) parts h;
+      beside = λ e. moved_beside b.image s t s.granules (picked b.image s (thread s t)) (Some t) (record (clock_of s) { picks = moved_last t s.picks }) (ram_same b.image s) (picked_left b.image s t idle e) e;
+    }
 
 -- ---- a step
 
@@ -162,6 +164,9 @@ spans_fit b before after o wired h on = begun_fits b after (holder before) (hold
 
 -- ---- an event
 
+ended_on : (s : State) → EndsFit s → EndedOn s
+ended_on s h = λ t e. ((h t).none e).1
+
 -- what an event leaves of a state, and that what it tells is licensed
 pub record EventFair (b : Board) (r : State × Option Deed) : Type 0 where
   pub keeps : Keeps b.image r.0
@@ -176,8 +181,9 @@ counted_keeps b s w k = record { confined = clock_confined b.image s w k.confine
 event_fair : (b : Board) (s : State) (e : Event) → Partitioned b.image → Wired b → Keeps b.image s → EventFair b ((happens b s e).0, (happens b s e).1.deed)
 event_fair b s Step parts wired k = fair_whole b s (stepped b s) k.beside (stepped_fair b s parts wired k.confined)
 event_fair b s Tick parts wired k =
-    let counted = counted_keeps b s (record (clock_of s) { time = s.time + 1; counts = record s.counts { ticks = s.counts.ticks + 1 } }) k in
-    let after = ticked_kept b (record s { time = s.time + 1; counts = record s.counts { ticks = s.counts.ticks + 1 } }) s.running counted.confined in
+    let slept = timed_keeps b.image s k in
+    let counted = counted_keeps b (record s { threads = map timed s.threads }) (record (clock_of s) { time = s.time + 1; counts = record s.counts { ticks = s.counts.ticks + 1 } }) slept in
+    let after = ticked_kept b (record s { threads = map timed s.threads; time = s.time + 1; counts = record s.counts { ticks = s.counts.ticks + 1 } }) s.running counted.confined in
     record { keeps = record { confined = after.confined; beside = after.beside counted.beside }; licensed = none_licensed b }
 event_fair b s Sweep parts wired k =
     let counted = counted_keeps b s (record (clock_of s) { counts = record s.counts { sweeps = s.counts.sweeps + 1 } }) k in
@@ -188,10 +194,10 @@ event_fair b s (Input n byte) parts wired k = record {
 }
 
 event_span : (b : Board) (s : State) (e : Event) (o : Owned) → Wired b → Keeps b.image (happens b s e).0 → (happens b s e).1.off ≡ Some o → OffLicensed b.image.entries o
-event_span b s Step o wired k is = spans_fit b s (stepped b s).0 o wired k.confined k.beside.ended_on is
-event_span b s Tick o wired k is = spans_fit b s (ticked s) o wired k.confined k.beside.ended_on is
-event_span b s Sweep o wired k is = spans_fit b s (swept_on b s) o wired k.confined k.beside.ended_on is
-event_span b s (Input n byte) o wired k is = spans_fit b s (received s n byte) o wired k.confined k.beside.ended_on is
+event_span b s Step o wired k is = spans_fit b s (stepped b s).0 o wired k.confined (ended_on (stepped b s).0 k.beside.ends) is
+event_span b s Tick o wired k is = spans_fit b s (ticked s) o wired k.confined (ended_on (ticked s) k.beside.ends) is
+event_span b s Sweep o wired k is = spans_fit b s (swept_on b s) o wired k.confined (ended_on (swept_on b s) k.beside.ends) is
+event_span b s (Input n byte) o wired k is = spans_fit b s (received s n byte) o wired k.confined (ended_on (received s n byte) k.beside.ends) is
 
 -- ---- the laws
 

@@ -51,7 +51,7 @@ over_left i s t runs = record {
   };
   deep = omega arith;
   few = omega arith;
-  on = λ e. refl;
+  ends = λ h. record { over = λ e. refl; none = λ e. (refl, refl) };
 }
 
 -- a frame ends, and its caller goes on
@@ -65,7 +65,10 @@ back_left i s t f g gs first second runs frames bound = record {
   };
   deep = let deep : length (f ∷ g ∷ gs) ≤ frames_most i t = subst (λ (fs : List Frame). length fs ≤ frames_most i t) frames (bound.deep t) in omega (arith, deep);
   few = omega arith;
-  on = λ e. let clash : (g ∷ gs) ≡ [] = e in cc;
+  ends = λ h. record {
+    over = λ e. absurd (let clash : (f ∷ g ∷ gs) ≡ [] = sym frames ∙ h.over e in cc);
+    none = λ e. absurd (let clash : (g ∷ gs) ≡ [] = e in cc);
+  };
 }
 
 pub returned_beside : (i : Image) (s : State) (t : ℕ) (fs : List Frame) → (thread s t).frames ≡ fs → s.running ≡ Some t → Beside i s → Beside i (returned i s t fs)
@@ -129,7 +132,7 @@ put_beside b s t d runs some ram h = moved_beside b.image s t d.granules (jumped
       };
       deep = h.bounded.deep t;
       few = omega (arith, h.bounded.few t, written_length (thread s t).registers d.to d.value);
-      on = λ e. absurd (some e);
+      ends = λ e. record { over = e.over; none = λ none. absurd (some none) };
     })
     h
 

@@ -11,7 +11,7 @@ use Rattle.def_machine.specs.Image.{Image, area_of, frames_most}
 use Rattle.def_machine.specs.State.{State, Thread, thread, register, granule, nobody}
 use Rattle.def_machine.specs.Threads.{Clockwork, changed}
 use Rattle.def_confined.specs.Confined.{Confined}
-use Rattle.def_confined.specs.Holding.{EndedOn}
+use Rattle.def_confined.specs.Holding.{EndFits}
 use Rattle.def_confined.specs.Keeps.{Beside}
 use Rattle.def_confined.specs.Swept.{HasUnpainted, IsPassed, FramesSwept, Swept, Bounded}
 use Rattle.law_sweeps.proofs.Others.{Sweeps, changed_swept}
@@ -44,7 +44,7 @@ pub record ThreadLeft (i : Image) (s : State) (t : ℕ) (new : Thread) (run : Op
   pub sweeps : Swept i s → Sweeps i s t new run
   pub deep : length new.frames ≤ frames_most i t
   pub few : length new.registers ≤ 16
-  pub on : new.frames ≡ [] → new.posture.off ≡ false
+  pub ends : EndFits (thread s t) → EndFits new
 
 pub moved_beside : (i : Image) (s : State) (t : ℕ) (gs : List Granule) (new : Thread) (run : Option ℕ) (w : Clockwork) → RamLeft i s gs → ThreadLeft i s t new run → Beside i s → Beside i (moved s t gs new run w)
 moved_beside i s t gs new run w ram left b =
@@ -63,7 +63,7 @@ moved_beside i s t gs new run w ram left b =
         areas = b.bounded.areas;
         fits = omega (arith, b.bounded.fits, ram.size);
       };
-      ended_on = λ u. after_set (λ (th : Thread). th.frames ≡ [] → th.posture.off ≡ false) s.threads t u new nobody left.on (b.ended_on u);
+      ends = λ u. after_set EndFits s.threads t u new nobody (left.ends (b.ends t)) (b.ends u);
     }
 
 -- ---- the clock, and threads that stop
@@ -72,7 +72,7 @@ pub clock_beside : (i : Image) (s : State) (w : Clockwork) → Beside i s → Be
 clock_beside i s w b = record {
   swept = record { granules = b.swept.granules; registers = b.swept.registers; frames = b.swept.frames; idle = b.swept.idle };
   bounded = record { deep = b.bounded.deep; few = b.bounded.few; many = b.bounded.many; areas = b.bounded.areas; fits = b.bounded.fits };
-  ended_on = b.ended_on;
+  ends = b.ends;
 }
 
 -- none runs: what the running thread held is of live objects
@@ -85,7 +85,7 @@ stopped_beside i s w h b = record {
     idle = b.swept.idle;
   };
   bounded = record { deep = b.bounded.deep; few = b.bounded.few; many = b.bounded.many; areas = b.bounded.areas; fits = b.bounded.fits };
-  ended_on = b.ended_on;
+  ends = b.ends;
 }
   where
     by_runner : (o : Option ℕ) → s.running ≡ o → (t n : ℕ) → IsPassed s.front (area_of i t - i.ram + 8 * n) → HasUnpainted i s.objects (register (thread s t) n)
