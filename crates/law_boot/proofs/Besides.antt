@@ -54,7 +54,7 @@ first_ends f t (s ∷ ss) zero = record {
 first_ends f t (s ∷ ss) (suc u) = first_ends f (t + 1) ss u
 
 -- the trusted region is the last of the regions that lie below the heap
-trusted_placed : (f : FirmwareRow) (rs ss : List RegionRange) (r : RegionRange) → Each (IsPlaced f) (rs ++ ss ++ r ∷ []) → IsPlaced f r
+pub trusted_placed : (f : FirmwareRow) (rs ss : List RegionRange) (r : RegionRange) → Each (IsPlaced f) (rs ++ ss ++ r ∷ []) → IsPlaced f r
 trusted_placed f [] ss r each = last ss each
   where
     last : (qs : List RegionRange) → Each (IsPlaced f) (qs ++ r ∷ []) → IsPlaced f r
@@ -62,7 +62,7 @@ trusted_placed f [] ss r each = last ss each
     last (q ∷ qs) each = last qs each.1
 trusted_placed f (q ∷ rs) ss r each = trusted_placed f rs ss r each.1
 
-areas_are : (ss : List Starter) → trusted_length ss ≡ 16 + areas_size (map (λ s. s.frames) ss)
+pub areas_are : (ss : List Starter) → trusted_length ss ≡ 16 + areas_size (map (λ s. s.frames) ss)
 areas_are [] = refl
 areas_are (s ∷ ss) = let rest = areas_are ss in omega (arith, rest)
 
