@@ -44,7 +44,7 @@ executed_is b s t = fetched_is b s t (first_failed (fetch_checks (thread s t).pc
 abbrev pub board_by : Image → Bank → Board
 board_by im k = record { image = im; bases = k.bases }
 
-abbrev pub after_by : Image → ℕ → List Granule → Bank → Thread → Bool → ℕ → ℕ → Counts → Option Deed → Ran → State × Option Deed
+abbrev pub after_by : Image → ℕ → List Granule → Bank → Thread → Bool → ℕ → Counts → Option Deed → Ran → State × Option Deed
 after_by im top gs k w pending time c d r = (state_by (granules_by r (stack_base im 0) top im.ram gs) (presence_after r) w true pending k.states time (with_deed c d), d)
 
 settled_is : (im : Image) (gs gs' : List Granule) (k k' : Bank) (w w' : Thread) (f : Frame) (pending : Bool) (time : ℕ) (c : Counts) (r : Ran) (D : Decision) →
