@@ -1,2 +1,3 @@
-pub mod Files
-pub mod Parts
+mod Files
+mod Parts
+mod Writers

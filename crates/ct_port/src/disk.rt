@@ -1,7 +1,9 @@
 //! The trusted edge: the folder of the system's files, and a sink over a writer as standard output.
-//! They tell nothing of what they read or take.
+//! What a file holds and what standard output took is told by nobody; the loops between are proved
+//! over every reader and writer that tells its bytes.
 
-ghost use Rattle.std.specs.Prelude.{ℕ, ◌≡◌, ◌+◌, ◌≤◌, ◌^◌, length, List, [], MatchResult, IfOk, IfErr, Some, None};
+ghost use Rattle.std.specs.Prelude.{ℕ, ◌≡◌, ◌≢◌, ◌+◌, ◌≤◌, ◌<◌, ◌^◌, length, take, drop, List, [], MatchResult, IfOk, IfErr, IfSome, Some, None};
+ghost use Rattle.def_port.specs.Bytes.{Appends, AppendsPart};
 ghost use Rattle.def_port.specs.Told.{Silent};
 
 use crate::lists::{Reading, note};
@@ -12,9 +14,6 @@ use std::fs::File;
 use std::io::{self, ErrorKind, Read, Write};
 use std::marker::Model;
 use std::rt::Files;
-
-/// How many bytes are asked of the system at once.
-const CHUNK: usize = 65536;
 
 /// The files of the system, by their paths. It counts failures, keeps the list of reads, and tells
 /// nothing of what a name stands for.
@@ -80,7 +79,7 @@ fn read_file<R: Files>(
     ensures { IfOk result (λ v. length v.items ≤ limit + 1) }
 {
     match File::open(runtime, name) {
-        Ok(mut file) => read_front(alloc, &mut file, limit as usize + 1),
+        Ok(file) => read_front(alloc, file, limit + 1),
         Err(error) => Err(cause_of(&error)),
     }
 }
@@ -94,29 +93,27 @@ fn cause_of(error: &io::Error) -> ReadError {
     }
 }
 
-/// At most `most` bytes, up to the end. Each turn takes at least one byte, or is the end or a
-/// fault, so the loop ends.
-fn read_front<F: Read>(alloc: Global, file: &mut F, most: usize) -> Result<Vec<u8>, ReadError>
-    requires { most ≤ 2 ^ 32 + 1 }
-    ensures { IfOk result (λ v. length v.items ≤ most) }
+/// The first `most` bytes of a reader, or all that it has where these are fewer.
+///
+/// A read that a signal interrupts is tried again. `Failed`: a read failed. `NoMemory`: the bytes
+/// have no room in memory.
+pub fn read_front<F: Read + Drop>(alloc: Global, file: F, most: u64) -> Result<Vec<u8>, ReadError>
+    requires { most < 2 ^ 63 }
+    ensures size { IfOk result (λ v. length v.items ≤ most) }
+    ensures bytes { IfOk result (λ v. IfSome (F.remaining file) (λ all. v.items ≡ take most all)) }
 {
     let mut bytes = Vec::new(alloc);
-    let mut chunk = [0u8; CHUNK];
-    while bytes.len() < most {
-        let room = CHUNK.min(most - bytes.len());
-        let taken = match file.read(&mut chunk[..room]) {
-            Ok(taken) => taken,
-            Err(error) => return Err(cause_of(&error)),
-        };
-        if taken == 0 {
-            break;
+    match file.take(most).read_to_end(&mut bytes) {
+        Ok(_) => {
+            bytes.truncate(most as usize);
+            Ok(bytes)
         }
-        bytes.extend_from_slice(&chunk[..taken])?;
+        Err(error) => Err(cause_of(&error)),
     }
-    Ok(bytes)
 }
 
-/// A sink over a writer. It counts failures and tells no bytes.
+/// A sink over a writer. It counts failures, and tells the bytes that its writer tells: none of
+/// standard output.
 #[derive(Drop)]
 pub struct WriterSink<W: Write + Drop> {
     writer: W,
@@ -124,17 +121,17 @@ pub struct WriterSink<W: Write + Drop> {
 }
 
 impl<W: Write + Drop> Model for WriterSink<W> {
-    ghost use Rattle.std.specs.Prelude.{ℕ};
+    ghost use Rattle.def_port.specs.Forms.{WriterRow};
 
-    ghost Value = { ℕ };
+    ghost Value = { WriterRow };
 
-    ghost view = { λ s. s.failures };
+    ghost view = { λ s. record { bytes = W.contents s.writer; faults = s.failures } };
 }
 
 impl<W: Write + Drop> WriterSink<W> {
     /// A sink over this writer. It takes no memory.
     pub fn new(writer: W) -> WriterSink<W>
-        ensures { result ≡ 0 }
+        ensures { result ≡ record { bytes = W.contents writer; faults = 0 } }
     {
         WriterSink {
             writer,
@@ -144,28 +141,63 @@ impl<W: Write + Drop> WriterSink<W> {
 }
 
 impl<W: Write + Drop> Sink for WriterSink<W> {
-    ghost bytes = { λ _. None };
+    ghost bytes = { λ s. s.bytes };
 
-    ghost faults = { λ s. s };
+    ghost faults = { λ s. s.faults };
 
     fn write(&mut self, piece: &[u8]) -> Result<(), WriteFailed> {
-        if write_whole(&mut self.writer, piece) {
-            return Ok(());
+        match write_whole(&mut self.writer, piece) {
+            Ok(()) => Ok(()),
+            Err(failed) => {
+                self.failures = self.failures.saturating_add(1);
+                Err(failed)
+            }
         }
-        self.failures = self.failures.saturating_add(1);
-        Err(WriteFailed)
     }
 }
 
-/// Writes all of the piece. A write that takes nothing is a fault, so each turn takes at least one
-/// byte or ends the loop.
-fn write_whole<W: Write>(writer: &mut W, piece: &[u8]) -> bool {
+/// Writes all of the piece, or fails with its beginning written.
+#[tactic(auto, using(crate::proofs::Writers::next))]
+fn write_whole<W: Write>(writer: &mut W, piece: &[u8]) -> Result<(), WriteFailed>
+    ensures { MatchResult result
+        (λ _. Appends (W.contents writer.old) (W.contents writer.new) piece.now)
+        (λ _. AppendsPart (W.contents writer.old) (W.contents writer.new) piece.now) }
+{
     let mut rest = piece;
-    while !rest.is_empty() {
-        match writer.write(rest) {
-            Ok(taken) if taken > 0 => rest = &rest[taken..],
-            _ => return false,
+    for _ in 0..u64::MAX {
+        if rest.is_empty() {
+            return Ok(());
+        }
+        match write_once(writer, rest) {
+            Ok(taken) => rest = past(rest, taken),
+            Err(failed) => return Err(failed),
         }
     }
-    true
+    Err(WriteFailed)
+}
+
+/// One write, and how many bytes it took: none where a signal interrupted it, so that it is tried
+/// again. A write that takes nothing of its own accord is a fault.
+#[tactic(auto, using(crate::proofs::Writers::grows, crate::proofs::Writers::stays))]
+fn write_once<W: Write>(writer: &mut W, rest: &[u8]) -> Result<usize, WriteFailed>
+    requires { length rest.now ≢ 0 }
+    ensures bound { IfOk result (λ n. n ≤ length rest.now) }
+    ensures bytes { MatchResult result
+        (λ n. Appends (W.contents writer.old) (W.contents writer.new) (take n rest.now))
+        (λ _. Appends (W.contents writer.old) (W.contents writer.new) []) }
+{
+    match writer.write(rest) {
+        Ok(0) => Err(WriteFailed),
+        Ok(taken) => Ok(taken),
+        Err(error) if error.kind() == ErrorKind::Interrupted => Ok(0),
+        Err(_) => Err(WriteFailed),
+    }
+}
+
+/// The bytes past the first so many.
+fn past(bytes: &[u8], count: usize) -> &[u8]
+    requires { count ≤ length bytes.now }
+    ensures { result.now ≡ drop count bytes.now }
+{
+    &bytes[count..]
 }

@@ -14,7 +14,7 @@ mod steady;
 
 pub use def_port::{ReadError, WriteFailed};
 pub use def_refusals::NoMemory;
-pub use disk::{DiskFolder, WriterSink};
+pub use disk::{DiskFolder, WriterSink, read_front};
 pub use folders::FolderMem;
 pub use outside::{Folder, Sink};
 pub use sinks::SinkMem;

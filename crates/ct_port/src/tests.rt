@@ -3,10 +3,11 @@
 
 use crate::{
     DiskFolder, Folder, FolderMem, ReadError, Sink, SinkMem, SteadyFolder, SteadySink, WriterSink,
+    read_front,
 };
 use std::alloc::Global;
 use std::fs;
-use std::io::Cursor;
+use std::io::{self, Cursor, ErrorKind, Read, Write};
 
 /// The limit of every read below: three bytes.
 const LIMIT: u64 = 3;
@@ -131,6 +132,82 @@ fn the_system_s_files(rt: HostRuntime) {
     );
     assert!(rt; matches!(shown(&mut folder, rt.alloc(), "."), Err(ReadError::Failed)));
     fs::remove_file(&rt, "port_test.txt").expect(&rt, "remove");
+}
+
+/// A file of more than one piece of any size that is asked of the system at once, no two
+/// neighbouring bytes alike, read with its length as the limit, and with one and two less.
+#[test]
+fn a_long_file(rt: HostRuntime) {
+    let mut bytes = Vec::new(rt.alloc());
+    for i in 0..200003u32 {
+        bytes.push((i % 251) as u8).expect(&rt, "memory");
+    }
+    fs::write(&rt, "long_test.bin", bytes.as_slice()).expect(&rt, "write");
+    let mut folder = DiskFolder::new(&rt, rt.alloc());
+    for (limit, given) in [(200003u64, 200003usize), (200002, 200003), (200001, 200002)] {
+        let read = folder
+            .read(rt.alloc(), "long_test.bin", limit)
+            .expect(&rt, "read");
+        bytes.truncate(given);
+        assert!(rt; read.as_slice() == bytes.as_slice(), "limit {limit}");
+    }
+    fs::remove_file(&rt, "long_test.bin").expect(&rt, "remove");
+}
+
+/// Bytes that are read and written one at a time, where a signal interrupts every second call.
+#[derive(Drop)]
+struct Halting<T: Drop> {
+    inner: T,
+    calls: u32,
+}
+
+impl<T: Drop> Halting<T> {
+    fn is_interrupted(&mut self) -> bool {
+        self.calls = self.calls.wrapping_add(1);
+        self.calls % 2 == 1
+    }
+}
+
+impl<T: Read + Drop> Read for Halting<T> {
+    fn read(&mut self, buf: &mut [u8]) -> io::Result<usize> {
+        if self.is_interrupted() {
+            return Err(io::Error::from(ErrorKind::Interrupted));
+        }
+        let most = buf.len().min(1);
+        self.inner.read(&mut buf[..most])
+    }
+}
+
+impl<T: Write + Drop> Write for Halting<T> {
+    fn write(&mut self, buf: &[u8]) -> io::Result<usize> {
+        if self.is_interrupted() {
+            return Err(io::Error::from(ErrorKind::Interrupted));
+        }
+        let most = buf.len().min(1);
+        self.inner.write(&buf[..most])
+    }
+
+    fn flush(&mut self) -> io::Result<()> {
+        self.inner.flush()
+    }
+}
+
+#[test]
+fn interrupted_calls(rt: HostRuntime) {
+    let reader = Halting {
+        inner: Cursor::new(b"abcdef".as_slice()),
+        calls: 0,
+    };
+    let read = read_front(rt.alloc(), reader, 4).expect(&rt, "read");
+    assert_eq!(rt; read.as_slice(), b"abcd".as_slice());
+    let mut room = [0u8; 5];
+    let mut sink = WriterSink::new(Halting {
+        inner: Cursor::new(room.as_mut_slice()),
+        calls: 0,
+    });
+    assert!(rt; sink.write(b"abc").is_ok());
+    assert!(rt; sink.write(b"def").is_err());
+    assert_eq!(rt; room.as_slice(), b"abcde".as_slice());
 }
 
 #[test]

@@ -16,4 +16,4 @@ command_of f = command_for f.name.now f.task
 -- a run of at most so many steps as a machine makes
 abbrev pub IsShort : Task → Type 0
 IsShort Audit = Unit {0}
-IsShort (Run limit) = limit ≤ 4000000000
+IsShort (Run limit) = limit ≤ command.most_steps

@@ -6,7 +6,8 @@ ghost use Rattle.def_firmware.specs.Firmware.{firmware_of};
 ghost use Rattle.def_step.specs.Boot.{booted_machine};
 ghost use Rattle.def_step.specs.Firmware.{IsLawfulFirmware};
 ghost use Rattle.def_report.specs.Report.{report_line};
-ghost use Rattle.def_output.specs.Answers.{Answers, Ends};
+ghost use Rattle.def_output.specs.Answers.{Answers, ends};
+ghost use Rattle.def_profile.specs.declared.limits.TheConstants.{MOST_STEPS};
 ghost use Rattle.def_output.specs.Commands.{form_of};
 ghost use Rattle.def_output.specs.Runs.{due_text, run_text};
 ghost use Rattle.ct_top.specs.Forms.{command_for, command_of, IsShort};
@@ -49,7 +50,7 @@ fn machine_of(alloc: Global, desc: &Desc) -> Result<Machine<Plain>, NoMemory>
 fn run<S: Sink>(alloc: Global, desc: &Desc, limit: u32, sink: &mut S) -> Status
     requires placed { is_placed desc.now ≡ true }
     requires lawful { IsLawfulFirmware (firmware_of desc.now) }
-    requires short { limit ≤ 4000000000 }
+    requires short { limit ≤ MOST_STEPS }
     ensures { Settles (S.bytes sink.old) (S.bytes sink.new) (S.faults sink.old) (S.faults sink.new) (run_text desc.now limit) result }
 {
     let report = match ct_report::text(alloc, desc) {
@@ -87,18 +88,9 @@ pub fn perform<F: Folder, S: Sink>(
     sink: &mut S,
 ) -> Status
     requires { IsShort form.now.task }
-    ensures { (words : List (List ℕ)) → form_of words ≡ Some (command_of form.now) → let e : Ends = record {
-      words = words;
-      told = F.file folder.old;
-      calls = F.calls folder.old;
-      calls_after = F.calls folder.new;
-      read_faults = F.faults folder.old;
-      read_faults_after = F.faults folder.new;
-      bytes = S.bytes sink.old;
-      bytes_after = S.bytes sink.new;
-      write_faults = S.faults sink.old;
-      write_faults_after = S.faults sink.new;
-    } in Answers e result }
+    ensures { (words : List (List ℕ)) → form_of words ≡ Some (command_of form.now)
+        → Answers (ends F.file F.calls F.faults S.bytes S.faults
+        words folder.old folder.new sink.old sink.new) result }
 {
     match read_description(alloc, form.name, folder) {
         Ok(desc) => finish(alloc, form.task, &desc, sink),

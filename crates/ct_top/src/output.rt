@@ -1,7 +1,7 @@
 //! Texts that end a call, and the lines of refusals, in pieces and with no memory taken.
 
-ghost use Rattle.std.specs.Prelude.{◌≡◌, ◌++◌, ◌∷◌, [], MatchResult};
-ghost use Rattle.def_port.specs.Writes.{Writes, WriteFails};
+ghost use Rattle.std.specs.Prelude.{◌≡◌, ◌++◌, ◌∷◌, []};
+ghost use Rattle.def_port.specs.Writes.{WriteAnswers};
 ghost use Rattle.def_output.specs.Lines.{description_line, usage_line};
 ghost use Rattle.ct_top.specs.Steps.{Closes, Refuses};
 
@@ -12,27 +12,21 @@ use def_output::Status;
 /// Writes two pieces.
 #[tactic(auto, using(crate::proofs::Pieces::both, crate::proofs::Pieces::first_fails, crate::proofs::Pieces::second_fails))]
 fn write_both<S: Sink>(first: &[u8], second: &[u8], sink: &mut S) -> Result<(), WriteFailed>
-    ensures { MatchResult result
-        (λ _. Writes (S.bytes sink.old) (S.bytes sink.new) (S.faults sink.old) (S.faults sink.new) (first.now ++ second.now))
-        (λ _. WriteFails (S.bytes sink.old) (S.bytes sink.new) (S.faults sink.old) (S.faults sink.new) (first.now ++ second.now)) }
+    ensures { WriteAnswers (S.bytes sink.old) (S.bytes sink.new)
+        (S.faults sink.old) (S.faults sink.new) (first.now ++ second.now) result }
 {
-    match sink.write(first) {
-        Ok(()) => sink.write(second),
-        Err(failed) => Err(failed),
-    }
+    sink.write(first)?;
+    sink.write(second)
 }
 
 /// Writes a text, a name and a line feed.
 #[tactic(auto, using(crate::proofs::Pieces::both, crate::proofs::Pieces::first_fails, crate::proofs::Pieces::second_fails))]
 fn write_named<S: Sink>(text: &[u8], name: &str, sink: &mut S) -> Result<(), WriteFailed>
-    ensures { MatchResult result
-        (λ _. Writes (S.bytes sink.old) (S.bytes sink.new) (S.faults sink.old) (S.faults sink.new) (text.now ++ (name.now ++ 10 ∷ [])))
-        (λ _. WriteFails (S.bytes sink.old) (S.bytes sink.new) (S.faults sink.old) (S.faults sink.new) (text.now ++ (name.now ++ 10 ∷ []))) }
+    ensures { WriteAnswers (S.bytes sink.old) (S.bytes sink.new)
+        (S.faults sink.old) (S.faults sink.new) (text.now ++ (name.now ++ 10 ∷ [])) result }
 {
-    match sink.write(text) {
-        Ok(()) => write_both(name.as_bytes(), b"\n", sink),
-        Err(failed) => Err(failed),
-    }
+    sink.write(text)?;
+    write_both(name.as_bytes(), b"\n", sink)
 }
 
 /// Writes a text, a name and a line feed, and ends with a status.

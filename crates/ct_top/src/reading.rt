@@ -6,10 +6,11 @@ ghost use Rattle.ct_top.specs.Steps.{NoDescription, Described, Stopped};
 
 use ct_desc::{Desc, DescFault};
 use ct_port::{Folder, ReadError};
+use def_profile::limits::MOST_FILE;
 use std::alloc::Global;
 
 /// A file has at most this many bytes.
-const MOST: u64 = 16777216;
+const MOST: u64 = MOST_FILE as u64;
 
 /// Why there is no description.
 #[derive(Clone, Copy, Debug, Drop, PartialEq, Eq)]

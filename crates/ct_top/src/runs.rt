@@ -190,11 +190,42 @@ fn no_authority_is_made(rt: HostRuntime) {
     }
 }
 
+/// The texts that the sample's run writes, each by one write.
+const WRITES: [&str; 3] = [
+    REPORT,
+    "4 store t0 c0 e4 10000000 4 00000041\n",
+    "end finished steps 6 ticks 0 calls 0 devices 1 allocations 0 frees 0 traps 0\n",
+];
+
+/// Where the n-th write fails, what stands before it was written and nothing else.
 #[test]
-fn second_write_fails(rt: HostRuntime) {
+fn each_write_of_a_run_fails(rt: HostRuntime) {
     let words = ["run", "tiny.json", "100"];
-    let answer = outcome(rt.alloc(), &words, TINY.as_bytes(), 100000, 2, REPORT);
-    assert!(rt; answer == Some((Status::WriteFault, true)));
-    let answer = outcome(rt.alloc(), &words, TINY.as_bytes(), 100000, 1, "");
-    assert!(rt; answer == Some((Status::WriteFault, true)));
+    let mut due = String::new(rt.alloc());
+    let mut failing = 1u64;
+    for text in &WRITES {
+        let answer = outcome(
+            rt.alloc(),
+            &words,
+            TINY.as_bytes(),
+            100000,
+            failing,
+            due.as_str(),
+        );
+        assert!(rt;
+            answer == Some((Status::WriteFault, true)),
+            "write {failing}"
+        );
+        due.push_str(*text).expect(&rt, "memory");
+        failing = failing.saturating_add(1);
+    }
+    let answer = outcome(
+        rt.alloc(),
+        &words,
+        TINY.as_bytes(),
+        100000,
+        failing,
+        due.as_str(),
+    );
+    assert!(rt; answer == Some((Status::Done, true)));
 }

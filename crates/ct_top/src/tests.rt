@@ -1,7 +1,10 @@
 //! The rows of `audit`, and what every command refuses, over files and output in memory.
 
+ghost use Rattle.std.specs.Prelude.{◌≡◌, ◌≤◌, ◌^◌, ℕ, List, MatchResult};
+ghost use Rattle.def_port.specs.Reads.{Reads, ReadFails};
+
 use crate::{Status, capfw};
-use ct_port::{FolderMem, SinkMem, SteadyFolder, SteadySink};
+use ct_port::{Folder, FolderMem, ReadError, SinkMem, SteadyFolder, SteadySink};
 use std::alloc::{AllocError, Global};
 
 pub(crate) const TINY: &str =
@@ -118,6 +121,39 @@ fn a_read_that_fails(rt: HostRuntime) {
     let status = capfw(rt.alloc(), words.as_slice(), &mut folder, &mut sink);
     assert!(rt; status == Status::ReadFault && status.code() == 2);
     assert_eq!(rt; sink.bytes(), b"refused 2 read tiny.json\n".as_slice());
+}
+
+/// A folder that keeps the limit that it was last asked with.
+#[derive(Drop)]
+struct Asked<F: Folder + Drop> {
+    inner: F,
+    limit: u64,
+}
+
+impl<F: Folder + Drop> Folder for Asked<F> {
+    ghost file = { λ a. F.file a.inner };
+
+    ghost faults = { λ a. F.faults a.inner };
+
+    ghost calls = { λ a. F.calls a.inner };
+
+    fn read(&mut self, alloc: Global, name: &str, limit: u64) -> Result<Vec<u8>, ReadError> {
+        self.limit = limit;
+        self.inner.read(alloc, name, limit)
+    }
+}
+
+/// The limit of a read stands in no clause.
+#[test]
+fn a_read_is_asked_with_the_limit_of_a_file(rt: HostRuntime) {
+    let words = words_of(rt.alloc(), &["audit", "a"]).expect(&rt, "memory");
+    let mut folder = Asked {
+        inner: FolderMem::new(rt.alloc()),
+        limit: 0,
+    };
+    let mut sink = SteadySink::new();
+    let status = capfw(rt.alloc(), words.as_slice(), &mut folder, &mut sink);
+    assert!(rt; status == Status::ReadFault && folder.limit == 16777216);
 }
 
 #[test]

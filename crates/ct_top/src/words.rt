@@ -5,6 +5,8 @@ ghost use Rattle.std.specs.List.{list_all};
 ghost use Rattle.def_output.specs.Commands as spec;
 ghost use Rattle.ct_top.specs.Forms.{command_of, IsShort};
 
+use def_profile::limits::MOST_STEPS;
+
 /// What is done with a description that was read.
 #[derive(Clone, Copy, Debug, PartialEq, Eq, Drop)]
 pub enum Task {
@@ -29,13 +31,13 @@ fn are_digits(text: &[u8]) -> bool
 
 /// The number that digits spell, where it is at most 4,000,000,000.
 fn value_of(digits: &[u8]) -> Option<u32>
-    ensures small { IfSome result (λ n. n ≤ 4000000000) }
+    ensures small { IfSome result (λ n. n ≤ spec.most_steps) }
     ensures value { result ≡ (if nat_le (spec.value_of digits.now) spec.most_steps then Some (spec.value_of digits.now) else None) }
 {
     let mut value: u64 = 0;
     for c in digits {
         value = 10 * value + c.saturating_sub(b'0') as u64;
-        if value > 4000000000 {
+        if value > MOST_STEPS as u64 {
             return None;
         }
     }
@@ -44,7 +46,7 @@ fn value_of(digits: &[u8]) -> Option<u32>
 
 /// A limit: decimal digits without sign or leading zero, of 1 to 4,000,000,000.
 fn limit_of(text: &[u8]) -> Option<u32>
-    ensures small { IfSome result (λ n. n ≤ 4000000000) }
+    ensures small { IfSome result (λ n. n ≤ spec.most_steps) }
     ensures value { result ≡ spec.limit_of text.now }
 {
     match text {

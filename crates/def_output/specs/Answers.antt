@@ -25,6 +25,22 @@ pub record Ends : Type 0 where
   pub write_faults : ℕ
   pub write_faults_after : ℕ
 
+-- The ends of a call over a folder and a sink of any types: what they tell and count, each of them
+-- before and after.
+abbrev pub ends : {F S : Type 0} → (F → List ℕ → Told) → (F → List Call) → (F → ℕ) → (S → Option (List ℕ)) → (S → ℕ) → List (List ℕ) → F → F → S → S → Ends
+ends file calls read_faults bytes write_faults words folder folder_after sink sink_after = record {
+  words = words;
+  told = file folder;
+  calls = calls folder;
+  calls_after = calls folder_after;
+  read_faults = read_faults folder;
+  read_faults_after = read_faults folder_after;
+  bytes = bytes sink;
+  bytes_after = bytes sink_after;
+  write_faults = write_faults sink;
+  write_faults_after = write_faults sink_after;
+}
+
 -- ---- what was read
 
 -- the file of this name holds these bytes, where the folder tells it

@@ -1,6 +1,7 @@
 -- The words of the command line, and the names that are due: those files are read, in this order.
 use Rattle.std.specs.Prelude.{ℕ, ◌+◌, ◌-◌, ◌*◌, ◌^◌, ◌==◌, List, [], ◌∷◌, length, Bool, not, ◌&&◌, nat_le, Option, Some, None, option_map, bytes_eq, codes, if◌then◌else◌}
 use Rattle.std.specs.List.{list_all}
+use Rattle.def_profile.specs.declared.limits.TheConstants.{MOST_FILE, MOST_STEPS}
 
 pub data Command : Type 0 where
   Audit : List ℕ → Command
@@ -17,7 +18,7 @@ value_of [] = 0
 value_of (c ∷ cs) = (c - 48) * 10 ^ length cs + value_of cs
 
 abbrev pub most_steps : ℕ
-most_steps = 4000000000
+most_steps = MOST_STEPS
 
 abbrev pub is_limit : ℕ → List ℕ → Bool
 is_limit c cs = list_all is_digit (c ∷ cs) && not (c == 48) && nat_le (value_of (c ∷ cs)) most_steps
@@ -56,4 +57,4 @@ due_names (Some command) = file_of command ∷ []
 
 -- a file has at most this many bytes
 abbrev pub most : ℕ
-most = 16777216
+most = MOST_FILE

@@ -62,6 +62,11 @@ pub record DiskRow : Type 0 where
   pub calls : List Call
   pub faults : ℕ
 
+-- a sink over a writer: what the writer tells of its bytes, and the count of faults
+pub record WriterRow : Type 0 where
+  pub bytes : Option (List ℕ)
+  pub faults : ℕ
+
 abbrev pub NeverFails : {A : Type 0} → Result A ReadError → Type 0
 NeverFails (Ok bytes) = Unit {0}
 NeverFails (Err Failed) = ⊥

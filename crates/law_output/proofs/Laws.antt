@@ -1,14 +1,14 @@
 -- What is left of the answers.
-use Rattle.std.proofs.Common.{◌≡◌, ℕ, ◌+◌, ◌-◌, ◌^◌, ◌<◌, ◌≤◌, min, List, [], Option, Some, None, length, refl, sym, ap, ◌∙◌, subst, ◌⊎◌, inl, inr, arith}
+use Rattle.std.proofs.Common.{◌≡◌, ℕ, ◌+◌, ◌-◌, ◌^◌, ◌<◌, ◌≤◌, min, List, [], Option, Some, None, length, refl, sym, ap, ◌∙◌, subst, inl, inr, arith}
 use Rattle.def_port.specs.Bytes.{Rose}
 use Rattle.def_port.specs.Told.{Told, File}
-use Rattle.def_desc.specs.Rows.{DescRow}
-use Rattle.def_desc.specs.WellFormed.{WellFormed, Malformed, fault_of}
+use Rattle.def_desc.specs.WellFormed.{WellFormed}
 use Rattle.def_output.specs.declared.Status.{Status}
 use Rattle.def_output.specs.declared.Status.TheVariants.{Done, Usage, ReadFault, TooLarge, Description, WriteFault, NoMemory}
 use Rattle.def_output.specs.Commands.{Command, form_of, file_of, most}
 use Rattle.def_output.specs.Answers.{Ends, Answers, Holds, IsLarge}
-use Rattle.law_output.specs.Ends.{Commands, DoneOrMemory, IsSteady, NoFault}
+use Rattle.law_desc.proofs.Judging as judging
+use Rattle.law_output.specs.Ends.{Completes, IsSteady, NoFault, RefusesMisuse}
 
 abbrev file_in : Option Command → List ℕ
 file_in None = []
@@ -29,29 +29,19 @@ too_large t all is size large =
     let past : most < length all = (let P : Told → Type 0 = λ u. IsLarge u in subst P is large) in
     absurd (omega (arith, past, size))
 
--- bytes aren't both
-not_malformed : (bytes : List ℕ) (rows : DescRow) → WellFormed bytes rows → Malformed bytes → ⊥
-not_malformed bytes rows good (inl none) =
-    let same : Some good.0 ≡ None = sym good.1.0.1 ∙ none good.1.0.0 in cc
-not_malformed bytes rows good (inr bad) =
-    let same : Some good.0 ≡ Some bad.0 = sym good.1.0.1 ∙ bad.2.0.1 in
-    let is : good.0 ≡ bad.0 = cc in
-    let both : None ≡ Some bad.1 = sym good.1.1 ∙ ap fault_of is ∙ bad.2.1 in
-    cc
-
-pub completes : (e : Ends) (s : Status) (all : List ℕ) (rows : DescRow) → Answers e s → NoFault e → Commands e all → WellFormed all rows → DoneOrMemory s
-completes e Done all rows a none file good = inl refl
-completes e Usage all rows a none file good = elim (not_both e file.command a.cause.form file.form) [ ]
-completes e ReadFault all rows a none file good = elim (none.reads a.cause.read.rose) [ ]
-completes e TooLarge all rows a none file good =
+pub completes : (e : Ends) (s : Status) → Answers e s → Completes e s
+completes e Done a all rows none file good = inl refl
+completes e Usage a all rows none file good = elim (not_both e file.command a.cause.form file.form) [ ]
+completes e ReadFault a all rows none file good = elim (none.reads a.cause.read.rose) [ ]
+completes e TooLarge a all rows none file good =
     let is : e.told (file_of a.cause.command) ≡ File all = ap e.told (same_file e a.cause.command file.command a.cause.form file.form) ∙ file.told in
     elim (too_large (e.told (file_of a.cause.command)) all is file.size a.cause.large.large) [ ]
-completes e Description all rows a none file good =
+completes e Description a all rows none file good =
     let is : e.told (file_of a.cause.command) ≡ File all = ap e.told (same_file e a.cause.command file.command a.cause.form file.form) ∙ file.told in
     let same : all ≡ a.cause.bytes = told_is (e.told (file_of a.cause.command)) all a.cause.bytes is a.cause.file.holds in
-    elim (not_malformed a.cause.bytes rows (subst (λ b. WellFormed b rows) same good) a.cause.bad) [ ]
-completes e WriteFault all rows a none file good = elim (none.writes a.rose) [ ]
-completes e NoMemory all rows a none file good = inr refl
+    elim (judging.not_both a.cause.bytes rows (subst (λ b. WellFormed b rows) same good) a.cause.bad) [ ]
+completes e WriteFault a all rows none file good = elim (none.writes a.rose) [ ]
+completes e NoMemory a all rows none file good = inr refl
 
 pub no_fault : (e : Ends) (s : Status) → Answers e s → NoFault e → IsSteady s
 no_fault e Done a none = tt
@@ -70,7 +60,7 @@ still before now b n rose =
 pub constant : (e : Ends) → e.read_faults ≡ 0 → e.read_faults_after ≡ 0 → e.write_faults ≡ 0 → e.write_faults_after ≡ 0 → NoFault e
 constant e a b c d = record { reads = still e.read_faults e.read_faults_after a b; writes = still e.write_faults e.write_faults_after c d }
 
-pub misuse : (e : Ends) (s : Status) → Answers e s → form_of e.words ≡ None → (s ≡ Usage) ⊎ (s ≡ WriteFault)
+pub misuse : (e : Ends) (s : Status) → Answers e s → RefusesMisuse e s
 misuse e Done a none = elim (not_both e a.cause.command none a.cause.form) [ ]
 misuse e Usage a none = inl refl
 misuse e ReadFault a none = elim (not_both e a.cause.command none a.cause.form) [ ]

@@ -3,19 +3,15 @@
 //! of a fault.
 #![tactic(auto)]
 
-ghost use Rattle.std.specs.Prelude.{◌≡◌, ◌⊎◌, ℕ, List, None};
-ghost use Rattle.def_desc.specs.Rows.{DescRow};
-ghost use Rattle.def_desc.specs.WellFormed.{WellFormed};
+ghost use Rattle.std.specs.Prelude.{◌≡◌};
 ghost use Rattle.def_output.specs.declared.Status.{Status};
-ghost use Rattle.def_output.specs.declared.Status.TheVariants.{Usage, WriteFault};
 ghost use Rattle.def_output.specs.Answers.{Answers, Ends};
-ghost use Rattle.def_output.specs.Commands.{form_of};
-ghost use Rattle.law_output.specs.Ends.{Commands, DoneOrMemory, IsSteady, NoFault};
+ghost use Rattle.law_output.specs.Ends.{Completes, IsSteady, NoFault, RefusesMisuse};
 
 /// Completeness: where no fault is counted, and the words are a form whose file holds a well-formed
 /// description of a lawful size, the status is Done or NoMemory.
 pub fn completes()
-    ensures { (e : Ends) (s : Status) (all : List ℕ) (rows : DescRow) → Answers e s → NoFault e → Commands e all → WellFormed all rows → DoneOrMemory s }
+    ensures { (e : Ends) (s : Status) → Answers e s → Completes e s }
 {}
 
 /// Where no fault is counted no status of a fault is answered; the counts of `SteadyFolder` and
@@ -26,11 +22,13 @@ pub fn answers_no_fault()
 
 /// A count that is the constant 0 did not rise.
 pub fn constant_counts_rise_not()
-    ensures { (e : Ends) → e.read_faults ≡ 0 → e.read_faults_after ≡ 0 → e.write_faults ≡ 0 → e.write_faults_after ≡ 0 → NoFault e }
+    ensures { (e : Ends)
+        → e.read_faults ≡ 0 → e.read_faults_after ≡ 0
+        → e.write_faults ≡ 0 → e.write_faults_after ≡ 0 → NoFault e }
 {}
 
 /// Words that are not a form are answered by Usage, or by WriteFault where the line could not be
 /// written; never by want of memory.
 pub fn misuse_is_usage()
-    ensures { (e : Ends) (s : Status) → Answers e s → form_of e.words ≡ None → (s ≡ Usage) ⊎ (s ≡ WriteFault) }
+    ensures { (e : Ends) (s : Status) → Answers e s → RefusesMisuse e s }
 {}

@@ -1,5 +1,5 @@
-use Rattle.std.proofs.Common.{length}
+use Rattle.def_port.specs.Bytes.{AppendsBefore}
 use Rattle.ct_port.proofs.disk.write_whole.Given as goal
 
-abbrev pub decreases-loop-rest : goal.decreases-loop-rest
-decreases-loop-rest g l = length l.rest
+abbrev pub invariant-loop : goal.invariant-loop
+invariant-loop g l = AppendsBefore (g.W.Write.contents l.fn.writer) (g.W.Write.contents l.writer) l.rest l.piece
