@@ -1,7 +1,7 @@
 //! What the capability instructions give.
 //!
 //! `capstep` equals the written results of def_capstep for every capability instruction and all
-//! operands; each arm is one operation of ct_cap. docs/capabilities.md tells the rules.
+//! operands; each arm is one operation of ct_cap. docs/use/capabilities.md tells the rules.
 #![tactic(auto)]
 
 mod numbers;
@@ -9,7 +9,8 @@ mod numbers;
 mod tests;
 
 ghost use Rattle.std.specs.Prelude.{IsTrue, MatchResult, false, true, ◌||◌, ◌≡◌};
-ghost use Rattle.def_capstep.specs.Results.{capability_result, is_capability, is_system};
+ghost use Rattle.def_instr.specs.Shapes.{is_capability, is_system};
+ghost use Rattle.def_capstep.specs.Results.{capability_result};
 
 use crate::numbers::{
     address, base, high, integer, length, mask, rounded, top, upper_offset, with_high,

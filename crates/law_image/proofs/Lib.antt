@@ -1,0 +1,6 @@
+pub mod Tells
+pub mod Passing
+pub mod Laying
+pub mod Members
+pub mod Rows
+pub mod Limited
