@@ -1,0 +1,9 @@
+use Rattle.std.proofs.Common.{ℕ, ◌≡◌, ◌+◌, ◌*◌, ◌/◌, ◌%◌, ◌<◌, ◌≤◌, ◌∙◌, Bool, true, false, List, length, map, get_or, replicate, refl, sym, ap, arith, subst, inl, inr}
+use Rattle.ct_planes.proofs.Planed.{new_granules}
+use Rattle.def_memory.specs.declared.Granule.{Granule}
+use Rattle.ct_planes.specs.View.{granules_of}
+use Rattle.ct_planes.proofs.planes.Planes.new.Goals as goal
+
+pub returns : goal.returns
+returns c =
+    (λ i. granules_of (c.in_ok-words.ensures i) (c.in_ok-tags.ensures i) (c.in_ok-shadows.ensures i) (c.in_ok-marks.ensures i)) ∙ new_granules (c.args.size / 8)
