@@ -10,6 +10,7 @@ use Rattle.def_object.specs.declared.Place.{Place}
 use Rattle.def_object.specs.declared.Fault.{Fault}
 use Rattle.def_object.specs.Object.{Labels, advanced, grown, size_at, offset, is_least, lesser, on_line, statement_fault, reference_fault, size_fault, fault_from, section_bytes, bytes_from}
 use Rattle.ct_source.specs.Views.{statement_view, statements_view}
+use Rattle.ct_asm.specs.Emitting.{IsFound}
 
 -- the statements from number k on begin with number k
 pub from_here : (ss : List (Statement (Bor Name))) (k : ℕ) (d : Statement (Bor Name)) → k < length ss → statements_view (drop k ss) ≡ statement_view (get_or ss k d) ∷ statements_view (drop (k + 1) ss)
@@ -111,3 +112,8 @@ first_faultless labels p k x xs all cut e =
 pub rest_faultless : (labels : Labels) (p p' : Place) (k : ℕ) (x : Statement Name) (xs all : Statements) → all ≡ x ∷ xs → p' ≡ advanced p x.part → fault_from labels p k all ≡ None → fault_from labels p' (k + 1) xs ≡ None
 rest_faultless labels p p' k x xs all cut next e =
     ap (λ q. fault_from labels q (k + 1) xs) next ∙ (neither (on_line x.line (statement_fault labels p k x.part)) (fault_from labels (advanced p x.part) (k + 1) xs) (sym (ap (fault_from labels p k) cut) ∙ e)).1
+
+-- what a statement without a fault refers to is found, whatever its number
+pub found_here : (labels : Labels) (k at : ℕ) (q : Part Name) → reference_fault labels k at q ≡ None → IsFound labels at q
+found_here labels k at (part.Label name) e = tt
+found_here labels k at q e = e
