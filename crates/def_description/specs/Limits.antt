@@ -6,7 +6,8 @@ use Rattle.serde_json.specs.Find.{get, as_array}
 use Rattle.def_profile.specs.declared.layout.TheConstants.{REGION_UNIT}
 use Rattle.def_profile.specs.declared.limits.TheConstants.{MOST_BYTES, MOST_FILE_NAME, RAM_END, SWEEP_RATE}
 use Rattle.def_profile.specs.declared.seals.TheConstants.{FIRST_KEY_TYPE, LAST_KEY_TYPE}
-use Rattle.def_profile.specs.Versions.{most_ram, most_threads, least_sweep, most_sweep}
+use Rattle.def_profile.specs.Versions.{most_ram, least_sweep, most_sweep}
+use Rattle.def_image.specs.Profile.{last_version, most_threads}
 use Rattle.def_description.specs.declared.faults.PartWord.{PartWord}
 use Rattle.def_description.specs.declared.faults.PartWord.TheVariants as part
 use Rattle.def_description.specs.declared.tables.Shape.{Shape}
@@ -62,10 +63,11 @@ keeps_members part d = list_all (keeps_member d) (members_of part)
 abbrev pub version_of : Data → ℕ
 version_of d = number_or 1 (codes "version") d
 
--- what differs from version to version
+-- the version is one that is taken, and what differs from version to version has that one's limits
 abbrev pub keeps_version : ℕ → Data → Bool
 keeps_version version d =
-    is_within (least_sweep version) (most_sweep version) (number_or SWEEP_RATE (codes "sweep") d)
+    nat_le version last_version
+    && is_within (least_sweep version) (most_sweep version) (number_or SWEEP_RATE (codes "sweep") d)
     && nat_le (length (list_at (codes "threads") d)) (most_threads version)
 
 abbrev pub keeps_ram : ℕ → Data → Bool

@@ -1,9 +1,10 @@
 -- F7, F8 and F9: what imports and threads name, rights, services.
-use Rattle.std.specs.Prelude.{ℕ, List, ◌∷◌, ◌++◌, map, Bool, true, Option, Some, None, is_some}
+use Rattle.std.specs.Prelude.{nat_le, false, ℕ, List, ◌∷◌, ◌++◌, map, Bool, true, Option, Some, None}
 use Rattle.std.specs.Prelude.{codes}
 use Rattle.std.specs.List.{flat_map}
 use Rattle.serde_json.specs.Data.{Data}
 use Rattle.def_names.specs.Names.{among}
+use Rattle.def_image.specs.Profile.{last_service}
 use Rattle.def_description.specs.declared.faults.PartWord.{PartWord}
 use Rattle.def_description.specs.declared.faults.PartWord.TheVariants as part
 use Rattle.def_description.specs.declared.tables.Form.{Form}
@@ -99,8 +100,13 @@ rights_fit_at s = rights_fit_in s.place.part s.value
 
 -- ---- F9: a service that isn't listed
 
+-- a service that is listed, of those that are taken
+abbrev pub is_taken : Option ℕ → Bool
+is_taken None = false
+is_taken (Some n) = nat_le n last_service
+
 abbrev pub is_served : Form → List ℕ → Bool
-is_served form.Service name = is_some (service_of name)
+is_served form.Service name = is_taken (service_of name)
 is_served _ name = true
 
 abbrev pub target_is_served : Option Target → Bool

@@ -1,6 +1,6 @@
 -- *Image*: which bytes are an accepted image, of which parts, and what is wrong with others: the least number, at its
 -- first place.
-use Rattle.std.specs.Prelude.{ℕ, ◌≡◌, ◌⊎◌, ◌&&◌, Bool, true, false, List, length, take, drop, Option, Some, None, nat_le, bytes_eq}
+use Rattle.std.specs.Prelude.{ℕ, ◌≡◌, ◌⊎◌, ◌&&◌, Bool, true, false, List, length, take, drop, Some, None, nat_le, bytes_eq}
 use Rattle.std.specs.Int.{w32, from_le_bytes}
 use Rattle.def_image.specs.Raw.{RawImage}
 use Rattle.def_image.specs.Parts.{PartsRow}

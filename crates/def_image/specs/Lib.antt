@@ -4,6 +4,7 @@ pub mod Spelling
 pub mod Shapes
 pub mod Profile
 pub mod Sizes
+pub mod Members
 pub mod Regions
 pub mod Checks
 pub mod Limits
@@ -11,3 +12,6 @@ pub mod Lying
 pub mod Indexes
 pub mod Rights
 pub mod Accepted
+pub mod Laid
+pub mod Sound
+pub mod Reading

@@ -1,6 +1,6 @@
 -- I3: limits and forms of an image's fields. An offset beside a part's place is that of the field within the part, as
 -- the format has it.
-use Rattle.std.specs.Prelude.{ℕ, ◌+◌, ◌-◌, ◌*◌, ◌%◌, ◌==◌, ◌&&◌, ◌||◌, Bool, false, not, nat_le, nat_lt, List, [], ◌∷◌, ◌++◌, length, map, take, drop, get_or, if◌then◌else◌, codes, bytes_eq}
+use Rattle.std.specs.Prelude.{ℕ, ◌+◌, ◌*◌, ◌%◌, ◌==◌, ◌&&◌, ◌||◌, Bool, false, not, nat_le, nat_lt, List, [], ◌∷◌, ◌++◌, length, map, take, drop, get_or, if◌then◌else◌, codes, bytes_eq}
 use Rattle.std.specs.List.{list_all}
 use Rattle.std.specs.Int.{w32, from_le_bytes}
 use Rattle.def_profile.specs.declared.layout.TheConstants.{REGION_UNIT, SLOT_SIZE}
@@ -15,7 +15,7 @@ use Rattle.def_image.specs.Raw.{RawDevice, RawShared, RawSealed, RawCode, RawCom
 use Rattle.def_profile.specs.Versions as version
 use Rattle.def_image.specs.Profile as profile
 use Rattle.def_image.specs.Profile.{outside}
-use Rattle.def_image.specs.Sizes.{sum_of, rate_size, sealed_size, entries_size, tables_size, compartment_size, library_size, devices_at, shared_at, sealed_at, compartments_at, libraries_at, threads_at}
+use Rattle.def_image.specs.Sizes.{sum_of, compartment_count, library_count, rate_size, sealed_size, entries_size, tables_size, compartment_size, library_size, devices_at, shared_at, sealed_at, compartments_at, libraries_at, threads_at}
 use Rattle.def_image.specs.Checks.{check, walked}
 
 -- ---- names: 32 bytes, of which the name is what stands before the first zero
@@ -191,13 +191,11 @@ compartment_name c = name_of c.code.name
 abbrev pub library_name : RawCode → List ℕ
 library_name c = name_of c.name
 
--- how many entries of the report an owner has: of a compartment its code, its globals, its slots and its exports; a
--- library has no globals
 abbrev pub compartment_entries : RawCompartment → ℕ
-compartment_entries c = 2 + length c.code.slots + length c.code.exports
+compartment_entries c = compartment_count c.code.slots c.code.exports
 
 abbrev pub library_entries : RawCode → ℕ
-library_entries c = 1 + length c.slots + length c.exports
+library_entries c = library_count c.slots c.exports
 
 -- slots and text fit the region; text is words
 abbrev pub code_limits : ℕ → RawCode → List Check

@@ -1,6 +1,6 @@
 -- The regions of an image, in the order in which their bases stand in its bytes. The heap is none of them: it is the
 -- rest of RAM from its base on.
-use Rattle.std.specs.Prelude.{ℕ, ◌+◌, ◌*◌, ◌==◌, List, [], ◌∷◌, ◌++◌, length}
+use Rattle.std.specs.Prelude.{ℕ, ◌+◌, ◌*◌, List, [], ◌∷◌, ◌++◌, length}
 use Rattle.ct_entry.specs.declared.rows.Owner.{Owner}
 use Rattle.ct_entry.specs.declared.rows.Owner.TheVariants.{Compartment, Library}
 use Rattle.def_profile.specs.declared.layout.TheConstants.{TABLE_HEAD, TABLE_ROW, TRUSTED_HEAD, AREA_HEAD, FRAME_SIZE}

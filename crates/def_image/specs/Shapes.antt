@@ -8,7 +8,7 @@ use Rattle.def_image.specs.declared.RawEntry.{RawEntry}
 use Rattle.def_image.specs.declared.format.TheConstants.{NAME, ROW}
 use Rattle.def_image.specs.Raw.{RawDevice, RawShared, RawSealed, RawCode, RawCompartment, RawThread, RawImage}
 use Rattle.def_image.specs.Parts.{SlotRow, GateRow, SharedRow, SealedRow, CodeRow, CompartmentRow, ThreadRow, PartsRow}
-use Rattle.def_image.specs.Spelling.{padding_after, name_field, raw_of}
+use Rattle.def_image.specs.Spelling.{padding_after, raw_of}
 
 -- so many bytes
 pub record IsField (n : ℕ) (bytes : List ℕ) : Type 0 where

@@ -1,7 +1,7 @@
 -- How many bytes each part of an image has, and where each list begins.
 use Rattle.std.specs.Prelude.{ℕ, ◌+◌, ◌*◌, ◌==◌, List, [], ◌∷◌, length, if◌then◌else◌}
-use Rattle.def_image.specs.declared.format.TheConstants.{NUMBER, ENTRY, HEADER, DEVICE, SHARED, SEALED_HEAD, COMPARTMENT_HEAD, LIBRARY_HEAD, THREAD}
-use Rattle.def_image.specs.Raw.{RawDevice, RawShared, RawSealed, RawCode, RawCompartment, RawThread, RawImage}
+use Rattle.def_image.specs.declared.format.TheConstants.{NUMBER, ENTRY, HEADER, DEVICE, SHARED, SEALED_HEAD, COMPARTMENT_HEAD, LIBRARY_HEAD}
+use Rattle.def_image.specs.Raw.{RawSealed, RawCode, RawCompartment, RawImage}
 
 abbrev pub sum_of : {A : Type 0} → (A → ℕ) → List A → ℕ
 sum_of f [] = 0
@@ -29,6 +29,14 @@ compartment_size c = COMPARTMENT_HEAD + tables_size c.code + length c.initial + 
 
 abbrev pub library_size : RawCode → ℕ
 library_size c = LIBRARY_HEAD + tables_size c
+
+-- how many entries of the report an owner with these slots and exports has: a compartment also code and globals, a
+-- library also code
+abbrev pub compartment_count : {A : Type 0} {B : Type 0} → List A → List B → ℕ
+compartment_count slots exports = 2 + length slots + length exports
+
+abbrev pub library_count : {A : Type 0} {B : Type 0} → List A → List B → ℕ
+library_count slots exports = 1 + length slots + length exports
 
 -- where each list begins
 abbrev pub devices_at : RawImage → ℕ

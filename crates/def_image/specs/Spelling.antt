@@ -1,6 +1,6 @@
 -- *Image*, its spelling: the parts one after another. Numbers are 32 bits, the low byte first.
-use Rattle.std.specs.Prelude.{ℕ, ◌+◌, ◌-◌, ◌%◌, ◌^◌, ◌≡◌, ◌<◌, ◌==◌, List, [], ◌∷◌, ◌++◌, length, map, replicate, if◌then◌else◌, true, Bool}
-use Rattle.std.specs.List.{flat_map, AllByRecursion}
+use Rattle.std.specs.Prelude.{ℕ, ◌-◌, ◌%◌, ◌==◌, List, [], ◌∷◌, ◌++◌, length, map, replicate, if◌then◌else◌, Bool}
+use Rattle.std.specs.List.{flat_map}
 use Rattle.std.specs.Int.{w32, to_le_bytes}
 use Rattle.ct_entry.specs.Listed.{DeviceRow}
 use Rattle.ct_entry.specs.declared.hardware.DeviceKind.{DeviceKind}
