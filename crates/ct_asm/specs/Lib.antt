@@ -1,3 +1,2 @@
 pub mod Emitting
 pub mod Labels
-pub mod Laws

@@ -293,12 +293,7 @@ fn shape(part: Part<&[u8]>) -> Shape
 }
 
 /// The instructions that a statement at a place of the text stands for.
-pub(crate) fn instructions(
-    labels: &Labels,
-    slots: &Names,
-    at: u128,
-    part: Part<&[u8]>,
-) -> Emitted
+pub(crate) fn instructions(labels: &Labels, slots: &Names, at: u128, part: Part<&[u8]>) -> Emitted
     requires fit { source.numbers_fit (part_view part) ≡ true }
     requires exist { source.registers_exist (part_view part) ≡ true }
     requires found { IsFound (λ n. label_named n labels.now) at (part_view part) }

@@ -63,18 +63,54 @@ pub enum Directive {
 /// Each word that may begin a statement of text, and what it says. Loads and stores are listed with
 /// and without a leading `c`.
 pub const HEADS: [(&'static str, Head); 96] = [
-    ("add", Head::Registers(RegisterOperation::Integer(IntegerOperation::Add))),
-    ("sub", Head::Registers(RegisterOperation::Integer(IntegerOperation::Sub))),
-    ("sll", Head::Registers(RegisterOperation::Integer(IntegerOperation::Sll))),
-    ("slt", Head::Registers(RegisterOperation::Integer(IntegerOperation::Slt))),
-    ("sltu", Head::Registers(RegisterOperation::Integer(IntegerOperation::Sltu))),
-    ("xor", Head::Registers(RegisterOperation::Integer(IntegerOperation::Xor))),
-    ("srl", Head::Registers(RegisterOperation::Integer(IntegerOperation::Srl))),
-    ("sra", Head::Registers(RegisterOperation::Integer(IntegerOperation::Sra))),
-    ("or", Head::Registers(RegisterOperation::Integer(IntegerOperation::Or))),
-    ("and", Head::Registers(RegisterOperation::Integer(IntegerOperation::And))),
-    ("mul", Head::Registers(RegisterOperation::Integer(IntegerOperation::Mul))),
-    ("mulh", Head::Registers(RegisterOperation::Integer(IntegerOperation::Mulh))),
+    (
+        "add",
+        Head::Registers(RegisterOperation::Integer(IntegerOperation::Add)),
+    ),
+    (
+        "sub",
+        Head::Registers(RegisterOperation::Integer(IntegerOperation::Sub)),
+    ),
+    (
+        "sll",
+        Head::Registers(RegisterOperation::Integer(IntegerOperation::Sll)),
+    ),
+    (
+        "slt",
+        Head::Registers(RegisterOperation::Integer(IntegerOperation::Slt)),
+    ),
+    (
+        "sltu",
+        Head::Registers(RegisterOperation::Integer(IntegerOperation::Sltu)),
+    ),
+    (
+        "xor",
+        Head::Registers(RegisterOperation::Integer(IntegerOperation::Xor)),
+    ),
+    (
+        "srl",
+        Head::Registers(RegisterOperation::Integer(IntegerOperation::Srl)),
+    ),
+    (
+        "sra",
+        Head::Registers(RegisterOperation::Integer(IntegerOperation::Sra)),
+    ),
+    (
+        "or",
+        Head::Registers(RegisterOperation::Integer(IntegerOperation::Or)),
+    ),
+    (
+        "and",
+        Head::Registers(RegisterOperation::Integer(IntegerOperation::And)),
+    ),
+    (
+        "mul",
+        Head::Registers(RegisterOperation::Integer(IntegerOperation::Mul)),
+    ),
+    (
+        "mulh",
+        Head::Registers(RegisterOperation::Integer(IntegerOperation::Mulh)),
+    ),
     (
         "mulhsu",
         Head::Registers(RegisterOperation::Integer(IntegerOperation::Mulhsu)),
@@ -83,10 +119,22 @@ pub const HEADS: [(&'static str, Head); 96] = [
         "mulhu",
         Head::Registers(RegisterOperation::Integer(IntegerOperation::Mulhu)),
     ),
-    ("div", Head::Registers(RegisterOperation::Integer(IntegerOperation::Div))),
-    ("divu", Head::Registers(RegisterOperation::Integer(IntegerOperation::Divu))),
-    ("rem", Head::Registers(RegisterOperation::Integer(IntegerOperation::Rem))),
-    ("remu", Head::Registers(RegisterOperation::Integer(IntegerOperation::Remu))),
+    (
+        "div",
+        Head::Registers(RegisterOperation::Integer(IntegerOperation::Div)),
+    ),
+    (
+        "divu",
+        Head::Registers(RegisterOperation::Integer(IntegerOperation::Divu)),
+    ),
+    (
+        "rem",
+        Head::Registers(RegisterOperation::Integer(IntegerOperation::Rem)),
+    ),
+    (
+        "remu",
+        Head::Registers(RegisterOperation::Integer(IntegerOperation::Remu)),
+    ),
     (
         "csetbounds",
         Head::Registers(RegisterOperation::Capability(CapabilityOperation::CSetBounds)),
@@ -115,7 +163,10 @@ pub const HEADS: [(&'static str, Head); 96] = [
         "cincaddr",
         Head::Registers(RegisterOperation::Capability(CapabilityOperation::CIncAddr)),
     ),
-    ("csub", Head::Registers(RegisterOperation::Capability(CapabilityOperation::CSub))),
+    (
+        "csub",
+        Head::Registers(RegisterOperation::Capability(CapabilityOperation::CSub)),
+    ),
     (
         "csethigh",
         Head::Registers(RegisterOperation::Capability(CapabilityOperation::CSetHigh)),
@@ -144,7 +195,10 @@ pub const HEADS: [(&'static str, Head); 96] = [
         "xori",
         Head::Immediate(ImmediateOperation::Signed(SignedOperation::Xori)),
     ),
-    ("ori", Head::Immediate(ImmediateOperation::Signed(SignedOperation::Ori))),
+    (
+        "ori",
+        Head::Immediate(ImmediateOperation::Signed(SignedOperation::Ori)),
+    ),
     (
         "andi",
         Head::Immediate(ImmediateOperation::Signed(SignedOperation::Andi)),
@@ -197,45 +251,18 @@ pub const HEADS: [(&'static str, Head); 96] = [
     ("bge", Head::Branch(BranchOperation::Bge)),
     ("bltu", Head::Branch(BranchOperation::Bltu)),
     ("bgeu", Head::Branch(BranchOperation::Bgeu)),
-    (
-        "cgetperm",
-        Head::Source(SourceOperation::CGetPerm),
-    ),
-    (
-        "cgettype",
-        Head::Source(SourceOperation::CGetType),
-    ),
-    (
-        "cgetbase",
-        Head::Source(SourceOperation::CGetBase),
-    ),
-    (
-        "cgetlen",
-        Head::Source(SourceOperation::CGetLen),
-    ),
-    (
-        "cgettag",
-        Head::Source(SourceOperation::CGetTag),
-    ),
+    ("cgetperm", Head::Source(SourceOperation::CGetPerm)),
+    ("cgettype", Head::Source(SourceOperation::CGetType)),
+    ("cgetbase", Head::Source(SourceOperation::CGetBase)),
+    ("cgetlen", Head::Source(SourceOperation::CGetLen)),
+    ("cgettag", Head::Source(SourceOperation::CGetTag)),
     ("crrl", Head::Source(SourceOperation::Crrl)),
     ("cram", Head::Source(SourceOperation::Cram)),
     ("cmove", Head::Source(SourceOperation::CMove)),
-    (
-        "ccleartag",
-        Head::Source(SourceOperation::CClearTag),
-    ),
-    (
-        "cgetaddr",
-        Head::Source(SourceOperation::CGetAddr),
-    ),
-    (
-        "cgethigh",
-        Head::Source(SourceOperation::CGetHigh),
-    ),
-    (
-        "cgettop",
-        Head::Source(SourceOperation::CGetTop),
-    ),
+    ("ccleartag", Head::Source(SourceOperation::CClearTag)),
+    ("cgetaddr", Head::Source(SourceOperation::CGetAddr)),
+    ("cgethigh", Head::Source(SourceOperation::CGetHigh)),
+    ("cgettop", Head::Source(SourceOperation::CGetTop)),
     ("fence", Head::Bare(BareOperation::Fence)),
     ("ecall", Head::Bare(BareOperation::Ecall)),
     ("ebreak", Head::Bare(BareOperation::Ebreak)),

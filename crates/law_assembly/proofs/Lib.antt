@@ -1,2 +1,6 @@
+mod Forms
+mod Loading
+mod Pieces
 pub mod Ranges
+mod Reads
 pub mod Saying
