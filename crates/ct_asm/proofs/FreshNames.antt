@@ -27,12 +27,12 @@ none_of (Some x) b e f = cc (e, f)
 -- one key further: m is the number of keys in front of the name's, of `len` keys
 further : (same : Bool) (k m len : ℕ) (tail : Option ℕ) → tail ≡ option_map (λ i. k + 1 + i) (cond (nat_lt m len) (Some m) None)
     → cond same (Some k) tail
-    ≡ option_map (λ i. k + i) (cond (nat_lt (cond (not same) (suc m) 0) (suc len)) (Some (cond (not same) (suc m) 0)) None)
+    ≡ option_map (λ i. k + i) (cond (nat_lt (cond (not same) (1 + m) 0) (suc len)) (Some (cond (not same) (1 + m) 0)) None)
 further true k m len tail e = grind arith
 further false k m len tail e = by_test (nat_lt m len) refl e
   where
     by_test : (b : Bool) → nat_lt m len ≡ b → tail ≡ option_map (λ i. k + 1 + i) (cond b (Some m) None)
-        → tail ≡ option_map (λ i. k + i) (cond (nat_lt (suc m) (suc len)) (Some (suc m)) None)
+        → tail ≡ option_map (λ i. k + i) (cond (nat_lt (1 + m) (suc len)) (Some (1 + m)) None)
     by_test true is e = grind (arith, is, e)
     by_test false is e = grind (arith, is, e)
 

@@ -83,6 +83,31 @@ pub(crate) fn push_statement(
         Part::Byte { number } => Ok(out.push((number_word(number) % 256) as u8)?),
         Part::Zero { number } => push_zeros(out, number.magnitude),
         Part::Align { number } => push_zeros(out, padding(number.magnitude, at)),
-        _ => push_all(out, instructions(labels, slots, at, part)),
+        Part::Label { .. }
+        | Part::Text
+        | Part::Data
+        | Part::Registers { .. }
+        | Part::Immediate { .. }
+        | Part::Upper { .. }
+        | Part::Load { .. }
+        | Part::RegisterJump { .. }
+        | Part::JumpCapability { .. }
+        | Part::Store { .. }
+        | Part::Branch { .. }
+        | Part::Jal { .. }
+        | Part::Source { .. }
+        | Part::Bare { .. }
+        | Part::Nop
+        | Part::Move { .. }
+        | Part::Jump { .. }
+        | Part::JumpAndLink { .. }
+        | Part::Return
+        | Part::JumpRegister { .. }
+        | Part::IfZero { .. }
+        | Part::IfNotZero { .. }
+        | Part::LoadImmediate { .. }
+        | Part::Import { .. }
+        | Part::TextAddress { .. }
+        | Part::GlobalAddress { .. } => push_all(out, instructions(labels, slots, at, part)),
     }
 }

@@ -135,6 +135,16 @@ pub(crate) fn registers_exist(part: Part<&[u8]>) -> bool
         Part::JumpRegister { rs } | Part::IfZero { rs, .. } | Part::IfNotZero { rs, .. } => exists(
             rs,
         ),
-        _ => true,
+        Part::Label { .. }
+        | Part::Text
+        | Part::Data
+        | Part::Word { .. }
+        | Part::Byte { .. }
+        | Part::Zero { .. }
+        | Part::Align { .. }
+        | Part::Bare { .. }
+        | Part::Nop
+        | Part::Jump { .. }
+        | Part::Return => true,
     }
 }

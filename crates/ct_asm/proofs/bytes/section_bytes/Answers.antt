@@ -11,9 +11,9 @@ push_in-requires-clause-exist c = (first_lawful c.loop-s.place.section _ _ _ (fr
 
 pub push_in-requires-clause-found : goal.push_in-requires-clause-found
 push_in-requires-clause-found c =
-    let labels = λ n. label_named n c.args.labels.now in
     let cut = from_here c.args.statements.now c.loop-s.s-index _ c.loop-s-test.true in
-    found_here labels c.loop-s.s-index _ _ (first_faultless labels c.loop-s.place c.loop-s.s-index _ _ _ cut c.loop-s.invariant.faultless).0
+    found_here (λ n. label_named n c.args.labels.now) c.loop-s.s-index _ _
+    (first_faultless (λ n. label_named n c.args.labels.now) c.loop-s.place c.loop-s.s-index _ _ _ cut c.loop-s.invariant.faultless).0
 
 pub advanced-place-requires-clause-fit : goal.advanced-place-requires-clause-fit
 advanced-place-requires-clause-fit c = (first_lawful c.loop-s.place.section _ _ _ (from_here c.args.statements.now c.loop-s.s-index _ c.loop-s-test.true) c.loop-s.invariant.lawful).1
