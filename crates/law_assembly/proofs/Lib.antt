@@ -1,6 +1,6 @@
 mod Forms
 mod Loading
+mod Operands
 mod Pieces
 pub mod Ranges
-mod Reads
 pub mod Saying
