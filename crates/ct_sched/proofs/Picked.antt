@@ -1,5 +1,5 @@
 -- What one look along the order finds is what is picked.
-use Rattle.std.proofs.Common.{◌≡◌, ℕ, ◌<◌, ◌≤◌, ◌++◌, ◌∷◌, [], List, ap, take, drop, length-append, true, false, Some, None, inl, inr, refl, sym, ◌∙◌, subst, arith, length}
+use Rattle.std.proofs.Common.{◌≡◌, ℕ, ◌<◌, ◌≤◌, ◌++◌, ◌∷◌, [], List, ap, take, drop, length-append, true, false, Some, inl, inr, sym, ◌∙◌, subst, arith, length}
 use Rattle.std.proofs.Math.ListN.{get_or}
 use Rattle.std.proofs.Math.Seq.{take-length}
 use Rattle.std.specs.List.{remove}
@@ -30,7 +30,7 @@ pick_is ps ss order place is =
       inside = is.inside;
       is = get_or_default order place t 0 is.inside;
       passes = foremost_is ps ss order t is.ready
-        (λ k d inside. subst (λ v. is_ready (status_of ss v) ≡ true → priority_of ps v ≤ priority_of ps t) (get_or_default order k 0 d inside) (is.greatest k inside));
+          (λ k d inside. subst (λ v. is_ready (status_of ss v) ≡ true → priority_of ps v ≤ priority_of ps t) (get_or_default order k 0 d inside) (is.greatest k inside));
       before = λ k lt. subst (λ v. is_foremost ps ss order v ≡ false) (get_or_default order k 0 t (omega (arith, lt, is.inside))) (not_before ps ss order place is k lt);
     })
 

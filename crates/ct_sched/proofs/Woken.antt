@@ -1,7 +1,7 @@
 -- A wake, one thread after another, and how many threads go on after it.
-use Rattle.std.proofs.Common.{map-id, ◌^◌, ◌≡◌, ℕ, zero, suc, ◌+◌, ◌<◌, ◌≤◌, ◌++◌, List, [], ◌∷◌, Bool, true, false, ◌&&◌, nat_lt, cond, min, inl, inr, refl, ap, sym, ◌∙◌, subst, arith, length, replicate, map, take, drop, append_assoc, drop-cons, ◌-◌, ◌⊎◌}
+use Rattle.std.proofs.Common.{map-id, ◌^◌, ◌≡◌, ℕ, zero, suc, ◌+◌, ◌<◌, ◌≤◌, ◌++◌, List, [], ◌∷◌, true, false, cond, min, inl, inr, refl, ap, sym, ◌∙◌, subst, arith, length, replicate, map, take, drop, append_assoc, drop-cons, ◌-◌, ◌⊎◌}
 use Rattle.std.proofs.Math.ListN.{get_or, set}
-use Rattle.std.specs.List.{All, range_with_len, count_by, sum_by}
+use Rattle.std.specs.List.{All, range_with_len, count_by}
 use Rattle.std.proofs.Math.Seq.{take-length}
 use Rattle.std.proofs.lemmas.List.{set-append_right, get_or-append_right, get_or_default, append-nil, take-append-le, length-replicate, get_or-replicate}
 use Rattle.std.proofs.lemmas.List.FromFn.{map-range_with_len_more, sum_by-map-range_with_len_more, length-map-range_with_len}
@@ -12,7 +12,7 @@ use Rattle.def_sched.specs.declared.Status.TheVariants.{Ready, Sleeping, Waiting
 use Rattle.law_sched.proofs.Orders.{starts}
 use Rattle.def_sched.specs.Picks.{IsOrder, first_order}
 use Rattle.ct_sched.specs.Sched.{SchedRow, IsKept}
-use Rattle.def_sched.specs.Statuses.{goes_on, waits_for, waiting_below, wakes, after_wake, status_of, woken, woken_count}
+use Rattle.def_sched.specs.Statuses.{goes_on, waits_for, after_wake, status_of, woken, woken_count}
 
 -- ---- a list that is replaced from the front
 
@@ -38,9 +38,9 @@ pub next_front : {A : Type 0} (f : ℕ → A) (n : ℕ) (xs : List A) (d : A) �
 next_front f n xs d inside =
     let done = map f (range_with_len 0 n) in
     ap (λ r. set r n (f n)) (here_and_rest f n xs d inside)
-      ∙ set-append_right done (get_or xs n d ∷ drop (n + 1) xs) n n (f n) (length-map-range_with_len f 0 n) (omega arith)
-      ∙ ap (λ r. done ++ r) (first_set (n - n) (get_or xs n d) (f n) (drop (n + 1) xs) (omega arith))
-      ∙ sym (new_and_rest f n xs)
+    ∙ set-append_right done (get_or xs n d ∷ drop (n + 1) xs) n n (f n) (length-map-range_with_len f 0 n) (omega arith)
+    ∙ ap (λ r. done ++ r) (first_set (n - n) (get_or xs n d) (f n) (drop (n + 1) xs) (omega arith))
+    ∙ sym (new_and_rest f n xs)
 
 pub kept_front : {A : Type 0} (f : ℕ → A) (n : ℕ) (xs : List A) (d : A) → n < length xs → f n ≡ get_or xs n d → front f n xs ≡ front f (n + 1) xs
 kept_front f n xs d inside is =
@@ -50,8 +50,8 @@ pub front_at : {A : Type 0} (f : ℕ → A) (n : ℕ) (xs : List A) (d : A) → 
 front_at f n xs d inside =
     let done = map f (range_with_len 0 n) in
     ap (λ r. get_or r n d) (here_and_rest f n xs d inside)
-      ∙ get_or-append_right done (get_or xs n d ∷ drop (n + 1) xs) n n d (length-map-range_with_len f 0 n) (omega arith)
-      ∙ first_got (n - n) (get_or xs n d) d (drop (n + 1) xs) (omega arith)
+    ∙ get_or-append_right done (get_or xs n d ∷ drop (n + 1) xs) n n d (length-map-range_with_len f 0 n) (omega arith)
+    ∙ first_got (n - n) (get_or xs n d) d (drop (n + 1) xs) (omega arith)
 
 -- ---- one thread
 
@@ -140,15 +140,15 @@ part : (a m : ℕ) (xs : List Status) (n : ℕ) → n < length xs → one_if (af
 part a m xs n inside =
     elim (bool_tells (waits_for a (status_of xs n))) [
       | inl waits ↦
-        let idles : one_if (status_of xs n) ≡ 0 = waiting_idles a (status_of xs n) waits in
-        let more = count_by_more_yes (waits_for a) xs n Ended inside waits in
-        elim (lt_tells (waiting a xs n) m) [
-          | inl lt ↦ rw (it_wakes a m xs n waits lt.1) (omega (arith, idles, more, lt.1))
-          | inr ge ↦ rw (too_many a m xs n ge.1) (omega (arith, more, ge.1))
-        ]
+          let idles : one_if (status_of xs n) ≡ 0 = waiting_idles a (status_of xs n) waits in
+          let more = count_by_more_yes (waits_for a) xs n Ended inside waits in
+          elim (lt_tells (waiting a xs n) m) [
+            | inl lt ↦ rw (it_wakes a m xs n waits lt.1) (omega (arith, idles, more, lt.1))
+            | inr ge ↦ rw (too_many a m xs n ge.1) (omega (arith, more, ge.1))
+          ]
       | inr idle ↦
-        let more = count_by_more_no (waits_for a) xs n Ended inside idle in
-        rw (it_stays a m xs n idle) (omega (arith, more))
+          let more = count_by_more_no (waits_for a) xs n Ended inside idle in
+          rw (it_stays a m xs n idle) (omega (arith, more))
     ]
 
 going_so_far : (a m : ℕ) (xs : List Status) (n : ℕ) → n ≤ length xs → count_by goes_on (map (after_wake a m xs) (range_with_len 0 n)) ≡ count_by goes_on (take n xs) + min m (waiting a xs n)
@@ -159,7 +159,7 @@ going_so_far a m xs (suc n) le =
     let before = going_so_far a m xs n (omega (arith, le)) in
     let more = sum_by-map-range_with_len_more one_if (after_wake a m xs) 0 n n (omega arith) in
     subst (λ k. count_by goes_on (map (after_wake a m xs) (range_with_len 0 k)) ≡ count_by goes_on (take k xs) + min m (waiting a xs k)) (sym next)
-      (omega (arith, before, more, going_more xs n inside, part a m xs n inside))
+    (omega (arith, before, more, going_more xs n inside, part a m xs n inside))
 
 pub going_after : (a m : ℕ) (xs : List Status) → count_by goes_on (woken a m xs) ≡ count_by goes_on xs + woken_count a m xs
 going_after a m xs = going_so_far a m xs (length xs) (omega arith) ∙ ap (λ r. count_by goes_on r + min m (count_by (waits_for a) r)) (take-length xs)

@@ -1,5 +1,5 @@
 -- What one look along the order finds.
-use Rattle.std.specs.Prelude.{ℕ, ◌≡◌, ◌+◌, ◌<◌, ◌≤◌, true, false, List, All, length, slice_index_or}
+use Rattle.std.specs.Prelude.{ℕ, ◌≡◌, ◌<◌, ◌≤◌, true, false, List, length, slice_index_or}
 use Rattle.def_sched.specs.declared.Status.{Status}
 use Rattle.def_sched.specs.Statuses.{is_ready, status_of}
 use Rattle.def_sched.specs.Picks.{priority_of}

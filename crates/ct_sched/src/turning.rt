@@ -19,7 +19,11 @@ pub(crate) fn all_ready(alloc: Global, count: usize) -> Result<Vec<Status>, NoMe
 pub(crate) fn asleep(ticks: u32) -> Status
     ensures { result ≡ asleep ticks }
 {
-    if ticks == 0 { Status::Ready } else { Status::Sleeping(ticks) }
+    if ticks == 0 {
+        Status::Ready
+    } else {
+        Status::Sleeping(ticks)
+    }
 }
 
 /// What a tick leaves of a status.

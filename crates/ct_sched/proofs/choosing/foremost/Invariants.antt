@@ -1,4 +1,4 @@
-use Rattle.std.proofs.Common.{◌≡◌, ℕ, ◌+◌, ◌<◌, ◌≤◌, true, length, slice_index_or}
+use Rattle.std.proofs.Common.{◌≡◌, ℕ, ◌+◌, ◌<◌, true}
 use Rattle.def_sched.specs.Statuses.{is_ready, status_of}
 use Rattle.def_sched.specs.Picks.{priority_of}
 use Rattle.ct_sched.specs.Choosing.{at}

@@ -1,6 +1,5 @@
 use Rattle.std.proofs.Common.{arith}
 use Rattle.law_lists.proofs.Maps.{step}
-use Rattle.def_sched.specs.declared.Status.TheVariants.{Ended}
 use Rattle.def_sched.specs.Statuses.{after_tick}
 use Rattle.ct_sched.proofs.turning.tick_all.Goals as goal
 

@@ -1,6 +1,3 @@
-use Rattle.std.proofs.Common.{◌≡◌, List, ℕ, sym, subst, length}
-use Rattle.def_sched.specs.declared.Status.{Status}
-use Rattle.ct_sched.specs.Sched.{IsKept}
 use Rattle.ct_sched.proofs.Woken.{kept_at_first}
 use Rattle.ct_sched.proofs.sched.Sched.new.Goals as goal
 

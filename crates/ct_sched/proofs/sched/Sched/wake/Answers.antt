@@ -1,4 +1,4 @@
-use Rattle.std.proofs.Common.{◌≡◌, ◌+◌, ◌++◌, List, arith, sym, subst, ◌∙◌, ap, length, take, drop}
+use Rattle.std.proofs.Common.{◌≡◌, ◌+◌, ◌++◌, List, arith, sym, subst, length, take, drop}
 use Rattle.def_sched.specs.declared.Status.{Status}
 use Rattle.def_sched.specs.Statuses.{woken, woken_count}
 use Rattle.ct_sched.specs.Sched.{IsKept}
@@ -19,4 +19,4 @@ invariant_of-self c =
     let whole = all_put c.args.address c.args.most c.self.inside.statuses.len old new made (omega (arith, c.self.inside.statuses.ok)) in
     let kept = kept_by_wake (record { priorities = c.self.inside.priorities.items; statuses = old; order = c.self.inside.order.items }) c.self.inside.going c.args.address c.args.most c.self.invariant in
     subst (λ n. IsKept (record { priorities = c.self.inside.priorities.items; statuses = take c.self.inside.statuses.len (new ++ drop (length new) old); order = c.self.inside.order.items }) (c.self.inside.going + n)) (sym count)
-      (subst (λ (ss : List Status). IsKept (record { priorities = c.self.inside.priorities.items; statuses = ss; order = c.self.inside.order.items }) (c.self.inside.going + woken_count c.args.address c.args.most old)) (sym whole) kept)
+    (subst (λ (ss : List Status). IsKept (record { priorities = c.self.inside.priorities.items; statuses = ss; order = c.self.inside.order.items }) (c.self.inside.going + woken_count c.args.address c.args.most old)) (sym whole) kept)
