@@ -2,6 +2,8 @@
 use Rattle.std.specs.Prelude.{ℕ, Bool, false, List, [], Option, slice_index_or}
 use Rattle.def_words.specs.declared.Cap.{Cap}
 use Rattle.def_words.specs.declared.Posture.{Posture}
+pub use Rattle.def_sched.specs.declared.Status.{Status}
+pub use Rattle.def_sched.specs.declared.Status.TheVariants.{Ready, Sleeping, Waiting, Ended}
 use Rattle.def_memory.specs.declared.Granule.{Granule}
 use Rattle.def_memory.specs.Granules.{plain, granule_at}
 use Rattle.def_sched.specs.declared.Status.{Status}

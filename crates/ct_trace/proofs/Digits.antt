@@ -1,7 +1,7 @@
 -- Hexadecimal digits, one more at a time.
 use Rattle.std.proofs.Common.{◌≡◌, ℕ, suc, ◌+◌, ◌-◌, ◌*◌, ◌/◌, ◌%◌, ◌^◌, ◌<◌, ◌≤◌, List, [], ◌∷◌, ◌++◌, refl, ap, ◌∙◌, arith}
 use Rattle.std.proofs.lemmas.Nat.{shr-shr}
-use Rattle.def_output.specs.Trace.{hexadecimal, hexadecimal_digit}
+use Rattle.def_trace.specs.Trace.{hexadecimal, hexadecimal_digit}
 
 -- the digits of a number's front, where so many of all digits have come
 unfoldable pub front : ℕ → ℕ → ℕ → List ℕ

@@ -1,7 +1,7 @@
 //! The lines of a run, made without taking memory.
 
 ghost use Rattle.std.specs.Prelude.{◌≡◌, ◌+◌, ◌*◌, ◌≤◌, ◌<◌, ◌++◌, ◌∷◌, [], length, decimal};
-ghost use Rattle.def_output.specs.Trace as spec;
+ghost use Rattle.def_trace.specs.Trace as spec;
 
 use crate::numbers::{Line, add_after, add_hexadecimal, add_number, value_digits};
 use ct_entry::{Act, Deed, End, Happened, Owned, Totals};
@@ -126,7 +126,7 @@ fn add_act(line: &mut Line, step: u32, deed: &Deed)
 }
 
 /// The line of a deed, where there was one.
-#[tactic(auto, unfolding(def_output::specs::Trace::deed_line))]
+#[tactic(auto, unfolding(def_trace::specs::Trace::deed_line))]
 fn add_deed(line: &mut Line, step: u32, deed: &Option<Deed>)
     requires { length line.old.bytes + 100 ≤ 192 }
     ensures bytes { line.new.bytes ≡ line.old.bytes ++ spec.deed_part step deed.now }
@@ -142,7 +142,7 @@ fn add_deed(line: &mut Line, step: u32, deed: &Option<Deed>)
 }
 
 /// The line of a span with interrupts off, where one begins.
-#[tactic(auto, unfolding(def_output::specs::Trace::off_line))]
+#[tactic(auto, unfolding(def_trace::specs::Trace::off_line))]
 fn add_off(line: &mut Line, step: u32, off: &Option<Owned>)
     requires { length line.old.bytes + 51 ≤ 192 }
     ensures bytes { line.new.bytes ≡ line.old.bytes ++ spec.off_part step off.now }
@@ -159,7 +159,7 @@ fn add_off(line: &mut Line, step: u32, off: &Option<Owned>)
 }
 
 /// What a step did, counted from 1: no line, one or two.
-#[tactic(auto, unfolding(def_output::specs::Trace::trace_line))]
+#[tactic(auto, unfolding(def_trace::specs::Trace::trace_line))]
 pub fn line_of(happened: &Happened, step: u32) -> Line
     ensures { result.bytes ≡ spec.trace_line step happened.now }
 {
@@ -210,7 +210,7 @@ fn add_deeds(line: &mut Line, totals: &Totals)
 }
 
 /// The summary of a run.
-#[tactic(auto, unfolding(def_output::specs::Trace::summary_line))]
+#[tactic(auto, unfolding(def_trace::specs::Trace::summary_line))]
 pub fn summary_of(totals: &Totals) -> Line
     ensures { result.bytes ≡ spec.summary_line totals.now }
 {

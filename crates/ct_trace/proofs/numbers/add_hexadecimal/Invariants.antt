@@ -1,6 +1,6 @@
 use Rattle.std.proofs.Common.{◌≡◌, ◌+◌, ◌≤◌, ◌++◌, ◌∷◌, [], length}
-use Rattle.ct_top.proofs.Digits.{front}
-use Rattle.ct_top.proofs.numbers.add_hexadecimal.Given as goal
+use Rattle.ct_trace.proofs.Digits.{front}
+use Rattle.ct_trace.proofs.numbers.add_hexadecimal.Given as goal
 
 abbrev pub invariant-loop-place : goal.invariant-loop-place
 invariant-loop-place l = record {

@@ -1,8 +1,8 @@
 use Rattle.std.proofs.Common.{ℕ, List, ◌++◌, ap, ◌∙◌}
 use Rattle.std.specs.Prelude.{codes}
-use Rattle.def_output.specs.Trace.{after}
-use Rattle.ct_top.proofs.Joins.{three}
-use Rattle.ct_top.proofs.lines.add_rest.Goals as goal
+use Rattle.def_trace.specs.Trace.{after}
+use Rattle.ct_trace.proofs.Joins.{three}
+use Rattle.ct_trace.proofs.lines.add_rest.Goals as goal
 
 pub returns-clause-bytes : goal.returns-clause-bytes
 returns-clause-bytes c =

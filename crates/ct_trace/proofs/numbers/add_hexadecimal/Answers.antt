@@ -1,8 +1,8 @@
 use Rattle.std.proofs.Common.{◌≡◌, ◌+◌, List, ℕ, [], ◌∷◌, ◌++◌, length, sym, ap, ◌∙◌, lit<, append_assoc, length-append, arith}
 use Rattle.std.proofs.lemmas.List.{append-nil}
-use Rattle.def_output.specs.Trace.{hexadecimal}
-use Rattle.ct_top.proofs.Digits.{front, next_digit, no_digit, all_digits}
-use Rattle.ct_top.proofs.numbers.add_hexadecimal.Goals as goal
+use Rattle.def_trace.specs.Trace.{hexadecimal}
+use Rattle.ct_trace.proofs.Digits.{front, next_digit, no_digit, all_digits}
+use Rattle.ct_trace.proofs.numbers.add_hexadecimal.Goals as goal
 
 pub loop-place-init : goal.loop-place-init
 loop-place-init c =

@@ -1,7 +1,7 @@
 //! Numbers as a line shows them.
 
 ghost use Rattle.std.specs.Prelude.{◌≡◌, ◌+◌, ◌*◌, ◌^◌, ◌≤◌, ◌<◌, ◌++◌, ◌∷◌, [], length, decimal};
-ghost use Rattle.def_output.specs.Trace as spec;
+ghost use Rattle.def_trace.specs.Trace as spec;
 
 use arrayvec::ArrayString;
 use itoa::Buffer;
