@@ -2,7 +2,8 @@
 
 ghost use Rattle.std.specs.Prelude.{◌≡◌, ◌%◌, ◌^◌};
 ghost use Rattle.def_words.specs.Authority.{cap_address};
-ghost use Rattle.def_step.specs.Checks.{plain_trap, misaligned_fetch};
+ghost use Rattle.def_profile.specs.declared.traps.TheConstants.{MISALIGNED_FETCH};
+ghost use Rattle.def_step.specs.Checks.{plain_trap};
 ghost use Rattle.def_step.specs.Jumps.{flow_result, target_at, jumped_to, passed_over, branched};
 
 use crate::branches::takes;
@@ -13,7 +14,7 @@ use def_instr::Instr;
 
 /// The trap of a target that isn't a multiple of 4.
 pub(crate) fn misaligned() -> Trap
-    ensures { result ≡ plain_trap misaligned_fetch }
+    ensures { result ≡ plain_trap MISALIGNED_FETCH }
 {
     Trap {
         cause: 0,

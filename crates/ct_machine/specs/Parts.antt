@@ -12,7 +12,7 @@ use Rattle.def_step.specs.declared.Next.TheVariants.{Returning, Instruction, Not
 use Rattle.def_step.specs.Accesses.{Space}
 use Rattle.def_step.specs.Instructions.{fetched}
 use Rattle.def_step.specs.Devices.{Bank}
-use Rattle.def_step.specs.Events.{most_events}
+use Rattle.def_profile.specs.declared.limits.TheConstants.{MOST_STEPS}
 use Rattle.ct_machine.specs.declared.presence.Presence.{Presence}
 use Rattle.ct_machine.specs.declared.presence.Presence.TheVariants.{Absent, Gone, Alive}
 
@@ -57,9 +57,9 @@ deeds_of c = c.calls + c.loads + c.stores + c.frees + c.traps
 
 -- each step is one deed at most, and time counts ticks
 pub record IsCounted (c : Counts) (time : ℕ) : Type 0 where
-  pub steps : c.steps ≤ most_events
-  pub ticks : c.ticks ≤ most_events
-  pub inputs : c.inputs ≤ most_events
+  pub steps : c.steps ≤ MOST_STEPS
+  pub ticks : c.ticks ≤ MOST_STEPS
+  pub inputs : c.inputs ≤ MOST_STEPS
   pub deeds : deeds_of c ≤ c.steps
   pub clock : time ≤ c.ticks
 

@@ -1,5 +1,6 @@
 -- Devices: 16 bytes of four 32-bit registers each. Registers that aren't named read 0 and ignore writes.
 use Rattle.std.specs.Prelude.{ℕ, ◌+◌, ◌-◌, ◌*◌, ◌/◌, ◌%◌, ◌^◌, ◌==◌, ◌&&◌, Bool, nat_le, nat_lt, List, [], ◌∷◌, ◌++◌, length, drop, slice_set, slice_index_or, Option, Some, None, if◌then◌else◌}
+use Rattle.def_profile.specs.declared.layout.TheConstants.{DEVICE_SIZE}
 use Rattle.def_machine.specs.State.{DeviceState, Serial, Clock, Pins}
 
 -- ---- one device
@@ -80,7 +81,7 @@ device ds n = slice_index_or ds n no_device
 
 -- whether an address is one of a device's 16
 abbrev pub is_of : ℕ → ℕ → Bool
-is_of base address = nat_le base address && nat_lt address (base + 16)
+is_of base address = nat_le base address && nat_lt address (base + DEVICE_SIZE)
 
 -- the first device, counting from n, that has the address
 abbrev pub found_from : ℕ → List ℕ → ℕ → Option ℕ

@@ -17,8 +17,8 @@ use Rattle.ct_entry.specs.declared.rows.Kind.TheVariants as kinds
 use Rattle.def_reach.specs.Roots.{Listing, is_quota, is_stack, is_native, is_root}
 use Rattle.def_machine.specs.Image.{Image, root, made_cap, stack_entry, stack_base, stack_top}
 use Rattle.def_machine.specs.State.{Object}
-use Rattle.def_machine.specs.Frames.{stack_rights}
-use Rattle.def_machine.specs.Heap.{object_rights, object_cap}
+use Rattle.def_profile.specs.declared.rights.TheConstants.{STACK_RIGHTS, HEAP_RIGHTS}
+use Rattle.def_machine.specs.Heap.{object_cap}
 use Rattle.def_confined.specs.Capabilities.{Rooted, AsBoot, IsBootType, IsReturnType}
 use Rattle.def_confined.specs.Confined.{ObjectFits}
 use Rattle.def_confined.specs.Partitioned.{Partitioned}
@@ -33,7 +33,7 @@ pub record Allows (i : Image) (from : Shadow) (low high set at kind : ℕ) : Typ
   pub range : of_heap i from ≡ false → ((root i from.root).base ≤ low) × (high ≤ (root i from.root).top)
   pub heap : of_heap i from ≡ true → (i.heap_base ≤ low) × (high ≤ i.heap_end)
   pub rights : of_heap i from ≡ false → Within set (root i from.root).rights
-  pub heap_rights : of_heap i from ≡ true → Within set object_rights
+  pub heap_rights : of_heap i from ≡ true → Within set HEAP_RIGHTS
   pub local : bit set store_local ≡ true → is_stack (root i from.root).origin ≡ true
   pub held : is_stack (root i from.root).origin ≡ true → bit set global ≡ false
   pub returns : IsReturnType kind → (low < high) × (bit set execute ≡ true) × (of_heap i from ≡ false)
@@ -58,8 +58,8 @@ made_rooted i d from low high set at kind m e a boots =
           let Q : ℕ → Type 0 = λ n. of_heap i from ≡ false → Within n (root i from.root).rights in
           subst P (sym e) (subst Q (sym m.rights_are) a.rights);
       heap_rights =
-          let P : Shadow → Type 0 = λ s. of_heap i s ≡ true → Within (cap_perms d) object_rights in
-          let Q : ℕ → Type 0 = λ n. of_heap i from ≡ true → Within n object_rights in
+          let P : Shadow → Type 0 = λ s. of_heap i s ≡ true → Within (cap_perms d) HEAP_RIGHTS in
+          let Q : ℕ → Type 0 = λ n. of_heap i from ≡ true → Within n HEAP_RIGHTS in
           subst P (sym e) (subst Q (sym m.rights_are) a.heap_rights);
       local =
           let P : Shadow → Type 0 = λ s. has d store_local ≡ true → is_stack (root i s.root).origin ≡ true in
@@ -162,16 +162,16 @@ memory_made base length set address from normal low fits starts ends small tagge
 
 -- the stack that the switcher gives: up to `high`, with the shadow of a capability of the stack's root
 pub stack_made : (i : Image) (t high : ℕ) (from : Shadow) → Partitioned i → (root i (stack_entry i t)).origin ≡ Listing kinds.Stack → from.root ≡ stack_entry i t → stack_base i t ≤ high → high ≤ stack_top i t
-    → (derive memory_root (stack_base i t) (high - stack_base i t) stack_rights high 0 from).tag ≡ true → IsStackUpTo i t high (derive memory_root (stack_base i t) (high - stack_base i t) stack_rights high 0 from)
+    → (derive memory_root (stack_base i t) (high - stack_base i t) STACK_RIGHTS high 0 from).tag ≡ true → IsStackUpTo i t high (derive memory_root (stack_base i t) (high - stack_base i t) STACK_RIGHTS high 0 from)
 stack_made i t high from p kind_is roots low ends tagged =
     let are = p.stacks_are (stack_entry i t) kind_is in
     let end : stack_base i t + (high - stack_base i t) ≡ high = omega (arith, low) in
     let made = memory_made (stack_base i t) (high - stack_base i t) 126 high from stack_set (omega (arith, low, ends, are.1)) (omega (arith, low, ends, are.1)) low (omega (arith, low)) (omega (arith, ends, are.1)) tagged in
-    let d : Cap = derive memory_root (stack_base i t) (high - stack_base i t) stack_rights high 0 from in
+    let d : Cap = derive memory_root (stack_base i t) (high - stack_base i t) STACK_RIGHTS high 0 from in
     let is : (root i from.root).origin ≡ Listing kinds.Stack = let P : ℕ → Type 0 = λ n. (root i n).origin ≡ Listing kinds.Stack in subst P (sym roots) kind_is in
     let no_heap : of_heap i from ≡ false = ap (λ b. b && not (nat_eq from.source 0)) (ap is_quota is) in
-    let rooted : Rooted i (derive memory_root (stack_base i t) (high - stack_base i t) stack_rights high 0 from) =
-    made_rooted i (derive memory_root (stack_base i t) (high - stack_base i t) stack_rights high 0 from) from (stack_base i t) (stack_base i t + (high - stack_base i t)) 126 high 0 made.0 made.1 (record {
+    let rooted : Rooted i (derive memory_root (stack_base i t) (high - stack_base i t) STACK_RIGHTS high 0 from) =
+    made_rooted i (derive memory_root (stack_base i t) (high - stack_base i t) STACK_RIGHTS high 0 from) from (stack_base i t) (stack_base i t + (high - stack_base i t)) 126 high 0 made.0 made.1 (record {
       order = omega (arith, low);
       roots = ap is_root is;
       legal = stack_legal;
