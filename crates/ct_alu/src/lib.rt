@@ -17,7 +17,7 @@ use crate::products::{
 use crate::signed::{is_less_signed, shift_left, shift_right, shift_right_signed};
 use def_instr::Instr;
 
-/// The result of an integer instruction, from the words x of rs1 and y of rs2 (docs/machine.md).
+/// The result of an integer instruction, from the words x of rs1 and y of rs2 (docs/use/machine.md).
 /// An instruction with an immediate doesn't read y, and `lui` reads neither.
 ///
 /// Division by zero gives all ones, and its remainder is the dividend; -2^31 divided by -1 gives

@@ -1,4 +1,4 @@
-//! Results that other implementations of the instructions give (docs/TESTING.md).
+//! Results that other implementations of the instructions give (docs/build/testing.md).
 
 use super::*;
 

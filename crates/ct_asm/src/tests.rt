@@ -1,4 +1,4 @@
-//! Objects whose words are known from outside, and faults (docs/TESTING.md, docs/assembler.md).
+//! Objects whose words are known from outside, and faults (docs/build/testing.md, docs/use/assembler.md).
 
 use super::*;
 use ct_source::statements;

@@ -2,7 +2,7 @@
 //! form.
 //!
 //! Exactly the capabilities of *Boot state* are tagged; each is derived from a root and carries its
-//! entry's number. docs/machine.md tells the same in prose.
+//! entry's number. docs/use/machine.md tells the same in prose.
 #![tactic(auto)]
 
 mod filling;

@@ -2,7 +2,7 @@
 //!
 //! The contracts are *Authority* and *Least bounds* of def_words, which divide and search; the code
 //! shifts, corrects a block up or down, and finds the exponent from leading zeros.
-//! docs/capabilities.md tells the rules.
+//! docs/use/capabilities.md tells the rules.
 #![tactic(auto)]
 
 mod decoding;

@@ -1,7 +1,7 @@
 //! Devices: the registers of serial ports, timers and gpios, found by address.
 //!
 //! A bus is seen as where each device stands and the state that it is in; what an access gives and
-//! leaves is a function of that state, of address, width and time. docs/machine.md tells the same in
+//! leaves is a function of that state, of address, width and time. docs/use/machine.md tells the same in
 //! prose.
 #![tactic(auto)]
 

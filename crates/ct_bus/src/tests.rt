@@ -1,5 +1,5 @@
 //! A serial port, a timer and a gpio beside one another. Expected values follow from how the
-//! registers are laid out in docs/machine.md.
+//! registers are laid out in docs/use/machine.md.
 
 use crate::Bus;
 use ct_entry::{Device, DeviceKind, Devices};

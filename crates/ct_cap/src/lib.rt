@@ -2,7 +2,7 @@
 //!
 //! A register holds a capability decoded (`Live`); contracts see it as the capability alone, and
 //! each operation equals its equation in *Capability* of def_words. None of them traps: where one is
-//! refused the tag goes and the bits are the stated ones. docs/capabilities.md tells the rules.
+//! refused the tag goes and the bits are the stated ones. docs/use/capabilities.md tells the rules.
 #![tactic(auto)]
 
 mod bounding;

@@ -1,7 +1,7 @@
 //! What the capability instructions give.
 //!
 //! `capstep` equals the written results of def_capstep for every capability instruction and all
-//! operands; each arm is one operation of ct_cap. docs/capabilities.md tells the rules.
+//! operands; each arm is one operation of ct_cap. docs/use/capabilities.md tells the rules.
 #![tactic(auto)]
 
 mod numbers;

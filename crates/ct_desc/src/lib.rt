@@ -1,5 +1,5 @@
 //! A description is read exactly: `read` answers the rows that the bytes stand for exactly where they
-//! are a well-formed description (docs/description.md, definitions in def_desc).
+//! are a well-formed description (docs/use/description.md, definitions in def_desc).
 //!
 //! JSON is read by `serde_json`. Then the places of the description are walked once for each rule;
 //! the first rule that fails, at the first place where it does, is the fault.

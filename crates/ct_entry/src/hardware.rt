@@ -2,7 +2,7 @@
 
 use std::marker::Model;
 
-/// What registers a device has (docs/machine.md).
+/// What registers a device has (docs/use/machine.md).
 #[derive(Clone, Copy, Debug, PartialEq, Eq, Drop)]
 pub enum DeviceKind {
     Uart,

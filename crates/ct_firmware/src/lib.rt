@@ -1,4 +1,4 @@
-//! The firmware of a description, from which a machine starts (docs/run.md, definitions in
+//! The firmware of a description, from which a machine starts (docs/use/run.md, definitions in
 //! def_firmware).
 #![tactic(auto)]
 

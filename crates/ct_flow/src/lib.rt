@@ -1,7 +1,7 @@
 //! Branches and jumps: where execution goes on, with which posture, and the link that is left.
 //!
 //! `flow` equals the written step of each branch, of `jal` and of the register jump, whose checks
-//! are a list and whose trap is the first that fails. docs/machine.md tells the same in prose.
+//! are a list and whose trap is the first that fails. docs/use/machine.md tells the same in prose.
 #![tactic(auto)]
 
 mod branches;

@@ -1,5 +1,5 @@
 //! Jumps from a code capability of 48 bytes at 0x80000000, whose high word is 0x56000030. Words are
-//! put together by hand from the fields of docs/capabilities.md.
+//! put together by hand from the fields of docs/use/capabilities.md.
 
 use crate::{Flow, flow};
 use ct_cap::{Cap, Live, Posture, Shadow, Trap, expand};

@@ -1,6 +1,6 @@
 //! Words whose instructions are known from outside: those of the base and M instructions come from
 //! another assembler, those of the capability instructions from the written table by hand
-//! (docs/TESTING.md).
+//! (docs/build/testing.md).
 
 use super::*;
 use std::process::Abort;

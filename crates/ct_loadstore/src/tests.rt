@@ -1,6 +1,6 @@
 //! Loads and stores through a capability of 32 bytes at 0x80000000 with GL LG SD LM LD MC, whose
 //! high word is 0x76000020, and through one of a serial port. Words are put together by hand from
-//! the fields of docs/capabilities.md.
+//! the fields of docs/use/capabilities.md.
 
 ghost use Rattle.std.specs.Prelude.{◌≡◌};
 

@@ -19,7 +19,7 @@ use std::marker::Model;
 /// A firmware that runs, over some memory.
 ///
 /// Contracts see it as its board, which never changes, and its state. Its type keeps the state
-/// *Confined* (docs/confinement.md), whatever the code bytes are.
+/// *Confined* (docs/claims/confinement.md), whatever the code bytes are.
 #[derive(Drop)]
 pub struct Machine<M: Memory + Drop> {
     engine: Engine<M>,

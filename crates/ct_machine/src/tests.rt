@@ -1,5 +1,5 @@
 //! A firmware of one compartment runs from its start. The programs and what they do are worked out
-//! by hand: what each word does is told in docs/machine.md.
+//! by hand: what each word does is told in docs/use/machine.md.
 
 ghost use Rattle.std.specs.Prelude.{◌≡◌, ◌<◌, ◌≤◌, ◌⊎◌, ◌*◌, IfOk, length};
 ghost use Rattle.def_machine.specs.Objects.{Each};

@@ -2,7 +2,7 @@
 //!
 //! The contracts are *Permission sets* of def_words, which speaks of sets and of the first form whose
 //! condition holds; the code works on the bits of a `u16` and on six packed bits.
-//! docs/capabilities.md tells the rules.
+//! docs/use/capabilities.md tells the rules.
 #![tactic(auto)]
 
 mod forms;

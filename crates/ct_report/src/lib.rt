@@ -1,5 +1,5 @@
 //! The audit report of a description: its entries and gates as rows, and the one line of JSON
-//! (docs/report.md, definitions in def_report).
+//! (docs/use/report.md, definitions in def_report).
 #![tactic(auto)]
 
 mod gates;

@@ -1,5 +1,5 @@
 //! The statement of a word and the tokens after it, one function for each operand form
-//! (docs/assembler.md).
+//! (docs/use/assembler.md).
 
 ghost use Rattle.std.specs.Prelude.{◌≡◌, option_map, true};
 ghost use Rattle.def_source.specs.Source as source;

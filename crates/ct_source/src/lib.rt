@@ -1,5 +1,5 @@
 //! From text to statements: `statements` gives the statements that a source stands for, or the
-//! first line's fault, exactly as the written definition says (docs/assembler.md).
+//! first line's fault, exactly as the written definition says (docs/use/assembler.md).
 #![tactic(auto)]
 
 mod characters;
@@ -35,7 +35,7 @@ pub struct Program<'a> {
 /// `AsmFault::At` names the first line that has a fault, and on it the least number: A1 a byte that
 /// isn't ASCII, or a row that isn't one of tokens; A2 an unknown first word; A3 operands of no form,
 /// or a statement in the wrong section; A4 a number out of range; A7 a register above 15
-/// (docs/assembler.md, "Faults"). `AsmFault::NoMemory` comes where a growth was refused.
+/// (docs/use/assembler.md, "Faults"). `AsmFault::NoMemory` comes where a growth was refused.
 #[tactic(auto, unfolding(def_source::specs::Source::program_of))]
 pub fn statements<'a>(alloc: Global, text: &'a [u8]) -> Result<Program<'a>, AsmFault>
     requires { length text.now < 2 ^ 32 }

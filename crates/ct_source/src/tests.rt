@@ -1,4 +1,4 @@
-//! Lines and their faults, from the written language (docs/assembler.md).
+//! Lines and their faults, from the written language (docs/use/assembler.md).
 
 use super::*;
 use def_source::operations::StoreOperation;

@@ -1,4 +1,4 @@
-//! The top call: words and files in, bytes and a status out (docs/run.md). Its one clause says, for
+//! The top call: words and files in, bytes and a status out (docs/use/run.md). Its one clause says, for
 //! each status, from what it comes and what was written; the definitions stand in def_output.
 #![tactic(auto)]
 

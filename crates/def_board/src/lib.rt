@@ -1,4 +1,4 @@
 //! What the machine's step asks of a board, beside what the moves ask of its image: where native
-//! routines stand, and what reaches a device. Definitions alone, in specs/; docs/confinement.md tells
+//! routines stand, and what reaches a device. Definitions alone, in specs/; docs/claims/confinement.md tells
 //! the same in prose.
 #![tactic(auto)]

@@ -1,6 +1,6 @@
 //! What a firmware's description stands for, and when it is well-formed.
 //!
-//! A description is a JSON object (docs/description.md). It stands for rows of numbers and texts. It
+//! A description is a JSON object (docs/use/description.md). It stands for rows of numbers and texts. It
 //! is well-formed where no rule fails at any place; what is wrong with one is the first rule that
 //! fails somewhere, at the first place where it does. Rows, places and rules stand in specs/.
 #![tactic(auto)]
@@ -26,7 +26,7 @@ pub struct Place {
     pub item: usize,
 }
 
-/// What a description has to meet, in the order in which it is judged (docs/description.md).
+/// What a description has to meet, in the order in which it is judged (docs/use/description.md).
 #[derive(Clone, Copy, Debug, PartialEq, Eq, Drop)]
 pub enum Rule {
     /// Each member that has no default is there, and each is of its kind.

@@ -4,7 +4,7 @@
 //! give (Results). Nothing here computes.
 //!
 //! The base and M instructions are those of the RISC-V Unprivileged ISA (RV32E with M), the others
-//! follow the CHERIoT Architecture Specification in this project's encoding (docs/machine.md).
+//! follow the CHERIoT Architecture Specification in this project's encoding (docs/use/machine.md).
 #![tactic(auto)]
 
 /// One instruction, with its operands.

@@ -1,6 +1,6 @@
 //! Memory with tags, as a list of granules: what a granule holds, and what each access, each
 //! clearing and each marking does to the list. The definitions stand in specs/; offsets count
-//! bytes from the start of RAM. docs/machine.md tells the same in prose.
+//! bytes from the start of RAM. docs/use/machine.md tells the same in prose.
 #![tactic(auto)]
 
 use def_words::Cap;

@@ -1,4 +1,4 @@
--- Which object statements stand for: *Source and object*, its second half (docs/assembler.md).
+-- Which object statements stand for: *Source and object*, its second half (docs/use/assembler.md).
 -- A label's value is the sum of the lengths of the statements before it in its section, and the
 -- object is the statements' bytes in order, with each reference replaced by its value.
 use Rattle.std.specs.Prelude.{ℕ, ◌+◌, ◌*◌, ◌-◌, ◌/◌, ◌%◌, ◌^◌, Bool, false, ◌==◌, ◌&&◌, nat_lt, nat_le, if◌then◌else◌, List, [], ◌∷◌, ◌++◌, length, option_map, Option, Some, None, is_none, replicate}

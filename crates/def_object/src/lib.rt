@@ -1,5 +1,5 @@
 //! The object that statements stand for, as plain data: places in a source, labels and faults. The
-//! written definition is specs/Object. Nothing here computes. docs/assembler.md tells the same in
+//! written definition is specs/Object. Nothing here computes. docs/use/assembler.md tells the same in
 //! prose.
 #![tactic(auto)]
 

@@ -1,4 +1,4 @@
-//! What `capfw` does, from both ends: words and files in, bytes and status out (docs/run.md). Each
+//! What `capfw` does, from both ends: words and files in, bytes and status out (docs/use/run.md). Each
 //! status has its cause, and the text that is due. The definitions stand in specs/.
 #![tactic(auto)]
 

@@ -5,7 +5,7 @@ use std::alloc::{AllocError, AllocFailed};
 use thiserror::Error;
 
 /// Want of memory: a growth that the call needed was refused. It is the one answer whose cause no
-/// contract ties down (docs/machine.md, docs/run.md); tests with ample memory show that it isn't
+/// contract ties down (docs/use/machine.md, docs/use/run.md); tests with ample memory show that it isn't
 /// given there.
 #[derive(Clone, Copy, Debug, PartialEq, Eq, Drop, Error)]
 #[error("out of memory")]

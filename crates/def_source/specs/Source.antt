@@ -1,4 +1,4 @@
--- Which statements a text stands for: *Source and object*, its first half (docs/assembler.md).
+-- Which statements a text stands for: *Source and object*, its first half (docs/use/assembler.md).
 -- A text is a list of lines, a line a row of tokens before its comment, and each statement has one
 -- of the written forms. The answer is the first line's fault, and on it the least number.
 use Rattle.std.specs.Prelude.{◌≡◌, ℕ, ◌+◌, ◌*◌, ◌-◌, ◌%◌, ◌^◌, Bool, true, false, ◌==◌, ◌&&◌, ◌||◌, not, nat_lt, nat_le, if◌then◌else◌, List, [], ◌∷◌, ◌++◌, length, option_and_then, option_map, Option, Some, None, Result, Ok, Err, IsTrue}

@@ -1,7 +1,7 @@
 //! The language of the assembler as plain data: the words that may begin a statement, the names of
 //! registers, tokens, statements, and the faults of a source. The written definitions stand in
 //! specs/: which statements a text stands for (Source), and which object statements stand for
-//! (Object). Nothing here computes. docs/assembler.md tells the same in prose.
+//! (Object). Nothing here computes. docs/use/assembler.md tells the same in prose.
 #![tactic(auto)]
 
 pub mod operations;
@@ -13,7 +13,7 @@ use thiserror::Error;
 /// Why a source gives no statements, or statements no object.
 #[derive(Clone, Copy, Debug, PartialEq, Eq, Drop, Error)]
 pub enum AsmFault {
-    /// Fault A1 to A8 of docs/assembler.md, by its number, and the line, counted from 1.
+    /// Fault A1 to A8 of docs/use/assembler.md, by its number, and the line, counted from 1.
     #[error("A{number} in line {line}")]
     At { number: u32, line: u32 },
     /// A growth was refused.

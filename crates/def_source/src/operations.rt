@@ -1,5 +1,5 @@
 //! The mnemonics of instructions, by operand form. What each does is told at its instruction
-//! (`Instr` of def_instr, docs/machine.md).
+//! (`Instr` of def_instr, docs/use/machine.md).
 
 /// Two sources and a result: `rd, rs1, rs2`.
 #[derive(Clone, Copy, Debug, PartialEq, Eq, Drop)]

@@ -1,6 +1,6 @@
 //! What an event does to the machine: the checks of each instruction in order, its effect, devices,
 //! traps, ticks, inputs and runs; what firmware is lawful, the image that it stands for and its
-//! state at boot. Definitions alone, in specs/; docs/machine.md tells the same in prose.
+//! state at boot. Definitions alone, in specs/; docs/use/machine.md tells the same in prose.
 #![tactic(auto)]
 
 use def_instr::Instr;

@@ -1,6 +1,6 @@
 //! The words of a capability machine, as plain data: the capability with its shadow, decoded and
 //! rounded bounds, traps and the interrupt posture. The written definitions over them stand in
-//! specs/; nothing here computes. docs/capabilities.md tells the same in prose.
+//! specs/; nothing here computes. docs/use/capabilities.md tells the same in prose.
 #![tactic(auto)]
 
 /// Where a tagged capability comes from. No instruction reads it.
@@ -16,7 +16,7 @@ pub struct Shadow {
 
 /// A capability: a tag, 64 bits and a shadow.
 ///
-/// The low 32 bits of `word` are the address, the high 32 the metadata (docs/capabilities.md).
+/// The low 32 bits of `word` are the address, the high 32 the metadata (docs/use/capabilities.md).
 #[derive(Clone, Copy, Debug, PartialEq, Eq, Drop)]
 pub struct Cap {
     pub tag: bool,

@@ -5,7 +5,7 @@ ghost use Rattle.ct_entry.specs.Listed.{Listed};
 ghost use Rattle.law_reach.specs.Laws.{IsReflexive, IsSymmetric, IsTransitive, ReachesComponents};
 
 /// Among the compartments that have an entry, reach is an equivalence: the components of the
-/// sharing graph (docs/report.md).
+/// sharing graph (docs/use/report.md).
 pub fn reach_is_an_equivalence()
     ensures reflexive { (e : Listed) → IsReflexive e }
     ensures symmetric { (e : Listed) → IsSymmetric e }
