@@ -1,6 +1,6 @@
 -- `li` loads its number, and the address pairs lead to their places.
 use Rattle.std.proofs.Common.{◌≡◌, ℕ, ◌+◌, ◌-◌, ◌*◌, ◌/◌, ◌%◌, ◌^◌, ◌<◌, ◌≤◌, Bool, true, false, cond, nat_lt, List, zero, suc, ◌⊎◌, inl, inr, refl, ap, arith}
-use Rattle.def_instr.specs.Reading.{extended}
+use Rattle.def_bits.specs.Bits.{extended}
 use Rattle.def_instr.specs.declared.Instr.{Instr}
 use Rattle.def_object.specs.Object.{number_instructions, is_short, upper_part, rest_part, high_piece, low_piece}
 use Rattle.ct_asm.specs.Laws.{loaded, first_address, AreApart, LeadsTo}

@@ -1,6 +1,6 @@
 -- What the pseudo instructions are for, in the terms of the machine.
 use Rattle.std.specs.Prelude.{◌≡◌, ℕ, ◌+◌, ◌*◌, ◌%◌, ◌^◌, ◌<◌, ◌≤◌, List, [], ◌∷◌}
-use Rattle.def_instr.specs.Reading.{extended}
+use Rattle.def_bits.specs.Bits.{extended}
 use Rattle.def_instr.specs.Results.{integer_result}
 use Rattle.def_instr.specs.declared.Instr.{Instr}
 use Rattle.def_object.specs.Object.{high_piece, low_piece}

@@ -3,7 +3,7 @@
 ghost use Rattle.std.specs.Prelude.{◌≡◌, ◌%◌, ◌^◌};
 ghost use Rattle.def_words.specs.Authority.{cap_address};
 ghost use Rattle.def_profile.specs.declared.traps.TheConstants.{MISALIGNED_FETCH};
-ghost use Rattle.def_step.specs.Checks.{plain_trap};
+ghost use Rattle.def_words.specs.Traps.{plain_trap};
 ghost use Rattle.def_step.specs.Jumps.{flow_result, target_at, jumped_to, passed_over, branched};
 
 use crate::branches::takes;
@@ -11,31 +11,14 @@ use crate::outcome::Flow;
 use crate::registers::register_jump;
 use ct_cap::{Live, Posture, Trap, add_address, link, set_address};
 use def_instr::Instr;
-
-/// The trap of a target that isn't a multiple of 4.
-pub(crate) fn misaligned() -> Trap
-    ensures { result ≡ plain_trap MISALIGNED_FETCH }
-{
-    Trap {
-        cause: 0,
-        code: 0,
-        register: 0,
-    }
-}
-
-/// The address of a capability.
-pub(crate) fn address(c: Live) -> u32
-    ensures { result ≡ cap_address c }
-{
-    (c.cap.word % (1 << 32)) as u32
-}
+use def_profile::traps::MISALIGNED_FETCH;
 
 /// The program counter goes to a target, by the address rule.
 fn jump_to(pcc: Live, posture: Posture, target: u32, link: Option<Live>) -> Result<Flow, Trap>
     ensures { result ≡ jumped_to pcc posture target link }
 {
     if target % 4 != 0 {
-        return Err(misaligned());
+        return Err(Trap::plain(MISALIGNED_FETCH));
     }
     Ok(Flow {
         link,
@@ -49,7 +32,7 @@ fn branch(taken: bool, pcc: Live, posture: Posture, offset: u32) -> Result<Flow,
     ensures { result ≡ branched taken pcc posture offset }
 {
     if taken {
-        return jump_to(pcc, posture, address(pcc).wrapping_add(offset), None);
+        return jump_to(pcc, posture, pcc.address().wrapping_add(offset), None);
     }
     pass_over(pcc, posture)
 }
@@ -84,44 +67,19 @@ pub fn flow(
         Instr::Jal { offset, .. } => jump_to(
             pcc,
             posture,
-            address(pcc).wrapping_add(offset),
+            pcc.address().wrapping_add(offset),
             Some(link(pcc, posture)),
         ),
         Instr::CJalr { rd, rs1, immediate } => register_jump(
             rd, rs1, x, immediate, pcc, posture, named,
         ),
-        Instr::Beq { offset, .. } => branch(
-            takes(instruction, address(x), address(y)),
-            pcc,
-            posture,
-            offset,
-        ),
-        Instr::Bne { offset, .. } => branch(
-            takes(instruction, address(x), address(y)),
-            pcc,
-            posture,
-            offset,
-        ),
-        Instr::Blt { offset, .. } => branch(
-            takes(instruction, address(x), address(y)),
-            pcc,
-            posture,
-            offset,
-        ),
-        Instr::Bge { offset, .. } => branch(
-            takes(instruction, address(x), address(y)),
-            pcc,
-            posture,
-            offset,
-        ),
-        Instr::Bltu { offset, .. } => branch(
-            takes(instruction, address(x), address(y)),
-            pcc,
-            posture,
-            offset,
-        ),
-        Instr::Bgeu { offset, .. } => branch(
-            takes(instruction, address(x), address(y)),
+        Instr::Beq { offset, .. }
+        | Instr::Bne { offset, .. }
+        | Instr::Blt { offset, .. }
+        | Instr::Bge { offset, .. }
+        | Instr::Bltu { offset, .. }
+        | Instr::Bgeu { offset, .. } => branch(
+            takes(instruction, x.address(), y.address()),
             pcc,
             posture,
             offset,

@@ -2,7 +2,8 @@
 -- each row, over one lemma for each format.
 use Rattle.std.proofs.Common.{◌≡◌, ℕ, ◌+◌, ◌*◌, ◌/◌, ◌%◌, ◌^◌, ◌<◌, ◌≤◌, cond, Option, Some, None, IsNone, refl, ap, ◌∙◌, arith, lit<, ◌⊎◌, inl, inr}
 use Rattle.def_instr.specs.Table.{format_r, format_i, format_s, format_b, format_u, format_j, IsSigned, IsOffset, EncodesTo}
-use Rattle.def_instr.specs.Reading.{cut_of, extended, instruction_of, instruction_in, one_small, two_small, three_small}
+use Rattle.def_bits.specs.Bits.{extended}
+use Rattle.def_instr.specs.Reading.{cut_of, instruction_of, instruction_in, one_small, two_small, three_small}
 use Rattle.def_instr.specs.declared.Fields.{Fields}
 use Rattle.def_instr.specs.declared.Instr.{Instr}
 use Rattle.def_instr.specs.declared.Instr.TheVariants.{Lui, AuiPcc, AuiCgp, Jal, CJalr, Beq, Bne, Blt, Bge, Bltu, Bgeu, Lb, Lh, Lw, Clc, Lbu, Lhu, Sb, Sh, Sw, Csc, Addi, Slti, Sltiu, Xori, Ori, Andi, Slli, Srli, Srai, Add, Sub, Sll, Slt, Sltu, Xor, Srl, Sra, Or, And, Mul, Mulh, Mulhsu, Mulhu, Div, Divu, Rem, Remu, Fence, Ecall, Ebreak, Csr, CIncAddrImm, CSetBoundsImm, CSpecialRw, CSetBounds, CSetBoundsExact, CSeal, CUnseal, CAndPerm, CSetAddr, CIncAddr, CSub, CSetHigh, CTestSubset, CSetEqualExact, CGetPerm, CGetType, CGetBase, CGetLen, CGetTag, Crrl, Cram, CMove, CClearTag, CGetAddr, CGetHigh, CGetTop}

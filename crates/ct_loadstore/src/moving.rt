@@ -5,7 +5,6 @@ ghost use Rattle.def_step.specs.Accesses.{access_result, accessed, access_of, is
 ghost use Rattle.ct_loadstore.specs.Shapes.{IsShape, space_of};
 
 use crate::checks::first_trap;
-use crate::memory::address;
 use crate::shapes::access;
 use crate::{devices, memory};
 use ct_bus::Bus;
@@ -108,7 +107,7 @@ pub fn loadstore<M: Memory>(
         (λ t. (access_result instruction x y (space_of map.now.ram (M.granules mem.old) bus.old time) ≡ Err t) × (M.granules mem.new ≡ M.granules mem.old) × (bus.new ≡ bus.old)) }
 {
     let a = access(instruction);
-    let at = address(x).wrapping_add(a.immediate);
+    let at = x.address().wrapping_add(a.immediate);
     if let Some(trap) = first_trap(a, x, y, at) {
         return Err(trap);
     }

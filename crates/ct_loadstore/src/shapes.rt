@@ -2,9 +2,9 @@
 
 ghost use Rattle.std.specs.Prelude.{◌≡◌, ◌<◌, ◌^◌, ◌*◌, false};
 ghost use Rattle.def_step.specs.Accesses.{access_of, load_of, store_of, widened};
-ghost use Rattle.def_instr.specs.Reading.{extended};
 ghost use Rattle.ct_loadstore.specs.Shapes.{IsShape};
 
+use ct_bits::extended;
 use def_instr::Instr;
 use def_step::Access;
 
@@ -66,30 +66,5 @@ pub(crate) fn widen(a: Access, value: u32) -> u32
     if !a.signed {
         return value;
     }
-    if a.width == 1 {
-        return extend_byte(value);
-    }
-    extend_half(value)
-}
-
-/// A byte as the 32-bit word of the signed number.
-fn extend_byte(value: u32) -> u32
-    requires { value < 256 }
-    ensures { result ≡ extended 8 value }
-{
-    if value < 128 {
-        return value;
-    }
-    value + 0xFFFF_FF00
-}
-
-/// Two bytes as the 32-bit word of the signed number.
-fn extend_half(value: u32) -> u32
-    requires { value < 65536 }
-    ensures { result ≡ extended 16 value }
-{
-    if value < 32768 {
-        return value;
-    }
-    value + 0xFFFF_0000
+    extended(8 * a.width, value)
 }

@@ -16,7 +16,8 @@ use Rattle.def_machine.specs.Frames.{returned}
 use Rattle.def_step.specs.declared.Next.{Next}
 use Rattle.def_step.specs.declared.Next.TheVariants.{Returning, Instruction, Nothing}
 use Rattle.def_profile.specs.declared.traps.TheConstants.{ILLEGAL_INSTRUCTION}
-use Rattle.def_step.specs.Checks.{first_failed, plain_trap}
+use Rattle.def_words.specs.Traps.{plain_trap}
+use Rattle.def_step.specs.Checks.{first_failed}
 use Rattle.def_step.specs.Devices.{Bank}
 use Rattle.def_step.specs.Accesses.{Space}
 use Rattle.def_step.specs.Operands.{operands_of, class_of}

@@ -14,10 +14,11 @@ use Rattle.def_memory.specs.Granules.{granule_at}
 use Rattle.def_memory.specs.Accesses.{loaded, stored, loaded_cap, stored_cap}
 use Rattle.def_instr.specs.declared.Instr.{Instr}
 use Rattle.def_instr.specs.declared.Instr.TheVariants.{Lb, Lh, Lw, Clc, Lbu, Lhu, Sb, Sh, Sw, Csc}
-use Rattle.def_instr.specs.Reading.{extended}
+use Rattle.def_bits.specs.Bits.{extended}
 use Rattle.def_step.specs.declared.Access.{Access}
 use Rattle.def_profile.specs.declared.traps.TheConstants.{BOUNDS_CODE, TAG_CODE, SEAL_CODE, LOAD_CODE, STORE_CODE, STORE_CAPABILITY_CODE, MISALIGNED_LOAD, MISALIGNED_STORE}
-use Rattle.def_step.specs.Checks.{Check, capability_trap, plain_trap, first_failed}
+use Rattle.def_words.specs.Traps.{capability_trap, plain_trap}
+use Rattle.def_step.specs.Checks.{Check, first_failed}
 use Rattle.def_step.specs.Devices.{Bank, found, bank_value, bank_read, bank_written}
 
 -- ---- the instructions

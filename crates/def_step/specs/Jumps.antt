@@ -12,7 +12,8 @@ use Rattle.def_instr.specs.declared.Instr.{Instr}
 use Rattle.def_instr.specs.declared.Instr.TheVariants.{Jal, CJalr, Beq, Bne, Blt, Bge, Bltu, Bgeu}
 use Rattle.def_instr.specs.Results.{signed}
 use Rattle.def_profile.specs.declared.traps.TheConstants.{TAG_CODE, SEAL_CODE, EXECUTE_CODE, MISALIGNED_FETCH}
-use Rattle.def_step.specs.Checks.{Check, capability_trap, plain_trap, first_failed}
+use Rattle.def_words.specs.Traps.{capability_trap, plain_trap}
+use Rattle.def_step.specs.Checks.{Check, first_failed}
 use Rattle.def_step.specs.Accesses.{unless}
 
 abbrev pub is_jump : Instr → Bool

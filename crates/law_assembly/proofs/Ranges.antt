@@ -1,7 +1,7 @@
 -- The instructions of a lawful statement hold what their fields may hold.
 use Rattle.std.proofs.Common.{◌≡◌, ℕ, ◌-◌, ◌/◌, ◌%◌, ◌^◌, ◌<◌, ◌≤◌, Bool, true, false, cond, nat_lt, refl, arith, Option, Some, None}
 use Rattle.def_instr.specs.Table.{InRange, IsSigned, IsOffset}
-use Rattle.def_instr.specs.Reading.{extended}
+use Rattle.def_bits.specs.Bits.{extended}
 use Rattle.def_source.specs.declared.parts.Number.{Number}
 use Rattle.def_source.specs.declared.parts.Target.{Target}
 use Rattle.def_source.specs.declared.parts.Target.TheVariants as target

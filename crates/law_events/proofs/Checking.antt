@@ -9,7 +9,8 @@ use Rattle.def_words.specs.Permissions.{has, execute}
 use Rattle.def_words.specs.Seals.{cap_seal}
 use Rattle.def_step.specs.declared.Access.{Access}
 use Rattle.def_profile.specs.declared.traps.TheConstants.{BOUNDS_CODE, TAG_CODE, SEAL_CODE, EXECUTE_CODE, LOAD_CODE, STORE_CODE, STORE_CAPABILITY_CODE, PCC_REGISTER}
-use Rattle.def_step.specs.Checks.{Check, first_failed, capability_trap, plain_trap}
+use Rattle.def_words.specs.Traps.{capability_trap, plain_trap}
+use Rattle.def_step.specs.Checks.{Check, first_failed}
 use Rattle.def_step.specs.Accesses.{access_checks, load_checks, store_checks}
 use Rattle.def_step.specs.Instructions.{fetch_checks}
 use Rattle.def_confined.specs.Licensed.{IsTrap}
