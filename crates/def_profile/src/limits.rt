@@ -66,3 +66,8 @@ pub const MOST_SWEEP_RATE: u32 = 0x0001_0000;
 pub const MOST_NAME: u32 = 32;
 /// Characters of a file's name.
 pub const MOST_FILE_NAME: u32 = 255;
+
+/// The last version of descriptions and images; the first is 1.
+pub const LAST_VERSION: u32 = 2;
+/// Granules that one slice of the revoker passes, at least, in version 2.
+pub const LEAST_SWEEP_RATE: u32 = 1;

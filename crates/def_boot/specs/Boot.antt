@@ -1,0 +1,133 @@
+-- *Boot state*: the image of the machine, its board, and its state at boot.
+use Rattle.std.specs.Prelude.{ℕ, zero, suc, ◌+◌, Bool, true, false, List, [], ◌∷◌, length, map, replicate, slice_get, Option, Some, None, unwrap_or, option_map, if◌then◌else◌}
+use Rattle.ct_entry.specs.Listed.{DeviceRow}
+use Rattle.ct_entry.specs.declared.hardware.DeviceKind.{DeviceKind}
+use Rattle.ct_entry.specs.declared.hardware.DeviceKind.TheVariants.{Uart, Timer, Gpio}
+use Rattle.def_words.specs.declared.Cap.{Cap}
+use Rattle.def_words.specs.declared.Posture.{Posture}
+use Rattle.def_words.specs.Capability.{with_address}
+use Rattle.def_memory.specs.Granules.{plain}
+use Rattle.def_reach.specs.Roots.{is_disabled}
+use Rattle.def_machine.specs.Image.{Image}
+use Rattle.def_machine.specs.State as st
+use Rattle.def_machine.specs.State.{State, Frame, DeviceState, Serial, Clock, Pins, Counts, Ready, interrupts_on}
+use Rattle.def_step.specs.Instructions.{Board}
+use Rattle.def_step.specs.Events.{MachineRow}
+use Rattle.def_image.specs.Parts.{GateRow, ThreadRow, PartsRow}
+use Rattle.def_image.specs.Members.{compartment, text_base, code_number, globals_number, stack_number, gate_number}
+use Rattle.def_boot.specs.Gates.{entries_of}
+use Rattle.def_boot.specs.Made.{made_caps, made_for, return_sentry}
+use Rattle.def_boot.specs.Contents.{granules_in, boot_granules, parts_from}
+
+-- ---- the image
+
+-- the numbers of n members from index i on
+abbrev pub numbered_from : (ℕ → ℕ) → ℕ → ℕ → List ℕ
+numbered_from number i zero = []
+numbered_from number i (suc n) = number i ∷ numbered_from number (i + 1) n
+
+unfoldable pub image_of : PartsRow → Image
+image_of p = record {
+  entries = entries_of p;
+  made = made_caps p;
+  ram = p.ram;
+  regions = parts_from p p.ram (granules_in p);
+  boot = boot_granules p;
+  codes = numbered_from (code_number p) 0 (length p.compartments);
+  globals = numbered_from (globals_number p) 0 (length p.compartments);
+  stacks = numbered_from (stack_number p) 0 (length p.threads);
+  frames = map (λ (t : ThreadRow). t.frames) p.threads;
+  heap_base = p.heap;
+  heap_end = p.ram + p.size;
+}
+
+abbrev pub bases_of : PartsRow → List ℕ
+bases_of p = map (λ (d : DeviceRow). d.base) p.devices
+
+abbrev pub board_of : PartsRow → Board
+board_of p = record { image = image_of p; bases = bases_of p }
+
+-- ---- a thread at its start
+
+-- the export that it enters, its number, and the address of its code
+abbrev pub entered : PartsRow → ThreadRow → Option GateRow
+entered p t = slice_get (compartment p t.compartment).code.exports t.export
+
+abbrev pub entry_number : PartsRow → ThreadRow → ℕ
+entry_number p t = gate_number p t.compartment t.export
+
+abbrev pub offset_of : Option GateRow → ℕ
+offset_of x = unwrap_or (option_map (λ (x : GateRow). x.row.offset) x) 0
+
+abbrev pub entry_address : PartsRow → ThreadRow → ℕ
+entry_address p t = text_base (compartment p t.compartment).code + offset_of (entered p t)
+
+abbrev pub disables : Option GateRow → Bool
+disables None = false
+disables (Some x) = is_disabled x.row.posture
+
+abbrev pub first_posture : PartsRow → ThreadRow → Posture
+first_posture p t = if disables (entered p t) then record { off = true; source = entry_number p t } else interrupts_on
+
+-- one frame, whose caller is nobody
+abbrev pub first_frame : PartsRow → ThreadRow → Frame
+first_frame p t = record {
+  actor = t.compartment;
+  export = entry_number p t;
+  top = t.stack + t.stack_length;
+  c1 = plain 0;
+  c2 = plain 0;
+  c3 = plain 0;
+  c8 = plain 0;
+  c9 = plain 0;
+}
+
+abbrev pub first_pcc : PartsRow → ThreadRow → Cap
+first_pcc p t = with_address (made_for p (code_number p t.compartment)) (entry_address p t)
+
+-- the return sentry in c1, the stack at its top in c2, the globals in c3
+abbrev pub first_registers : PartsRow → ℕ → ThreadRow → List Cap
+first_registers p n t =
+    plain 0 ∷ return_sentry ∷ made_for p (stack_number p n) ∷ made_for p (globals_number p t.compartment)
+    ∷ plain 0 ∷ plain 0 ∷ plain 0 ∷ plain 0 ∷ plain 0 ∷ plain 0
+    ∷ plain 0 ∷ plain 0 ∷ plain 0 ∷ plain 0 ∷ plain 0 ∷ plain 0 ∷ []
+
+abbrev pub first_thread : PartsRow → ℕ → ThreadRow → st.Thread
+first_thread p n t = record {
+  pcc = first_pcc p t;
+  registers = first_registers p n t;
+  frames = first_frame p t ∷ [];
+  status = Ready;
+  posture = first_posture p t;
+}
+
+abbrev pub first_threads : PartsRow → ℕ → List ThreadRow → List st.Thread
+first_threads p n [] = []
+first_threads p n (t ∷ ts) = first_thread p n t ∷ first_threads p (n + 1) ts
+
+-- ---- the state
+
+abbrev pub fresh_device : DeviceKind → DeviceState
+fresh_device Uart = Serial []
+fresh_device Timer = Clock
+fresh_device Gpio = Pins 0 0
+
+abbrev pub no_counts : Counts
+no_counts = record { steps = 0; ticks = 0; inputs = 0; calls = 0; loads = 0; stores = 0; frees = 0; traps = 0 }
+
+unfoldable pub boot_state : PartsRow → State
+boot_state p = record {
+  granules = boot_granules p;
+  threads = first_threads p 0 p.threads;
+  running = None;
+  pending = false;
+  objects = [];
+  next = 1;
+  devices = map (λ (d : DeviceRow). fresh_device d.kind) p.devices;
+  time = 0;
+  picks = replicate (length p.threads) 0;
+  counts = no_counts;
+}
+
+abbrev pub booted_machine : PartsRow → MachineRow
+booted_machine p = record { board = board_of p; state = boot_state p }

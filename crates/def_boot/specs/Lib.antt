@@ -1,0 +1,5 @@
+pub mod Entries
+pub mod Gates
+pub mod Made
+pub mod Contents
+pub mod Boot

@@ -1,0 +1,11 @@
+pub mod Rows
+pub mod Members
+pub mod Tables
+pub mod Walk
+pub mod Kinds
+pub mod Names
+pub mod Limits
+pub mod References
+pub mod Reading
+pub mod Addresses
+pub mod WellFormed

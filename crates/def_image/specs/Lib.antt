@@ -1,0 +1,17 @@
+pub mod Parts
+pub mod Raw
+pub mod Spelling
+pub mod Shapes
+pub mod Profile
+pub mod Sizes
+pub mod Members
+pub mod Regions
+pub mod Checks
+pub mod Limits
+pub mod Lying
+pub mod Indexes
+pub mod Rights
+pub mod Accepted
+pub mod Laid
+pub mod Sound
+pub mod Reading

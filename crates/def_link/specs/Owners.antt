@@ -1,0 +1,158 @@
+-- The compartments and libraries of a description, one after another, each with its text, initial
+-- bytes and labels; or the first fault of one.
+use Rattle.std.specs.Prelude.{ℕ, ◌+◌, ◌%◌, List, [], ◌∷◌, ◌++◌, map, drop, length, Bool, true, false, ◌&&◌, ◌==◌, nat_lt, Option, Some, None, option_and_then, is_none, Result, Ok, Err, if◌then◌else◌, codes}
+use Rattle.std.specs.List.{flat_map}
+use Rattle.ct_entry.specs.declared.rows.Owner.{Owner}
+use Rattle.ct_entry.specs.declared.rows.Owner.TheVariants.{Compartment, Library}
+use Rattle.def_source.specs.declared.AsmFault.{AsmFault}
+use Rattle.def_source.specs.declared.AsmFault.TheVariants as asm
+use Rattle.def_source.specs.Source.{Statements, program_of, is_text}
+use Rattle.def_object.specs.declared.Fault.{Fault}
+use Rattle.def_object.specs.declared.Label.{Label}
+use Rattle.def_object.specs.Object.{undeclared_in, fault_in, label_in, text_of, initial_of, word_bytes}
+use Rattle.def_description.specs.Names.{key_name}
+use Rattle.def_description.specs.Rows.{CodeRow, AtRow, ImportRow, QuotaRow, ExportRow, CompartmentRow, LimportRow, LexportRow, LibraryRow, DescRow}
+use Rattle.def_link.specs.declared.LinkFault.{LinkFault}
+use Rattle.def_link.specs.declared.LinkFault.TheVariants as fault
+
+-- ---- owners
+
+-- what is linked of a compartment or a library: the names of its slots, its code, the places of its exports
+pub record Unit : Type 0 where
+  pub owner : Owner
+  pub slots : List (List ℕ)
+  pub code : CodeRow
+  pub exports : List AtRow
+
+-- slot 0 `switch`, the imports, the quotas, the keys
+abbrev pub slot_names : CompartmentRow → List (List ℕ)
+slot_names c =
+    codes "switch"
+    ∷ map (λ (x : ImportRow). x.alias) c.imports
+    ++ map (λ (q : QuotaRow). q.name) c.quotas
+    ++ map key_name c.keys
+
+abbrev pub compartment_unit : ℕ → CompartmentRow → Unit
+compartment_unit i c = record {
+  owner = Compartment i;
+  slots = slot_names c;
+  code = c.code;
+  exports = map (λ (e : ExportRow). e.at) c.exports;
+}
+
+abbrev pub library_unit : ℕ → LibraryRow → Unit
+library_unit i l = record {
+  owner = Library i;
+  slots = map (λ (x : LimportRow). x.alias) l.imports;
+  code = l.code;
+  exports = map (λ (e : LexportRow). e.at) l.exports;
+}
+
+-- each element by its index, counted on from n
+abbrev pub numbered : {A B : Type 0} → (ℕ → A → B) → ℕ → List A → List B
+numbered f n [] = []
+numbered f n (x ∷ xs) = f n x ∷ numbered f (n + 1) xs
+
+-- compartments first
+abbrev pub units_of : DescRow → List Unit
+units_of d = numbered compartment_unit 0 d.compartments ++ numbered library_unit 0 d.libraries
+
+-- ---- code
+
+-- what stands for an owner's code; words have no labels and no initial bytes
+pub record Built : Type 0 where
+  pub text : List ℕ
+  pub initial : List ℕ
+  pub labels : List ℕ → Option Label
+
+abbrev pub words_built : List ℕ → Built
+words_built words = record { text = flat_map word_bytes words; initial = []; labels = λ name. None }
+
+-- of statements: L3, then a fault of the assembly, else the object
+abbrev pub assembled_or : Owner → List (List ℕ) → Statements → Option ℕ → Option Fault → Result Built LinkFault
+assembled_or owner slots ss (Some line) faulty = Err (fault.Import owner line)
+assembled_or owner slots ss None (Some f) = Err (fault.Asm owner f.number f.line)
+assembled_or owner slots ss None None = Ok (record { text = text_of ss slots; initial = initial_of ss slots; labels = label_in ss })
+
+abbrev pub assembled : Owner → List (List ℕ) → Statements → Result Built LinkFault
+assembled owner slots ss = assembled_or owner slots ss (undeclared_in slots ss) (fault_in ss)
+
+-- of a text: a fault of its lines first; a text never wants memory
+abbrev pub read_or : Owner → List (List ℕ) → Result Statements AsmFault → Result Built LinkFault
+read_or owner slots (Ok ss) = assembled owner slots ss
+read_or owner slots (Err (asm.At number line)) = Err (fault.Asm owner number line)
+read_or owner slots (Err asm.NoMemory) = Err fault.NoMemory
+
+abbrev pub built_by : Owner → List (List ℕ) → List ℕ → List ℕ → Option (List ℕ) → Result Built LinkFault
+built_by owner slots words source None = Ok (words_built words)
+built_by owner slots words source (Some name) = read_or owner slots (program_of source)
+
+abbrev pub built : Owner → List (List ℕ) → CodeRow → List ℕ → Result Built LinkFault
+built owner slots code source = built_by owner slots code.words source code.file
+
+-- ---- exports
+
+-- the offset that an export's place says: that of a label of the text, or the number itself
+abbrev pub text_label : Option Label → Option ℕ
+text_label None = None
+text_label (Some l) = if is_text l.section then Some l.offset else None
+
+abbrev pub label_or : Built → Option (List ℕ) → ℕ → Option ℕ
+label_or b None offset = Some offset
+label_or b (Some name) offset = text_label (b.labels name)
+
+-- a multiple of 4 below the text's length
+abbrev pub is_begin : Built → ℕ → Bool
+is_begin b offset = offset % 4 == 0 && nat_lt offset (length b.text)
+
+abbrev pub begin_of : Built → AtRow → Option ℕ
+begin_of b at = option_and_then (λ offset. if is_begin b offset then Some offset else None) (label_or b at.label at.offset)
+
+-- L1: the first export, counted from n, that has no such place
+abbrev pub first_lost : Built → ℕ → List AtRow → Option ℕ
+first_lost b n [] = None
+first_lost b n (at ∷ ats) = if is_none (begin_of b at) then Some n else first_lost b (n + 1) ats
+
+-- ---- an owner, and all of them
+
+abbrev pub is_library : Owner → Bool
+is_library (Library i) = true
+is_library _ = false
+
+-- L4: a library has no globals, so no initial bytes
+abbrev pub has_stray_bytes : Owner → Built → Bool
+has_stray_bytes owner b = is_library owner && nat_lt 0 (length b.initial)
+
+abbrev pub placed_or : Owner → Built → Option ℕ → Result Built LinkFault
+placed_or owner b (Some n) = Err (fault.Export owner n)
+placed_or owner b None = if has_stray_bytes owner b then Err (fault.Initial owner) else Ok b
+
+abbrev pub checked : Unit → Result Built LinkFault → Result Built LinkFault
+checked u (Err e) = Err e
+checked u (Ok b) = placed_or u.owner b (first_lost b 0 u.exports)
+
+abbrev pub unit_built : Unit → List ℕ → Result Built LinkFault
+unit_built u source = checked u (built u.owner u.slots u.code source)
+
+abbrev pub with_front : Result Built LinkFault → Result (List Built) LinkFault → Result (List Built) LinkFault
+with_front (Err e) rest = Err e
+with_front (Ok b) (Err e) = Err e
+with_front (Ok b) (Ok bs) = Ok (b ∷ bs)
+
+-- the owners with the texts of their files: one text for each code that is a file, in order
+abbrev pub head_or_none : List (List ℕ) → List ℕ
+head_or_none [] = []
+head_or_none (s ∷ ss) = s
+
+abbrev pub source_for : Option (List ℕ) → List (List ℕ) → List ℕ
+source_for None sources = []
+source_for (Some name) sources = head_or_none sources
+
+abbrev pub rest_of : Option (List ℕ) → List (List ℕ) → List (List ℕ)
+rest_of None sources = sources
+rest_of (Some name) sources = drop 1 sources
+
+unfoldable pub all_built : List Unit → List (List ℕ) → Result (List Built) LinkFault
+all_built [] sources = Ok []
+all_built (u ∷ us) sources =
+    with_front (unit_built u (source_for u.code.file sources)) (all_built us (rest_of u.code.file sources))

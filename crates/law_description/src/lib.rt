@@ -1,0 +1,4 @@
+//! Laws of descriptions over their definitions alone.
+#![tactic(auto)]
+
+mod samples;

@@ -1,0 +1,3 @@
+pub mod Tiny
+pub mod Board
+pub mod Whole
