@@ -30,10 +30,7 @@ pub fn set_bounds_exact(l: Live, length: u32) -> Live
     ensures { result ≡ with_exact_bounds l length }
 {
     let rounded = rounded(l.cap.word, length);
-    let keeps = l.cap.tag
-        & (l.seal == 0)
-        & l.covers(l.address(), length)
-        & rounded.exact;
+    let keeps = l.cap.tag & (l.seal == 0) & l.covers(l.address(), length) & rounded.exact;
     made(keeps, bounded(l.cap.word, rounded.fields), l.cap.shadow)
 }
 

@@ -13,9 +13,7 @@ ghost use Rattle.def_profile.specs.declared.traps.TheConstants.{PCC_REGISTER, SY
 ghost use Rattle.def_words.specs.Traps.{capability_trap};
 ghost use Rattle.def_capstep.specs.Results.{capability_result, is_capability, is_system};
 
-use crate::numbers::{
-    base, high, length, mask, rounded, top, upper_offset, with_high,
-};
+use crate::numbers::{base, high, length, mask, rounded, top, upper_offset, with_high};
 use ct_cap::{
     Live, add_address, and_perms, clear_tag, same, seal, set_address, set_bounds, set_bounds_exact,
     subset, unseal,

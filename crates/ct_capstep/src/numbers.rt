@@ -3,7 +3,7 @@
 ghost use Rattle.std.specs.Prelude.{◌%◌, ◌^◌, ◌≡◌, false};
 ghost use Rattle.def_capstep.specs.Results.{cap_length, capped, upper_offset};
 ghost use Rattle.def_words.specs.Authority.{cap_address, cap_base, cap_high, cap_top, word_of};
-ghost use Rattle.def_words.specs.Capability.{cap_of, integer, nowhere};
+ghost use Rattle.def_words.specs.Capability.{cap_of, nowhere};
 ghost use Rattle.def_words.specs.LeastBounds.{align_mask_of, round_length_of};
 
 use ct_bits::extended_wide;

@@ -1,9 +1,6 @@
 //! Where execution goes on.
 
 ghost use Rattle.std.specs.Prelude.{◌≡◌, ◌%◌, ◌^◌};
-ghost use Rattle.def_words.specs.Authority.{cap_address};
-ghost use Rattle.def_profile.specs.declared.traps.TheConstants.{MISALIGNED_FETCH};
-ghost use Rattle.def_words.specs.Traps.{plain_trap};
 ghost use Rattle.def_step.specs.Jumps.{flow_result, target_at, jumped_to, passed_over, branched};
 
 use crate::branches::takes;

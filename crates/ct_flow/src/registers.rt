@@ -2,7 +2,6 @@
 
 ghost use Rattle.std.specs.Prelude.{◌≡◌, ◌%◌, ◌/◌, ◌*◌, ◌^◌};
 ghost use Rattle.def_words.specs.Seals.{is_jump_taken, posture_through};
-ghost use Rattle.def_words.specs.Traps.{capability_trap};
 ghost use Rattle.def_step.specs.Checks.{first_failed};
 ghost use Rattle.def_step.specs.Jumps.{register_jumped, register_jump_checks, register_target};
 

@@ -1,12 +1,8 @@
 //! The first check of a load or store that fails.
 
-ghost use Rattle.std.specs.Prelude.{◌≡◌, ◌<◌, ◌&&◌, ◌+◌};
-ghost use Rattle.def_words.specs.Authority.{cap_address};
-ghost use Rattle.def_words.specs.Capability.{is_range_inside};
-ghost use Rattle.def_words.specs.Traps.{capability_trap, plain_trap};
+ghost use Rattle.std.specs.Prelude.{◌≡◌, ◌<◌, ◌&&◌};
 ghost use Rattle.def_step.specs.Checks.{first_failed};
 ghost use Rattle.def_step.specs.Accesses.{access_checks, load_checks, store_checks};
-ghost use Rattle.ct_loadstore.specs.Shapes.{IsShape};
 
 use ct_cap::{Live, Permission, Trap};
 use def_profile::traps::{

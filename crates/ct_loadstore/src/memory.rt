@@ -1,9 +1,7 @@
 //! Loads and stores in RAM.
 
 ghost use Rattle.std.specs.Prelude.{◌≡◌, ◌+◌, ◌*◌, ◌%◌, ◌≤◌, ◌<◌, ◌⊎◌, ◌^◌, ◌-◌, false, true, length};
-ghost use Rattle.def_words.specs.Authority.{cap_address};
 ghost use Rattle.def_words.specs.Loaded.{attenuated, stored_through};
-ghost use Rattle.def_words.specs.Capability.{integer};
 ghost use Rattle.def_memory.specs.Accesses.{loaded, loaded_cap, stored, stored_cap};
 ghost use Rattle.def_step.specs.Accesses.{ram_value, ram_stored, filtered_in, widened};
 ghost use Rattle.ct_loadstore.specs.Shapes.{IsShape, Reaches};
