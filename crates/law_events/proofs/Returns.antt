@@ -31,9 +31,10 @@ use Rattle.def_confined.specs.Partitioned.{Partitioned}
 use Rattle.def_confined.specs.Made.{Opens}
 use Rattle.law_registers.proofs.Moves.{not_native_bound}
 use Rattle.law_registers.proofs.Derives.{Bound, derived_in}
-use Rattle.law_jumps.proofs.Targets.{opened_in, opened_runs}
-use Rattle.law_jumps.proofs.Moves.{fits_as, return_fits, derived_runs, runs_no_heap, in_rooted}
-use Rattle.law_made.proofs.Results.{address_derived, address_runs, opened_opens}
+use Rattle.law_jumps.proofs.Targets.{opened_in, opened_runs, opened_opens}
+use Rattle.law_places.proofs.Turns.{fits_as}
+use Rattle.law_jumps.proofs.Moves.{return_fits, derived_runs, runs_no_heap, in_rooted}
+use Rattle.law_made.proofs.Results.{address_derived, address_runs}
 use Rattle.law_events.proofs.Checking.{by_checks, register_tells, plain_tells}
 use Rattle.law_events.proofs.Goings.{FlowFits, Fetching, link_puts}
 

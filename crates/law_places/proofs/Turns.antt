@@ -87,3 +87,10 @@ put_register_confined i s t n c h placed kept live = registers_confined i s t (w
     (λ k. after_written (λ d. InFrames i s.objects t (thread s t).frames d) (thread s t).registers n k c placed (h.registers t k))
     (λ k. after_written (Kept i) (thread s t).registers n k c kept (h.kept.registers t k))
     (λ is k. after_written (HasLive i s.objects) (thread s t).registers n k c (live is) (h.live t is k))
+
+-- a thread of the same posture fits its frames as well
+pub fits_as : (i : Image) (a b : Thread) (fs : List Frame) → b.posture ≡ a.posture → PostureFits i a fs → PostureFits i b fs
+fits_as i a b [] e h = tt
+fits_as i a b (f ∷ fs) e h =
+    let P : Posture → Type 0 = λ p. p.off ≡ true → ((root i p.source).disabled ≡ true) × Reaches i.entries (root i p.source).owner f.actor in
+    subst P (sym e) h
