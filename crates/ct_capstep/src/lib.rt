@@ -11,7 +11,8 @@ mod tests;
 ghost use Rattle.std.specs.Prelude.{IsTrue, MatchResult, false, true, ◌||◌, ◌≡◌};
 ghost use Rattle.def_profile.specs.declared.traps.TheConstants.{PCC_REGISTER, SYSTEM_REGISTER_CODE};
 ghost use Rattle.def_words.specs.Traps.{capability_trap};
-ghost use Rattle.def_capstep.specs.Results.{capability_result, is_capability, is_system};
+ghost use Rattle.def_instr.specs.Shapes.{is_capability, is_system};
+ghost use Rattle.def_capstep.specs.Results.{capability_result};
 
 use crate::numbers::{base, high, length, mask, rounded, top, upper_offset, with_high};
 use ct_cap::{
