@@ -1,14 +1,17 @@
 -- Places and their domains.
-use Rattle.std.proofs.Common.{ℕ, ◌≡◌, ◌≤◌, ◌<◌, inl, inr, true, false, List, [], ◌∷◌, refl, sym, ◌∙◌, subst, arith}
+use Rattle.std.proofs.Common.{ℕ, ◌≡◌, ◌≤◌, ◌<◌, inl, inr, true, false, List, [], ◌∷◌, refl, sym, ◌∙◌, subst, arith, zero, suc, ap, ◌&&◌, not, nat_eq}
 use Rattle.law_lists.proofs.Tests.{lt_tells}
 use Rattle.def_words.specs.declared.Cap.{Cap}
 use Rattle.def_reach.specs.Sharing.{Joined}
 use Rattle.def_machine.specs.Image.{Image, root}
 use Rattle.def_machine.specs.State.{Frame, Object}
-use Rattle.def_confined.specs.Capabilities.{stack_cap}
+use Rattle.def_confined.specs.Capabilities.{stack_cap, heap_cap}
 use Rattle.def_confined.specs.Places.{Placed, InFrames, WithinRun, OwnStack, outer}
 use Rattle.def_confined.specs.Confined.{FramesHold}
 use Rattle.law_reach.proofs.Joins.{joined_refl, joined_trans, joined_sym, reaches_on}
+use Rattle.def_reach.specs.Roots.{Origin, is_quota}
+use Rattle.def_machine.specs.Objects.{Each}
+use Rattle.std.proofs.Math.ListN.{get_or}
 
 -- an untagged word may stand in every place of a thread
 pub plain_in : (i : Image) (objects : List Object) (t : ℕ) (fs : List Frame) (c : Cap) → c.tag ≡ false → InFrames i objects t fs c
