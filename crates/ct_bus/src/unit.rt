@@ -3,7 +3,7 @@
 ghost use Rattle.std.specs.Prelude.{◌≡◌, ◌<◌, ◌≤◌, ◌*◌, ◌⊎◌, ◌^◌, ◌/◌, ◌%◌, IfOk, length};
 ghost use Rattle.def_machine.specs.State.{Serial, Clock, Pins};
 ghost use Rattle.def_step.specs.Boot.{fresh_device};
-ghost use Rattle.def_step.specs.Devices.{register_value, after_read, after_write, after_input, part_read, part_written, value_read, left_by_read, left_by_write};
+ghost use Rattle.def_step.specs.Devices.{IsWidth, register_value, after_read, after_write, after_input, part_read, part_written, value_read, left_by_read, left_by_write};
 
 use circular_buffer::HeapCircularBuffer;
 use ct_entry::DeviceKind;
@@ -120,18 +120,19 @@ impl Unit {
         value
     }
 
-    /// A store of 1, 2 or 4 bytes: it counts at a multiple of 4, with zeros above its value.
-    fn write_part(&mut self, offset: u32, value: u32)
-        ensures { self.new ≡ part_written self.old offset value }
+    /// A store of 1, 2 or 4 bytes: it counts at a multiple of 4, with zeros above the bytes stored.
+    fn write_part(&mut self, offset: u32, width: u32, value: u64)
+        requires { width ≤ 4 }
+        ensures { self.new ≡ part_written self.old offset width value }
     {
         if offset % 4 == 0 {
-            self.put(offset / 4, value);
+            self.put(offset / 4, (value % (1u64 << (8 * width))) as u32);
         }
     }
 
     /// A load at an offset; one of 8 bytes is the load at the offset, then that at the offset + 4.
     pub(crate) fn read(&mut self, offset: u32, width: u32, time: u64) -> u64
-        requires width { (width ≤ 4) ⊎ (width ≡ 8) }
+        requires width { IsWidth width }
         requires offset { offset < 16 }
         ensures value { result ≡ value_read self.old offset width time }
         ensures small { (width ≤ 4) → result < 2 ^ (8 * width) }
@@ -148,17 +149,16 @@ impl Unit {
     /// A store at an offset; one of 8 bytes is the store of the low half, then that of the high half
     /// at the offset + 4.
     pub(crate) fn write(&mut self, offset: u32, width: u32, value: u64)
-        requires width { (width ≤ 4) ⊎ (width ≡ 8) }
+        requires width { IsWidth width }
         requires offset { offset < 16 }
-        requires value { (width ≤ 4) → value < 2 ^ 32 }
         ensures { self.new ≡ left_by_write self.old offset width value }
     {
         if width == 8 {
-            self.write_part(offset, (value % (1 << 32)) as u32);
-            self.write_part(offset + 4, (value / (1 << 32)) as u32);
+            self.write_part(offset, 4, value);
+            self.write_part(offset + 4, 4, value / (1 << 32));
             return;
         }
-        self.write_part(offset, value as u32);
+        self.write_part(offset, width, value);
     }
 }
 

@@ -1,6 +1,7 @@
 //! Where execution goes on.
 
-ghost use Rattle.std.specs.Prelude.{◌≡◌, ◌%◌, ◌^◌};
+ghost use Rattle.std.specs.Prelude.{IsTrue, ◌≡◌, ◌%◌, ◌^◌};
+ghost use Rattle.def_instr.specs.Shapes.{is_jump};
 ghost use Rattle.def_step.specs.Jumps.{flow_result, target_at, jumped_to, passed_over, branched};
 
 use crate::branches::takes;
@@ -48,7 +49,7 @@ fn pass_over(pcc: Live, posture: Posture) -> Result<Flow, Trap>
 /// A branch, `jal` or register jump from `pcc` under posture `posture`. x and y are the values of
 /// rs1 and rs2; `named` is the export that x's root entry names, or 0.
 ///
-/// A trap where a check fails: the first. Any other instruction goes on after itself.
+/// A trap where a check fails: the first.
 #[tactic(auto, unfolding(def_step::specs::Jumps::flow_result))]
 pub fn flow(
     instruction: Instr,
@@ -58,6 +59,7 @@ pub fn flow(
     posture: Posture,
     named: u32,
 ) -> Result<Flow, Trap>
+    requires { IsTrue (is_jump instruction) }
     ensures { result ≡ flow_result instruction x y pcc posture named }
 {
     match instruction {
@@ -81,6 +83,6 @@ pub fn flow(
             posture,
             offset,
         ),
-        _ => pass_over(pcc, posture),
+        _ => unreachable!(),
     }
 }

@@ -1,6 +1,7 @@
 //! What a load or store is, and how its value is widened.
 
-ghost use Rattle.std.specs.Prelude.{◌≡◌, ◌<◌, ◌^◌, ◌*◌, false};
+ghost use Rattle.std.specs.Prelude.{IsTrue, ◌≡◌, ◌<◌, ◌^◌, ◌*◌, false};
+ghost use Rattle.def_instr.specs.Shapes.{is_access};
 ghost use Rattle.def_step.specs.Accesses.{access_of, load_of, store_of, widened};
 ghost use Rattle.ct_loadstore.specs.Shapes.{IsShape};
 
@@ -38,6 +39,7 @@ fn store(width: u32, whole: bool, by: u32, immediate: u32) -> Access
 
 /// A load or store as its instruction names it.
 pub(crate) fn access(instruction: Instr) -> Access
+    requires { IsTrue (is_access instruction) }
     ensures is { result ≡ access_of instruction }
     ensures shape { IsShape result }
 {
@@ -52,7 +54,7 @@ pub(crate) fn access(instruction: Instr) -> Access
         Instr::Sh { rs1, immediate, .. } => store(2, false, rs1, immediate),
         Instr::Sw { rs1, immediate, .. } => store(4, false, rs1, immediate),
         Instr::Csc { rs1, immediate, .. } => store(8, true, rs1, immediate),
-        _ => store(1, false, 0, 0),
+        _ => unreachable!(),
     }
 }
 

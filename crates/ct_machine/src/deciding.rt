@@ -1,7 +1,7 @@
 //! One instruction: fetched, and carried out on the thread, RAM and the devices.
 
 ghost use Rattle.std.specs.Prelude.{◌≡◌, ◌<◌, ◌≤◌, ◌+◌, ◌*◌, ◌%◌, ◌^◌, ◌&&◌, ◌==◌, length, nat_le, true, false};
-ghost use Rattle.def_instr.specs.Shapes.{is_capability, is_integer, is_system};
+ghost use Rattle.def_instr.specs.Shapes.{is_access, is_capability, is_integer, is_jump, is_system};
 ghost use Rattle.def_step.specs.declared.Class.TheVariants as kinds;
 ghost use Rattle.def_instr.specs.Table.{InRange};
 ghost use Rattle.def_words.specs.Capability.{raised};
@@ -11,7 +11,7 @@ ghost use Rattle.def_step.specs.Checks.{first_failed};
 ghost use Rattle.def_step.specs.Operands.{class_of};
 ghost use Rattle.def_step.specs.Instructions.{fetch_checks, next_at, is_native_entry};
 ghost use Rattle.ct_machine.specs.Deciding.{decide, decide_instruction, Decided};
-ghost use Rattle.ct_machine.specs.Parts.{space_by, fetched_in, InstructionInRange};
+ghost use Rattle.ct_machine.specs.Parts.{space_by, fetched_in, InstructionInRange, IsHeapPlaced};
 
 use crate::active::Active;
 use crate::operands::{class_of, operands_of};
@@ -115,6 +115,7 @@ fn carry_jump<M: Memory>(
 ) -> Ran
     requires ranged { InRange instruction }
     requires class { class_of instruction ≡ kinds.Jump }
+    requires jump { is_jump instruction ≡ true }
     ensures is { Decided (decide_instruction active.old (space_by ram (M.granules mem.now) bus.now time) instruction) active.old (space_by ram (M.granules mem.now) bus.now time) active.new (M.granules mem.now) bus.now result }
     ensures frames { active.new.frames ≡ active.old.frames }
 {
@@ -144,11 +145,13 @@ fn carry_access<M: Memory>(
     mem: &mut M,
     bus: &mut Bus,
     ram: u32,
+    heap: u32,
     time: u64,
 ) -> Ran
     requires ranged { InRange instruction }
     requires class { class_of instruction ≡ kinds.Access }
-    requires even { ram % 16 ≡ 0 }
+    requires access { is_access instruction ≡ true }
+    requires heap { IsHeapPlaced ram heap (length (M.granules mem.old)) }
     ensures is { Decided (decide_instruction active.old (space_by ram (M.granules mem.old) bus.old time) instruction) active.old (space_by ram (M.granules mem.old) bus.old time) active.new (M.granules mem.new) bus.new result }
     ensures frames { active.new.frames ≡ active.old.frames }
     ensures bases { bus.new.bases ≡ bus.old.bases }
@@ -157,11 +160,12 @@ fn carry_access<M: Memory>(
     let operands = operands_of(instruction);
     let x = active.register(operands.first);
     let y = active.register(operands.second);
+    let size = mem.size();
     let map = Map {
         ram,
-        size: 0,
-        heap: ram,
-        length: 0,
+        size,
+        heap,
+        length: ram + size - heap,
     };
     match loadstore(instruction, x, y, mem, &map, bus, time) {
         Ok(moved) => {
@@ -248,10 +252,11 @@ fn carry_out<M: Memory>(
     mem: &mut M,
     bus: &mut Bus,
     ram: u32,
+    heap: u32,
     time: u64,
 ) -> Ran
     requires ranged { InRange instruction }
-    requires even { ram % 16 ≡ 0 }
+    requires heap { IsHeapPlaced ram heap (length (M.granules mem.old)) }
     ensures is { Decided (decide_instruction active.old (space_by ram (M.granules mem.old) bus.old time) instruction) active.old (space_by ram (M.granules mem.old) bus.old time) active.new (M.granules mem.new) bus.new result }
     ensures frames { active.new.frames ≡ active.old.frames }
     ensures bases { bus.new.bases ≡ bus.old.bases }
@@ -260,7 +265,7 @@ fn carry_out<M: Memory>(
     let class = class_of(instruction);
     match class {
         Class::Jump => carry_jump(instruction, active, mem, bus, ram, time),
-        Class::Access => carry_access(instruction, active, mem, bus, ram, time),
+        Class::Access => carry_access(instruction, active, mem, bus, ram, heap, time),
         _ => carry_value(class, instruction, active, mem, bus, ram, time),
     }
 }
@@ -271,9 +276,10 @@ pub(crate) fn run_one<M: Memory>(
     mem: &mut M,
     bus: &mut Bus,
     ram: u32,
+    heap: u32,
     time: u64,
 ) -> Ran
-    requires { ram % 16 ≡ 0 }
+    requires { IsHeapPlaced ram heap (length (M.granules mem.old)) }
     ensures is { Decided (decide active.old (space_by ram (M.granules mem.old) bus.old time)) active.old (space_by ram (M.granules mem.old) bus.old time) active.new (M.granules mem.new) bus.new result }
     ensures frames { active.new.frames ≡ active.old.frames }
     ensures bases { bus.new.bases ≡ bus.old.bases }
@@ -284,7 +290,7 @@ pub(crate) fn run_one<M: Memory>(
     }
     match next(mem, bus, ram, active.pcc.address(), time) {
         Next::Returning => Ran::Returned,
-        Next::Instruction { instruction } => carry_out(instruction, active, mem, bus, ram, time),
+        Next::Instruction { instruction } => carry_out(instruction, active, mem, bus, ram, heap, time),
         Next::Nothing => Ran::Trapped {
             trap: Trap::plain(ILLEGAL_INSTRUCTION),
         },
