@@ -14,25 +14,32 @@ use std::marker::Model;
 /// How many bytes a serial port's queue holds.
 const QUEUE: usize = 64;
 
-/// A device. The queue is a serial port's, oldest byte first; output and input are a gpio's.
+/// What a device keeps.
+#[derive(Drop)]
+pub(crate) enum Kept {
+    /// A serial port's queue, the oldest byte first.
+    Serial(HeapCircularBuffer<u8>),
+    /// A timer, which reads the time.
+    Clock,
+    /// A gpio's output, and the byte that came last.
+    Pins { output: u32, input: u32 },
+}
+
+/// A device.
 #[derive(Drop)]
 pub(crate) struct Unit {
-    kind: DeviceKind,
-    queue: HeapCircularBuffer<u8>,
-    output: u32,
-    input: u32,
+    kept: Kept,
 }
 
 impl Model for Unit {
-    ghost use Rattle.std.specs.Prelude.{◌≡◌, ◌≤◌, length};
     ghost use Rattle.def_machine.specs.State.{DeviceState};
-    ghost use Rattle.ct_bus.specs.Units.{state_by};
+    ghost use Rattle.ct_bus.specs.Units.{state_of, IsSound};
 
     ghost Value = { DeviceState };
 
-    ghost view = { λ u. state_by u.kind u.queue.items u.output u.input };
+    ghost view = { λ u. state_of u.kept };
 
-    ghost invariant = { λ u. (u.queue.capacity ≡ 64) × (length u.queue.items ≤ 64) };
+    ghost invariant = { λ u. IsSound u.kept };
 }
 
 impl Unit {
@@ -40,23 +47,25 @@ impl Unit {
     pub(crate) fn new(alloc: Global, kind: DeviceKind) -> Result<Unit, NoMemory>
         ensures { IfOk result (λ u. u ≡ fresh_device kind) }
     {
-        let queue = HeapCircularBuffer::with_capacity(alloc, QUEUE)?;
-        Ok(Unit {
-            kind,
-            queue,
-            output: 0,
-            input: 0,
-        })
+        let kept = match kind {
+            DeviceKind::Uart => Kept::Serial(HeapCircularBuffer::with_capacity(alloc, QUEUE)?),
+            DeviceKind::Timer => Kept::Clock,
+            DeviceKind::Gpio => Kept::Pins {
+                output: 0,
+                input: 0,
+            },
+        };
+        Ok(Unit { kept })
     }
 
     /// What register 0, 1, 2 or 3 has.
     fn register(&self, number: u32, time: u64) -> u32
         ensures { result ≡ register_value self.now number time }
     {
-        match self.kind {
-            DeviceKind::Uart => serial_value(&self.queue, number),
-            DeviceKind::Timer => timer_value(number, time),
-            DeviceKind::Gpio => pins_value(self.output, self.input, number),
+        match &self.kept {
+            Kept::Serial(queue) => serial_value(queue, number),
+            Kept::Clock => timer_value(number, time),
+            Kept::Pins { output, input } => pins_value(*output, *input, number),
         }
     }
 
@@ -67,12 +76,12 @@ impl Unit {
         if number != 0 {
             return;
         }
-        match self.kind {
-            DeviceKind::Uart => {
-                self.queue.pop_front();
+        match &mut self.kept {
+            Kept::Serial(queue) => {
+                queue.pop_front();
             }
-            DeviceKind::Timer => {}
-            DeviceKind::Gpio => {}
+            Kept::Clock => {}
+            Kept::Pins { .. } => {}
         }
     }
 
@@ -83,11 +92,11 @@ impl Unit {
         if number != 0 {
             return;
         }
-        match self.kind {
-            DeviceKind::Uart => {}
-            DeviceKind::Timer => {}
-            DeviceKind::Gpio => {
-                self.output = value;
+        match &mut self.kept {
+            Kept::Serial(_) => {}
+            Kept::Clock => {}
+            Kept::Pins { output, .. } => {
+                *output = value;
             }
         }
     }
@@ -97,13 +106,13 @@ impl Unit {
     pub(crate) fn receive(&mut self, byte: u8)
         ensures { self.new ≡ after_input self.old byte }
     {
-        match self.kind {
-            DeviceKind::Uart => {
-                self.queue.push_back(byte);
+        match &mut self.kept {
+            Kept::Serial(queue) => {
+                queue.push_back(byte);
             }
-            DeviceKind::Timer => {}
-            DeviceKind::Gpio => {
-                self.input = byte as u32;
+            Kept::Clock => {}
+            Kept::Pins { input, .. } => {
+                *input = byte as u32;
             }
         }
     }
