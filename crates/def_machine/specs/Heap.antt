@@ -1,6 +1,7 @@
 -- *Heap*: places, allocation, free and the sweep.
 use Rattle.std.specs.Prelude.{ℕ, ◌+◌, ◌-◌, ◌*◌, ◌/◌, ◌%◌, ◌≡◌, ◌≤◌, ◌<◌, ◌==◌, ◌&&◌, ◌||◌, Bool, true, false, cond, nat_le, List, [], ◌∷◌, map, length, min, nat_lt, find, Option, Some, None}
 use Rattle.std.specs.List.{range_with_len, list_all}
+use Rattle.def_profile.specs.declared.layout.TheConstants.{CHUNK_HEAD}
 use Rattle.def_profile.specs.declared.rights.TheConstants.{HEAP_RIGHTS}
 use Rattle.def_words.specs.declared.Cap.{Cap}
 use Rattle.def_words.specs.LeastBounds.{round_length_of, alignment_of}
@@ -18,13 +19,13 @@ abbrev pub length_for : ℕ → ℕ
 length_for size = round_length_of ((size + 7) / 8 * 8)
 
 abbrev pub charge_for : ℕ → ℕ
-charge_for size = length_for size + 8
+charge_for size = length_for size + CHUNK_HEAD
 
 -- a lawful place: aligned, its chunk in the heap, and meeting no live and no quarantined chunk
 pub record Fits (i : Image) (objects : List Object) (length base : ℕ) : Type 0 where
   pub eight : base % 8 ≡ 0
   pub aligned : base % alignment_of length ≡ 0
-  pub low : i.heap_base + 8 ≤ base
+  pub low : i.heap_base + CHUNK_HEAD ≤ base
   pub high : base + length ≤ i.heap_end
   pub apart : Each (λ q. ApartFrom (record { number = 0; quota = 0; base = base; length = length; charge = 0; live = true; painted = false }) q) objects
 
@@ -35,17 +36,14 @@ pub record IsPlaceFor (i : Image) (objects : List Object) (length base : ℕ) : 
 
 -- the same as tests: the chunk of an object of this length at this base meets none of these
 abbrev pub is_apart : ℕ → ℕ → Object → Bool
-is_apart length base q = nat_le (base + length + 8) q.base || nat_le (q.base + q.length + 8) base
+is_apart length base q = nat_le (base + length + CHUNK_HEAD) q.base || nat_le (q.base + q.length + CHUNK_HEAD) base
 
 abbrev pub is_place : Image → List Object → ℕ → ℕ → Bool
 is_place i objects length base =
-    (base % 8 == 0) && (base % alignment_of length == 0) && nat_le (i.heap_base + 8) base && nat_le (base + length) i.heap_end && list_all (is_apart length base) objects
+    (base % 8 == 0) && (base % alignment_of length == 0) && nat_le (i.heap_base + CHUNK_HEAD) base && nat_le (base + length) i.heap_end && list_all (is_apart length base) objects
 
 abbrev pub place_of : Image → List Object → ℕ → Option ℕ
 place_of i objects length = find (is_place i objects length) (range_with_len i.heap_base (i.heap_end - i.heap_base))
-
-abbrev pub object_rights : ℕ
-object_rights = HEAP_RIGHTS
 
 -- a new object of this size at this place, charged to this quota
 abbrev pub new_object : State → ℕ → ℕ → ℕ → Object
@@ -53,7 +51,7 @@ new_object s quota size base = record { number = s.next; quota = quota; base = b
 
 -- the capability of an object: its quota's root, its number as source
 abbrev pub object_cap : Object → Cap
-object_cap r = derive memory_root r.base r.length object_rights r.base 0 (record { root = r.quota; source = r.number })
+object_cap r = derive memory_root r.base r.length HEAP_RIGHTS r.base 0 (record { root = r.quota; source = r.number })
 
 abbrev pub with_object : State → Object → State
 with_object s r = record s { objects = placed_among r s.objects; next = s.next + 1 }
@@ -63,7 +61,7 @@ with_object s r = record s { objects = placed_among r s.objects; next = s.next +
 -- the object is zeroed, its chunk marked, and it is quarantined
 abbrev pub quarantined : Image → State → Object → State
 quarantined i s r = record s {
-  granules = marked_from (r.base - 8) (r.base + r.length) true i.ram (zeroed_from r.base (r.base + r.length) i.ram s.granules);
+  granules = marked_from (r.base - CHUNK_HEAD) (r.base + r.length) true i.ram (zeroed_from r.base (r.base + r.length) i.ram s.granules);
   objects = quarantine r.number s.objects;
 }
 

@@ -10,3 +10,4 @@ pub mod Sealed
 pub mod Passing
 pub mod Making
 pub mod Away
+pub mod Rights

@@ -13,5 +13,8 @@ pub use operations::{
     operations_narrow, results_settle, seals_need_keys, tags_stay_away,
 };
 pub use rounding::{exact_where_short, least_exponent, rounding_holds};
-pub use rows::{least_bounds_rows, removing_load_data, roots_hold_all, sealing_rows};
+pub use rows::{
+    bits_are_permissions, least_bounds_rows, removing_load_data, rights_are_spelled, roots_hold_all,
+    sealing_rows,
+};
 pub use sets::{normal_holds, spelling_holds, within_holds};
