@@ -19,7 +19,9 @@ use Rattle.def_machine.specs.State.{State, Thread, thread, register}
 use Rattle.def_machine.specs.Registers.{written, with_thread}
 use Rattle.def_machine.specs.Threads.{resumed, with_status, statuses_of, with_statuses}
 use Rattle.def_machine.specs.Frames.{switched, given, entered}
-use Rattle.def_step.specs.Checks.{Check, capability_trap, plain_trap, first_failed, not_tagged, wrong_seal, no_load, out_of_bounds, misaligned_load}
+use Rattle.def_step.specs.Checks.{Check, first_failed}
+use Rattle.def_words.specs.Traps.{capability_trap, plain_trap}
+use Rattle.def_profile.specs.declared.traps.TheConstants.{TAG_CODE, SEAL_CODE, LOAD_CODE, BOUNDS_CODE, MISALIGNED_LOAD}
 use Rattle.def_step.specs.Switch.{Switched, Trapped, TooDeep, NoStack, Enters, switch_of, return_checks, frame_top}
 
 pub data Ran : Type 0 where
@@ -87,11 +89,11 @@ lies_in_ram i s at width = nat_le i.ram at && nat_le (at + width) (i.ram + 8 * l
 -- c10 as a load of four bytes of RAM
 abbrev pub word_checks : Image → State → Cap → List Check
 word_checks i s c =
-    (c.tag, capability_trap not_tagged 10)
-    ∷ (is_unsealed c, capability_trap wrong_seal 10)
-    ∷ (has c load_data, capability_trap no_load 10)
-    ∷ (is_range_inside c (cap_address c) (cap_address c + 4) && lies_in_ram i s (cap_address c) 4, capability_trap out_of_bounds 10)
-    ∷ (cap_address c % 4 == 0, plain_trap misaligned_load)
+    (c.tag, capability_trap TAG_CODE 10)
+    ∷ (is_unsealed c, capability_trap SEAL_CODE 10)
+    ∷ (has c load_data, capability_trap LOAD_CODE 10)
+    ∷ (is_range_inside c (cap_address c) (cap_address c + 4) && lies_in_ram i s (cap_address c) 4, capability_trap BOUNDS_CODE 10)
+    ∷ (cap_address c % 4 == 0, plain_trap MISALIGNED_LOAD)
     ∷ []
 
 -- it waits where the word holds the value; else it goes on with -21

@@ -10,31 +10,33 @@ use Rattle.def_words.specs.Permissions.{has, store_local}
 use Rattle.def_words.specs.Seals.{cap_seal, is_unsealed, is_between}
 use Rattle.def_reach.specs.Roots.{root_of, gate_for}
 use Rattle.def_machine.specs.State.{Thread, Frame, register}
-use Rattle.def_step.specs.Checks.{Check, capability_trap, first_failed, not_tagged, wrong_seal, no_store, out_of_bounds}
+use Rattle.def_step.specs.Checks.{Check, first_failed}
+use Rattle.def_words.specs.Traps.{capability_trap}
+use Rattle.def_profile.specs.declared.traps.TheConstants.{TAG_CODE, SEAL_CODE, STORE_CODE, BOUNDS_CODE}
 
 -- ---- checks
 
 -- c1, of every native routine but the return: a return sentry
 abbrev pub return_checks : Cap → List Check
 return_checks c =
-    (c.tag, capability_trap not_tagged 1)
-    ∷ (is_between RETURN_DISABLE RETURN_ENABLE (cap_seal c), capability_trap wrong_seal 1)
+    (c.tag, capability_trap TAG_CODE 1)
+    ∷ (is_between RETURN_DISABLE RETURN_ENABLE (cap_seal c), capability_trap SEAL_CODE 1)
     ∷ []
 
 -- c6: a call import
 abbrev pub gate_checks : Cap → List Check
 gate_checks c =
-    (c.tag, capability_trap not_tagged 6)
-    ∷ (cap_seal c == EXPORT_TYPE, capability_trap wrong_seal 6)
+    (c.tag, capability_trap TAG_CODE 6)
+    ∷ (cap_seal c == EXPORT_TYPE, capability_trap SEAL_CODE 6)
     ∷ []
 
 -- c2: the thread's stack from its base, at an address no further than the frame's top
 abbrev pub stack_checks : ℕ → ℕ → Cap → List Check
 stack_checks base top c =
-    (c.tag, capability_trap not_tagged 2)
-    ∷ (is_unsealed c, capability_trap wrong_seal 2)
-    ∷ (has c store_local, capability_trap no_store 2)
-    ∷ ((cap_base c == base) && is_between base top (cap_address c), capability_trap out_of_bounds 2)
+    (c.tag, capability_trap TAG_CODE 2)
+    ∷ (is_unsealed c, capability_trap SEAL_CODE 2)
+    ∷ (has c store_local, capability_trap STORE_CODE 2)
+    ∷ ((cap_base c == base) && is_between base top (cap_address c), capability_trap BOUNDS_CODE 2)
     ∷ []
 
 abbrev pub switch_checks : ℕ → ℕ → Thread → List Check
