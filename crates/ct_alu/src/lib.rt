@@ -8,7 +8,8 @@ mod signed;
 mod tests;
 
 ghost use Rattle.std.specs.Prelude.{◌≡◌, IsTrue};
-ghost use Rattle.def_instr.specs.Results.{is_integer, integer_result};
+ghost use Rattle.def_instr.specs.Results.{integer_result};
+ghost use Rattle.def_instr.specs.Shapes.{is_integer};
 
 use crate::products::{
     high_signed, high_signed_unsigned, high_unsigned, quotient, quotient_unsigned, remainder,

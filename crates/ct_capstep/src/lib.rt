@@ -9,7 +9,8 @@ mod numbers;
 mod tests;
 
 ghost use Rattle.std.specs.Prelude.{IsTrue, MatchResult, false, true, ◌||◌, ◌≡◌};
-ghost use Rattle.def_capstep.specs.Results.{capability_result, is_capability, is_system};
+ghost use Rattle.def_instr.specs.Shapes.{is_capability, is_system};
+ghost use Rattle.def_capstep.specs.Results.{capability_result};
 
 use crate::numbers::{
     address, base, high, integer, length, mask, rounded, top, upper_offset, with_high,

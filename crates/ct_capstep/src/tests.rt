@@ -1,7 +1,7 @@
 //! Each instruction at worked values.
 
 ghost use Rattle.std.specs.Prelude.{IsTrue, ◌||◌};
-ghost use Rattle.def_capstep.specs.Results.{is_capability, is_system};
+ghost use Rattle.def_instr.specs.Shapes.{is_capability, is_system};
 
 use super::*;
 use ct_cap::{derive, expand, shrink};

@@ -1,11 +1,35 @@
--- Where the table gives an instruction a word, that instruction is read from the word: one line for
--- each row, over one lemma for each format.
-use Rattle.std.proofs.Common.{◌≡◌, ℕ, ◌+◌, ◌*◌, ◌/◌, ◌%◌, ◌^◌, ◌<◌, ◌≤◌, cond, Option, Some, None, IsNone, refl, ap, ◌∙◌, arith, lit<, ◌⊎◌, inl, inr}
-use Rattle.def_instr.specs.Table.{format_r, format_i, format_s, format_b, format_u, format_j, IsSigned, IsOffset, EncodesTo}
+-- Where the table gives an instruction a word, that instruction is read from the word: one case for
+-- each shape, over one lemma for each format.
+use Rattle.std.proofs.Common.{◌≡◌, ℕ, ◌+◌, ◌*◌, ◌/◌, ◌%◌, ◌^◌, ◌<◌, ◌≤◌, cond, Option, Some, None, IsNone, IfSome, refl, ap, subst, ◌∙◌, arith, lit<, ◌⊎◌, inl, inr}
+use Rattle.def_instr.specs.Table.{format_r, format_i, format_s, format_b, format_u, format_j, IsSigned, IsOffset, EncodesTo, FieldsFit, shape_word, integer_code, capability_funct7, signed_funct3, shift_code, upper_opcode, load_funct3, store_funct3, branch_funct3, source_number}
+use Rattle.def_instr.specs.Shapes.{shape_of, shaped}
+use Rattle.ct_isa.proofs.Back.{shaped_back}
 use Rattle.def_instr.specs.Reading.{cut_of, extended, instruction_of, instruction_in, one_small, two_small, three_small}
+use Rattle.def_instr.specs.declared.shapes.IntegerOperation.{IntegerOperation}
+use Rattle.def_instr.specs.declared.shapes.IntegerOperation.TheVariants as integers
+use Rattle.def_instr.specs.declared.shapes.CapabilityOperation.{CapabilityOperation}
+use Rattle.def_instr.specs.declared.shapes.CapabilityOperation.TheVariants as capabilities
+use Rattle.def_instr.specs.declared.shapes.RegisterOperation.TheVariants as registers
+use Rattle.def_instr.specs.declared.shapes.SignedOperation.{SignedOperation}
+use Rattle.def_instr.specs.declared.shapes.SignedOperation.TheVariants as signeds
+use Rattle.def_instr.specs.declared.shapes.ShiftOperation.{ShiftOperation}
+use Rattle.def_instr.specs.declared.shapes.ShiftOperation.TheVariants as shifts
+use Rattle.def_instr.specs.declared.shapes.ImmediateOperation.TheVariants as immediates
+use Rattle.def_instr.specs.declared.shapes.UpperOperation.{UpperOperation}
+use Rattle.def_instr.specs.declared.shapes.UpperOperation.TheVariants as uppers
+use Rattle.def_instr.specs.declared.shapes.LoadOperation.{LoadOperation}
+use Rattle.def_instr.specs.declared.shapes.LoadOperation.TheVariants as loads
+use Rattle.def_instr.specs.declared.shapes.StoreOperation.{StoreOperation}
+use Rattle.def_instr.specs.declared.shapes.StoreOperation.TheVariants as stores
+use Rattle.def_instr.specs.declared.shapes.BranchOperation.{BranchOperation}
+use Rattle.def_instr.specs.declared.shapes.BranchOperation.TheVariants as branches
+use Rattle.def_instr.specs.declared.shapes.SourceOperation.{SourceOperation}
+use Rattle.def_instr.specs.declared.shapes.SourceOperation.TheVariants as sources
+use Rattle.def_instr.specs.declared.shapes.Shape.{Shape}
+use Rattle.def_instr.specs.declared.shapes.Shape.TheVariants as shape
 use Rattle.def_instr.specs.declared.Fields.{Fields}
 use Rattle.def_instr.specs.declared.Instr.{Instr}
-use Rattle.def_instr.specs.declared.Instr.TheVariants.{Lui, AuiPcc, AuiCgp, Jal, CJalr, Beq, Bne, Blt, Bge, Bltu, Bgeu, Lb, Lh, Lw, Clc, Lbu, Lhu, Sb, Sh, Sw, Csc, Addi, Slti, Sltiu, Xori, Ori, Andi, Slli, Srli, Srai, Add, Sub, Sll, Slt, Sltu, Xor, Srl, Sra, Or, And, Mul, Mulh, Mulhsu, Mulhu, Div, Divu, Rem, Remu, Fence, Ecall, Ebreak, Csr, CIncAddrImm, CSetBoundsImm, CSpecialRw, CSetBounds, CSetBoundsExact, CSeal, CUnseal, CAndPerm, CSetAddr, CIncAddr, CSub, CSetHigh, CTestSubset, CSetEqualExact, CGetPerm, CGetType, CGetBase, CGetLen, CGetTag, Crrl, Cram, CMove, CClearTag, CGetAddr, CGetHigh, CGetTop}
+use Rattle.def_instr.specs.declared.Instr.TheVariants.{Lui, Jal, CJalr, Beq, Lb, Sb, Addi, CIncAddrImm, CSetBoundsImm, Fence, Csr}
 
 -- six fields in a row
 abbrev fields : ℕ → ℕ → ℕ → ℕ → ℕ → ℕ → Fields
@@ -97,91 +121,164 @@ csr_complete f d s n w e hd h hn =
     let five : s < 2 ^ 5 = elim h [ inl k ↦ omega (arith, k.2) | inr k ↦ omega (arith, k.2) ] in
     from_cut w _ _ _ e (cut_i 0x73 f d s n (lit< tt) small (wide d hd) five) (csr_read f d s _ _ hd h ∙ ap (λ m. Some (Csr f d s m)) (back_pieces n hn))
 
--- each row
+-- ---- the operations of each shape
+
+integer_small : (o : IntegerOperation) → ((integer_code o).funct3 < 2 ^ 3) × ((integer_code o).funct7 < 2 ^ 7)
+integer_small integers.Add = (lit< tt, lit< tt)
+integer_small o = (lit< tt, lit< tt)
+
+integer_read : (o : IntegerOperation) (d a b : ℕ) → d < 16 → a < 16 → b < 16
+    → instruction_of (fields 0x33 (integer_code o).funct3 (integer_code o).funct7 d a b)
+    ≡ Some (shaped (shape.Registers (registers.Integer o) d a b))
+integer_read integers.Add d a b hd ha hb = keep3 d a b _ _ hd ha hb
+integer_read o d a b hd ha hb = keep3 d a b _ _ hd ha hb
+
+capability_small : (o : CapabilityOperation) → capability_funct7 o < 2 ^ 7
+capability_small capabilities.CSeal = lit< tt
+capability_small o = lit< tt
+
+capability_read : (o : CapabilityOperation) (d a b : ℕ) → d < 16 → a < 16 → b < 16
+    → instruction_of (fields 0x5B 0 (capability_funct7 o) d a b)
+    ≡ Some (shaped (shape.Registers (registers.Capability o) d a b))
+capability_read capabilities.CSeal d a b hd ha hb = keep2 d a _ _ hd ha ∙ keep1 b _ _ hb
+capability_read o d a b hd ha hb = keep2 d a _ _ hd ha ∙ keep1 b _ _ hb
+
+signed_small : (o : SignedOperation) → signed_funct3 o < 2 ^ 3
+signed_small signeds.Addi = lit< tt
+signed_small o = lit< tt
+
+signed_read : (o : SignedOperation) (d a n : ℕ) → d < 16 → a < 16 → IsSigned 12 n
+    → instruction_of (fields 0x13 (signed_funct3 o) (n / 2 ^ 5 % 2 ^ 7) d a (n % 2 ^ 5))
+    ≡ Some (shaped (shape.Immediate (immediates.Signed o) d a n))
+signed_read signeds.Addi d a n hd ha hn = keep2 d a _ _ hd ha ∙ ap (λ m. Some (Addi d a m)) (back12 n hn)
+signed_read o d a n hd ha hn =
+    keep2 d a _ _ hd ha ∙ ap (λ m. Some (shaped (shape.Immediate (immediates.Signed o) d a m))) (back12 n hn)
+
+shift_small : (o : ShiftOperation) → ((shift_code o).funct3 < 2 ^ 3) × ((shift_code o).funct7 < 2 ^ 7)
+shift_small shifts.Slli = (lit< tt, lit< tt)
+shift_small o = (lit< tt, lit< tt)
+
+shift_read : (o : ShiftOperation) (d a n : ℕ) → d < 16 → a < 16
+    → instruction_of (fields 0x13 (shift_code o).funct3 (shift_code o).funct7 d a n)
+    ≡ Some (shaped (shape.Immediate (immediates.Shift o) d a n))
+shift_read shifts.Slli d a n hd ha = keep2 d a _ _ hd ha
+shift_read o d a n hd ha = keep2 d a _ _ hd ha
+
+upper_small : (o : UpperOperation) → upper_opcode o < 2 ^ 7
+upper_small uppers.Lui = lit< tt
+upper_small o = lit< tt
+
+upper_read : (o : UpperOperation) (d n : ℕ) → d < 16 → n < 2 ^ 20
+    → instruction_of (fields (upper_opcode o) (n % 2 ^ 3) (n / 2 ^ 13) d (n / 2 ^ 3 % 2 ^ 5) (n / 2 ^ 8 % 2 ^ 5))
+    ≡ Some (shaped (shape.Upper o d n))
+upper_read uppers.Lui d n hd hn = keep1 d _ _ hd ∙ ap (λ m. Some (Lui d m)) (upper_pieces n hn)
+upper_read o d n hd hn = keep1 d _ _ hd ∙ ap (λ m. Some (shaped (shape.Upper o d m))) (upper_pieces n hn)
+
+load_small : (o : LoadOperation) → load_funct3 o < 2 ^ 3
+load_small loads.Lb = lit< tt
+load_small o = lit< tt
+
+load_read : (o : LoadOperation) (d a n : ℕ) → d < 16 → a < 16 → IsSigned 12 n
+    → instruction_of (fields 0x03 (load_funct3 o) (n / 2 ^ 5 % 2 ^ 7) d a (n % 2 ^ 5))
+    ≡ Some (shaped (shape.Load o d a n))
+load_read loads.Lb d a n hd ha hn = keep2 d a _ _ hd ha ∙ ap (λ m. Some (Lb d a m)) (back12 n hn)
+load_read o d a n hd ha hn = keep2 d a _ _ hd ha ∙ ap (λ m. Some (shaped (shape.Load o d a m))) (back12 n hn)
+
+store_small : (o : StoreOperation) → store_funct3 o < 2 ^ 3
+store_small stores.Sb = lit< tt
+store_small o = lit< tt
+
+store_read : (o : StoreOperation) (a b n : ℕ) → a < 16 → b < 16 → IsSigned 12 n
+    → instruction_of (fields 0x23 (store_funct3 o) (n / 2 ^ 5 % 2 ^ 7) (n % 2 ^ 5) a b)
+    ≡ Some (shaped (shape.Store o a b n))
+store_read stores.Sb a b n ha hb hn = keep2 a b _ _ ha hb ∙ ap (λ m. Some (Sb a b m)) (back12 n hn)
+store_read o a b n ha hb hn = keep2 a b _ _ ha hb ∙ ap (λ m. Some (shaped (shape.Store o a b m))) (back12 n hn)
+
+branch_small : (o : BranchOperation) → branch_funct3 o < 2 ^ 3
+branch_small branches.Beq = lit< tt
+branch_small o = lit< tt
+
+branch_read : (o : BranchOperation) (a b n : ℕ) → a < 16 → b < 16 → IsOffset 13 n
+    → instruction_of (fields 0x63 (branch_funct3 o) (n / 2 ^ 5 % 2 ^ 6 + n / 2 ^ 12 % 2 * 2 ^ 6) (n / 2 ^ 11 % 2 + n / 2 % 2 ^ 4 * 2) a b)
+    ≡ Some (shaped (shape.Branch o a b n))
+branch_read branches.Beq a b n ha hb hn = keep2 a b _ _ ha hb
+    ∙ ap (λ m. Some (Beq a b m)) (back13 n _ hn (branch_pieces n _ _ hn.1 refl refl))
+branch_read o a b n ha hb hn = keep2 a b _ _ ha hb
+    ∙ ap (λ m. Some (shaped (shape.Branch o a b m))) (back13 n _ hn (branch_pieces n _ _ hn.1 refl refl))
+
+source_small : (o : SourceOperation) → source_number o < 2 ^ 5
+source_small sources.CMove = lit< tt
+source_small o = lit< tt
+
+source_read : (o : SourceOperation) (d a : ℕ) → d < 16 → a < 16
+    → instruction_of (fields 0x5B 0 0x7F d a (source_number o)) ≡ Some (shaped (shape.OneSource o d a))
+source_read sources.CMove d a hd ha = keep2 d a _ _ hd ha
+source_read o d a hd ha = keep2 d a _ _ hd ha
+
+-- ---- each shape
+
+shape_read : (s : Shape) (w : ℕ) → FieldsFit s → w ≡ shape_word s → instruction_in w ≡ Some (shaped s)
+shape_read (shape.Registers (registers.Integer o) d a b) w h e =
+    let small = integer_small o in
+    let cut = cut_r 0x33 _ _ d a b (lit< tt) small.0 small.1 (wide d h.0) (wide a h.1) (wide b h.2) in
+    from_cut w _ _ _ e cut (integer_read o d a b h.0 h.1 h.2)
+shape_read (shape.Registers (registers.Capability o) d a b) w h e =
+    let cut = cut_r 0x5B 0 _ d a b (lit< tt) (lit< tt) (capability_small o) (wide d h.0) (wide a h.1) (wide b h.2) in
+    from_cut w _ _ _ e cut (capability_read o d a b h.0 h.1 h.2)
+shape_read (shape.Immediate (immediates.Signed o) d a n) w h e =
+    let cut = cut_i 0x13 _ d a n (lit< tt) (signed_small o) (wide d h.0) (wide a h.1) in
+    from_cut w _ _ _ e cut (signed_read o d a n h.0 h.1 h.2)
+shape_read (shape.Immediate (immediates.Shift o) d a n) w h e =
+    let small = shift_small o in
+    let cut = cut_r 0x13 _ _ d a n (lit< tt) small.0 small.1 (wide d h.0) (wide a h.1) h.2 in
+    from_cut w _ _ _ e cut (shift_read o d a n h.0 h.1)
+shape_read (shape.Immediate immediates.CIncAddrImm d a n) w h e =
+    let cut = cut_i 0x5B 1 d a n (lit< tt) (lit< tt) (wide d h.0) (wide a h.1) in
+    from_cut w _ _ _ e cut (keep2 d a _ _ h.0 h.1 ∙ ap (λ m. Some (CIncAddrImm d a m)) (back12 n h.2))
+shape_read (shape.Immediate immediates.CSetBoundsImm d a n) w h e =
+    let cut = cut_i 0x5B 2 d a n (lit< tt) (lit< tt) (wide d h.0) (wide a h.1) in
+    from_cut w _ _ _ e cut (keep2 d a _ _ h.0 h.1 ∙ ap (λ m. Some (CSetBoundsImm d a m)) (back_pieces n h.2))
+shape_read (shape.Upper o d n) w h e =
+    from_cut w _ _ _ e (cut_u _ d n (upper_small o) (wide d h.0) h.1) (upper_read o d n h.0 h.1)
+shape_read (shape.Load o d a n) w h e =
+    let cut = cut_i 0x03 _ d a n (lit< tt) (load_small o) (wide d h.0) (wide a h.1) in
+    from_cut w _ _ _ e cut (load_read o d a n h.0 h.1 h.2)
+shape_read (shape.Store o a b n) w h e =
+    let cut = cut_s 0x23 _ a b n (lit< tt) (store_small o) (wide a h.0) (wide b h.1) in
+    from_cut w _ _ _ e cut (store_read o a b n h.0 h.1 h.2)
+shape_read (shape.Branch o a b n) w h e =
+    let cut = cut_b 0x63 _ a b n (lit< tt) (branch_small o) (wide a h.0) (wide b h.1) in
+    from_cut w _ _ _ e cut (branch_read o a b n h.0 h.1 h.2)
+shape_read (shape.Jump d n) w h e =
+    from_cut w _ _ _ e (cut_j 0x6F d n (lit< tt) (wide d h.0))
+    (keep1 d _ _ h.0 ∙ ap (λ m. Some (Jal d m)) (back21 n _ h.1 (jump_pieces n _ _ _ _ h.1.1 refl refl refl refl)))
+shape_read (shape.RegisterJump d a n) w h e =
+    let cut = cut_i 0x67 0 d a n (lit< tt) (lit< tt) (wide d h.0) (wide a h.1) in
+    from_cut w _ _ _ e cut (keep2 d a _ _ h.0 h.1 ∙ ap (λ m. Some (CJalr d a m)) (back12 n h.2))
+shape_read (shape.OneSource o d a) w h e =
+    let cut = cut_r 0x5B 0 0x7F d a _ (lit< tt) (lit< tt) (lit< tt) (wide d h.0) (wide a h.1) (source_small o) in
+    from_cut w _ _ _ e cut (source_read o d a h.0 h.1)
+shape_read (shape.Fence n) w h e =
+    from_cut w _ _ _ e (cut_i 0x0F 0 0 0 n (lit< tt) (lit< tt) (lit< tt) (lit< tt)) (ap (λ m. Some (Fence m)) (back12 n h))
+shape_read shape.Call w h e = ap instruction_in e
+shape_read shape.Break w h e = ap instruction_in e
+shape_read (shape.Status function rd source number) w h e = csr_complete function rd source number w e h.0 h.1 h.2
+shape_read (shape.Special d a n) w h e =
+    let cut = cut_r 0x5B 0 0x01 d a n (lit< tt) (lit< tt) (lit< tt) (wide d h.0) (wide a h.1) h.2 in
+    from_cut w _ _ _ e cut (keep2 d a _ _ h.0 h.1)
+
 pub complete : (i : Instr) (w : ℕ) → EncodesTo i w → instruction_in w ≡ Some i
-complete (Lui rd immediate) w e = from_cut w _ _ _ e.row (cut_u 0x37 rd immediate (lit< tt) (wide rd e.ranged.0) e.ranged.1) (keep1 rd _ _ e.ranged.0 ∙ ap (λ n. Some (Lui rd n)) (upper_pieces immediate e.ranged.1))
-complete (AuiPcc rd immediate) w e = from_cut w _ _ _ e.row (cut_u 0x17 rd immediate (lit< tt) (wide rd e.ranged.0) e.ranged.1) (keep1 rd _ _ e.ranged.0 ∙ ap (λ n. Some (AuiPcc rd n)) (upper_pieces immediate e.ranged.1))
-complete (AuiCgp rd immediate) w e = from_cut w _ _ _ e.row (cut_u 0x7B rd immediate (lit< tt) (wide rd e.ranged.0) e.ranged.1) (keep1 rd _ _ e.ranged.0 ∙ ap (λ n. Some (AuiCgp rd n)) (upper_pieces immediate e.ranged.1))
-complete (Jal rd offset) w e = from_cut w _ _ _ e.row (cut_j 0x6F rd offset (lit< tt) (wide rd e.ranged.0)) (keep1 rd _ _ e.ranged.0 ∙ ap (λ n. Some (Jal rd n)) (back21 offset _ e.ranged.1 (jump_pieces offset _ _ _ _ e.ranged.1.1 refl refl refl refl)))
-complete (CJalr rd rs1 immediate) w e = from_cut w _ _ _ e.row (cut_i 0x67 0 rd rs1 immediate (lit< tt) (lit< tt) (wide rd e.ranged.0) (wide rs1 e.ranged.1)) (keep2 rd rs1 _ _ e.ranged.0 e.ranged.1 ∙ ap (λ n. Some (CJalr rd rs1 n)) (back12 immediate e.ranged.2))
-complete (Beq rs1 rs2 offset) w e = from_cut w _ _ _ e.row (cut_b 0x63 0 rs1 rs2 offset (lit< tt) (lit< tt) (wide rs1 e.ranged.0) (wide rs2 e.ranged.1)) (keep2 rs1 rs2 _ _ e.ranged.0 e.ranged.1 ∙ ap (λ n. Some (Beq rs1 rs2 n)) (back13 offset _ e.ranged.2 (branch_pieces offset _ _ e.ranged.2.1 refl refl)))
-complete (Bne rs1 rs2 offset) w e = from_cut w _ _ _ e.row (cut_b 0x63 1 rs1 rs2 offset (lit< tt) (lit< tt) (wide rs1 e.ranged.0) (wide rs2 e.ranged.1)) (keep2 rs1 rs2 _ _ e.ranged.0 e.ranged.1 ∙ ap (λ n. Some (Bne rs1 rs2 n)) (back13 offset _ e.ranged.2 (branch_pieces offset _ _ e.ranged.2.1 refl refl)))
-complete (Blt rs1 rs2 offset) w e = from_cut w _ _ _ e.row (cut_b 0x63 4 rs1 rs2 offset (lit< tt) (lit< tt) (wide rs1 e.ranged.0) (wide rs2 e.ranged.1)) (keep2 rs1 rs2 _ _ e.ranged.0 e.ranged.1 ∙ ap (λ n. Some (Blt rs1 rs2 n)) (back13 offset _ e.ranged.2 (branch_pieces offset _ _ e.ranged.2.1 refl refl)))
-complete (Bge rs1 rs2 offset) w e = from_cut w _ _ _ e.row (cut_b 0x63 5 rs1 rs2 offset (lit< tt) (lit< tt) (wide rs1 e.ranged.0) (wide rs2 e.ranged.1)) (keep2 rs1 rs2 _ _ e.ranged.0 e.ranged.1 ∙ ap (λ n. Some (Bge rs1 rs2 n)) (back13 offset _ e.ranged.2 (branch_pieces offset _ _ e.ranged.2.1 refl refl)))
-complete (Bltu rs1 rs2 offset) w e = from_cut w _ _ _ e.row (cut_b 0x63 6 rs1 rs2 offset (lit< tt) (lit< tt) (wide rs1 e.ranged.0) (wide rs2 e.ranged.1)) (keep2 rs1 rs2 _ _ e.ranged.0 e.ranged.1 ∙ ap (λ n. Some (Bltu rs1 rs2 n)) (back13 offset _ e.ranged.2 (branch_pieces offset _ _ e.ranged.2.1 refl refl)))
-complete (Bgeu rs1 rs2 offset) w e = from_cut w _ _ _ e.row (cut_b 0x63 7 rs1 rs2 offset (lit< tt) (lit< tt) (wide rs1 e.ranged.0) (wide rs2 e.ranged.1)) (keep2 rs1 rs2 _ _ e.ranged.0 e.ranged.1 ∙ ap (λ n. Some (Bgeu rs1 rs2 n)) (back13 offset _ e.ranged.2 (branch_pieces offset _ _ e.ranged.2.1 refl refl)))
-complete (Lb rd rs1 immediate) w e = from_cut w _ _ _ e.row (cut_i 0x03 0 rd rs1 immediate (lit< tt) (lit< tt) (wide rd e.ranged.0) (wide rs1 e.ranged.1)) (keep2 rd rs1 _ _ e.ranged.0 e.ranged.1 ∙ ap (λ n. Some (Lb rd rs1 n)) (back12 immediate e.ranged.2))
-complete (Lh rd rs1 immediate) w e = from_cut w _ _ _ e.row (cut_i 0x03 1 rd rs1 immediate (lit< tt) (lit< tt) (wide rd e.ranged.0) (wide rs1 e.ranged.1)) (keep2 rd rs1 _ _ e.ranged.0 e.ranged.1 ∙ ap (λ n. Some (Lh rd rs1 n)) (back12 immediate e.ranged.2))
-complete (Lw rd rs1 immediate) w e = from_cut w _ _ _ e.row (cut_i 0x03 2 rd rs1 immediate (lit< tt) (lit< tt) (wide rd e.ranged.0) (wide rs1 e.ranged.1)) (keep2 rd rs1 _ _ e.ranged.0 e.ranged.1 ∙ ap (λ n. Some (Lw rd rs1 n)) (back12 immediate e.ranged.2))
-complete (Clc rd rs1 immediate) w e = from_cut w _ _ _ e.row (cut_i 0x03 3 rd rs1 immediate (lit< tt) (lit< tt) (wide rd e.ranged.0) (wide rs1 e.ranged.1)) (keep2 rd rs1 _ _ e.ranged.0 e.ranged.1 ∙ ap (λ n. Some (Clc rd rs1 n)) (back12 immediate e.ranged.2))
-complete (Lbu rd rs1 immediate) w e = from_cut w _ _ _ e.row (cut_i 0x03 4 rd rs1 immediate (lit< tt) (lit< tt) (wide rd e.ranged.0) (wide rs1 e.ranged.1)) (keep2 rd rs1 _ _ e.ranged.0 e.ranged.1 ∙ ap (λ n. Some (Lbu rd rs1 n)) (back12 immediate e.ranged.2))
-complete (Lhu rd rs1 immediate) w e = from_cut w _ _ _ e.row (cut_i 0x03 5 rd rs1 immediate (lit< tt) (lit< tt) (wide rd e.ranged.0) (wide rs1 e.ranged.1)) (keep2 rd rs1 _ _ e.ranged.0 e.ranged.1 ∙ ap (λ n. Some (Lhu rd rs1 n)) (back12 immediate e.ranged.2))
-complete (Sb rs1 rs2 immediate) w e = from_cut w _ _ _ e.row (cut_s 0x23 0 rs1 rs2 immediate (lit< tt) (lit< tt) (wide rs1 e.ranged.0) (wide rs2 e.ranged.1)) (keep2 rs1 rs2 _ _ e.ranged.0 e.ranged.1 ∙ ap (λ n. Some (Sb rs1 rs2 n)) (back12 immediate e.ranged.2))
-complete (Sh rs1 rs2 immediate) w e = from_cut w _ _ _ e.row (cut_s 0x23 1 rs1 rs2 immediate (lit< tt) (lit< tt) (wide rs1 e.ranged.0) (wide rs2 e.ranged.1)) (keep2 rs1 rs2 _ _ e.ranged.0 e.ranged.1 ∙ ap (λ n. Some (Sh rs1 rs2 n)) (back12 immediate e.ranged.2))
-complete (Sw rs1 rs2 immediate) w e = from_cut w _ _ _ e.row (cut_s 0x23 2 rs1 rs2 immediate (lit< tt) (lit< tt) (wide rs1 e.ranged.0) (wide rs2 e.ranged.1)) (keep2 rs1 rs2 _ _ e.ranged.0 e.ranged.1 ∙ ap (λ n. Some (Sw rs1 rs2 n)) (back12 immediate e.ranged.2))
-complete (Csc rs1 rs2 immediate) w e = from_cut w _ _ _ e.row (cut_s 0x23 3 rs1 rs2 immediate (lit< tt) (lit< tt) (wide rs1 e.ranged.0) (wide rs2 e.ranged.1)) (keep2 rs1 rs2 _ _ e.ranged.0 e.ranged.1 ∙ ap (λ n. Some (Csc rs1 rs2 n)) (back12 immediate e.ranged.2))
-complete (Addi rd rs1 immediate) w e = from_cut w _ _ _ e.row (cut_i 0x13 0 rd rs1 immediate (lit< tt) (lit< tt) (wide rd e.ranged.0) (wide rs1 e.ranged.1)) (keep2 rd rs1 _ _ e.ranged.0 e.ranged.1 ∙ ap (λ n. Some (Addi rd rs1 n)) (back12 immediate e.ranged.2))
-complete (Slti rd rs1 immediate) w e = from_cut w _ _ _ e.row (cut_i 0x13 2 rd rs1 immediate (lit< tt) (lit< tt) (wide rd e.ranged.0) (wide rs1 e.ranged.1)) (keep2 rd rs1 _ _ e.ranged.0 e.ranged.1 ∙ ap (λ n. Some (Slti rd rs1 n)) (back12 immediate e.ranged.2))
-complete (Sltiu rd rs1 immediate) w e = from_cut w _ _ _ e.row (cut_i 0x13 3 rd rs1 immediate (lit< tt) (lit< tt) (wide rd e.ranged.0) (wide rs1 e.ranged.1)) (keep2 rd rs1 _ _ e.ranged.0 e.ranged.1 ∙ ap (λ n. Some (Sltiu rd rs1 n)) (back12 immediate e.ranged.2))
-complete (Xori rd rs1 immediate) w e = from_cut w _ _ _ e.row (cut_i 0x13 4 rd rs1 immediate (lit< tt) (lit< tt) (wide rd e.ranged.0) (wide rs1 e.ranged.1)) (keep2 rd rs1 _ _ e.ranged.0 e.ranged.1 ∙ ap (λ n. Some (Xori rd rs1 n)) (back12 immediate e.ranged.2))
-complete (Ori rd rs1 immediate) w e = from_cut w _ _ _ e.row (cut_i 0x13 6 rd rs1 immediate (lit< tt) (lit< tt) (wide rd e.ranged.0) (wide rs1 e.ranged.1)) (keep2 rd rs1 _ _ e.ranged.0 e.ranged.1 ∙ ap (λ n. Some (Ori rd rs1 n)) (back12 immediate e.ranged.2))
-complete (Andi rd rs1 immediate) w e = from_cut w _ _ _ e.row (cut_i 0x13 7 rd rs1 immediate (lit< tt) (lit< tt) (wide rd e.ranged.0) (wide rs1 e.ranged.1)) (keep2 rd rs1 _ _ e.ranged.0 e.ranged.1 ∙ ap (λ n. Some (Andi rd rs1 n)) (back12 immediate e.ranged.2))
-complete (Slli rd rs1 amount) w e = from_cut w _ _ _ e.row (cut_r 0x13 1 0x00 rd rs1 amount (lit< tt) (lit< tt) (lit< tt) (wide rd e.ranged.0) (wide rs1 e.ranged.1) e.ranged.2) (keep2 rd rs1 _ _ e.ranged.0 e.ranged.1)
-complete (Srli rd rs1 amount) w e = from_cut w _ _ _ e.row (cut_r 0x13 5 0x00 rd rs1 amount (lit< tt) (lit< tt) (lit< tt) (wide rd e.ranged.0) (wide rs1 e.ranged.1) e.ranged.2) (keep2 rd rs1 _ _ e.ranged.0 e.ranged.1)
-complete (Srai rd rs1 amount) w e = from_cut w _ _ _ e.row (cut_r 0x13 5 0x20 rd rs1 amount (lit< tt) (lit< tt) (lit< tt) (wide rd e.ranged.0) (wide rs1 e.ranged.1) e.ranged.2) (keep2 rd rs1 _ _ e.ranged.0 e.ranged.1)
-complete (Add rd rs1 rs2) w e = from_cut w _ _ _ e.row (cut_r 0x33 0 0x00 rd rs1 rs2 (lit< tt) (lit< tt) (lit< tt) (wide rd e.ranged.0) (wide rs1 e.ranged.1) (wide rs2 e.ranged.2)) (keep3 rd rs1 rs2 _ _ e.ranged.0 e.ranged.1 e.ranged.2)
-complete (Sub rd rs1 rs2) w e = from_cut w _ _ _ e.row (cut_r 0x33 0 0x20 rd rs1 rs2 (lit< tt) (lit< tt) (lit< tt) (wide rd e.ranged.0) (wide rs1 e.ranged.1) (wide rs2 e.ranged.2)) (keep3 rd rs1 rs2 _ _ e.ranged.0 e.ranged.1 e.ranged.2)
-complete (Sll rd rs1 rs2) w e = from_cut w _ _ _ e.row (cut_r 0x33 1 0x00 rd rs1 rs2 (lit< tt) (lit< tt) (lit< tt) (wide rd e.ranged.0) (wide rs1 e.ranged.1) (wide rs2 e.ranged.2)) (keep3 rd rs1 rs2 _ _ e.ranged.0 e.ranged.1 e.ranged.2)
-complete (Slt rd rs1 rs2) w e = from_cut w _ _ _ e.row (cut_r 0x33 2 0x00 rd rs1 rs2 (lit< tt) (lit< tt) (lit< tt) (wide rd e.ranged.0) (wide rs1 e.ranged.1) (wide rs2 e.ranged.2)) (keep3 rd rs1 rs2 _ _ e.ranged.0 e.ranged.1 e.ranged.2)
-complete (Sltu rd rs1 rs2) w e = from_cut w _ _ _ e.row (cut_r 0x33 3 0x00 rd rs1 rs2 (lit< tt) (lit< tt) (lit< tt) (wide rd e.ranged.0) (wide rs1 e.ranged.1) (wide rs2 e.ranged.2)) (keep3 rd rs1 rs2 _ _ e.ranged.0 e.ranged.1 e.ranged.2)
-complete (Xor rd rs1 rs2) w e = from_cut w _ _ _ e.row (cut_r 0x33 4 0x00 rd rs1 rs2 (lit< tt) (lit< tt) (lit< tt) (wide rd e.ranged.0) (wide rs1 e.ranged.1) (wide rs2 e.ranged.2)) (keep3 rd rs1 rs2 _ _ e.ranged.0 e.ranged.1 e.ranged.2)
-complete (Srl rd rs1 rs2) w e = from_cut w _ _ _ e.row (cut_r 0x33 5 0x00 rd rs1 rs2 (lit< tt) (lit< tt) (lit< tt) (wide rd e.ranged.0) (wide rs1 e.ranged.1) (wide rs2 e.ranged.2)) (keep3 rd rs1 rs2 _ _ e.ranged.0 e.ranged.1 e.ranged.2)
-complete (Sra rd rs1 rs2) w e = from_cut w _ _ _ e.row (cut_r 0x33 5 0x20 rd rs1 rs2 (lit< tt) (lit< tt) (lit< tt) (wide rd e.ranged.0) (wide rs1 e.ranged.1) (wide rs2 e.ranged.2)) (keep3 rd rs1 rs2 _ _ e.ranged.0 e.ranged.1 e.ranged.2)
-complete (Or rd rs1 rs2) w e = from_cut w _ _ _ e.row (cut_r 0x33 6 0x00 rd rs1 rs2 (lit< tt) (lit< tt) (lit< tt) (wide rd e.ranged.0) (wide rs1 e.ranged.1) (wide rs2 e.ranged.2)) (keep3 rd rs1 rs2 _ _ e.ranged.0 e.ranged.1 e.ranged.2)
-complete (And rd rs1 rs2) w e = from_cut w _ _ _ e.row (cut_r 0x33 7 0x00 rd rs1 rs2 (lit< tt) (lit< tt) (lit< tt) (wide rd e.ranged.0) (wide rs1 e.ranged.1) (wide rs2 e.ranged.2)) (keep3 rd rs1 rs2 _ _ e.ranged.0 e.ranged.1 e.ranged.2)
-complete (Mul rd rs1 rs2) w e = from_cut w _ _ _ e.row (cut_r 0x33 0 0x01 rd rs1 rs2 (lit< tt) (lit< tt) (lit< tt) (wide rd e.ranged.0) (wide rs1 e.ranged.1) (wide rs2 e.ranged.2)) (keep3 rd rs1 rs2 _ _ e.ranged.0 e.ranged.1 e.ranged.2)
-complete (Mulh rd rs1 rs2) w e = from_cut w _ _ _ e.row (cut_r 0x33 1 0x01 rd rs1 rs2 (lit< tt) (lit< tt) (lit< tt) (wide rd e.ranged.0) (wide rs1 e.ranged.1) (wide rs2 e.ranged.2)) (keep3 rd rs1 rs2 _ _ e.ranged.0 e.ranged.1 e.ranged.2)
-complete (Mulhsu rd rs1 rs2) w e = from_cut w _ _ _ e.row (cut_r 0x33 2 0x01 rd rs1 rs2 (lit< tt) (lit< tt) (lit< tt) (wide rd e.ranged.0) (wide rs1 e.ranged.1) (wide rs2 e.ranged.2)) (keep3 rd rs1 rs2 _ _ e.ranged.0 e.ranged.1 e.ranged.2)
-complete (Mulhu rd rs1 rs2) w e = from_cut w _ _ _ e.row (cut_r 0x33 3 0x01 rd rs1 rs2 (lit< tt) (lit< tt) (lit< tt) (wide rd e.ranged.0) (wide rs1 e.ranged.1) (wide rs2 e.ranged.2)) (keep3 rd rs1 rs2 _ _ e.ranged.0 e.ranged.1 e.ranged.2)
-complete (Div rd rs1 rs2) w e = from_cut w _ _ _ e.row (cut_r 0x33 4 0x01 rd rs1 rs2 (lit< tt) (lit< tt) (lit< tt) (wide rd e.ranged.0) (wide rs1 e.ranged.1) (wide rs2 e.ranged.2)) (keep3 rd rs1 rs2 _ _ e.ranged.0 e.ranged.1 e.ranged.2)
-complete (Divu rd rs1 rs2) w e = from_cut w _ _ _ e.row (cut_r 0x33 5 0x01 rd rs1 rs2 (lit< tt) (lit< tt) (lit< tt) (wide rd e.ranged.0) (wide rs1 e.ranged.1) (wide rs2 e.ranged.2)) (keep3 rd rs1 rs2 _ _ e.ranged.0 e.ranged.1 e.ranged.2)
-complete (Rem rd rs1 rs2) w e = from_cut w _ _ _ e.row (cut_r 0x33 6 0x01 rd rs1 rs2 (lit< tt) (lit< tt) (lit< tt) (wide rd e.ranged.0) (wide rs1 e.ranged.1) (wide rs2 e.ranged.2)) (keep3 rd rs1 rs2 _ _ e.ranged.0 e.ranged.1 e.ranged.2)
-complete (Remu rd rs1 rs2) w e = from_cut w _ _ _ e.row (cut_r 0x33 7 0x01 rd rs1 rs2 (lit< tt) (lit< tt) (lit< tt) (wide rd e.ranged.0) (wide rs1 e.ranged.1) (wide rs2 e.ranged.2)) (keep3 rd rs1 rs2 _ _ e.ranged.0 e.ranged.1 e.ranged.2)
-complete (Fence immediate) w e = from_cut w _ _ _ e.row (cut_i 0x0F 0 0 0 immediate (lit< tt) (lit< tt) (lit< tt) (lit< tt)) (ap (λ n. Some (Fence n)) (back12 immediate e.ranged))
-complete Ecall w e = ap instruction_in e.row
-complete Ebreak w e = ap instruction_in e.row
-complete (Csr function rd source number) w e = csr_complete function rd source number w e.row e.ranged.0 e.ranged.1 e.ranged.2
-complete (CIncAddrImm rd rs1 immediate) w e = from_cut w _ _ _ e.row (cut_i 0x5B 1 rd rs1 immediate (lit< tt) (lit< tt) (wide rd e.ranged.0) (wide rs1 e.ranged.1)) (keep2 rd rs1 _ _ e.ranged.0 e.ranged.1 ∙ ap (λ n. Some (CIncAddrImm rd rs1 n)) (back12 immediate e.ranged.2))
-complete (CSetBoundsImm rd rs1 immediate) w e = from_cut w _ _ _ e.row (cut_i 0x5B 2 rd rs1 immediate (lit< tt) (lit< tt) (wide rd e.ranged.0) (wide rs1 e.ranged.1)) (keep2 rd rs1 _ _ e.ranged.0 e.ranged.1 ∙ ap (λ n. Some (CSetBoundsImm rd rs1 n)) (back_pieces immediate e.ranged.2))
-complete (CSpecialRw rd rs1 number) w e = from_cut w _ _ _ e.row (cut_r 0x5B 0 0x01 rd rs1 number (lit< tt) (lit< tt) (lit< tt) (wide rd e.ranged.0) (wide rs1 e.ranged.1) e.ranged.2) (keep2 rd rs1 _ _ e.ranged.0 e.ranged.1)
-complete (CSetBounds rd rs1 rs2) w e = from_cut w _ _ _ e.row (cut_r 0x5B 0 0x08 rd rs1 rs2 (lit< tt) (lit< tt) (lit< tt) (wide rd e.ranged.0) (wide rs1 e.ranged.1) (wide rs2 e.ranged.2)) (keep2 rd rs1 _ _ e.ranged.0 e.ranged.1 ∙ keep1 rs2 _ _ e.ranged.2)
-complete (CSetBoundsExact rd rs1 rs2) w e = from_cut w _ _ _ e.row (cut_r 0x5B 0 0x09 rd rs1 rs2 (lit< tt) (lit< tt) (lit< tt) (wide rd e.ranged.0) (wide rs1 e.ranged.1) (wide rs2 e.ranged.2)) (keep2 rd rs1 _ _ e.ranged.0 e.ranged.1 ∙ keep1 rs2 _ _ e.ranged.2)
-complete (CSeal rd rs1 rs2) w e = from_cut w _ _ _ e.row (cut_r 0x5B 0 0x0B rd rs1 rs2 (lit< tt) (lit< tt) (lit< tt) (wide rd e.ranged.0) (wide rs1 e.ranged.1) (wide rs2 e.ranged.2)) (keep2 rd rs1 _ _ e.ranged.0 e.ranged.1 ∙ keep1 rs2 _ _ e.ranged.2)
-complete (CUnseal rd rs1 rs2) w e = from_cut w _ _ _ e.row (cut_r 0x5B 0 0x0C rd rs1 rs2 (lit< tt) (lit< tt) (lit< tt) (wide rd e.ranged.0) (wide rs1 e.ranged.1) (wide rs2 e.ranged.2)) (keep2 rd rs1 _ _ e.ranged.0 e.ranged.1 ∙ keep1 rs2 _ _ e.ranged.2)
-complete (CAndPerm rd rs1 rs2) w e = from_cut w _ _ _ e.row (cut_r 0x5B 0 0x0D rd rs1 rs2 (lit< tt) (lit< tt) (lit< tt) (wide rd e.ranged.0) (wide rs1 e.ranged.1) (wide rs2 e.ranged.2)) (keep2 rd rs1 _ _ e.ranged.0 e.ranged.1 ∙ keep1 rs2 _ _ e.ranged.2)
-complete (CSetAddr rd rs1 rs2) w e = from_cut w _ _ _ e.row (cut_r 0x5B 0 0x10 rd rs1 rs2 (lit< tt) (lit< tt) (lit< tt) (wide rd e.ranged.0) (wide rs1 e.ranged.1) (wide rs2 e.ranged.2)) (keep2 rd rs1 _ _ e.ranged.0 e.ranged.1 ∙ keep1 rs2 _ _ e.ranged.2)
-complete (CIncAddr rd rs1 rs2) w e = from_cut w _ _ _ e.row (cut_r 0x5B 0 0x11 rd rs1 rs2 (lit< tt) (lit< tt) (lit< tt) (wide rd e.ranged.0) (wide rs1 e.ranged.1) (wide rs2 e.ranged.2)) (keep2 rd rs1 _ _ e.ranged.0 e.ranged.1 ∙ keep1 rs2 _ _ e.ranged.2)
-complete (CSub rd rs1 rs2) w e = from_cut w _ _ _ e.row (cut_r 0x5B 0 0x14 rd rs1 rs2 (lit< tt) (lit< tt) (lit< tt) (wide rd e.ranged.0) (wide rs1 e.ranged.1) (wide rs2 e.ranged.2)) (keep2 rd rs1 _ _ e.ranged.0 e.ranged.1 ∙ keep1 rs2 _ _ e.ranged.2)
-complete (CSetHigh rd rs1 rs2) w e = from_cut w _ _ _ e.row (cut_r 0x5B 0 0x16 rd rs1 rs2 (lit< tt) (lit< tt) (lit< tt) (wide rd e.ranged.0) (wide rs1 e.ranged.1) (wide rs2 e.ranged.2)) (keep2 rd rs1 _ _ e.ranged.0 e.ranged.1 ∙ keep1 rs2 _ _ e.ranged.2)
-complete (CTestSubset rd rs1 rs2) w e = from_cut w _ _ _ e.row (cut_r 0x5B 0 0x20 rd rs1 rs2 (lit< tt) (lit< tt) (lit< tt) (wide rd e.ranged.0) (wide rs1 e.ranged.1) (wide rs2 e.ranged.2)) (keep2 rd rs1 _ _ e.ranged.0 e.ranged.1 ∙ keep1 rs2 _ _ e.ranged.2)
-complete (CSetEqualExact rd rs1 rs2) w e = from_cut w _ _ _ e.row (cut_r 0x5B 0 0x21 rd rs1 rs2 (lit< tt) (lit< tt) (lit< tt) (wide rd e.ranged.0) (wide rs1 e.ranged.1) (wide rs2 e.ranged.2)) (keep2 rd rs1 _ _ e.ranged.0 e.ranged.1 ∙ keep1 rs2 _ _ e.ranged.2)
-complete (CGetPerm rd rs1) w e = from_cut w _ _ _ e.row (cut_r 0x5B 0 0x7F rd rs1 0x00 (lit< tt) (lit< tt) (lit< tt) (wide rd e.ranged.0) (wide rs1 e.ranged.1) (lit< tt)) (keep2 rd rs1 _ _ e.ranged.0 e.ranged.1)
-complete (CGetType rd rs1) w e = from_cut w _ _ _ e.row (cut_r 0x5B 0 0x7F rd rs1 0x01 (lit< tt) (lit< tt) (lit< tt) (wide rd e.ranged.0) (wide rs1 e.ranged.1) (lit< tt)) (keep2 rd rs1 _ _ e.ranged.0 e.ranged.1)
-complete (CGetBase rd rs1) w e = from_cut w _ _ _ e.row (cut_r 0x5B 0 0x7F rd rs1 0x02 (lit< tt) (lit< tt) (lit< tt) (wide rd e.ranged.0) (wide rs1 e.ranged.1) (lit< tt)) (keep2 rd rs1 _ _ e.ranged.0 e.ranged.1)
-complete (CGetLen rd rs1) w e = from_cut w _ _ _ e.row (cut_r 0x5B 0 0x7F rd rs1 0x03 (lit< tt) (lit< tt) (lit< tt) (wide rd e.ranged.0) (wide rs1 e.ranged.1) (lit< tt)) (keep2 rd rs1 _ _ e.ranged.0 e.ranged.1)
-complete (CGetTag rd rs1) w e = from_cut w _ _ _ e.row (cut_r 0x5B 0 0x7F rd rs1 0x04 (lit< tt) (lit< tt) (lit< tt) (wide rd e.ranged.0) (wide rs1 e.ranged.1) (lit< tt)) (keep2 rd rs1 _ _ e.ranged.0 e.ranged.1)
-complete (Crrl rd rs1) w e = from_cut w _ _ _ e.row (cut_r 0x5B 0 0x7F rd rs1 0x08 (lit< tt) (lit< tt) (lit< tt) (wide rd e.ranged.0) (wide rs1 e.ranged.1) (lit< tt)) (keep2 rd rs1 _ _ e.ranged.0 e.ranged.1)
-complete (Cram rd rs1) w e = from_cut w _ _ _ e.row (cut_r 0x5B 0 0x7F rd rs1 0x09 (lit< tt) (lit< tt) (lit< tt) (wide rd e.ranged.0) (wide rs1 e.ranged.1) (lit< tt)) (keep2 rd rs1 _ _ e.ranged.0 e.ranged.1)
-complete (CMove rd rs1) w e = from_cut w _ _ _ e.row (cut_r 0x5B 0 0x7F rd rs1 0x0A (lit< tt) (lit< tt) (lit< tt) (wide rd e.ranged.0) (wide rs1 e.ranged.1) (lit< tt)) (keep2 rd rs1 _ _ e.ranged.0 e.ranged.1)
-complete (CClearTag rd rs1) w e = from_cut w _ _ _ e.row (cut_r 0x5B 0 0x7F rd rs1 0x0B (lit< tt) (lit< tt) (lit< tt) (wide rd e.ranged.0) (wide rs1 e.ranged.1) (lit< tt)) (keep2 rd rs1 _ _ e.ranged.0 e.ranged.1)
-complete (CGetAddr rd rs1) w e = from_cut w _ _ _ e.row (cut_r 0x5B 0 0x7F rd rs1 0x0F (lit< tt) (lit< tt) (lit< tt) (wide rd e.ranged.0) (wide rs1 e.ranged.1) (lit< tt)) (keep2 rd rs1 _ _ e.ranged.0 e.ranged.1)
-complete (CGetHigh rd rs1) w e = from_cut w _ _ _ e.row (cut_r 0x5B 0 0x7F rd rs1 0x17 (lit< tt) (lit< tt) (lit< tt) (wide rd e.ranged.0) (wide rs1 e.ranged.1) (lit< tt)) (keep2 rd rs1 _ _ e.ranged.0 e.ranged.1)
-complete (CGetTop rd rs1) w e = from_cut w _ _ _ e.row (cut_r 0x5B 0 0x7F rd rs1 0x18 (lit< tt) (lit< tt) (lit< tt) (wide rd e.ranged.0) (wide rs1 e.ranged.1) (lit< tt)) (keep2 rd rs1 _ _ e.ranged.0 e.ranged.1)
+complete i w e = shape_read (shape_of i) w e.ranged e.row ∙ ap (λ j. Some j) (shaped_back i)
 
 -- None is no instruction
 pub nothing_read : (o : Option Instr) (i : Instr) → IsNone o → o ≡ Some i → ⊥
 nothing_read None i none e = cc e
 nothing_read (Some j) i none e = cc none
+
+-- what was read is in the table
+pub read_encodes : (o : Option Instr) (i : Instr) (w : ℕ) → IfSome o (λ j. EncodesTo j w) → o ≡ Some i → EncodesTo i w
+read_encodes None i w found e = absurd (cc e)
+read_encodes (Some j) i w found e = let same : j ≡ i = cc e in subst (λ k. EncodesTo k w) same found
 
 -- a word belongs to at most one instruction
 pub one_instruction : (i j : Instr) (w : ℕ) → EncodesTo i w → EncodesTo j w → i ≡ j

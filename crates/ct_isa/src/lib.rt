@@ -6,18 +6,22 @@ mod capability;
 mod fields;
 mod flow;
 mod formats;
+mod instructions;
 mod integer;
 mod memory;
 mod rows;
+mod shapes;
 mod system;
 #[cfg(test)]
 mod tests;
 
-ghost use Rattle.std.specs.Prelude.{◌≡◌, ℕ, IsNone, IfSome, Some};
+ghost use Rattle.std.specs.Prelude.{◌≡◌, ◌↔◌, ℕ, IsNone, IfSome, Some};
 ghost use Rattle.def_instr.specs.Table.{EncodesTo, InRange, word_of};
 ghost use Rattle.def_instr.specs.Reading.{instruction_in};
 ghost use Rattle.def_instr.specs.declared.Instr.{Instr};
 
+pub use crate::instructions::instruction;
+pub use crate::shapes::shape;
 pub use def_instr::Instr;
 
 /// The instruction of a word; None exactly where no instruction has the word. Registers 16 and
@@ -30,6 +34,7 @@ pub fn decode(word: u32) -> Option<Instr>
     ensures only { (i : Instr) → EncodesTo i word → result ≡ Some i }
     ensures none { IsNone result → (i : Instr) → ¬ EncodesTo i word }
     ensures value { result ≡ instruction_in word }
+    ensures reading { (i : Instr) → (instruction_in word ≡ Some i) ↔ EncodesTo i word }
 {
     by_opcode(word)
 }
@@ -62,85 +67,7 @@ pub fn encode(instruction: Instr) -> u32
     ensures word { result ≡ word_of instruction }
     ensures table { EncodesTo instruction result }
 {
-    match instruction {
-        Instr::Lui { .. }
-        | Instr::AuiPcc { .. }
-        | Instr::AuiCgp { .. }
-        | Instr::Jal { .. }
-        | Instr::CJalr { .. }
-        | Instr::Beq { .. }
-        | Instr::Bne { .. }
-        | Instr::Blt { .. }
-        | Instr::Bge { .. }
-        | Instr::Bltu { .. }
-        | Instr::Bgeu { .. } => rows::flow_row(instruction),
-        Instr::Lb { .. }
-        | Instr::Lh { .. }
-        | Instr::Lw { .. }
-        | Instr::Clc { .. }
-        | Instr::Lbu { .. }
-        | Instr::Lhu { .. }
-        | Instr::Sb { .. }
-        | Instr::Sh { .. }
-        | Instr::Sw { .. }
-        | Instr::Csc { .. } => rows::memory_row(instruction),
-        Instr::Addi { .. }
-        | Instr::Slti { .. }
-        | Instr::Sltiu { .. }
-        | Instr::Xori { .. }
-        | Instr::Ori { .. }
-        | Instr::Andi { .. }
-        | Instr::Slli { .. }
-        | Instr::Srli { .. }
-        | Instr::Srai { .. } => rows::immediate_row(instruction),
-        Instr::Add { .. }
-        | Instr::Sub { .. }
-        | Instr::Sll { .. }
-        | Instr::Slt { .. }
-        | Instr::Sltu { .. }
-        | Instr::Xor { .. }
-        | Instr::Srl { .. }
-        | Instr::Sra { .. }
-        | Instr::Or { .. }
-        | Instr::And { .. }
-        | Instr::Mul { .. }
-        | Instr::Mulh { .. }
-        | Instr::Mulhsu { .. }
-        | Instr::Mulhu { .. }
-        | Instr::Div { .. }
-        | Instr::Divu { .. }
-        | Instr::Rem { .. }
-        | Instr::Remu { .. } => rows::register_row(instruction),
-        Instr::Fence { .. } | Instr::Ecall | Instr::Ebreak | Instr::Csr { .. } => rows::system_row(
-            instruction,
-        ),
-        Instr::CIncAddrImm { .. }
-        | Instr::CSetBoundsImm { .. }
-        | Instr::CSpecialRw { .. }
-        | Instr::CSetBounds { .. }
-        | Instr::CSetBoundsExact { .. }
-        | Instr::CSeal { .. }
-        | Instr::CUnseal { .. }
-        | Instr::CAndPerm { .. }
-        | Instr::CSetAddr { .. }
-        | Instr::CIncAddr { .. }
-        | Instr::CSub { .. }
-        | Instr::CSetHigh { .. }
-        | Instr::CTestSubset { .. }
-        | Instr::CSetEqualExact { .. } => rows::capability_row(instruction),
-        Instr::CGetPerm { .. }
-        | Instr::CGetType { .. }
-        | Instr::CGetBase { .. }
-        | Instr::CGetLen { .. }
-        | Instr::CGetTag { .. }
-        | Instr::Crrl { .. }
-        | Instr::Cram { .. }
-        | Instr::CMove { .. }
-        | Instr::CClearTag { .. }
-        | Instr::CGetAddr { .. }
-        | Instr::CGetHigh { .. }
-        | Instr::CGetTop { .. } => rows::one_source_row(instruction),
-    }
+    rows::word(shapes::shape(instruction))
 }
 
 /// A word belongs to at most one instruction.

@@ -1,186 +1,255 @@
-//! The words of instructions, a row each, by class.
+//! The words of instructions, by shape.
 
-ghost use Rattle.std.specs.Prelude.{◌≡◌, IsTrue};
-ghost use Rattle.def_instr.specs.Table.{InRange, word_of};
-ghost use Rattle.ct_isa.specs.Classes.{is_flow, is_memory, is_immediate, is_register, is_system, is_capability, is_one_source};
+ghost use Rattle.std.specs.Prelude.{◌≡◌, ◌<◌, ◌^◌};
+ghost use Rattle.def_instr.specs.Table.{FieldsFit, shape_word, integer_code, signed_funct3, shift_code, upper_opcode, load_funct3, store_funct3, branch_funct3, capability_funct7, source_number};
+ghost use Rattle.def_instr.specs.declared.shapes.Shape.TheVariants as shapes;
 
 use crate::formats::{
     branch_word, immediate_word, jump_word, register_word, store_word, upper_word,
 };
-use def_instr::Instr;
+use def_instr::shapes::{
+    BranchOperation, CapabilityOperation, ImmediateOperation, IntegerOperation, LoadOperation,
+    RegisterOperation, Shape, ShiftOperation, SignedOperation, SourceOperation, StoreOperation,
+    UpperOperation,
+};
 
-/// Upper immediates, jumps and branches.
-pub(crate) fn flow_row(instruction: Instr) -> u32
-    requires class { IsTrue (is_flow instruction) }
-    requires range { InRange instruction }
-    ensures { result ≡ word_of instruction }
+/// The word of a shape whose fields fit.
+pub(crate) fn word(shape: Shape) -> u32
+    requires { FieldsFit shape }
+    ensures { result ≡ shape_word shape }
 {
-    match instruction {
-        Instr::Lui { rd, immediate } => upper_word(0x37, rd, immediate),
-        Instr::AuiPcc { rd, immediate } => upper_word(0x17, rd, immediate),
-        Instr::AuiCgp { rd, immediate } => upper_word(0x7B, rd, immediate),
-        Instr::Jal { rd, offset } => jump_word(rd, offset),
-        Instr::CJalr { rd, rs1, immediate } => immediate_word(0x67, 0, rd, rs1, immediate),
-        Instr::Beq { rs1, rs2, offset } => branch_word(0, rs1, rs2, offset),
-        Instr::Bne { rs1, rs2, offset } => branch_word(1, rs1, rs2, offset),
-        Instr::Blt { rs1, rs2, offset } => branch_word(4, rs1, rs2, offset),
-        Instr::Bge { rs1, rs2, offset } => branch_word(5, rs1, rs2, offset),
-        Instr::Bltu { rs1, rs2, offset } => branch_word(6, rs1, rs2, offset),
-        Instr::Bgeu { rs1, rs2, offset } => branch_word(7, rs1, rs2, offset),
-        _ => unreachable!(),
-    }
-}
-
-/// Loads and stores.
-pub(crate) fn memory_row(instruction: Instr) -> u32
-    requires class { IsTrue (is_memory instruction) }
-    requires range { InRange instruction }
-    ensures { result ≡ word_of instruction }
-{
-    match instruction {
-        Instr::Lb { rd, rs1, immediate } => immediate_word(0x03, 0, rd, rs1, immediate),
-        Instr::Lh { rd, rs1, immediate } => immediate_word(0x03, 1, rd, rs1, immediate),
-        Instr::Lw { rd, rs1, immediate } => immediate_word(0x03, 2, rd, rs1, immediate),
-        Instr::Clc { rd, rs1, immediate } => immediate_word(0x03, 3, rd, rs1, immediate),
-        Instr::Lbu { rd, rs1, immediate } => immediate_word(0x03, 4, rd, rs1, immediate),
-        Instr::Lhu { rd, rs1, immediate } => immediate_word(0x03, 5, rd, rs1, immediate),
-        Instr::Sb {
+    match shape {
+        Shape::Registers {
+            operation,
+            rd,
+            rs1,
+            rs2,
+        } => registers(operation, rd, rs1, rs2),
+        Shape::Immediate {
+            operation,
+            rd,
+            rs1,
+            immediate,
+        } => with_immediate(operation, rd, rs1, immediate),
+        Shape::Upper {
+            operation,
+            rd,
+            immediate,
+        } => upper_word(upper_opcode(operation), rd, immediate),
+        Shape::Load {
+            operation,
+            rd,
+            rs1,
+            immediate,
+        } => immediate_word(0x03, load_funct3(operation), rd, rs1, immediate),
+        Shape::Store {
+            operation,
             rs1,
             rs2,
             immediate,
-        } => store_word(0, rs1, rs2, immediate),
-        Instr::Sh {
+        } => store_word(store_funct3(operation), rs1, rs2, immediate),
+        Shape::Branch {
+            operation,
             rs1,
             rs2,
-            immediate,
-        } => store_word(1, rs1, rs2, immediate),
-        Instr::Sw {
-            rs1,
-            rs2,
-            immediate,
-        } => store_word(2, rs1, rs2, immediate),
-        Instr::Csc {
-            rs1,
-            rs2,
-            immediate,
-        } => store_word(3, rs1, rs2, immediate),
-        _ => unreachable!(),
-    }
-}
-
-/// Operations with an immediate or an amount.
-pub(crate) fn immediate_row(instruction: Instr) -> u32
-    requires class { IsTrue (is_immediate instruction) }
-    requires range { InRange instruction }
-    ensures { result ≡ word_of instruction }
-{
-    match instruction {
-        Instr::Addi { rd, rs1, immediate } => immediate_word(0x13, 0, rd, rs1, immediate),
-        Instr::Slti { rd, rs1, immediate } => immediate_word(0x13, 2, rd, rs1, immediate),
-        Instr::Sltiu { rd, rs1, immediate } => immediate_word(0x13, 3, rd, rs1, immediate),
-        Instr::Xori { rd, rs1, immediate } => immediate_word(0x13, 4, rd, rs1, immediate),
-        Instr::Ori { rd, rs1, immediate } => immediate_word(0x13, 6, rd, rs1, immediate),
-        Instr::Andi { rd, rs1, immediate } => immediate_word(0x13, 7, rd, rs1, immediate),
-        Instr::Slli { rd, rs1, amount } => register_word(0x13, 1, 0x00, rd, rs1, amount),
-        Instr::Srli { rd, rs1, amount } => register_word(0x13, 5, 0x00, rd, rs1, amount),
-        Instr::Srai { rd, rs1, amount } => register_word(0x13, 5, 0x20, rd, rs1, amount),
-        _ => unreachable!(),
-    }
-}
-
-/// Operations of two registers.
-pub(crate) fn register_row(instruction: Instr) -> u32
-    requires class { IsTrue (is_register instruction) }
-    requires range { InRange instruction }
-    ensures { result ≡ word_of instruction }
-{
-    match instruction {
-        Instr::Add { rd, rs1, rs2 } => register_word(0x33, 0, 0x00, rd, rs1, rs2),
-        Instr::Sub { rd, rs1, rs2 } => register_word(0x33, 0, 0x20, rd, rs1, rs2),
-        Instr::Sll { rd, rs1, rs2 } => register_word(0x33, 1, 0x00, rd, rs1, rs2),
-        Instr::Slt { rd, rs1, rs2 } => register_word(0x33, 2, 0x00, rd, rs1, rs2),
-        Instr::Sltu { rd, rs1, rs2 } => register_word(0x33, 3, 0x00, rd, rs1, rs2),
-        Instr::Xor { rd, rs1, rs2 } => register_word(0x33, 4, 0x00, rd, rs1, rs2),
-        Instr::Srl { rd, rs1, rs2 } => register_word(0x33, 5, 0x00, rd, rs1, rs2),
-        Instr::Sra { rd, rs1, rs2 } => register_word(0x33, 5, 0x20, rd, rs1, rs2),
-        Instr::Or { rd, rs1, rs2 } => register_word(0x33, 6, 0x00, rd, rs1, rs2),
-        Instr::And { rd, rs1, rs2 } => register_word(0x33, 7, 0x00, rd, rs1, rs2),
-        Instr::Mul { rd, rs1, rs2 } => register_word(0x33, 0, 0x01, rd, rs1, rs2),
-        Instr::Mulh { rd, rs1, rs2 } => register_word(0x33, 1, 0x01, rd, rs1, rs2),
-        Instr::Mulhsu { rd, rs1, rs2 } => register_word(0x33, 2, 0x01, rd, rs1, rs2),
-        Instr::Mulhu { rd, rs1, rs2 } => register_word(0x33, 3, 0x01, rd, rs1, rs2),
-        Instr::Div { rd, rs1, rs2 } => register_word(0x33, 4, 0x01, rd, rs1, rs2),
-        Instr::Divu { rd, rs1, rs2 } => register_word(0x33, 5, 0x01, rd, rs1, rs2),
-        Instr::Rem { rd, rs1, rs2 } => register_word(0x33, 6, 0x01, rd, rs1, rs2),
-        Instr::Remu { rd, rs1, rs2 } => register_word(0x33, 7, 0x01, rd, rs1, rs2),
-        _ => unreachable!(),
-    }
-}
-
-/// Fences and the system instructions.
-pub(crate) fn system_row(instruction: Instr) -> u32
-    requires class { IsTrue (is_system instruction) }
-    requires range { InRange instruction }
-    ensures { result ≡ word_of instruction }
-{
-    match instruction {
-        Instr::Fence { immediate } => immediate_word(0x0F, 0, 0, 0, immediate),
-        Instr::Ecall => 0x0000_0073,
-        Instr::Ebreak => 0x0010_0073,
-        Instr::Csr {
+            offset,
+        } => branch_word(branch_funct3(operation), rs1, rs2, offset),
+        Shape::Jump { rd, offset } => jump_word(rd, offset),
+        Shape::RegisterJump { rd, rs1, immediate } => immediate_word(0x67, 0, rd, rs1, immediate),
+        Shape::OneSource { operation, rd, rs1 } => {
+            register_word(0x5B, 0, 0x7F, rd, rs1, source_number(operation))
+        }
+        Shape::Fence { immediate } => immediate_word(0x0F, 0, 0, 0, immediate),
+        Shape::Call => 0x0000_0073,
+        Shape::Break => 0x0010_0073,
+        Shape::Status {
             function,
             rd,
             source,
             number,
         } => immediate_word(0x73, function, rd, source, number),
-        _ => unreachable!(),
+        Shape::Special { rd, rs1, number } => register_word(0x5B, 0, 0x01, rd, rs1, number),
     }
 }
 
-/// Capability instructions with two sources, an immediate or a number.
-pub(crate) fn capability_row(instruction: Instr) -> u32
-    requires class { IsTrue (is_capability instruction) }
-    requires range { InRange instruction }
-    ensures { result ≡ word_of instruction }
+/// Two sources and a result.
+fn registers(operation: RegisterOperation, rd: u32, rs1: u32, rs2: u32) -> u32
+    requires rd { rd < 16 }
+    requires rs1 { rs1 < 16 }
+    requires rs2 { rs2 < 16 }
+    ensures { result ≡ shape_word (shapes.Registers operation rd rs1 rs2) }
 {
-    match instruction {
-        Instr::CIncAddrImm { rd, rs1, immediate } => immediate_word(0x5B, 1, rd, rs1, immediate),
-        Instr::CSetBoundsImm { rd, rs1, immediate } => immediate_word(0x5B, 2, rd, rs1, immediate),
-        Instr::CSpecialRw { rd, rs1, number } => register_word(0x5B, 0, 0x01, rd, rs1, number),
-        Instr::CSetBounds { rd, rs1, rs2 } => register_word(0x5B, 0, 0x08, rd, rs1, rs2),
-        Instr::CSetBoundsExact { rd, rs1, rs2 } => register_word(0x5B, 0, 0x09, rd, rs1, rs2),
-        Instr::CSeal { rd, rs1, rs2 } => register_word(0x5B, 0, 0x0B, rd, rs1, rs2),
-        Instr::CUnseal { rd, rs1, rs2 } => register_word(0x5B, 0, 0x0C, rd, rs1, rs2),
-        Instr::CAndPerm { rd, rs1, rs2 } => register_word(0x5B, 0, 0x0D, rd, rs1, rs2),
-        Instr::CSetAddr { rd, rs1, rs2 } => register_word(0x5B, 0, 0x10, rd, rs1, rs2),
-        Instr::CIncAddr { rd, rs1, rs2 } => register_word(0x5B, 0, 0x11, rd, rs1, rs2),
-        Instr::CSub { rd, rs1, rs2 } => register_word(0x5B, 0, 0x14, rd, rs1, rs2),
-        Instr::CSetHigh { rd, rs1, rs2 } => register_word(0x5B, 0, 0x16, rd, rs1, rs2),
-        Instr::CTestSubset { rd, rs1, rs2 } => register_word(0x5B, 0, 0x20, rd, rs1, rs2),
-        Instr::CSetEqualExact { rd, rs1, rs2 } => register_word(0x5B, 0, 0x21, rd, rs1, rs2),
-        _ => unreachable!(),
+    match operation {
+        RegisterOperation::Integer(operation) => {
+            let (funct3, funct7) = integer_code(operation);
+            register_word(0x33, funct3, funct7, rd, rs1, rs2)
+        }
+        RegisterOperation::Capability(operation) => {
+            register_word(0x5B, 0, capability_funct7(operation), rd, rs1, rs2)
+        }
     }
 }
 
-/// Capability instructions with one source.
-pub(crate) fn one_source_row(instruction: Instr) -> u32
-    requires class { IsTrue (is_one_source instruction) }
-    requires range { InRange instruction }
-    ensures { result ≡ word_of instruction }
+/// A source, a number and a result.
+fn with_immediate(operation: ImmediateOperation, rd: u32, rs1: u32, immediate: u32) -> u32
+    requires { FieldsFit (shapes.Immediate operation rd rs1 immediate) }
+    ensures { result ≡ shape_word (shapes.Immediate operation rd rs1 immediate) }
 {
-    match instruction {
-        Instr::CGetPerm { rd, rs1 } => register_word(0x5B, 0, 0x7F, rd, rs1, 0x00),
-        Instr::CGetType { rd, rs1 } => register_word(0x5B, 0, 0x7F, rd, rs1, 0x01),
-        Instr::CGetBase { rd, rs1 } => register_word(0x5B, 0, 0x7F, rd, rs1, 0x02),
-        Instr::CGetLen { rd, rs1 } => register_word(0x5B, 0, 0x7F, rd, rs1, 0x03),
-        Instr::CGetTag { rd, rs1 } => register_word(0x5B, 0, 0x7F, rd, rs1, 0x04),
-        Instr::Crrl { rd, rs1 } => register_word(0x5B, 0, 0x7F, rd, rs1, 0x08),
-        Instr::Cram { rd, rs1 } => register_word(0x5B, 0, 0x7F, rd, rs1, 0x09),
-        Instr::CMove { rd, rs1 } => register_word(0x5B, 0, 0x7F, rd, rs1, 0x0A),
-        Instr::CClearTag { rd, rs1 } => register_word(0x5B, 0, 0x7F, rd, rs1, 0x0B),
-        Instr::CGetAddr { rd, rs1 } => register_word(0x5B, 0, 0x7F, rd, rs1, 0x0F),
-        Instr::CGetHigh { rd, rs1 } => register_word(0x5B, 0, 0x7F, rd, rs1, 0x17),
-        Instr::CGetTop { rd, rs1 } => register_word(0x5B, 0, 0x7F, rd, rs1, 0x18),
-        _ => unreachable!(),
+    match operation {
+        ImmediateOperation::Signed(operation) => {
+            immediate_word(0x13, signed_funct3(operation), rd, rs1, immediate)
+        }
+        ImmediateOperation::Shift(operation) => {
+            let (funct3, funct7) = shift_code(operation);
+            register_word(0x13, funct3, funct7, rd, rs1, immediate)
+        }
+        ImmediateOperation::CIncAddrImm => immediate_word(0x5B, 1, rd, rs1, immediate),
+        ImmediateOperation::CSetBoundsImm => immediate_word(0x5B, 2, rd, rs1, immediate),
+    }
+}
+
+/// funct3 and funct7 of an integer operation.
+fn integer_code(operation: IntegerOperation) -> (u32, u32)
+    ensures funct3 { result.0 ≡ (integer_code operation).funct3 }
+    ensures funct7 { result.1 ≡ (integer_code operation).funct7 }
+    ensures small { (result.0 < 2 ^ 3) × (result.1 < 2 ^ 7) }
+{
+    match operation {
+        IntegerOperation::Add => (0, 0x00),
+        IntegerOperation::Sub => (0, 0x20),
+        IntegerOperation::Sll => (1, 0x00),
+        IntegerOperation::Slt => (2, 0x00),
+        IntegerOperation::Sltu => (3, 0x00),
+        IntegerOperation::Xor => (4, 0x00),
+        IntegerOperation::Srl => (5, 0x00),
+        IntegerOperation::Sra => (5, 0x20),
+        IntegerOperation::Or => (6, 0x00),
+        IntegerOperation::And => (7, 0x00),
+        IntegerOperation::Mul => (0, 0x01),
+        IntegerOperation::Mulh => (1, 0x01),
+        IntegerOperation::Mulhsu => (2, 0x01),
+        IntegerOperation::Mulhu => (3, 0x01),
+        IntegerOperation::Div => (4, 0x01),
+        IntegerOperation::Divu => (5, 0x01),
+        IntegerOperation::Rem => (6, 0x01),
+        IntegerOperation::Remu => (7, 0x01),
+    }
+}
+
+fn signed_funct3(operation: SignedOperation) -> u32
+    ensures value { result ≡ signed_funct3 operation }
+    ensures small { result < 2 ^ 3 }
+{
+    match operation {
+        SignedOperation::Addi => 0,
+        SignedOperation::Slti => 2,
+        SignedOperation::Sltiu => 3,
+        SignedOperation::Xori => 4,
+        SignedOperation::Ori => 6,
+        SignedOperation::Andi => 7,
+    }
+}
+
+/// funct3 and funct7 of a shift.
+fn shift_code(operation: ShiftOperation) -> (u32, u32)
+    ensures funct3 { result.0 ≡ (shift_code operation).funct3 }
+    ensures funct7 { result.1 ≡ (shift_code operation).funct7 }
+    ensures small { (result.0 < 2 ^ 3) × (result.1 < 2 ^ 7) }
+{
+    match operation {
+        ShiftOperation::Slli => (1, 0x00),
+        ShiftOperation::Srli => (5, 0x00),
+        ShiftOperation::Srai => (5, 0x20),
+    }
+}
+
+fn upper_opcode(operation: UpperOperation) -> u32
+    ensures value { result ≡ upper_opcode operation }
+    ensures small { result < 2 ^ 7 }
+{
+    match operation {
+        UpperOperation::Lui => 0x37,
+        UpperOperation::AuiPcc => 0x17,
+        UpperOperation::AuiCgp => 0x7B,
+    }
+}
+
+fn load_funct3(operation: LoadOperation) -> u32
+    ensures value { result ≡ load_funct3 operation }
+    ensures small { result < 2 ^ 3 }
+{
+    match operation {
+        LoadOperation::Lb => 0,
+        LoadOperation::Lh => 1,
+        LoadOperation::Lw => 2,
+        LoadOperation::Clc => 3,
+        LoadOperation::Lbu => 4,
+        LoadOperation::Lhu => 5,
+    }
+}
+
+fn store_funct3(operation: StoreOperation) -> u32
+    ensures value { result ≡ store_funct3 operation }
+    ensures small { result < 2 ^ 3 }
+{
+    match operation {
+        StoreOperation::Sb => 0,
+        StoreOperation::Sh => 1,
+        StoreOperation::Sw => 2,
+        StoreOperation::Csc => 3,
+    }
+}
+
+fn branch_funct3(operation: BranchOperation) -> u32
+    ensures value { result ≡ branch_funct3 operation }
+    ensures small { result < 2 ^ 3 }
+{
+    match operation {
+        BranchOperation::Beq => 0,
+        BranchOperation::Bne => 1,
+        BranchOperation::Blt => 4,
+        BranchOperation::Bge => 5,
+        BranchOperation::Bltu => 6,
+        BranchOperation::Bgeu => 7,
+    }
+}
+
+fn capability_funct7(operation: CapabilityOperation) -> u32
+    ensures value { result ≡ capability_funct7 operation }
+    ensures small { result < 2 ^ 7 }
+{
+    match operation {
+        CapabilityOperation::CSetBounds => 0x08,
+        CapabilityOperation::CSetBoundsExact => 0x09,
+        CapabilityOperation::CSeal => 0x0B,
+        CapabilityOperation::CUnseal => 0x0C,
+        CapabilityOperation::CAndPerm => 0x0D,
+        CapabilityOperation::CSetAddr => 0x10,
+        CapabilityOperation::CIncAddr => 0x11,
+        CapabilityOperation::CSub => 0x14,
+        CapabilityOperation::CSetHigh => 0x16,
+        CapabilityOperation::CTestSubset => 0x20,
+        CapabilityOperation::CSetEqualExact => 0x21,
+    }
+}
+
+/// What stands in rs2's place of an instruction with one source.
+fn source_number(operation: SourceOperation) -> u32
+    ensures value { result ≡ source_number operation }
+    ensures small { result < 2 ^ 5 }
+{
+    match operation {
+        SourceOperation::CGetPerm => 0x00,
+        SourceOperation::CGetType => 0x01,
+        SourceOperation::CGetBase => 0x02,
+        SourceOperation::CGetLen => 0x03,
+        SourceOperation::CGetTag => 0x04,
+        SourceOperation::Crrl => 0x08,
+        SourceOperation::Cram => 0x09,
+        SourceOperation::CMove => 0x0A,
+        SourceOperation::CClearTag => 0x0B,
+        SourceOperation::CGetAddr => 0x0F,
+        SourceOperation::CGetHigh => 0x17,
+        SourceOperation::CGetTop => 0x18,
     }
 }

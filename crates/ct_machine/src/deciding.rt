@@ -1,8 +1,7 @@
 //! One instruction: fetched, and carried out on the thread, RAM and the devices.
 
 ghost use Rattle.std.specs.Prelude.{◌≡◌, ◌<◌, ◌≤◌, ◌+◌, ◌*◌, ◌%◌, ◌^◌, ◌&&◌, ◌==◌, length, nat_le, true, false};
-ghost use Rattle.def_instr.specs.Results.{is_integer};
-ghost use Rattle.def_capstep.specs.Results.{is_capability, is_system};
+ghost use Rattle.def_instr.specs.Shapes.{is_capability, is_integer, is_system};
 ghost use Rattle.def_step.specs.declared.Class.TheVariants as kinds;
 ghost use Rattle.def_instr.specs.Table.{InRange};
 ghost use Rattle.def_words.specs.Authority.{cap_address};

@@ -1,8 +1,7 @@
 //! The registers of an instruction, and what kind of work it is.
 
 ghost use Rattle.std.specs.Prelude.{◌≡◌, ◌<◌, true, false};
-ghost use Rattle.def_instr.specs.Results.{is_integer};
-ghost use Rattle.def_capstep.specs.Results.{is_capability, is_system};
+ghost use Rattle.def_instr.specs.Shapes.{is_capability, is_integer, is_system};
 ghost use Rattle.def_step.specs.declared.Class.TheVariants as kinds;
 ghost use Rattle.def_instr.specs.Table.{InRange};
 ghost use Rattle.def_step.specs.Operands.{operands, operands_of, class_of};

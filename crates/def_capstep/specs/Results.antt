@@ -12,43 +12,6 @@ use Rattle.def_instr.specs.declared.Instr.TheVariants.{AuiPcc, AuiCgp, CIncAddrI
 use Rattle.def_instr.specs.Reading.{extended}
 use Rattle.def_instr.specs.Results.{truth}
 
--- the instructions that write a result made of capabilities
-abbrev pub is_capability : Instr → Bool
-is_capability (AuiPcc rd n) = true
-is_capability (AuiCgp rd n) = true
-is_capability (CIncAddrImm rd rs1 n) = true
-is_capability (CSetBoundsImm rd rs1 n) = true
-is_capability (CSetBounds rd rs1 rs2) = true
-is_capability (CSetBoundsExact rd rs1 rs2) = true
-is_capability (CSeal rd rs1 rs2) = true
-is_capability (CUnseal rd rs1 rs2) = true
-is_capability (CAndPerm rd rs1 rs2) = true
-is_capability (CSetAddr rd rs1 rs2) = true
-is_capability (CIncAddr rd rs1 rs2) = true
-is_capability (CSub rd rs1 rs2) = true
-is_capability (CSetHigh rd rs1 rs2) = true
-is_capability (CTestSubset rd rs1 rs2) = true
-is_capability (CSetEqualExact rd rs1 rs2) = true
-is_capability (CGetPerm rd rs1) = true
-is_capability (CGetType rd rs1) = true
-is_capability (CGetBase rd rs1) = true
-is_capability (CGetLen rd rs1) = true
-is_capability (CGetTag rd rs1) = true
-is_capability (Crrl rd rs1) = true
-is_capability (Cram rd rs1) = true
-is_capability (CMove rd rs1) = true
-is_capability (CClearTag rd rs1) = true
-is_capability (CGetAddr rd rs1) = true
-is_capability (CGetHigh rd rs1) = true
-is_capability (CGetTop rd rs1) = true
-is_capability _ = false
-
--- those of system registers: they trap whatever they name
-abbrev pub is_system : Instr → Bool
-is_system (Csr function rd source number) = true
-is_system (CSpecialRw rd rs1 number) = true
-is_system _ = false
-
 -- 2048 times the signed 20-bit number, modulo 2^32
 abbrev pub upper_offset : ℕ → ℕ
 upper_offset n = extended 20 n * 2048 % 2 ^ 32

@@ -1,5 +1,5 @@
 -- F2 and F3: which members a part has, and of which kind each is.
-use Rattle.std.specs.Prelude.{ℕ, ◌%◌, List, [], ◌∷◌, ◌++◌, map, length, count_by, Bool, true, not, ◌&&◌, ◌||◌, ◌==◌, Option, Some, None, option_and_then, is_some, nat_le, if◌then◌else◌, codes}
+use Rattle.std.specs.Prelude.{ℕ, ◌%◌, List, length, count_by, Bool, true, false, not, ◌&&◌, ◌||◌, ◌==◌, Option, Some, None, option_and_then, is_some, nat_le, bytes_eq, if◌then◌else◌, codes}
 use Rattle.std.specs.List.{list_all, list_any}
 use Rattle.serde_json.specs.Data.{Data}
 use Rattle.serde_json.specs.Find.{get, as_str, as_array, as_object}
@@ -98,12 +98,16 @@ has_kinds s = has_members s.place.part s.value && has_more s.place.part s
 
 -- ---- F3: a member that isn't listed
 
-abbrev pub rights_beside : Data → List (List ℕ)
-rights_beside d = if takes_rights d then codes "rights" ∷ [] else []
+abbrev pub is_member : PartWord → List ℕ → Bool
+is_member part key = list_any (λ (m : Member). bytes_eq key m.name) (members_of part)
 
-abbrev pub listed : PartWord → Data → List (List ℕ)
-listed part.Import d = map (λ m. m.name) (members_of part.Import) ++ rights_beside d
-listed part d = map (λ m. m.name) (members_of part)
+-- rights stand beside some of the forms
+abbrev pub stands_beside : PartWord → Data → List ℕ → Bool
+stands_beside part.Import d key = takes_rights d && bytes_eq key (codes "rights")
+stands_beside _ d key = false
+
+abbrev pub is_listed : PartWord → Data → List ℕ → Bool
+is_listed part d key = is_member part key || stands_beside part d key
 
 abbrev pub all_among : List (List ℕ) → List (List ℕ) → Bool
 all_among names keys = list_all (λ k. among k names) keys
@@ -115,4 +119,4 @@ code_is_listed part.Library d = all_among code_names (keys_of (member_at (codes 
 code_is_listed _ d = true
 
 abbrev pub has_only : Spot → Bool
-has_only s = all_among (listed s.place.part s.value) (keys_of s.value) && code_is_listed s.place.part s.value
+has_only s = list_all (is_listed s.place.part s.value) (keys_of s.value) && code_is_listed s.place.part s.value

@@ -1,5 +1,5 @@
 -- F6: numbers, and lengths of lists, texts and bytes.
-use Rattle.std.specs.Prelude.{ℕ, ◌+◌, ◌*◌, ◌/◌, ◌%◌, List, length, count_by, Bool, true, not, ◌&&◌, ◌==◌, Option, Some, None, unwrap_or, nat_le, codes}
+use Rattle.std.specs.Prelude.{ℕ, ◌+◌, ◌/◌, ◌%◌, List, length, count_by, Bool, true, not, ◌&&◌, ◌==◌, Option, Some, None, unwrap_or, nat_le, codes}
 use Rattle.std.specs.List.{list_all}
 use Rattle.serde_json.specs.Data.{Data}
 use Rattle.serde_json.specs.Find.{get, as_array}
@@ -34,7 +34,7 @@ keeps_file (Some name) = is_within 1 MOST_FILE_NAME (characters name)
 
 -- a word has four bytes
 abbrev pub keeps_code : Data → Bool
-keeps_code d = nat_le (4 * length (list_at (codes "words") d)) MOST_BYTES && keeps_file (text_at (codes "file") d)
+keeps_code d = nat_le (length (list_at (codes "words") d)) (MOST_BYTES / 4) && keeps_file (text_at (codes "file") d)
 
 abbrev pub keeps : Shape → Data → Bool
 keeps shape.Text d = true

@@ -40,8 +40,11 @@ abbrev pub word_of : List ℕ → ℕ
 word_of (a ∷ b ∷ c ∷ d ∷ e ∷ f ∷ g ∷ h ∷ []) = digit_of a * 2 ^ 28 + digit_of b * 2 ^ 24 + digit_of c * 2 ^ 20 + digit_of d * 2 ^ 16 + digit_of e * 2 ^ 12 + digit_of f * 2 ^ 8 + digit_of g * 2 ^ 4 + digit_of h
 word_of _ = 0
 
+abbrev pub byte_of : ℕ → ℕ → ℕ
+byte_of a b = digit_of a * 16 + digit_of b
+
 abbrev pub bytes_of : List ℕ → List ℕ
-bytes_of (a ∷ b ∷ rest) = (digit_of a * 16 + digit_of b) ∷ bytes_of rest
+bytes_of (a ∷ b ∷ rest) = byte_of a b ∷ bytes_of rest
 bytes_of _ = []
 
 -- ---- the parts

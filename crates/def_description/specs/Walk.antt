@@ -1,11 +1,12 @@
 -- The places of a description in the order in which they are judged, with what stands at each.
-use Rattle.std.specs.Prelude.{ℕ, ◌+◌, List, [], ◌∷◌, ◌++◌, codes}
+use Rattle.std.specs.Prelude.{ℕ, ◌+◌, List, [], ◌∷◌, ◌++◌, Option, Some, None, codes}
 use Rattle.std.specs.List.{flat_map}
 use Rattle.serde_json.specs.Data.{Data}
 use Rattle.def_description.specs.declared.faults.PartWord.{PartWord}
 use Rattle.def_description.specs.declared.faults.PartWord.TheVariants.{Firmware, Ram}
 use Rattle.def_description.specs.declared.faults.Place.{Place}
-use Rattle.def_description.specs.Members.{list_at, member_at}
+use Rattle.serde_json.specs.Find.{get}
+use Rattle.def_description.specs.Members.{list_at}
 use Rattle.def_description.specs.Tables.{Inner, outer_lists, inner_lists}
 
 -- what stands at a place, and what holds its list: the description, or a compartment or library
@@ -37,5 +38,9 @@ each_from part d i (x ∷ xs) = (spot (place part i 0) d x ∷ inside x i (inner
 abbrev pub each : Data → List Inner → List Spot
 each d lists = flat_map (λ l. each_from l.part d 0 (list_at l.key d)) lists
 
+abbrev pub ram_spots : Data → Option Data → List Spot
+ram_spots d None = []
+ram_spots d (Some x) = spot (place Ram 0 0) d x ∷ []
+
 unfoldable pub spots_of : Data → List Spot
-spots_of d = spot (place Firmware 0 0) d d ∷ spot (place Ram 0 0) d (member_at (codes "ram") d) ∷ each d outer_lists
+spots_of d = spot (place Firmware 0 0) d d ∷ ram_spots d (get (codes "ram") d) ++ each d outer_lists

@@ -2,7 +2,7 @@
 -- RISC-V Unprivileged ISA, "RV32I Base Integer Instruction Set" and "M Extension for Integer
 -- Multiplication and Division". Signed results are said on signed numbers, and a number becomes a
 -- word modulo 2^32.
-use Rattle.std.specs.Prelude.{ℕ, ◌+◌, ◌-◌, ◌*◌, ◌/◌, ◌%◌, ◌^◌, Bool, true, false, ◌==◌, nat_lt, if◌then◌else◌, ℤ, pos, ◌*ℤ◌, int_div, int_rem, int_lt, unsigned_abs, bit_and, bit_or, bit_xor}
+use Rattle.std.specs.Prelude.{ℕ, ◌+◌, ◌-◌, ◌*◌, ◌/◌, ◌%◌, ◌^◌, Bool, ◌==◌, nat_lt, if◌then◌else◌, ℤ, pos, ◌*ℤ◌, int_div, int_rem, int_lt, unsigned_abs, bit_and, bit_or, bit_xor}
 use Rattle.std.specs.Int.{w32, cast_signed, int_rem_euclid, int_shr}
 use Rattle.def_instr.specs.declared.Instr.{Instr}
 use Rattle.def_instr.specs.declared.Instr.TheVariants.{Lui, Addi, Slti, Sltiu, Xori, Ori, Andi, Slli, Srli, Srai, Add, Sub, Sll, Slt, Sltu, Xor, Srl, Sra, Or, And, Mul, Mulh, Mulhsu, Mulhu, Div, Divu, Rem, Remu}
@@ -31,38 +31,6 @@ shifted_right x by = x / 2 ^ (by % 32)
 
 abbrev pub shifted_right_signed : ℕ → ℕ → ℕ
 shifted_right_signed x by = low_word (int_shr (signed x) (by % 32))
-
--- the instructions that have an integer result from words alone
-abbrev pub is_integer : Instr → Bool
-is_integer (Lui rd immediate) = true
-is_integer (Addi rd rs1 immediate) = true
-is_integer (Slti rd rs1 immediate) = true
-is_integer (Sltiu rd rs1 immediate) = true
-is_integer (Xori rd rs1 immediate) = true
-is_integer (Ori rd rs1 immediate) = true
-is_integer (Andi rd rs1 immediate) = true
-is_integer (Slli rd rs1 amount) = true
-is_integer (Srli rd rs1 amount) = true
-is_integer (Srai rd rs1 amount) = true
-is_integer (Add rd rs1 rs2) = true
-is_integer (Sub rd rs1 rs2) = true
-is_integer (Sll rd rs1 rs2) = true
-is_integer (Slt rd rs1 rs2) = true
-is_integer (Sltu rd rs1 rs2) = true
-is_integer (Xor rd rs1 rs2) = true
-is_integer (Srl rd rs1 rs2) = true
-is_integer (Sra rd rs1 rs2) = true
-is_integer (Or rd rs1 rs2) = true
-is_integer (And rd rs1 rs2) = true
-is_integer (Mul rd rs1 rs2) = true
-is_integer (Mulh rd rs1 rs2) = true
-is_integer (Mulhsu rd rs1 rs2) = true
-is_integer (Mulhu rd rs1 rs2) = true
-is_integer (Div rd rs1 rs2) = true
-is_integer (Divu rd rs1 rs2) = true
-is_integer (Rem rd rs1 rs2) = true
-is_integer (Remu rd rs1 rs2) = true
-is_integer _ = false
 
 -- the result for the words x of rs1 and y of rs2; 0 where the instruction is no integer instruction
 abbrev pub integer_result : Instr → ℕ → ℕ → ℕ

@@ -4,7 +4,30 @@
 -- into their pieces by arithmetic on the 32-bit word that they stand for.
 use Rattle.std.specs.Prelude.{◌≡◌, ℕ, ◌+◌, ◌-◌, ◌*◌, ◌/◌, ◌%◌, ◌^◌, ◌<◌, ◌≤◌, ◌⊎◌}
 use Rattle.def_instr.specs.declared.Instr.{Instr}
-use Rattle.def_instr.specs.declared.Instr.TheVariants.{Lui, AuiPcc, AuiCgp, Jal, CJalr, Beq, Bne, Blt, Bge, Bltu, Bgeu, Lb, Lh, Lw, Clc, Lbu, Lhu, Sb, Sh, Sw, Csc, Addi, Slti, Sltiu, Xori, Ori, Andi, Slli, Srli, Srai, Add, Sub, Sll, Slt, Sltu, Xor, Srl, Sra, Or, And, Mul, Mulh, Mulhsu, Mulhu, Div, Divu, Rem, Remu, Fence, Ecall, Ebreak, Csr, CIncAddrImm, CSetBoundsImm, CSpecialRw, CSetBounds, CSetBoundsExact, CSeal, CUnseal, CAndPerm, CSetAddr, CIncAddr, CSub, CSetHigh, CTestSubset, CSetEqualExact, CGetPerm, CGetType, CGetBase, CGetLen, CGetTag, Crrl, Cram, CMove, CClearTag, CGetAddr, CGetHigh, CGetTop}
+use Rattle.def_instr.specs.declared.shapes.Shape.{Shape}
+use Rattle.def_instr.specs.declared.shapes.Shape.TheVariants as shape
+use Rattle.def_instr.specs.declared.shapes.IntegerOperation.{IntegerOperation}
+use Rattle.def_instr.specs.declared.shapes.IntegerOperation.TheVariants as integers
+use Rattle.def_instr.specs.declared.shapes.CapabilityOperation.{CapabilityOperation}
+use Rattle.def_instr.specs.declared.shapes.CapabilityOperation.TheVariants as capabilities
+use Rattle.def_instr.specs.declared.shapes.RegisterOperation.TheVariants as registers
+use Rattle.def_instr.specs.declared.shapes.SignedOperation.{SignedOperation}
+use Rattle.def_instr.specs.declared.shapes.SignedOperation.TheVariants as signeds
+use Rattle.def_instr.specs.declared.shapes.ShiftOperation.{ShiftOperation}
+use Rattle.def_instr.specs.declared.shapes.ShiftOperation.TheVariants as shifts
+use Rattle.def_instr.specs.declared.shapes.ImmediateOperation.{ImmediateOperation}
+use Rattle.def_instr.specs.declared.shapes.ImmediateOperation.TheVariants as immediates
+use Rattle.def_instr.specs.declared.shapes.UpperOperation.{UpperOperation}
+use Rattle.def_instr.specs.declared.shapes.UpperOperation.TheVariants as uppers
+use Rattle.def_instr.specs.declared.shapes.LoadOperation.{LoadOperation}
+use Rattle.def_instr.specs.declared.shapes.LoadOperation.TheVariants as loads
+use Rattle.def_instr.specs.declared.shapes.StoreOperation.{StoreOperation}
+use Rattle.def_instr.specs.declared.shapes.StoreOperation.TheVariants as stores
+use Rattle.def_instr.specs.declared.shapes.BranchOperation.{BranchOperation}
+use Rattle.def_instr.specs.declared.shapes.BranchOperation.TheVariants as branches
+use Rattle.def_instr.specs.declared.shapes.SourceOperation.{SourceOperation}
+use Rattle.def_instr.specs.declared.shapes.SourceOperation.TheVariants as sources
+use Rattle.def_instr.specs.Shapes.{shape_of}
 
 -- the fields of format R, which cut a word into six; the other formats join some of them
 abbrev pub format_r : ℕ → ℕ → ℕ → ℕ → ℕ → ℕ → ℕ
@@ -46,167 +69,161 @@ IsOffset width n = IsSigned width n × (n % 2 ≡ 0)
 abbrev pub IsCsr : ℕ → ℕ → ℕ → ℕ → Type 0
 IsCsr function rd source number = IsRegister rd × (((1 ≤ function) × (function ≤ 3) × IsRegister source) ⊎ ((5 ≤ function) × (function ≤ 7) × (source < 32))) × (number < 2 ^ 12)
 
--- what the fields of an instruction may hold
-abbrev pub InRange : Instr → Type 0
-InRange (Lui rd immediate) = IsRegister rd × (immediate < 2 ^ 20)
-InRange (AuiPcc rd immediate) = IsRegister rd × (immediate < 2 ^ 20)
-InRange (AuiCgp rd immediate) = IsRegister rd × (immediate < 2 ^ 20)
-InRange (Jal rd offset) = IsRegister rd × IsOffset 21 offset
-InRange (CJalr rd rs1 immediate) = IsRegister rd × IsRegister rs1 × IsSigned 12 immediate
-InRange (Beq rs1 rs2 offset) = IsRegister rs1 × IsRegister rs2 × IsOffset 13 offset
-InRange (Bne rs1 rs2 offset) = IsRegister rs1 × IsRegister rs2 × IsOffset 13 offset
-InRange (Blt rs1 rs2 offset) = IsRegister rs1 × IsRegister rs2 × IsOffset 13 offset
-InRange (Bge rs1 rs2 offset) = IsRegister rs1 × IsRegister rs2 × IsOffset 13 offset
-InRange (Bltu rs1 rs2 offset) = IsRegister rs1 × IsRegister rs2 × IsOffset 13 offset
-InRange (Bgeu rs1 rs2 offset) = IsRegister rs1 × IsRegister rs2 × IsOffset 13 offset
-InRange (Lb rd rs1 immediate) = IsRegister rd × IsRegister rs1 × IsSigned 12 immediate
-InRange (Lh rd rs1 immediate) = IsRegister rd × IsRegister rs1 × IsSigned 12 immediate
-InRange (Lw rd rs1 immediate) = IsRegister rd × IsRegister rs1 × IsSigned 12 immediate
-InRange (Clc rd rs1 immediate) = IsRegister rd × IsRegister rs1 × IsSigned 12 immediate
-InRange (Lbu rd rs1 immediate) = IsRegister rd × IsRegister rs1 × IsSigned 12 immediate
-InRange (Lhu rd rs1 immediate) = IsRegister rd × IsRegister rs1 × IsSigned 12 immediate
-InRange (Sb rs1 rs2 immediate) = IsRegister rs1 × IsRegister rs2 × IsSigned 12 immediate
-InRange (Sh rs1 rs2 immediate) = IsRegister rs1 × IsRegister rs2 × IsSigned 12 immediate
-InRange (Sw rs1 rs2 immediate) = IsRegister rs1 × IsRegister rs2 × IsSigned 12 immediate
-InRange (Csc rs1 rs2 immediate) = IsRegister rs1 × IsRegister rs2 × IsSigned 12 immediate
-InRange (Addi rd rs1 immediate) = IsRegister rd × IsRegister rs1 × IsSigned 12 immediate
-InRange (Slti rd rs1 immediate) = IsRegister rd × IsRegister rs1 × IsSigned 12 immediate
-InRange (Sltiu rd rs1 immediate) = IsRegister rd × IsRegister rs1 × IsSigned 12 immediate
-InRange (Xori rd rs1 immediate) = IsRegister rd × IsRegister rs1 × IsSigned 12 immediate
-InRange (Ori rd rs1 immediate) = IsRegister rd × IsRegister rs1 × IsSigned 12 immediate
-InRange (Andi rd rs1 immediate) = IsRegister rd × IsRegister rs1 × IsSigned 12 immediate
-InRange (Slli rd rs1 amount) = IsRegister rd × IsRegister rs1 × (amount < 32)
-InRange (Srli rd rs1 amount) = IsRegister rd × IsRegister rs1 × (amount < 32)
-InRange (Srai rd rs1 amount) = IsRegister rd × IsRegister rs1 × (amount < 32)
-InRange (Add rd rs1 rs2) = IsRegister rd × IsRegister rs1 × IsRegister rs2
-InRange (Sub rd rs1 rs2) = IsRegister rd × IsRegister rs1 × IsRegister rs2
-InRange (Sll rd rs1 rs2) = IsRegister rd × IsRegister rs1 × IsRegister rs2
-InRange (Slt rd rs1 rs2) = IsRegister rd × IsRegister rs1 × IsRegister rs2
-InRange (Sltu rd rs1 rs2) = IsRegister rd × IsRegister rs1 × IsRegister rs2
-InRange (Xor rd rs1 rs2) = IsRegister rd × IsRegister rs1 × IsRegister rs2
-InRange (Srl rd rs1 rs2) = IsRegister rd × IsRegister rs1 × IsRegister rs2
-InRange (Sra rd rs1 rs2) = IsRegister rd × IsRegister rs1 × IsRegister rs2
-InRange (Or rd rs1 rs2) = IsRegister rd × IsRegister rs1 × IsRegister rs2
-InRange (And rd rs1 rs2) = IsRegister rd × IsRegister rs1 × IsRegister rs2
-InRange (Mul rd rs1 rs2) = IsRegister rd × IsRegister rs1 × IsRegister rs2
-InRange (Mulh rd rs1 rs2) = IsRegister rd × IsRegister rs1 × IsRegister rs2
-InRange (Mulhsu rd rs1 rs2) = IsRegister rd × IsRegister rs1 × IsRegister rs2
-InRange (Mulhu rd rs1 rs2) = IsRegister rd × IsRegister rs1 × IsRegister rs2
-InRange (Div rd rs1 rs2) = IsRegister rd × IsRegister rs1 × IsRegister rs2
-InRange (Divu rd rs1 rs2) = IsRegister rd × IsRegister rs1 × IsRegister rs2
-InRange (Rem rd rs1 rs2) = IsRegister rd × IsRegister rs1 × IsRegister rs2
-InRange (Remu rd rs1 rs2) = IsRegister rd × IsRegister rs1 × IsRegister rs2
-InRange (Fence immediate) = IsSigned 12 immediate
-InRange Ecall = Unit {0}
-InRange Ebreak = Unit {0}
-InRange (Csr function rd source number) = IsCsr function rd source number
-InRange (CIncAddrImm rd rs1 immediate) = IsRegister rd × IsRegister rs1 × IsSigned 12 immediate
-InRange (CSetBoundsImm rd rs1 immediate) = IsRegister rd × IsRegister rs1 × (immediate < 2 ^ 12)
-InRange (CSpecialRw rd rs1 number) = IsRegister rd × IsRegister rs1 × (number < 32)
-InRange (CSetBounds rd rs1 rs2) = IsRegister rd × IsRegister rs1 × IsRegister rs2
-InRange (CSetBoundsExact rd rs1 rs2) = IsRegister rd × IsRegister rs1 × IsRegister rs2
-InRange (CSeal rd rs1 rs2) = IsRegister rd × IsRegister rs1 × IsRegister rs2
-InRange (CUnseal rd rs1 rs2) = IsRegister rd × IsRegister rs1 × IsRegister rs2
-InRange (CAndPerm rd rs1 rs2) = IsRegister rd × IsRegister rs1 × IsRegister rs2
-InRange (CSetAddr rd rs1 rs2) = IsRegister rd × IsRegister rs1 × IsRegister rs2
-InRange (CIncAddr rd rs1 rs2) = IsRegister rd × IsRegister rs1 × IsRegister rs2
-InRange (CSub rd rs1 rs2) = IsRegister rd × IsRegister rs1 × IsRegister rs2
-InRange (CSetHigh rd rs1 rs2) = IsRegister rd × IsRegister rs1 × IsRegister rs2
-InRange (CTestSubset rd rs1 rs2) = IsRegister rd × IsRegister rs1 × IsRegister rs2
-InRange (CSetEqualExact rd rs1 rs2) = IsRegister rd × IsRegister rs1 × IsRegister rs2
-InRange (CGetPerm rd rs1) = IsRegister rd × IsRegister rs1
-InRange (CGetType rd rs1) = IsRegister rd × IsRegister rs1
-InRange (CGetBase rd rs1) = IsRegister rd × IsRegister rs1
-InRange (CGetLen rd rs1) = IsRegister rd × IsRegister rs1
-InRange (CGetTag rd rs1) = IsRegister rd × IsRegister rs1
-InRange (Crrl rd rs1) = IsRegister rd × IsRegister rs1
-InRange (Cram rd rs1) = IsRegister rd × IsRegister rs1
-InRange (CMove rd rs1) = IsRegister rd × IsRegister rs1
-InRange (CClearTag rd rs1) = IsRegister rd × IsRegister rs1
-InRange (CGetAddr rd rs1) = IsRegister rd × IsRegister rs1
-InRange (CGetHigh rd rs1) = IsRegister rd × IsRegister rs1
-InRange (CGetTop rd rs1) = IsRegister rd × IsRegister rs1
+-- the immediate of an operation with a number
+abbrev pub FitsImmediate : ImmediateOperation → ℕ → Type 0
+FitsImmediate (immediates.Signed operation) n = IsSigned 12 n
+FitsImmediate (immediates.Shift operation) n = n < 32
+FitsImmediate immediates.CIncAddrImm n = IsSigned 12 n
+FitsImmediate immediates.CSetBoundsImm n = n < 2 ^ 12
 
--- the word of an instruction, one row each: opcode, funct3 and funct7 where the format has them, and the fields
+-- what the fields of a shape may hold
+abbrev pub FieldsFit : Shape → Type 0
+FieldsFit (shape.Registers operation rd rs1 rs2) = IsRegister rd × IsRegister rs1 × IsRegister rs2
+FieldsFit (shape.Immediate operation rd rs1 n) = IsRegister rd × IsRegister rs1 × FitsImmediate operation n
+FieldsFit (shape.Upper operation rd n) = IsRegister rd × (n < 2 ^ 20)
+FieldsFit (shape.Load operation rd rs1 n) = IsRegister rd × IsRegister rs1 × IsSigned 12 n
+FieldsFit (shape.Store operation rs1 rs2 n) = IsRegister rs1 × IsRegister rs2 × IsSigned 12 n
+FieldsFit (shape.Branch operation rs1 rs2 offset) = IsRegister rs1 × IsRegister rs2 × IsOffset 13 offset
+FieldsFit (shape.Jump rd offset) = IsRegister rd × IsOffset 21 offset
+FieldsFit (shape.RegisterJump rd rs1 n) = IsRegister rd × IsRegister rs1 × IsSigned 12 n
+FieldsFit (shape.OneSource operation rd rs1) = IsRegister rd × IsRegister rs1
+FieldsFit (shape.Fence n) = IsSigned 12 n
+FieldsFit shape.Call = Unit {0}
+FieldsFit shape.Break = Unit {0}
+FieldsFit (shape.Status function rd source number) = IsCsr function rd source number
+FieldsFit (shape.Special rd rs1 number) = IsRegister rd × IsRegister rs1 × (number < 32)
+
+abbrev pub InRange : Instr → Type 0
+InRange i = FieldsFit (shape_of i)
+
+-- ---- which word each instruction has
+
+-- what tells an operation from others of its opcode
+pub record Code : Type 0 where
+  pub funct3 : ℕ
+  pub funct7 : ℕ
+
+abbrev pub code : ℕ → ℕ → Code
+code funct3 funct7 = record { funct3 = funct3; funct7 = funct7 }
+
+-- opcode 33
+abbrev pub integer_code : IntegerOperation → Code
+integer_code integers.Add = code 0 0x00
+integer_code integers.Sub = code 0 0x20
+integer_code integers.Sll = code 1 0x00
+integer_code integers.Slt = code 2 0x00
+integer_code integers.Sltu = code 3 0x00
+integer_code integers.Xor = code 4 0x00
+integer_code integers.Srl = code 5 0x00
+integer_code integers.Sra = code 5 0x20
+integer_code integers.Or = code 6 0x00
+integer_code integers.And = code 7 0x00
+integer_code integers.Mul = code 0 0x01
+integer_code integers.Mulh = code 1 0x01
+integer_code integers.Mulhsu = code 2 0x01
+integer_code integers.Mulhu = code 3 0x01
+integer_code integers.Div = code 4 0x01
+integer_code integers.Divu = code 5 0x01
+integer_code integers.Rem = code 6 0x01
+integer_code integers.Remu = code 7 0x01
+
+-- opcode 13
+abbrev pub signed_funct3 : SignedOperation → ℕ
+signed_funct3 signeds.Addi = 0
+signed_funct3 signeds.Slti = 2
+signed_funct3 signeds.Sltiu = 3
+signed_funct3 signeds.Xori = 4
+signed_funct3 signeds.Ori = 6
+signed_funct3 signeds.Andi = 7
+
+-- opcode 13
+abbrev pub shift_code : ShiftOperation → Code
+shift_code shifts.Slli = code 1 0x00
+shift_code shifts.Srli = code 5 0x00
+shift_code shifts.Srai = code 5 0x20
+
+abbrev pub upper_opcode : UpperOperation → ℕ
+upper_opcode uppers.Lui = 0x37
+upper_opcode uppers.AuiPcc = 0x17
+upper_opcode uppers.AuiCgp = 0x7B
+
+-- opcode 03
+abbrev pub load_funct3 : LoadOperation → ℕ
+load_funct3 loads.Lb = 0
+load_funct3 loads.Lh = 1
+load_funct3 loads.Lw = 2
+load_funct3 loads.Clc = 3
+load_funct3 loads.Lbu = 4
+load_funct3 loads.Lhu = 5
+
+-- opcode 23
+abbrev pub store_funct3 : StoreOperation → ℕ
+store_funct3 stores.Sb = 0
+store_funct3 stores.Sh = 1
+store_funct3 stores.Sw = 2
+store_funct3 stores.Csc = 3
+
+-- opcode 63
+abbrev pub branch_funct3 : BranchOperation → ℕ
+branch_funct3 branches.Beq = 0
+branch_funct3 branches.Bne = 1
+branch_funct3 branches.Blt = 4
+branch_funct3 branches.Bge = 5
+branch_funct3 branches.Bltu = 6
+branch_funct3 branches.Bgeu = 7
+
+-- opcode 5B, funct3 0
+abbrev pub capability_funct7 : CapabilityOperation → ℕ
+capability_funct7 capabilities.CSetBounds = 0x08
+capability_funct7 capabilities.CSetBoundsExact = 0x09
+capability_funct7 capabilities.CSeal = 0x0B
+capability_funct7 capabilities.CUnseal = 0x0C
+capability_funct7 capabilities.CAndPerm = 0x0D
+capability_funct7 capabilities.CSetAddr = 0x10
+capability_funct7 capabilities.CIncAddr = 0x11
+capability_funct7 capabilities.CSub = 0x14
+capability_funct7 capabilities.CSetHigh = 0x16
+capability_funct7 capabilities.CTestSubset = 0x20
+capability_funct7 capabilities.CSetEqualExact = 0x21
+
+-- opcode 5B, funct3 0, funct7 7F: what stands in rs2's place
+abbrev pub source_number : SourceOperation → ℕ
+source_number sources.CGetPerm = 0x00
+source_number sources.CGetType = 0x01
+source_number sources.CGetBase = 0x02
+source_number sources.CGetLen = 0x03
+source_number sources.CGetTag = 0x04
+source_number sources.Crrl = 0x08
+source_number sources.Cram = 0x09
+source_number sources.CMove = 0x0A
+source_number sources.CClearTag = 0x0B
+source_number sources.CGetAddr = 0x0F
+source_number sources.CGetHigh = 0x17
+source_number sources.CGetTop = 0x18
+
+-- the word of a shape: opcode, funct3 and funct7 where the format has them, and the fields
+abbrev pub shape_word : Shape → ℕ
+shape_word (shape.Registers (registers.Integer operation) rd rs1 rs2) = format_r 0x33 (integer_code operation).funct3 (integer_code operation).funct7 rd rs1 rs2
+shape_word (shape.Registers (registers.Capability operation) rd rs1 rs2) = format_r 0x5B 0 (capability_funct7 operation) rd rs1 rs2
+shape_word (shape.Immediate (immediates.Signed operation) rd rs1 n) = format_i 0x13 (signed_funct3 operation) rd rs1 n
+shape_word (shape.Immediate (immediates.Shift operation) rd rs1 n) = format_r 0x13 (shift_code operation).funct3 (shift_code operation).funct7 rd rs1 n
+shape_word (shape.Immediate immediates.CIncAddrImm rd rs1 n) = format_i 0x5B 1 rd rs1 n
+shape_word (shape.Immediate immediates.CSetBoundsImm rd rs1 n) = format_i 0x5B 2 rd rs1 n
+shape_word (shape.Upper operation rd n) = format_u (upper_opcode operation) rd n
+shape_word (shape.Load operation rd rs1 n) = format_i 0x03 (load_funct3 operation) rd rs1 n
+shape_word (shape.Store operation rs1 rs2 n) = format_s 0x23 (store_funct3 operation) rs1 rs2 n
+shape_word (shape.Branch operation rs1 rs2 offset) = format_b 0x63 (branch_funct3 operation) rs1 rs2 offset
+shape_word (shape.Jump rd offset) = format_j 0x6F rd offset
+shape_word (shape.RegisterJump rd rs1 n) = format_i 0x67 0 rd rs1 n
+shape_word (shape.OneSource operation rd rs1) = format_r 0x5B 0 0x7F rd rs1 (source_number operation)
+shape_word (shape.Fence n) = format_i 0x0F 0 0 0 n
+shape_word shape.Call = 0x00000073
+shape_word shape.Break = 0x00100073
+shape_word (shape.Status function rd source number) = format_i 0x73 function rd source number
+shape_word (shape.Special rd rs1 number) = format_r 0x5B 0 0x01 rd rs1 number
+
 abbrev pub word_of : Instr → ℕ
-word_of (Lui rd immediate) = format_u 0x37 rd immediate
-word_of (AuiPcc rd immediate) = format_u 0x17 rd immediate
-word_of (AuiCgp rd immediate) = format_u 0x7B rd immediate
-word_of (Jal rd offset) = format_j 0x6F rd offset
-word_of (CJalr rd rs1 immediate) = format_i 0x67 0 rd rs1 immediate
-word_of (Beq rs1 rs2 offset) = format_b 0x63 0 rs1 rs2 offset
-word_of (Bne rs1 rs2 offset) = format_b 0x63 1 rs1 rs2 offset
-word_of (Blt rs1 rs2 offset) = format_b 0x63 4 rs1 rs2 offset
-word_of (Bge rs1 rs2 offset) = format_b 0x63 5 rs1 rs2 offset
-word_of (Bltu rs1 rs2 offset) = format_b 0x63 6 rs1 rs2 offset
-word_of (Bgeu rs1 rs2 offset) = format_b 0x63 7 rs1 rs2 offset
-word_of (Lb rd rs1 immediate) = format_i 0x03 0 rd rs1 immediate
-word_of (Lh rd rs1 immediate) = format_i 0x03 1 rd rs1 immediate
-word_of (Lw rd rs1 immediate) = format_i 0x03 2 rd rs1 immediate
-word_of (Clc rd rs1 immediate) = format_i 0x03 3 rd rs1 immediate
-word_of (Lbu rd rs1 immediate) = format_i 0x03 4 rd rs1 immediate
-word_of (Lhu rd rs1 immediate) = format_i 0x03 5 rd rs1 immediate
-word_of (Sb rs1 rs2 immediate) = format_s 0x23 0 rs1 rs2 immediate
-word_of (Sh rs1 rs2 immediate) = format_s 0x23 1 rs1 rs2 immediate
-word_of (Sw rs1 rs2 immediate) = format_s 0x23 2 rs1 rs2 immediate
-word_of (Csc rs1 rs2 immediate) = format_s 0x23 3 rs1 rs2 immediate
-word_of (Addi rd rs1 immediate) = format_i 0x13 0 rd rs1 immediate
-word_of (Slti rd rs1 immediate) = format_i 0x13 2 rd rs1 immediate
-word_of (Sltiu rd rs1 immediate) = format_i 0x13 3 rd rs1 immediate
-word_of (Xori rd rs1 immediate) = format_i 0x13 4 rd rs1 immediate
-word_of (Ori rd rs1 immediate) = format_i 0x13 6 rd rs1 immediate
-word_of (Andi rd rs1 immediate) = format_i 0x13 7 rd rs1 immediate
-word_of (Slli rd rs1 amount) = format_r 0x13 1 0x00 rd rs1 amount
-word_of (Srli rd rs1 amount) = format_r 0x13 5 0x00 rd rs1 amount
-word_of (Srai rd rs1 amount) = format_r 0x13 5 0x20 rd rs1 amount
-word_of (Add rd rs1 rs2) = format_r 0x33 0 0x00 rd rs1 rs2
-word_of (Sub rd rs1 rs2) = format_r 0x33 0 0x20 rd rs1 rs2
-word_of (Sll rd rs1 rs2) = format_r 0x33 1 0x00 rd rs1 rs2
-word_of (Slt rd rs1 rs2) = format_r 0x33 2 0x00 rd rs1 rs2
-word_of (Sltu rd rs1 rs2) = format_r 0x33 3 0x00 rd rs1 rs2
-word_of (Xor rd rs1 rs2) = format_r 0x33 4 0x00 rd rs1 rs2
-word_of (Srl rd rs1 rs2) = format_r 0x33 5 0x00 rd rs1 rs2
-word_of (Sra rd rs1 rs2) = format_r 0x33 5 0x20 rd rs1 rs2
-word_of (Or rd rs1 rs2) = format_r 0x33 6 0x00 rd rs1 rs2
-word_of (And rd rs1 rs2) = format_r 0x33 7 0x00 rd rs1 rs2
-word_of (Mul rd rs1 rs2) = format_r 0x33 0 0x01 rd rs1 rs2
-word_of (Mulh rd rs1 rs2) = format_r 0x33 1 0x01 rd rs1 rs2
-word_of (Mulhsu rd rs1 rs2) = format_r 0x33 2 0x01 rd rs1 rs2
-word_of (Mulhu rd rs1 rs2) = format_r 0x33 3 0x01 rd rs1 rs2
-word_of (Div rd rs1 rs2) = format_r 0x33 4 0x01 rd rs1 rs2
-word_of (Divu rd rs1 rs2) = format_r 0x33 5 0x01 rd rs1 rs2
-word_of (Rem rd rs1 rs2) = format_r 0x33 6 0x01 rd rs1 rs2
-word_of (Remu rd rs1 rs2) = format_r 0x33 7 0x01 rd rs1 rs2
-word_of (Fence immediate) = format_i 0x0F 0 0 0 immediate
-word_of Ecall = 0x00000073
-word_of Ebreak = 0x00100073
-word_of (Csr function rd source number) = format_i 0x73 function rd source number
-word_of (CIncAddrImm rd rs1 immediate) = format_i 0x5B 1 rd rs1 immediate
-word_of (CSetBoundsImm rd rs1 immediate) = format_i 0x5B 2 rd rs1 immediate
-word_of (CSpecialRw rd rs1 number) = format_r 0x5B 0 0x01 rd rs1 number
-word_of (CSetBounds rd rs1 rs2) = format_r 0x5B 0 0x08 rd rs1 rs2
-word_of (CSetBoundsExact rd rs1 rs2) = format_r 0x5B 0 0x09 rd rs1 rs2
-word_of (CSeal rd rs1 rs2) = format_r 0x5B 0 0x0B rd rs1 rs2
-word_of (CUnseal rd rs1 rs2) = format_r 0x5B 0 0x0C rd rs1 rs2
-word_of (CAndPerm rd rs1 rs2) = format_r 0x5B 0 0x0D rd rs1 rs2
-word_of (CSetAddr rd rs1 rs2) = format_r 0x5B 0 0x10 rd rs1 rs2
-word_of (CIncAddr rd rs1 rs2) = format_r 0x5B 0 0x11 rd rs1 rs2
-word_of (CSub rd rs1 rs2) = format_r 0x5B 0 0x14 rd rs1 rs2
-word_of (CSetHigh rd rs1 rs2) = format_r 0x5B 0 0x16 rd rs1 rs2
-word_of (CTestSubset rd rs1 rs2) = format_r 0x5B 0 0x20 rd rs1 rs2
-word_of (CSetEqualExact rd rs1 rs2) = format_r 0x5B 0 0x21 rd rs1 rs2
-word_of (CGetPerm rd rs1) = format_r 0x5B 0 0x7F rd rs1 0x00
-word_of (CGetType rd rs1) = format_r 0x5B 0 0x7F rd rs1 0x01
-word_of (CGetBase rd rs1) = format_r 0x5B 0 0x7F rd rs1 0x02
-word_of (CGetLen rd rs1) = format_r 0x5B 0 0x7F rd rs1 0x03
-word_of (CGetTag rd rs1) = format_r 0x5B 0 0x7F rd rs1 0x04
-word_of (Crrl rd rs1) = format_r 0x5B 0 0x7F rd rs1 0x08
-word_of (Cram rd rs1) = format_r 0x5B 0 0x7F rd rs1 0x09
-word_of (CMove rd rs1) = format_r 0x5B 0 0x7F rd rs1 0x0A
-word_of (CClearTag rd rs1) = format_r 0x5B 0 0x7F rd rs1 0x0B
-word_of (CGetAddr rd rs1) = format_r 0x5B 0 0x7F rd rs1 0x0F
-word_of (CGetHigh rd rs1) = format_r 0x5B 0 0x7F rd rs1 0x17
-word_of (CGetTop rd rs1) = format_r 0x5B 0 0x7F rd rs1 0x18
+word_of i = shape_word (shape_of i)
 
 -- the instruction's fields are in range, and the word is its row's
 pub record EncodesTo (instruction : Instr) (word : ℕ) : Type 0 where

@@ -1,11 +1,13 @@
-//! The instructions of the machine, as plain data. The written definitions over them stand in
-//! specs/: which numbers an instruction's fields may hold and which word each instruction has
-//! (Table), the instruction of a word as a function (Reading), and what the integer instructions
-//! give (Results). Nothing here computes.
+//! The instructions of the machine and their shapes, as plain data. The written definitions over
+//! them stand in specs/: the shape of each instruction and what kind of instruction it is (Shapes),
+//! which numbers its fields may hold and which word it has (Table), the instruction of a word as a
+//! function (Reading), and what the integer instructions give (Results). Nothing here computes.
 //!
 //! The base and M instructions are those of the RISC-V Unprivileged ISA (RV32E with M), the others
 //! follow the CHERIoT Architecture Specification in this project's encoding (docs/use/machine.md).
 #![tactic(auto)]
+
+pub mod shapes;
 
 /// One instruction, with its operands.
 ///
