@@ -4,3 +4,6 @@ pub mod Laying
 pub mod Members
 pub mod Rows
 pub mod Limited
+pub mod Named
+pub mod Owners
+pub mod Sounds

@@ -7,6 +7,7 @@ use Rattle.def_image.specs.declared.format.TheConstants.{DEVICE, SHARED, THREAD}
 use Rattle.def_image.specs.Parts.{SharedRow, SealedRow, ThreadRow, PartsRow}
 use Rattle.def_image.specs.Spelling.{raw_of, raw_device, raw_shared, raw_sealed, raw_compartment, raw_code, raw_thread}
 use Rattle.def_image.specs.Sizes.{sealed_size, compartment_size, library_size, devices_at, shared_at, sealed_at, compartments_at, libraries_at, threads_at}
+use Rattle.def_image.specs.declared.taken.TheConstants.{THREADS_TAKEN}
 use Rattle.def_image.specs.Profile.{most_threads, outside}
 use Rattle.def_image.specs.Checks.{first, walked, check}
 use Rattle.def_image.specs.Limits.{limit_checks, header_limits, name_checks, device_limits, shared_limits, sealed_limits, compartment_limits, library_limits, thread_limits, thread_limits_by, shared_name, sealed_name, thread_name, owner_names, overfills, are_zeros}
@@ -57,7 +58,7 @@ limited p e =
 threads_most : (v : ℕ) → most_threads v ≤ 64
 threads_most v = by (nat_eq v 1)
   where
-    by : (b : Bool) → cond (nat_le 1 (cond b 16 64)) 1 (cond b 16 64) ≤ 64
+    by : (b : Bool) → cond (nat_le THREADS_TAKEN (cond b 16 64)) THREADS_TAKEN (cond b 16 64) ≤ 64
     by true = omega arith
     by false = omega arith
 
