@@ -52,7 +52,9 @@ fn cap_loads<M: Memory>(memory: &M, count: u32) -> u64
         if cap.tag {
             sum = sum.wrapping_add(1);
         }
-        sum = sum.wrapping_add(cap.word).wrapping_add(cap.shadow.source as u64);
+        sum = sum
+            .wrapping_add(cap.word)
+            .wrapping_add(cap.shadow.source as u64);
     }
     sum
 }

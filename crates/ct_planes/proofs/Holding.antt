@@ -1,5 +1,5 @@
 -- Words and the bytes that hold them.
-use Rattle.std.proofs.Common.{ℕ, zero, suc, ◌≡◌, ◌+◌, ◌-◌, ◌*◌, ◌/◌, ◌%◌, ◌^◌, ◌<◌, ◌≤◌, ◌⊎◌, inl, inr, List, [], ◌∷◌, ◌++◌, length, map, take, drop, get_or, replicate, refl, sym, ap, ◌∙◌, arith, lit<, subst, Vec, Global}
+use Rattle.std.proofs.Common.{ℕ, zero, suc, ◌≡◌, ◌+◌, ◌-◌, ◌*◌, ◌/◌, ◌%◌, ◌^◌, ◌<◌, ◌≤◌, ◌⊎◌, inl, inr, List, [], ◌∷◌, ◌++◌, length, take, drop, get_or, replicate, refl, sym, ap, ◌∙◌, arith, lit<, subst, Vec, Global}
 use Rattle.std.proofs.Math.ListN.{set}
 use Rattle.std.specs.Vec.{with_items}
 use Rattle.std.proofs.lemmas.List.{with_items_is}
@@ -18,7 +18,7 @@ use Rattle.def_memory.specs.Accesses.{byte_of, part_of, with_part}
 use Rattle.law_granules.proofs.Words.{pair_of, four_of}
 use Rattle.law_granules.proofs.Bytes.{put_byte_below, put_byte_above, put_byte_inside}
 use Rattle.ct_mem.proofs.Parts.{replaced_fits, replaced_is}
-use Rattle.ct_planes.specs.Bytes.{word_in, words_in, Holds}
+use Rattle.ct_planes.specs.Bytes.{word_in, words_in, Holds, KeptBytes}
 use Rattle.ct_planes.specs.Fills.{filled}
 use Rattle.ct_planes.proofs.Fillings.{length_filled, filled_inside, filled_rest}
 use Rattle.ct_planes.proofs.Runs.{run_tells}
@@ -54,8 +54,8 @@ small_bytes ws bs j h = rw (h.bytes_are j) (byte_small (get_or ws (j / 8) 0) (j 
 
 taken_small : (xs : List ℕ) (n k : ℕ) → ((j : ℕ) → get_or xs j 0 < 256) → get_or (take n xs) k 0 < 256
 taken_small xs n k small = elim (lt_tells k n) [
-    inl p ↦ rw (get_or-take n xs k 0 p.1) (small k)
-    | inr p ↦ rw (get_or_past (take n xs) k 0 (omega (arith, p.1, length-take n xs))) (lit< tt)
+  | inl p ↦ rw (get_or-take n xs k 0 p.1) (small k)
+  | inr p ↦ rw (get_or_past (take n xs) k 0 (omega (arith, p.1, length-take n xs))) (lit< tt)
 ]
 
 dropped_small : (xs : List ℕ) (n k : ℕ) → ((j : ℕ) → get_or xs j 0 < 256) → get_or (drop n xs) k 0 < 256
@@ -77,29 +77,25 @@ words_back ws bs h =
 
 pub holds_new : (n : ℕ) → Holds (replicate n 0) (replicate (8 * n) 0)
 holds_new n = record {
-    size = length-replicate {A = ℕ} (8 * n) 0 ∙ ap (λ k. 8 * k) (sym (length-replicate {A = ℕ} n 0));
-    small = λ k. rw (same_everywhere {A = ℕ} n k 0) (lit< tt);
-    bytes_are = λ at. rw (same_everywhere {A = ℕ} (8 * n) at 0, same_everywhere {A = ℕ} n (at / 8) 0) (sym (zero_byte (at % 8)));
+  size = length-replicate {A = ℕ} (8 * n) 0 ∙ ap (λ k. 8 * k) (sym (length-replicate {A = ℕ} n 0));
+  small = λ k. rw (same_everywhere {A = ℕ} n k 0) (lit< tt);
+  bytes_are = λ at. rw (same_everywhere {A = ℕ} (8 * n) at 0, same_everywhere {A = ℕ} n (at / 8) 0) (sym (zero_byte (at % 8)));
 }
 
 -- a word written anew, where no byte of another word changes
 pub holds_word : (ws bs cs : List ℕ) (k w : ℕ) → Holds ws bs → length cs ≡ length bs → k < length ws → w < 2 ^ 64 → ((i : ℕ) → i < 8 → get_or cs (8 * k + i) 0 ≡ byte_of w i) → ((j : ℕ) → (j / 8 ≡ k → ⊥) → get_or cs j 0 ≡ get_or bs j 0) → Holds (set ws k w) cs
 holds_word ws bs cs k w h same within fits here rest = record {
-    size = same ∙ h.size ∙ ap (λ n. 8 * n) (sym (length-set ws k w));
-    small = λ n. elim (eq_tells n k) [
-        inl p ↦ subst (λ q. get_or (set ws k w) q 0 < 2 ^ 64) (sym p.1) (rw (get_or-set_same ws k w 0 within) fits)
-        | inr p ↦ rw (get_or-set_other ws k n w 0 p.1) (h.small n)
-    ];
-    bytes_are = λ at. elim (eq_tells (at / 8) k) [
-        inl p ↦ let there : 8 * k + at % 8 ≡ at = omega (arith, p.1) in
+  size = same ∙ h.size ∙ ap (λ n. 8 * n) (sym (length-set ws k w));
+  small = λ n. elim (eq_tells n k) [
+    | inl p ↦ subst (λ q. get_or (set ws k w) q 0 < 2 ^ 64) (sym p.1) (rw (get_or-set_same ws k w 0 within) fits)
+    | inr p ↦ rw (get_or-set_other ws k n w 0 p.1) (h.small n)
+  ];
+  bytes_are = λ at. elim (eq_tells (at / 8) k) [
+    | inl p ↦ let there : 8 * k + at % 8 ≡ at = omega (arith, p.1) in
         ap (λ n. get_or cs n 0) (sym there) ∙ here (at % 8) (omega arith) ∙ ap (λ x. byte_of x (at % 8)) (sym (get_or-set_same ws k w 0 within)) ∙ ap (λ n. byte_of (get_or (set ws k w) n 0) (at % 8)) (sym p.1)
-        | inr p ↦ rest at p.1 ∙ h.bytes_are at ∙ ap (λ x. byte_of x (at % 8)) (sym (get_or-set_other ws k (at / 8) w 0 p.1))
-    ];
+    | inr p ↦ rest at p.1 ∙ h.bytes_are at ∙ ap (λ x. byte_of x (at % 8)) (sym (get_or-set_other ws k (at / 8) w 0 p.1))
+  ];
 }
-
--- what a plane of bytes keeps
-abbrev pub KeptBytes : List ℕ → Type 0
-KeptBytes bs = (length bs < 2 ^ 32) × Holds (words_in bs) bs
 
 pub kept_bytes : (ws bs : List ℕ) → length bs < 2 ^ 32 → Holds ws bs → KeptBytes bs
 kept_bytes ws bs small h = (small, rw (words_back ws bs h) h)
@@ -132,19 +128,19 @@ holds_put ws bs xs at n v h many inside some within bytes =
     let p = at % 8 in
     let w = get_or ws k 0 in
     holds_word ws bs (put_chunk at bs xs) k (with_part w p n v) h (length-put_chunk at bs xs) (omega (arith, h.size)) (part_fits w p n v (h.small k) inside)
-        (λ i small. elim (lt_tells i p) [
-            inl q ↦ get_or-put_chunk_below at bs xs (8 * k + i) 0 (omega (arith, q.1)) ∙ held_byte ws bs k i h small ∙ sym (put_byte_below w p n v i q.1)
-            | inr q ↦ elim (lt_tells i (p + n)) [
-                inl r ↦ let there : 8 * k + i ≡ at + (i - p) = omega (arith, q.1) in
-                let same : p + (i - p) ≡ i = omega (arith, q.1) in
-                ap (λ j. get_or (put_chunk at bs xs) j 0) there ∙ get_or-put_chunk_at at bs xs (i - p) 0 (omega (arith, many, q.1, r.1)) (omega (arith, many)) ∙ bytes (i - p) (omega (arith, q.1, r.1)) ∙ sym (put_byte_inside w p n v (i - p) (omega (arith, q.1, r.1))) ∙ ap (λ j. byte_of (with_part w p n v) j) same
-                | inr r ↦ get_or-put_chunk_above at bs xs (8 * k + i) 0 (omega (arith, many, r.1)) ∙ held_byte ws bs k i h small ∙ sym (put_byte_above w p n v i r.1)
-            ]
-        ])
-        (λ j far. elim (lt_tells j at) [
-            inl q ↦ get_or-put_chunk_below at bs xs j 0 q.1
-            | inr q ↦ get_or-put_chunk_above at bs xs j 0 (elim (lt_tells j (at + n)) [ inl r ↦ let near : j / 8 ≡ k = omega (arith, q.1, r.1) in absurd (far near) | inr r ↦ omega (arith, many, r.1) ])
-        ])
+    (λ i small. elim (lt_tells i p) [
+      | inl q ↦ get_or-put_chunk_below at bs xs (8 * k + i) 0 (omega (arith, q.1)) ∙ held_byte ws bs k i h small ∙ sym (put_byte_below w p n v i q.1)
+      | inr q ↦ elim (lt_tells i (p + n)) [
+        | inl r ↦ let there : 8 * k + i ≡ at + (i - p) = omega (arith, q.1) in
+            let same : p + (i - p) ≡ i = omega (arith, q.1) in
+            ap (λ j. get_or (put_chunk at bs xs) j 0) there ∙ get_or-put_chunk_at at bs xs (i - p) 0 (omega (arith, many, q.1, r.1)) (omega (arith, many)) ∙ bytes (i - p) (omega (arith, q.1, r.1)) ∙ sym (put_byte_inside w p n v (i - p) (omega (arith, q.1, r.1))) ∙ ap (λ j. byte_of (with_part w p n v) j) same
+        | inr r ↦ get_or-put_chunk_above at bs xs (8 * k + i) 0 (omega (arith, many, r.1)) ∙ held_byte ws bs k i h small ∙ sym (put_byte_above w p n v i r.1)
+      ]
+    ])
+    (λ j far. elim (lt_tells j at) [
+      | inl q ↦ get_or-put_chunk_below at bs xs j 0 q.1
+      | inr q ↦ get_or-put_chunk_above at bs xs j 0 (elim (lt_tells j (at + n)) [ inl r ↦ let near : j / 8 ≡ k = omega (arith, q.1, r.1) in absurd (far near) | inr r ↦ omega (arith, many, r.1) ])
+    ])
 
 -- each byte of a word as it is written
 word_bytes : (w i : ℕ) → i < 8 → get_or (to_le_bytes w64 w) i 0 ≡ byte_of w i
@@ -164,12 +160,12 @@ holds_put_word ws bs at w h aligned within fits =
     let xs = to_le_bytes w64 w in
     let k = at / 8 in
     holds_word ws bs (put_chunk at bs xs) k w h (length-put_chunk at bs xs) (omega (arith, h.size)) fits
-        (λ i small. let there : 8 * k + i ≡ at + i = omega (arith, aligned) in
-        ap (λ j. get_or (put_chunk at bs xs) j 0) there ∙ get_or-put_chunk_at at bs xs i 0 small within ∙ word_bytes w i small)
-        (λ j far. elim (lt_tells j at) [
-            inl q ↦ get_or-put_chunk_below at bs xs j 0 q.1
-            | inr q ↦ get_or-put_chunk_above at bs xs j 0 (elim (lt_tells j (at + 8)) [ inl r ↦ let near : j / 8 ≡ k = omega (arith, q.1, r.1, aligned) in absurd (far near) | inr r ↦ r.1 ])
-        ])
+    (λ i small. let there : 8 * k + i ≡ at + i = omega (arith, aligned) in
+    ap (λ j. get_or (put_chunk at bs xs) j 0) there ∙ get_or-put_chunk_at at bs xs i 0 small within ∙ word_bytes w i small)
+    (λ j far. elim (lt_tells j at) [
+      | inl q ↦ get_or-put_chunk_below at bs xs j 0 q.1
+      | inr q ↦ get_or-put_chunk_above at bs xs j 0 (elim (lt_tells j (at + 8)) [ inl r ↦ let near : j / 8 ≡ k = omega (arith, q.1, r.1, aligned) in absurd (far near) | inr r ↦ r.1 ])
+    ])
 
 pub pair_read : (ws bs : List ℕ) (at : ℕ) → Holds ws bs → at % 2 ≡ 0 → get_or bs at 0 + get_or bs (at + 1) 0 * 256 ≡ part_of (get_or ws (at / 8) 0) (at % 8) 2
 pair_read ws bs at h aligned =
@@ -205,20 +201,20 @@ holds_zero ws bs from to h order inside =
     let zs : List ℕ = replicate (8 * to - 8 * from) 0 in
     let many : length zs ≡ 8 * to - 8 * from = length-replicate {A = ℕ} (8 * to - 8 * from) 0 in
     record {
-        size = length-put_chunk (8 * from) bs zs ∙ h.size ∙ ap (λ n. 8 * n) (sym (length_filled from to 0 ws));
-        small = λ k. elim (run_tells from to k) [
-            inl p ↦ rw (filled_inside {A = ℕ} from to 0 ws k 0 p.0 p.1 (omega (arith, p.1))) (lit< tt)
-            | inr r ↦ rw (filled_rest {A = ℕ} from to 0 ws k 0 r) (h.small k)
-        ];
-        bytes_are = λ at. elim (run_tells from to (at / 8)) [
-            inl p ↦ let there : 8 * from + (at - 8 * from) ≡ at = omega (arith, p.0) in
+      size = length-put_chunk (8 * from) bs zs ∙ h.size ∙ ap (λ n. 8 * n) (sym (length_filled from to 0 ws));
+      small = λ k. elim (run_tells from to k) [
+        | inl p ↦ rw (filled_inside {A = ℕ} from to 0 ws k 0 p.0 p.1 (omega (arith, p.1))) (lit< tt)
+        | inr r ↦ rw (filled_rest {A = ℕ} from to 0 ws k 0 r) (h.small k)
+      ];
+      bytes_are = λ at. elim (run_tells from to (at / 8)) [
+        | inl p ↦ let there : 8 * from + (at - 8 * from) ≡ at = omega (arith, p.0) in
             ap (λ j. get_or (put_chunk (8 * from) bs zs) j 0) (sym there) ∙ get_or-put_chunk_at (8 * from) bs zs (at - 8 * from) 0 (omega (arith, many, p.0, p.1)) (omega (arith, many, h.size))
             ∙ same_everywhere {A = ℕ} (8 * to - 8 * from) (at - 8 * from) 0 ∙ sym (zero_byte (at % 8)) ∙ ap (λ x. byte_of x (at % 8)) (sym (filled_inside {A = ℕ} from to 0 ws (at / 8) 0 p.0 p.1 (omega (arith, p.1))))
-            | inr r ↦ elim r [
-                inl q ↦ get_or-put_chunk_below (8 * from) bs zs at 0 (omega (arith, q)) ∙ h.bytes_are at ∙ ap (λ x. byte_of x (at % 8)) (sym (filled_rest {A = ℕ} from to 0 ws (at / 8) 0 (inl q)))
-                | inr q ↦ get_or-put_chunk_above (8 * from) bs zs at 0 (omega (arith, many, q)) ∙ h.bytes_are at ∙ ap (λ x. byte_of x (at % 8)) (sym (filled_rest {A = ℕ} from to 0 ws (at / 8) 0 (inr q)))
-            ]
-        ];
+        | inr r ↦ elim r [
+          | inl q ↦ get_or-put_chunk_below (8 * from) bs zs at 0 (omega (arith, q)) ∙ h.bytes_are at ∙ ap (λ x. byte_of x (at % 8)) (sym (filled_rest {A = ℕ} from to 0 ws (at / 8) 0 (inl q)))
+          | inr q ↦ get_or-put_chunk_above (8 * from) bs zs at 0 (omega (arith, many, q)) ∙ h.bytes_are at ∙ ap (λ x. byte_of x (at % 8)) (sym (filled_rest {A = ℕ} from to 0 ws (at / 8) 0 (inr q)))
+        ]
+      ];
     }
 
 -- a plane of bytes closed over new bytes

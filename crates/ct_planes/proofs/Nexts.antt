@@ -1,11 +1,11 @@
 -- The least bit that is set, in words.
-use Rattle.std.proofs.Common.{ℕ, ◌≡◌, ◌+◌, ◌-◌, ◌*◌, ◌/◌, ◌%◌, ◌^◌, ◌<◌, ◌≤◌, ◌⊎◌, inl, inr, Bool, true, false, cond, List, length, get_or, refl, sym, ap, ◌∙◌, arith, subst}
+use Rattle.std.proofs.Common.{ℕ, ◌≡◌, ◌+◌, ◌-◌, ◌*◌, ◌/◌, ◌%◌, ◌^◌, ◌<◌, ◌≤◌, inl, inr, Bool, true, false, cond, List, length, get_or, refl, sym, ap, ◌∙◌, arith, subst}
 use Rattle.std.specs.Int.{bit_at, trailing_zeros, w64}
 use Rattle.std.proofs.Math.Nat.{div-div-eq-div-mul, div-le_self}
 use Rattle.std.proofs.lemmas.Nat.{pow-add}
 use Rattle.std.proofs.lemmas.Nat.Bits.{bit_at-zero, bit_at_above, bit_at-trailing_zeros}
 use Rattle.std.proofs.lemmas.List.{get_or_past}
-use Rattle.law_lists.proofs.Tests.{eq_tells, lt_tells}
+use Rattle.law_lists.proofs.Tests.{lt_tells}
 use Rattle.ct_planes.specs.Bits.{Spells, NoneSet, IsNextSet}
 use Rattle.ct_planes.specs.Scan.{ZerosTo}
 use Rattle.ct_planes.proofs.Spelling.{spelled_bit}
@@ -62,16 +62,16 @@ found flags ws from s some =
     let fits : x < 2 ^ 64 = omega (arith, less, s.small (from / 64)) in
     let lowest = bit_at-trailing_zeros w64 x some fits in
     let inside : from % 64 + at < 64 = elim (lt_tells (from % 64 + at) 64) [
-        inl p ↦ p.1
-        | inr p ↦ absurd (omega (arith, bit_at_above w 64 (from % 64 + at) (s.small (from / 64)) p.1, shifted w (from % 64) at, lowest.1))
+      | inl p ↦ p.1
+      | inr p ↦ absurd (omega (arith, bit_at_above w 64 (from % 64 + at) (s.small (from / 64)) p.1, shifted w (from % 64) at, lowest.1))
     ] in
     let set : get_or flags (from + at) false ≡ true = one_bit (get_or flags (from + at) false) (sym (bit_from flags ws from at s inside) ∙ lowest.1) in
     record {
-        later = omega arith;
-        inside = inside_from flags (from + at) set;
-        set = set;
-        least = λ k le lt. let there : from + (k - from) ≡ k = omega arith in
-        no_bit (get_or flags k false) (ap (λ j. cond (get_or flags j false) 1 0) (sym there) ∙ sym (bit_from flags ws from (k - from) s (omega (arith, inside))) ∙ lowest.2 (k - from) (omega arith));
+      later = omega arith;
+      inside = inside_from flags (from + at) set;
+      set = set;
+      least = λ k le lt. let there : from + (k - from) ≡ k = omega arith in
+          no_bit (get_or flags k false) (ap (λ j. cond (get_or flags j false) 1 0) (sym there) ∙ sym (bit_from flags ws from (k - from) s (omega (arith, inside))) ∙ lowest.2 (k - from) (omega arith));
     }
 
 -- the same at the first bit of a word, with nothing set before it
@@ -84,10 +84,10 @@ found_later flags ws from m s le clear some =
     let at : 64 * m + trailing_zeros w64 (get_or ws ((64 * m) / 64) 0 / 2 ^ ((64 * m) % 64)) ≡ 64 * m + trailing_zeros w64 (get_or ws m 0) = ap (λ x. 64 * m + trailing_zeros w64 x) whole in
     let there : IsNextSet flags (64 * m) (64 * m + trailing_zeros w64 (get_or ws m 0)) = subst (λ k. IsNextSet flags (64 * m) k) at next in
     record {
-        later = omega arith;
-        inside = there.inside;
-        set = there.set;
-        least = clear_both flags from (64 * m) (64 * m + trailing_zeros w64 (get_or ws m 0)) clear there.least;
+      later = omega arith;
+      inside = there.inside;
+      set = there.set;
+      least = clear_both flags from (64 * m) (64 * m + trailing_zeros w64 (get_or ws m 0)) clear there.least;
     }
 
 -- the words after the one in which a number lies

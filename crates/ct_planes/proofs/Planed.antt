@@ -1,5 +1,5 @@
 -- Four planes seen as a list of granules.
-use Rattle.std.proofs.Common.{ℕ, zero, suc, ◌≡◌, ◌+◌, ◌-◌, ◌*◌, ◌/◌, ◌%◌, ◌^◌, ◌<◌, ◌≤◌, ◌⊎◌, inl, inr, Bool, true, false, List, [], ◌∷◌, length, map, get_or, replicate, refl, sym, ap, ◌∙◌, arith, subst}
+use Rattle.std.proofs.Common.{ℕ, zero, suc, ◌≡◌, ◌+◌, ◌*◌, ◌/◌, ◌%◌, ◌<◌, ◌≤◌, ◌⊎◌, inl, inr, Bool, false, List, [], ◌∷◌, length, map, get_or, replicate, refl, sym, ap, ◌∙◌, arith}
 use Rattle.std.proofs.Math.ListN.{set}
 use Rattle.std.proofs.lemmas.List.{length-set}
 use Rattle.std.specs.List.{range_with_len}
@@ -9,7 +9,7 @@ use Rattle.ct_planes.specs.Lent.{bytes_of}
 use Rattle.def_words.specs.declared.Shadow.{Shadow}
 use Rattle.def_memory.specs.declared.Granule.{Granule}
 use Rattle.def_memory.specs.Granules.{nothing, granule_at, blank}
-use Rattle.def_memory.specs.Ranges.{IsRange, IsZeroed, IsMarked, IsNextTagged, NoneTagged, Inside, Outside, is_tagged}
+use Rattle.def_memory.specs.Ranges.{IsRange, IsZeroed, IsMarked, IsNextTagged, NoneTagged, is_tagged}
 use Rattle.ct_planes.specs.Bits.{NoneSet, IsNextSet}
 use Rattle.ct_planes.specs.Fills.{filled}
 use Rattle.ct_planes.specs.View.{granules_of, Fit, no_shadow}
@@ -93,18 +93,18 @@ marks_of ws ts ss ms f = marks_from ws ts ss ms f.tags f.shadows f.marks
 -- what keeps the planes fitting
 pub fit_set : (ws : List ℕ) (ts : List Bool) (ss : List Shadow) (ms : List Bool) (i w : ℕ) (t : Bool) (s : Shadow) → Fit ws ts ss ms → Fit (set ws i w) (set ts i t) (set ss i s) ms
 fit_set ws ts ss ms i w t s f = record {
-    tags = length-set ts i t ∙ f.tags ∙ sym (length-set ws i w);
-    shadows = length-set ss i s ∙ f.shadows ∙ sym (length-set ws i w);
-    marks = f.marks ∙ sym (length-set ws i w);
-    small = omega (arith, f.small, length-set ws i w);
+  tags = length-set ts i t ∙ f.tags ∙ sym (length-set ws i w);
+  shadows = length-set ss i s ∙ f.shadows ∙ sym (length-set ws i w);
+  marks = f.marks ∙ sym (length-set ws i w);
+  small = omega (arith, f.small, length-set ws i w);
 }
 
 pub fit_zeroed : (ws : List ℕ) (ts : List Bool) (ss : List Shadow) (ms : List Bool) (from to : ℕ) → Fit ws ts ss ms → Fit (filled from to 0 ws) (filled from to false ts) (filled from to no_shadow ss) ms
 fit_zeroed ws ts ss ms from to f = record {
-    tags = length_filled from to false ts ∙ f.tags ∙ sym (length_filled {A = ℕ} from to 0 ws);
-    shadows = length_filled from to no_shadow ss ∙ f.shadows ∙ sym (length_filled {A = ℕ} from to 0 ws);
-    marks = f.marks ∙ sym (length_filled {A = ℕ} from to 0 ws);
-    small = omega (arith, f.small, length_filled {A = ℕ} from to 0 ws);
+  tags = length_filled from to false ts ∙ f.tags ∙ sym (length_filled {A = ℕ} from to 0 ws);
+  shadows = length_filled from to no_shadow ss ∙ f.shadows ∙ sym (length_filled {A = ℕ} from to 0 ws);
+  marks = f.marks ∙ sym (length_filled {A = ℕ} from to 0 ws);
+  small = omega (arith, f.small, length_filled {A = ℕ} from to 0 ws);
 }
 
 pub fit_marked : (ws : List ℕ) (ts : List Bool) (ss : List Shadow) (ms : List Bool) (from to : ℕ) (on : Bool) → Fit ws ts ss ms → Fit ws ts ss (filled from to on ms)
@@ -117,19 +117,19 @@ zeroed_is ws ts ss ms from to f r =
     let b = to / 8 in
     let new = fit_zeroed ws ts ss ms a b f in
     record {
-        size = count_of (filled a b 0 ws) (filled a b false ts) (filled a b no_shadow ss) ms new ∙ length_filled {A = ℕ} a b 0 ws ∙ sym (count_of ws ts ss ms f);
-        zero = λ k within.
-            let le : a ≤ k = omega (arith, within.0) in
-            let lt : k < b = omega (arith, within.1, r.finish) in
-            let few : k < length ws = omega (arith, within.1, r.inside) in
-            granule_of (filled a b 0 ws) (filled a b false ts) (filled a b no_shadow ss) ms k new
-            ∙ (λ i. granule (filled_inside {A = ℕ} a b 0 ws k 0 le lt few i) (filled_inside a b false ts k false le lt (omega (arith, few, f.tags)) i) (filled_inside a b no_shadow ss k no_shadow le lt (omega (arith, few, f.shadows)) i) (get_or ms k false))
-            ∙ ap blank (sym (granule_of ws ts ss ms k f));
-        rest = λ k out.
-            let away : (k < a) ⊎ (b ≤ k) = elim out [ inl q ↦ inl (omega (arith, q, r.start)) | inr q ↦ inr (omega (arith, q)) ] in
-            granule_of (filled a b 0 ws) (filled a b false ts) (filled a b no_shadow ss) ms k new
-            ∙ (λ i. granule (filled_rest {A = ℕ} a b 0 ws k 0 away i) (filled_rest a b false ts k false away i) (filled_rest a b no_shadow ss k no_shadow away i) (get_or ms k false))
-            ∙ sym (granule_of ws ts ss ms k f);
+      size = count_of (filled a b 0 ws) (filled a b false ts) (filled a b no_shadow ss) ms new ∙ length_filled {A = ℕ} a b 0 ws ∙ sym (count_of ws ts ss ms f);
+      zero = λ k within.
+          let le : a ≤ k = omega (arith, within.0) in
+          let lt : k < b = omega (arith, within.1, r.finish) in
+          let few : k < length ws = omega (arith, within.1, r.inside) in
+          granule_of (filled a b 0 ws) (filled a b false ts) (filled a b no_shadow ss) ms k new
+          ∙ (λ i. granule (filled_inside {A = ℕ} a b 0 ws k 0 le lt few i) (filled_inside a b false ts k false le lt (omega (arith, few, f.tags)) i) (filled_inside a b no_shadow ss k no_shadow le lt (omega (arith, few, f.shadows)) i) (get_or ms k false))
+          ∙ ap blank (sym (granule_of ws ts ss ms k f));
+      rest = λ k out.
+          let away : (k < a) ⊎ (b ≤ k) = elim out [ inl q ↦ inl (omega (arith, q, r.start)) | inr q ↦ inr (omega (arith, q)) ] in
+          granule_of (filled a b 0 ws) (filled a b false ts) (filled a b no_shadow ss) ms k new
+          ∙ (λ i. granule (filled_rest {A = ℕ} a b 0 ws k 0 away i) (filled_rest a b false ts k false away i) (filled_rest a b no_shadow ss k no_shadow away i) (get_or ms k false))
+          ∙ sym (granule_of ws ts ss ms k f);
     }
 
 pub marked_is : (ws : List ℕ) (ts : List Bool) (ss : List Shadow) (ms : List Bool) (from to : ℕ) (on : Bool) → Fit ws ts ss ms → IsRange (8 * length ws) from to → IsMarked from to on (granules_of ws ts ss ms) (granules_of ws ts ss (filled (from / 8) (to / 8) on ms))
@@ -138,16 +138,16 @@ marked_is ws ts ss ms from to on f r =
     let b = to / 8 in
     let new = fit_marked ws ts ss ms a b on f in
     record {
-        size = count_of ws ts ss (filled a b on ms) new ∙ sym (count_of ws ts ss ms f);
-        marks = λ k few within.
-            granule_of ws ts ss (filled a b on ms) k new
-            ∙ ap (λ m. granule (get_or ws k 0) (get_or ts k false) (get_or ss k no_shadow) m) (filled_inside a b on ms k false (omega (arith, within.0)) (omega (arith, within.1, r.finish)) (omega (arith, within.1, r.inside, f.marks)))
-            ∙ ap {A = Granule} (λ g. record g { mark = on }) (sym (granule_of ws ts ss ms k f));
-        rest = λ k out.
-            let away : (k < a) ⊎ (b ≤ k) = elim out [ inl q ↦ inl (omega (arith, q, r.start)) | inr q ↦ inr (omega (arith, q)) ] in
-            granule_of ws ts ss (filled a b on ms) k new
-            ∙ ap (λ m. granule (get_or ws k 0) (get_or ts k false) (get_or ss k no_shadow) m) (filled_rest a b on ms k false away)
-            ∙ sym (granule_of ws ts ss ms k f);
+      size = count_of ws ts ss (filled a b on ms) new ∙ sym (count_of ws ts ss ms f);
+      marks = λ k few within.
+          granule_of ws ts ss (filled a b on ms) k new
+          ∙ ap (λ m. granule (get_or ws k 0) (get_or ts k false) (get_or ss k no_shadow) m) (filled_inside a b on ms k false (omega (arith, within.0)) (omega (arith, within.1, r.finish)) (omega (arith, within.1, r.inside, f.marks)))
+          ∙ ap {A = Granule} (λ g. record g { mark = on }) (sym (granule_of ws ts ss ms k f));
+      rest = λ k out.
+          let away : (k < a) ⊎ (b ≤ k) = elim out [ inl q ↦ inl (omega (arith, q, r.start)) | inr q ↦ inr (omega (arith, q)) ] in
+          granule_of ws ts ss (filled a b on ms) k new
+          ∙ ap (λ m. granule (get_or ws k 0) (get_or ts k false) (get_or ss k no_shadow) m) (filled_rest a b on ms k false away)
+          ∙ sym (granule_of ws ts ss ms k f);
     }
 
 pub tag_of : (ws : List ℕ) (ts : List Bool) (ss : List Shadow) (ms : List Bool) (k : ℕ) → Fit ws ts ss ms → is_tagged (granules_of ws ts ss ms) k ≡ get_or ts k false
@@ -158,11 +158,11 @@ none_tagged ws ts ss ms from f none k le = tag_of ws ts ss ms k f ∙ none k (om
 
 pub next_tagged_is : (ws : List ℕ) (ts : List Bool) (ss : List Shadow) (ms : List Bool) (from i : ℕ) → Fit ws ts ss ms → IsNextSet ts ((from + 7) / 8) i → IsNextTagged (granules_of ws ts ss ms) from (8 * i)
 next_tagged_is ws ts ss ms from i f next = record {
-    aligned = omega arith;
-    later = omega (arith, next.later);
-    inside = omega (arith, next.inside, f.tags, count_of ws ts ss ms f);
-    tagged = let same : 8 * i / 8 ≡ i = omega arith in ap (λ k. is_tagged (granules_of ws ts ss ms) k) same ∙ tag_of ws ts ss ms i f ∙ next.set;
-    least = λ k le lt. tag_of ws ts ss ms k f ∙ next.least k (omega (arith, le)) (omega (arith, lt));
+  aligned = omega arith;
+  later = omega (arith, next.later);
+  inside = omega (arith, next.inside, f.tags, count_of ws ts ss ms f);
+  tagged = let same : 8 * i / 8 ≡ i = omega arith in ap (λ k. is_tagged (granules_of ws ts ss ms) k) same ∙ tag_of ws ts ss ms i f ∙ next.set;
+  least = λ k le lt. tag_of ws ts ss ms k f ∙ next.least k (omega (arith, le)) (omega (arith, lt));
 }
 
 -- of a list of granules that planes are seen as
@@ -179,4 +179,4 @@ bytes_seen ws ts ss ms f =
     let held : ℕ → ℕ = λ at. byte_of (get_or ws (at / 8) 0) (at % 8) in
     let bs = map held (range_with_len 0 (8 * length ws)) in
     fill_by_all (byte_at gs) bs (8 * length gs) 0 (length-map-range_with_len held 0 (8 * length ws) ∙ ap (λ n. 8 * n) (sym (count_of ws ts ss ms f)))
-        (λ k lt. get_or-map-range_with_len held 0 (8 * length ws) k k 0 (omega (arith, lt, count_of ws ts ss ms f)) (omega arith) ∙ ap (λ (g : Granule). byte_of g.cap.word (k % 8)) (sym (granule_of ws ts ss ms (k / 8) f)))
+    (λ k lt. get_or-map-range_with_len held 0 (8 * length ws) k k 0 (omega (arith, lt, count_of ws ts ss ms f)) (omega arith) ∙ ap (λ (g : Granule). byte_of g.cap.word (k % 8)) (sym (granule_of ws ts ss ms (k / 8) f)))

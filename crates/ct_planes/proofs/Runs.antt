@@ -1,12 +1,12 @@
 -- A run of bits written word by word.
-use Rattle.std.proofs.Common.{ℕ, ◌≡◌, ◌+◌, ◌-◌, ◌*◌, ◌/◌, ◌%◌, ◌^◌, ◌<◌, ◌≤◌, ◌⊎◌, inl, inr, min, max, Bool, true, false, cond, ◌&&◌, nat_le, nat_lt, List, length, get_or, refl, sym, ap, ◌∙◌, arith, lit<}
+use Rattle.std.proofs.Common.{ℕ, ◌≡◌, ◌+◌, ◌-◌, ◌*◌, ◌/◌, ◌^◌, ◌<◌, ◌≤◌, ◌⊎◌, inl, inr, min, max, Bool, true, false, cond, ◌&&◌, nat_le, nat_lt, List, length, get_or, refl, sym, ap, ◌∙◌, arith, lit<}
 use Rattle.std.proofs.Math.ListN.{set}
 use Rattle.std.proofs.Math.Nat.{pow-le-pow_right}
 use Rattle.std.proofs.lemmas.Nat.{pow_pos}
 use Rattle.std.specs.Int.{bit_at, bit_not, w64}
 use Rattle.std.specs.Int.Bits.{bit_and, bit_or}
 use Rattle.std.proofs.lemmas.Nat.Bits.{bit_at_and, bit_at_or, bit_at_not, bit_at-lt, bit_at_mask_inside, bit_at_mask_below, bit_at_mask_above}
-use Rattle.law_lists.proofs.Tests.{eq_tells, lt_tells, le_tells}
+use Rattle.law_lists.proofs.Tests.{lt_tells, le_tells}
 use Rattle.ct_planes.specs.Bits.{Spells}
 use Rattle.ct_planes.specs.Fills.{filled}
 use Rattle.ct_planes.proofs.Fillings.{filled_inside, filled_rest, filled_from, length_filled, in_run, out_of_run}
@@ -18,11 +18,11 @@ run_tells from to k = elim (le_tells from k) [ inl p ↦ elim (lt_tells k to) [ 
 
 mask_bit : (lo hi i : ℕ) → bit_at (2 ^ hi - 2 ^ lo) i ≡ cond (nat_le lo i && nat_lt i hi) 1 0
 mask_bit lo hi i = elim (run_tells lo hi i) [
-    inl p ↦ bit_at_mask_inside lo hi i p.0 p.1 ∙ sym (ap (λ b. cond b 1 0) (in_run lo hi i p.0 p.1))
-    | inr r ↦ elim r [
-        inl q ↦ bit_at_mask_below lo hi i q ∙ sym (ap (λ b. cond b 1 0) (out_of_run lo hi i (inl q)))
-        | inr q ↦ bit_at_mask_above lo hi i q ∙ sym (ap (λ b. cond b 1 0) (out_of_run lo hi i (inr q)))
-    ]
+  | inl p ↦ bit_at_mask_inside lo hi i p.0 p.1 ∙ sym (ap (λ b. cond b 1 0) (in_run lo hi i p.0 p.1))
+  | inr r ↦ elim r [
+    | inl q ↦ bit_at_mask_below lo hi i q ∙ sym (ap (λ b. cond b 1 0) (out_of_run lo hi i (inl q)))
+    | inr q ↦ bit_at_mask_above lo hi i q ∙ sym (ap (λ b. cond b 1 0) (out_of_run lo hi i (inr q)))
+  ]
 ]
 
 above_bit : (b : Bool) (n : ℕ) → n < 2 → max n (cond b 1 0) ≡ cond b 1 n
@@ -55,17 +55,17 @@ spells_run flags ws from to n w on s inside within fits bits =
     let lo = min (from - 64 * n) 64 in
     let hi = min (to - 64 * n) 64 in
     spells_word old new ws n w s (length_filled from (min to (64 * (n + 1))) on flags ∙ sym (length_filled from (min to (64 * n)) on flags)) within fits
-        (λ j small. elim (run_tells from to (64 * n + j)) [
-            inl p ↦ bits j small ∙ ap (λ b. cond b (cond on 1 0) (bit_at (get_or ws n 0) j)) (in_run lo hi j (omega (arith, p.0)) (omega (arith, p.1)))
-            ∙ ap (λ b. cond b 1 0) (sym (filled_inside from (min to (64 * (n + 1))) on flags (64 * n + j) false p.0 (omega (arith, p.1)) (omega (arith, p.1))))
-            | inr r ↦ bits j small ∙ ap (λ b. cond b (cond on 1 0) (bit_at (get_or ws n 0) j)) (out_of_run lo hi j (elim r [ inl q ↦ inl (omega (arith, q)) | inr q ↦ inr (omega (arith, q)) ]))
-            ∙ spelled_bit old ws n j s small
-            ∙ ap (λ b. cond b 1 0) (filled_rest from (min to (64 * n)) on flags (64 * n + j) false (inr (omega arith)) ∙ sym (filled_rest from (min to (64 * (n + 1))) on flags (64 * n + j) false (elim r [ inl q ↦ inl q | inr q ↦ inr (omega (arith, q)) ])))
-        ])
-        (λ k far. elim (run_tells from (min to (64 * n)) k) [
-            inl p ↦ filled_inside from (min to (64 * (n + 1))) on flags k false p.0 (omega (arith, p.1)) (omega (arith, p.1)) ∙ sym (filled_inside from (min to (64 * n)) on flags k false p.0 p.1 (omega (arith, p.1)))
-            | inr r ↦ filled_rest from (min to (64 * (n + 1))) on flags k false (further from to n k far r) ∙ sym (filled_rest from (min to (64 * n)) on flags k false r)
-        ])
+    (λ j small. elim (run_tells from to (64 * n + j)) [
+      | inl p ↦ bits j small ∙ ap (λ b. cond b (cond on 1 0) (bit_at (get_or ws n 0) j)) (in_run lo hi j (omega (arith, p.0)) (omega (arith, p.1)))
+          ∙ ap (λ b. cond b 1 0) (sym (filled_inside from (min to (64 * (n + 1))) on flags (64 * n + j) false p.0 (omega (arith, p.1)) (omega (arith, p.1))))
+      | inr r ↦ bits j small ∙ ap (λ b. cond b (cond on 1 0) (bit_at (get_or ws n 0) j)) (out_of_run lo hi j (elim r [ inl q ↦ inl (omega (arith, q)) | inr q ↦ inr (omega (arith, q)) ]))
+          ∙ spelled_bit old ws n j s small
+          ∙ ap (λ b. cond b 1 0) (filled_rest from (min to (64 * n)) on flags (64 * n + j) false (inr (omega arith)) ∙ sym (filled_rest from (min to (64 * (n + 1))) on flags (64 * n + j) false (elim r [ inl q ↦ inl q | inr q ↦ inr (omega (arith, q)) ])))
+    ])
+    (λ k far. elim (run_tells from (min to (64 * n)) k) [
+      | inl p ↦ filled_inside from (min to (64 * (n + 1))) on flags k false p.0 (omega (arith, p.1)) (omega (arith, p.1)) ∙ sym (filled_inside from (min to (64 * n)) on flags k false p.0 p.1 (omega (arith, p.1)))
+      | inr r ↦ filled_rest from (min to (64 * (n + 1))) on flags k false (further from to n k far r) ∙ sym (filled_rest from (min to (64 * n)) on flags k false r)
+    ])
   where
     further : (from to n k : ℕ) → (k / 64 ≡ n → ⊥) → (k < from) ⊎ (min to (64 * n) ≤ k) → (k < from) ⊎ (min to (64 * (n + 1)) ≤ k)
     further from to n k far (inl q) = inl q

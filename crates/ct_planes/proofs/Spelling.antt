@@ -1,16 +1,14 @@
 -- Bits and the words that spell them.
-use Rattle.std.proofs.Common.{ℕ, zero, suc, ◌≡◌, ◌+◌, ◌-◌, ◌*◌, ◌/◌, ◌%◌, ◌^◌, ◌<◌, ◌≤◌, ◌⊎◌, inl, inr, Bool, true, false, cond, nat_eq, List, [], ◌∷◌, length, map, take, drop, get_or, replicate, refl, sym, ap, ◌∙◌, arith, lit<, subst}
+use Rattle.std.proofs.Common.{ℕ, zero, suc, ◌≡◌, ◌+◌, ◌*◌, ◌/◌, ◌%◌, ◌^◌, ◌<◌, ◌≤◌, inl, inr, Bool, true, false, cond, nat_eq, List, length, take, drop, get_or, replicate, refl, sym, ap, ◌∙◌, arith, lit<, subst}
 use Rattle.std.proofs.Math.ListN.{set}
 use Rattle.std.proofs.Math.Nat.{pow-le-pow_right}
-use Rattle.std.specs.List.{range_with_len}
 use Rattle.std.specs.Int.{bit_at}
-use Rattle.std.specs.Simd.Lanes.{mask_l}
 use Rattle.std.proofs.lemmas.Simd.{bit_mask_l, mask_l-lt}
 use Rattle.std.proofs.lemmas.Nat.Bits.{same_from_bits_below, bit_at-zero}
-use Rattle.std.proofs.lemmas.List.{length-take, length-set, length-replicate, get_or-take, get_or-drop, get_or-set_same, get_or-set_other, get_or-replicate, get_or_past}
+use Rattle.std.proofs.lemmas.List.{length-take, length-set, length-replicate, get_or-take, get_or-drop, get_or-set_same, get_or-set_other}
 use Rattle.std.proofs.lemmas.List.FromFn.{fill_by_all, length-map-range_with_len}
-use Rattle.law_lists.proofs.Tests.{eq_tells, lt_tells}
-use Rattle.ct_planes.specs.Bits.{word_of, words_of, flag_in, flags_of, Spells}
+use Rattle.law_lists.proofs.Tests.{eq_tells}
+use Rattle.ct_planes.specs.Bits.{word_of, words_of, flag_in, flags_of, Spells, Kept}
 
 word_bit : (bits : List Bool) (n i : ℕ) → i < 64 → bit_at (word_of bits n) i ≡ cond (get_or bits (64 * n + i) false) 1 0
 word_bit bits n i small =
@@ -58,41 +56,37 @@ same_everywhere (suc n) (suc k) x = same_everywhere n k x
 
 pub spells_new : (n : ℕ) → Spells (replicate n false) (replicate ((n + 63) / 64) 0)
 spells_new n = record {
-    size = length-replicate ((n + 63) / 64) 0 ∙ ap (λ k. (k + 63) / 64) (sym (length-replicate n false));
-    small = λ k. rw (same_everywhere {A = ℕ} ((n + 63) / 64) k 0) (lit< tt);
-    bits = λ i. rw (same_everywhere {A = ℕ} ((n + 63) / 64) (i / 64) 0, same_everywhere n i false) (bit_at-zero (i % 64));
+  size = length-replicate ((n + 63) / 64) 0 ∙ ap (λ k. (k + 63) / 64) (sym (length-replicate n false));
+  small = λ k. rw (same_everywhere {A = ℕ} ((n + 63) / 64) k 0) (lit< tt);
+  bits = λ i. rw (same_everywhere {A = ℕ} ((n + 63) / 64) (i / 64) 0, same_everywhere n i false) (bit_at-zero (i % 64));
 }
 
 -- a word written anew, where no bit of another word changes
 pub spells_word : (bits cs : List Bool) (ws : List ℕ) (n w : ℕ) → Spells bits ws → length cs ≡ length bits → n < length ws → w < 2 ^ 64 → ((j : ℕ) → j < 64 → bit_at w j ≡ cond (get_or cs (64 * n + j) false) 1 0) → ((k : ℕ) → (k / 64 ≡ n → ⊥) → get_or cs k false ≡ get_or bits k false) → Spells cs (set ws n w)
 spells_word bits cs ws n w s same within fits here rest = record {
-    size = length-set ws n w ∙ s.size ∙ ap (λ k. (k + 63) / 64) (sym same);
-    small = λ k. elim (eq_tells k n) [
-        inl p ↦ subst (λ q. get_or (set ws n w) q 0 < 2 ^ 64) (sym p.1) (rw (get_or-set_same ws n w 0 within) fits)
-        | inr p ↦ rw (get_or-set_other ws n k w 0 p.1) (s.small k)
-    ];
-    bits = λ i. elim (eq_tells (i / 64) n) [
-        inl p ↦ let at : 64 * n + i % 64 ≡ i = omega (arith, p.1) in
+  size = length-set ws n w ∙ s.size ∙ ap (λ k. (k + 63) / 64) (sym same);
+  small = λ k. elim (eq_tells k n) [
+    | inl p ↦ subst (λ q. get_or (set ws n w) q 0 < 2 ^ 64) (sym p.1) (rw (get_or-set_same ws n w 0 within) fits)
+    | inr p ↦ rw (get_or-set_other ws n k w 0 p.1) (s.small k)
+  ];
+  bits = λ i. elim (eq_tells (i / 64) n) [
+    | inl p ↦ let at : 64 * n + i % 64 ≡ i = omega (arith, p.1) in
         ap (λ q. bit_at (get_or (set ws n w) q 0) (i % 64)) p.1 ∙ ap (λ x. bit_at x (i % 64)) (get_or-set_same ws n w 0 within) ∙ here (i % 64) (omega arith) ∙ ap (λ k. cond (get_or cs k false) 1 0) at
-        | inr p ↦ ap (λ x. bit_at x (i % 64)) (get_or-set_other ws n (i / 64) w 0 p.1) ∙ s.bits i ∙ ap (λ b. cond b 1 0) (sym (rest i p.1))
-    ];
+    | inr p ↦ ap (λ x. bit_at x (i % 64)) (get_or-set_other ws n (i / 64) w 0 p.1) ∙ s.bits i ∙ ap (λ b. cond b 1 0) (sym (rest i p.1))
+  ];
 }
 
 -- one bit written anew
 pub spells_put : (bits : List Bool) (ws : List ℕ) (i w : ℕ) (on : Bool) → Spells bits ws → i < length bits → i / 64 < length ws → w < 2 ^ 64 → bit_at w (i % 64) ≡ cond on 1 0 → ((j : ℕ) → j < 64 → (j ≡ i % 64 → ⊥) → bit_at w j ≡ bit_at (get_or ws (i / 64) 0) j) → Spells (set bits i on) (set ws (i / 64) w)
 spells_put bits ws i w on s inside within fits same other =
     spells_word bits (set bits i on) ws (i / 64) w s (length-set bits i on) within fits
-        (λ j small. elim (eq_tells j (i % 64)) [
-            inl p ↦ let at : i ≡ 64 * (i / 64) + j = omega (arith, p.1) in
-            ap (λ q. bit_at w q) p.1 ∙ same ∙ ap (λ b. cond b 1 0) (sym (subst (λ k. get_or (set bits i on) k false ≡ on) at (get_or-set_same bits i on false inside)))
-            | inr p ↦ let apart : 64 * (i / 64) + j ≡ i → ⊥ = λ e. p.1 (omega (arith, e)) in
-            other j small p.1 ∙ spelled_bit bits ws (i / 64) j s small ∙ ap (λ b. cond b 1 0) (sym (get_or-set_other bits i (64 * (i / 64) + j) on false apart))
-        ])
-        (λ k far. get_or-set_other bits i k on false (λ e. far (ap (λ q. q / 64) e)))
-
--- what a plane of bits keeps of its words
-abbrev pub Kept : ℕ → List ℕ → Type 0
-Kept count ws = (count < 2 ^ 29) × Spells (flags_of count ws) ws
+    (λ j small. elim (eq_tells j (i % 64)) [
+      | inl p ↦ let at : i ≡ 64 * (i / 64) + j = omega (arith, p.1) in
+          ap (λ q. bit_at w q) p.1 ∙ same ∙ ap (λ b. cond b 1 0) (sym (subst (λ k. get_or (set bits i on) k false ≡ on) at (get_or-set_same bits i on false inside)))
+      | inr p ↦ let apart : 64 * (i / 64) + j ≡ i → ⊥ = λ e. p.1 (omega (arith, e)) in
+          other j small p.1 ∙ spelled_bit bits ws (i / 64) j s small ∙ ap (λ b. cond b 1 0) (sym (get_or-set_other bits i (64 * (i / 64) + j) on false apart))
+    ])
+    (λ k far. get_or-set_other bits i k on false (λ e. far (ap (λ q. q / 64) e)))
 
 pub kept : (count : ℕ) (ws : List ℕ) (bits : List Bool) → count < 2 ^ 29 → length bits ≡ count → Spells bits ws → Kept count ws
 kept count ws bits small size s =

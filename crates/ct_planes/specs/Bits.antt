@@ -24,7 +24,12 @@ flags_of count words = map (flag_in words) (range_with_len 0 count)
 pub record Spells (flags : List Bool) (words : List ℕ) : Type 0 where
   pub size : length words ≡ (length flags + 63) / 64
   pub small : (n : ℕ) → slice_index_or words n 0 < 2 ^ 64
-  pub bits : (i : ℕ) → bit_at (slice_index_or words (i / 64) 0) (i % 64) ≡ cond (slice_index_or flags i false) 1 0
+  pub bits : (i : ℕ)
+      → bit_at (slice_index_or words (i / 64) 0) (i % 64) ≡ cond (slice_index_or flags i false) 1 0
+
+-- what a plane of bits keeps of its words
+abbrev pub Kept : ℕ → List ℕ → Type 0
+Kept count words = (count < 2 ^ 29) × Spells (flags_of count words) words
 
 -- no bit at or after this number is set
 abbrev pub NoneSet : List Bool → ℕ → Type 0

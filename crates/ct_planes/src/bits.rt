@@ -17,14 +17,14 @@ pub(crate) struct Bits {
 }
 
 impl Model for Bits {
-    ghost use Rattle.std.specs.Prelude.{Bool, List, length, ◌<◌, ◌^◌};
-    ghost use Rattle.ct_planes.specs.Bits.{flags_of, Spells};
+    ghost use Rattle.std.specs.Prelude.{Bool, List};
+    ghost use Rattle.ct_planes.specs.Bits.{flags_of, Kept};
 
     ghost Value = { List Bool };
 
     ghost view = { λ b. flags_of b.count b.words.items };
 
-    ghost invariant = { λ b. (b.count < 2 ^ 29) × Spells (flags_of b.count b.words.items) b.words.items };
+    ghost invariant = { λ b. Kept b.count b.words.items };
 }
 
 impl Bits {

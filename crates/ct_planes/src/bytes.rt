@@ -4,7 +4,7 @@ ghost use Rattle.std.specs.Prelude.{◌≡◌, ◌+◌, ◌/◌, ◌%◌, ◌*�
 ghost use Rattle.std.specs.List.{range_with_len};
 ghost use Rattle.std.specs.Simd.Lanes.{put_chunk};
 ghost use Rattle.def_memory.specs.Accesses.{IsAccess, byte_of, part_of, with_part};
-ghost use Rattle.ct_planes.specs.Bytes.{Holds};
+ghost use Rattle.ct_planes.specs.Bytes.{Holds, held_bytes, part_at, part_written};
 ghost use Rattle.ct_planes.specs.Fills.{filled};
 
 use def_refusals::NoMemory;
@@ -18,20 +18,20 @@ pub(crate) struct Bytes {
 }
 
 impl Model for Bytes {
-    ghost use Rattle.std.specs.Prelude.{ℕ, List, length, ◌<◌, ◌^◌};
-    ghost use Rattle.ct_planes.specs.Bytes.{words_in, Holds};
+    ghost use Rattle.std.specs.Prelude.{ℕ, List};
+    ghost use Rattle.ct_planes.specs.Bytes.{words_in, KeptBytes};
 
     ghost Value = { List ℕ };
 
     ghost view = { λ b. words_in b.bytes.items };
 
-    ghost invariant = { λ b. (length b.bytes.items < 2 ^ 32) × Holds (words_in b.bytes.items) b.bytes.items };
+    ghost invariant = { λ b. KeptBytes b.bytes.items };
 }
 
 /// One, two or four bytes as a number.
 fn load_in(bytes: &[u8], at: usize, width: u32) -> u32
     requires { IsAccess (length bytes.now) at width }
-    ensures { (words : List ℕ) → Holds words bytes.now → result ≡ part_of (slice_index_or words (at / 8) 0) (at % 8) width }
+    ensures { (words : List ℕ) → Holds words bytes.now → result ≡ part_at words at width }
 {
     if width == 1 {
         return bytes[at] as u32;
@@ -55,7 +55,8 @@ fn put_bytes(bytes: &mut [u8], at: usize, new: &[u8])
 fn store_in(bytes: &mut [u8], at: usize, width: u32, value: u32)
     requires { IsAccess (length bytes.old) at width }
     ensures size { length bytes.new ≡ length bytes.old }
-    ensures holds { (words : List ℕ) → Holds words bytes.old → Holds (slice_set words (at / 8) (with_part (slice_index_or words (at / 8) 0) (at % 8) width value)) bytes.new }
+    ensures holds { (words : List ℕ)
+        → Holds words bytes.old → Holds (part_written words at width value) bytes.new }
 {
     let low = value.to_le_bytes();
     if width == 1 {
@@ -70,7 +71,8 @@ fn store_in(bytes: &mut [u8], at: usize, width: u32, value: u32)
 /// Eight bytes as a number.
 fn word_in(bytes: &[u8], at: usize) -> u64
     requires { at + 8 ≤ length bytes.now }
-    ensures { (words : List ℕ) → Holds words bytes.now → at % 8 ≡ 0 → result ≡ slice_index_or words (at / 8) 0 }
+    ensures { (words : List ℕ)
+        → Holds words bytes.now → at % 8 ≡ 0 → result ≡ slice_index_or words (at / 8) 0 }
 {
     u64::from_le_bytes([
         bytes[at],
@@ -88,7 +90,8 @@ fn word_in(bytes: &[u8], at: usize) -> u64
 fn put_word_in(bytes: &mut [u8], at: usize, word: u64)
     requires { at + 8 ≤ length bytes.old }
     ensures size { length bytes.new ≡ length bytes.old }
-    ensures holds { (words : List ℕ) → Holds words bytes.old → at % 8 ≡ 0 → Holds (slice_set words (at / 8) word) bytes.new }
+    ensures holds { (words : List ℕ)
+        → Holds words bytes.old → at % 8 ≡ 0 → Holds (slice_set words (at / 8) word) bytes.new }
 {
     put_bytes(bytes, at, &word.to_le_bytes());
 }
@@ -98,7 +101,8 @@ fn zero_in(bytes: &mut [u8], from: usize, to: usize)
     requires order { from ≤ to }
     requires inside { 8 * to ≤ length bytes.old }
     ensures size { length bytes.new ≡ length bytes.old }
-    ensures holds { (words : List ℕ) → Holds words bytes.old → Holds (filled from to 0 words) bytes.new }
+    ensures holds { (words : List ℕ)
+        → Holds words bytes.old → Holds (filled from to 0 words) bytes.new }
 {
     bytes[8 * from..8 * to].fill(0);
 }
@@ -122,7 +126,7 @@ impl Bytes {
 
     /// The bytes of all words, in order.
     pub(crate) fn bytes(&self) -> &[u8]
-        ensures { result.now ≡ map (λ at. byte_of (slice_index_or self.now (at / 8) 0) (at % 8)) (range_with_len 0 (8 * length self.now)) }
+        ensures { result.now ≡ held_bytes self.now }
     {
         &self.bytes
     }
@@ -130,7 +134,7 @@ impl Bytes {
     /// One, two or four bytes as a number.
     pub(crate) fn load(&self, at: usize, width: u32) -> u32
         requires { IsAccess (8 * length self.now) at width }
-        ensures { result ≡ part_of (slice_index_or self.now (at / 8) 0) (at % 8) width }
+        ensures { result ≡ part_at self.now at width }
     {
         load_in(&self.bytes, at, width)
     }
@@ -138,7 +142,7 @@ impl Bytes {
     /// Writes the lowest one, two or four bytes of a number.
     pub(crate) fn store(&mut self, at: usize, width: u32, value: u32)
         requires { IsAccess (8 * length self.old) at width }
-        ensures { self.new ≡ slice_set self.old (at / 8) (with_part (slice_index_or self.old (at / 8) 0) (at % 8) width value) }
+        ensures { self.new ≡ part_written self.old at width value }
     {
         store_in(&mut self.bytes, at, width, value);
     }

@@ -1,5 +1,5 @@
 //! Memory with tags for a machine that runs: bytes, tag bits, mark bits and shadows each in a plane
-//! of its own, seen as the same list of granules as ct_mem's `Plain`. docs/machine.md tells of
+//! of its own, seen as the same list of granules as ct_mem's `Plain`. docs/use/machine.md tells of
 //! memory in prose.
 #![tactic(auto)]
 

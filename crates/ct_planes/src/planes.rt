@@ -62,8 +62,9 @@ impl Planes {
         self.words.bytes()
     }
 
-    /// Bit `i mod 64` of word `i / 64` is set exactly where granule `i` is tagged. Bits past the last
-    /// granule are 0, and there are no more words than the granules need. Lent without copying.
+    /// Bit `i mod 64` of word `i / 64` is set exactly where granule `i` is tagged. Bits past the
+    /// last granule are 0, and there are no more words than the granules need. Lent without
+    /// copying.
     pub fn tag_words(&self) -> &[u64]
         ensures { result.now ≡ tag_words_of self.now }
     {

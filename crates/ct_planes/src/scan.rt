@@ -14,7 +14,11 @@ fn zeros_in(words: &[u64], at: usize) -> usize
 {
     let lanes = u64x8::from_slice(&words[at..]);
     let found = lanes.simd_ne(u64x8::splat(0)).to_bitmask();
-    if found == 0 { 8 } else { found.trailing_zeros() as usize }
+    if found == 0 {
+        8
+    } else {
+        found.trailing_zeros() as usize
+    }
 }
 
 /// The number of the first word that isn't 0, at or after a number; the count of words where there

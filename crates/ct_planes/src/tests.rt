@@ -114,7 +114,10 @@ fn chosen<M: Memory>(memory: &mut M, number: u64) -> (u64, Option<Cap>)
         }
         2 => {
             let tag = value % 2 == 0;
-            let shadow = Shadow { root: value, source: at };
+            let shadow = Shadow {
+                root: value,
+                source: at,
+            };
             memory.store_cap(
                 at,
                 Cap {
@@ -169,13 +172,19 @@ fn lent_slices_of_planes(rt: HostRuntime) -> Result<(), Fail> {
     planes.store_cap(4088, tagged(6));
     assert_eq!(rt; planes.next_tagged(0), Some(8));
     assert_eq!(rt; planes.next_tagged(16), Some(4088));
-    assert_eq!(rt; planes.tag_words(), [2, 0, 0, 0, 0, 0, 0, 0x8000_0000_0000_0000].as_slice());
+    assert_eq!(rt;
+        planes.tag_words(),
+        [2, 0, 0, 0, 0, 0, 0, 0x8000_0000_0000_0000].as_slice()
+    );
     planes.store(4092, 1, 0);
     assert_eq!(rt; planes.next_tagged(16), None);
     assert_eq!(rt; planes.tag_words(), [2, 0, 0, 0, 0, 0, 0, 0].as_slice());
     assert_eq!(rt; planes.bytes().len(), 4096);
     assert_eq!(rt; planes.bytes()[8], 5);
     planes.mark(4032, 4096, true);
-    assert_eq!(rt; planes.mark_words(), [0, 0, 0, 0, 0, 0, 0, 0xFF00_0000_0000_0000].as_slice());
+    assert_eq!(rt;
+        planes.mark_words(),
+        [0, 0, 0, 0, 0, 0, 0, 0xFF00_0000_0000_0000].as_slice()
+    );
     Ok(())
 }

@@ -1,4 +1,4 @@
-use Rattle.std.proofs.Common.{◌≡◌, ◌%◌, ◌∙◌, arith, inl, inr}
+use Rattle.std.proofs.Common.{◌≡◌, ◌%◌, ◌∙◌}
 use Rattle.ct_planes.proofs.Holding.{pair_read, four_read, four_left}
 use Rattle.ct_planes.proofs.bytes.load_in.Goals as goal
 

@@ -1,4 +1,4 @@
-use Rattle.std.proofs.Common.{◌≡◌, ◌+◌, ◌-◌, ◌∙◌, ap, refl, length, arith}
+use Rattle.std.proofs.Common.{◌≡◌, ◌+◌, ◌-◌, refl, length, arith}
 use Rattle.std.proofs.lemmas.Simd.{put_chunk_is}
 use Rattle.ct_planes.proofs.bytes.put_bytes.Goals as goal
 

@@ -1,4 +1,3 @@
-use Rattle.std.proofs.Common.{◌∙◌, arith}
 use Rattle.ct_planes.proofs.Holding.{holds_put_word}
 use Rattle.ct_planes.proofs.bytes.put_word_in.Goals as goal
 

@@ -1,4 +1,4 @@
-use Rattle.std.proofs.Common.{ℕ, ◌≡◌, ◌+◌, ◌%◌, ◌≤◌, ◌∙◌, length, arith, lit<}
+use Rattle.std.proofs.Common.{◌≡◌, ◌+◌, ◌%◌, ◌≤◌, length, arith, lit<}
 use Rattle.ct_planes.proofs.Holding.{holds_low, holds_four, four_left}
 use Rattle.ct_planes.proofs.bytes.store_in.Goals as goal
 

@@ -1,4 +1,4 @@
-use Rattle.std.proofs.Common.{ℕ, ◌≡◌, ◌-◌, ◌*◌, ◌≤◌, ◌∙◌, List, length, take, drop, replicate, ap, arith}
+use Rattle.std.proofs.Common.{ℕ, ◌≡◌, ◌-◌, ◌*◌, ◌∙◌, length, take, drop, replicate, ap, arith}
 use Rattle.std.proofs.lemmas.List.{length-take-le, length-drop}
 use Rattle.ct_planes.proofs.Holding.{holds_zeros}
 use Rattle.ct_planes.proofs.bytes.zero_in.Goals as goal

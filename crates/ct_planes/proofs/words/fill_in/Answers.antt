@@ -1,4 +1,4 @@
-use Rattle.std.proofs.Common.{◌≡◌, ◌+◌, ◌*◌, ◌/◌, ◌<◌, ◌≤◌, length, min, false, arith, subst}
+use Rattle.std.proofs.Common.{◌≡◌, ◌*◌, ◌/◌, ◌<◌, length, min, false, arith, subst}
 use Rattle.ct_planes.specs.Bits.{Spells}
 use Rattle.ct_planes.specs.Fills.{filled}
 use Rattle.ct_planes.proofs.Runs.{spells_run, filled_none}
@@ -11,7 +11,7 @@ pub loop-n-preserved : goal.loop-n-preserved
 loop-n-preserved c flags s inside =
     let within : c.loop-n.n < length c.loop-n.words = omega (arith, c.loop-n.auto.words, c.requires.inside, c.loop-n-test.true) in
     spells_run flags c.loop-n.words c.args.from c.args.to c.loop-n.n c.with_run.result c.args.on (c.loop-n.invariant flags s inside) inside within c.with_run.type_inv
-        (λ i small. rw (← c.part_before.ensures, ← c.part_before-in-loop-n.ensures) (c.with_run.ensures i small))
+    (λ i small. rw (← c.part_before.ensures, ← c.part_before-in-loop-n.ensures) (c.with_run.ensures i small))
 
 pub returns-clause-spells : goal.returns-clause-spells
 returns-clause-spells c flags s inside =

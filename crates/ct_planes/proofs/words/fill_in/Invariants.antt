@@ -1,4 +1,4 @@
-use Rattle.std.proofs.Common.{◌*◌, ◌≤◌, ◌≡◌, List, Bool, length, min}
+use Rattle.std.proofs.Common.{◌*◌, ◌≤◌, List, Bool, length, min}
 use Rattle.ct_planes.specs.Bits.{Spells}
 use Rattle.ct_planes.specs.Fills.{filled}
 use Rattle.ct_planes.proofs.words.fill_in.Given as goal

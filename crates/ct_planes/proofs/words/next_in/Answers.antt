@@ -1,4 +1,4 @@
-use Rattle.std.proofs.Common.{◌≡◌, ◌+◌, ◌<◌, ◌≤◌, arith}
+use Rattle.std.proofs.Common.{arith}
 use Rattle.ct_planes.proofs.Nexts.{clear_to, found, found_later, none_after}
 use Rattle.ct_planes.proofs.words.next_in.Goals as goal
 

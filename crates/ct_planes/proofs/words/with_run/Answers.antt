@@ -1,4 +1,4 @@
-use Rattle.std.proofs.Common.{◌≤◌, ◌≡◌, ◌-◌, ◌^◌, ◌<◌, arith, lit<}
+use Rattle.std.proofs.Common.{◌≤◌, ◌-◌, ◌^◌, ◌<◌, arith, lit<}
 use Rattle.std.proofs.Math.Nat.{pow-le-pow_right}
 use Rattle.ct_planes.proofs.Runs.{run_set, run_clear, run_is}
 use Rattle.ct_planes.proofs.words.with_run.Goals as goal

@@ -1,10 +1,10 @@
-use Rattle.std.proofs.Common.{ℕ, ◌≡◌, ◌<◌, ◌≤◌, ◌∙◌, Bool, List, length, sym, ap, arith, subst}
+use Rattle.std.proofs.Common.{◌≡◌, ◌≤◌, ◌∙◌, length, sym, ap, arith, subst}
 use Rattle.std.specs.Vec.{with_items}
 use Rattle.std.proofs.lemmas.List.{with_items_is}
-use Rattle.ct_planes.specs.Bits.{flags_of, Spells}
+use Rattle.ct_planes.specs.Bits.{Kept, flags_of, Spells}
 use Rattle.ct_planes.specs.Fills.{filled}
 use Rattle.ct_planes.proofs.Fillings.{length_filled}
-use Rattle.ct_planes.proofs.Spelling.{Kept, kept, kept_flags, length_flags}
+use Rattle.ct_planes.proofs.Spelling.{kept, kept_flags, length_flags}
 use Rattle.ct_planes.proofs.bits.Bits.fill.Goals as goal
 
 pub invariant_of-self : goal.invariant_of-self

@@ -1,4 +1,4 @@
-use Rattle.std.proofs.Common.{ℕ, ◌≡◌, ◌+◌, ◌/◌, Bool, false, length, replicate, arith}
+use Rattle.std.proofs.Common.{ℕ, ◌≡◌, ◌+◌, ◌/◌, false, replicate}
 use Rattle.std.proofs.lemmas.List.{length-replicate}
 use Rattle.ct_planes.proofs.Spelling.{spells_new, kept, kept_flags}
 use Rattle.ct_planes.proofs.bits.Bits.new.Goals as goal

@@ -1,5 +1,4 @@
-use Rattle.std.proofs.Common.{◌<◌, ◌*◌, length, arith}
-use Rattle.ct_planes.specs.Bits.{flags_of}
+use Rattle.std.proofs.Common.{arith}
 use Rattle.ct_planes.proofs.Spelling.{length_flags}
 use Rattle.ct_planes.proofs.bits.Bits.next.Goals as goal
 

@@ -1,9 +1,9 @@
-use Rattle.std.proofs.Common.{ℕ, ◌≡◌, ◌<◌, ◌∙◌, Bool, List, length, sym, ap, arith, subst}
+use Rattle.std.proofs.Common.{◌≡◌, ◌<◌, ◌∙◌, length, sym, ap, subst}
 use Rattle.std.proofs.Math.ListN.{set}
 use Rattle.std.specs.Vec.{with_items}
 use Rattle.std.proofs.lemmas.List.{with_items_is, length-set}
-use Rattle.ct_planes.specs.Bits.{flags_of, Spells}
-use Rattle.ct_planes.proofs.Spelling.{Kept, kept, kept_flags, length_flags}
+use Rattle.ct_planes.specs.Bits.{Kept, flags_of, Spells}
+use Rattle.ct_planes.proofs.Spelling.{kept, kept_flags, length_flags}
 use Rattle.ct_planes.proofs.bits.Bits.put.Goals as goal
 
 pub invariant_of-self : goal.invariant_of-self

@@ -1,4 +1,4 @@
-use Rattle.std.proofs.Common.{◌∙◌, ap, arith}
+use Rattle.std.proofs.Common.{◌∙◌, ap}
 use Rattle.ct_planes.specs.Bits.{words_of, flags_of}
 use Rattle.ct_planes.proofs.Spelling.{spelled_is}
 use Rattle.ct_planes.proofs.bits.Bits.words.Goals as goal

@@ -1,4 +1,4 @@
-use Rattle.std.proofs.Common.{ℕ, ◌≡◌, ◌*◌, ◌<◌, length, replicate, arith}
+use Rattle.std.proofs.Common.{ℕ, ◌≡◌, ◌*◌, replicate, arith}
 use Rattle.std.proofs.lemmas.List.{length-replicate}
 use Rattle.ct_planes.proofs.Holding.{holds_new, kept_bytes, words_back}
 use Rattle.ct_planes.proofs.bytes.Bytes.new.Goals as goal

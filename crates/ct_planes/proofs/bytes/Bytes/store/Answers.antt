@@ -1,4 +1,4 @@
-use Rattle.std.proofs.Common.{ℕ, ◌≡◌, ◌/◌, ◌%◌, ◌∙◌, List, length, get_or, sym, ap, arith, subst}
+use Rattle.std.proofs.Common.{ℕ, ◌/◌, ◌%◌, ◌∙◌, List, get_or, ap, arith}
 use Rattle.std.proofs.Math.ListN.{set}
 use Rattle.def_memory.specs.Accesses.{with_part}
 use Rattle.ct_planes.specs.Bytes.{words_in, Holds}

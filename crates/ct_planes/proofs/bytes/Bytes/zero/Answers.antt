@@ -1,4 +1,4 @@
-use Rattle.std.proofs.Common.{ℕ, ◌≡◌, ◌∙◌, List, length, sym, ap, arith, subst}
+use Rattle.std.proofs.Common.{◌∙◌, ap, arith}
 use Rattle.ct_planes.specs.Bytes.{words_in, Holds}
 use Rattle.ct_planes.specs.Fills.{filled}
 use Rattle.ct_planes.proofs.Holding.{closed, closed_words}

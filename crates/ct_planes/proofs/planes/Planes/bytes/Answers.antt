@@ -1,4 +1,4 @@
-use Rattle.std.proofs.Common.{ℕ, ◌≡◌, ◌+◌, ◌*◌, ◌/◌, ◌%◌, ◌<◌, ◌≤◌, ◌∙◌, Bool, true, false, List, length, map, get_or, replicate, refl, sym, ap, arith, subst, inl, inr}
+use Rattle.std.proofs.Common.{◌∙◌, ap}
 use Rattle.ct_planes.proofs.Planed.{bytes_seen}
 use Rattle.ct_planes.specs.Lent.{bytes_of}
 use Rattle.ct_planes.proofs.planes.Planes.bytes.Goals as goal

@@ -1,8 +1,7 @@
-use Rattle.std.proofs.Common.{ℕ, ◌≡◌, ◌+◌, ◌*◌, ◌/◌, ◌%◌, ◌<◌, ◌≤◌, ◌∙◌, Bool, true, false, List, length, map, get_or, replicate, refl, sym, ap, arith, subst, inl, inr}
+use Rattle.std.proofs.Common.{◌∙◌, map, sym, ap}
 use Rattle.ct_planes.proofs.Planed.{marks_of}
 use Rattle.def_memory.specs.declared.Granule.{Granule}
 use Rattle.ct_planes.specs.Bits.{words_of}
-use Rattle.ct_planes.specs.View.{granules_of}
 use Rattle.ct_planes.proofs.planes.Planes.mark_words.Goals as goal
 
 pub returns : goal.returns

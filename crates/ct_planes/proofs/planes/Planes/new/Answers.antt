@@ -1,6 +1,5 @@
-use Rattle.std.proofs.Common.{ℕ, ◌≡◌, ◌+◌, ◌*◌, ◌/◌, ◌%◌, ◌<◌, ◌≤◌, ◌∙◌, Bool, true, false, List, length, map, get_or, replicate, refl, sym, ap, arith, subst, inl, inr}
+use Rattle.std.proofs.Common.{◌/◌, ◌∙◌}
 use Rattle.ct_planes.proofs.Planed.{new_granules}
-use Rattle.def_memory.specs.declared.Granule.{Granule}
 use Rattle.ct_planes.specs.View.{granules_of}
 use Rattle.ct_planes.proofs.planes.Planes.new.Goals as goal
 

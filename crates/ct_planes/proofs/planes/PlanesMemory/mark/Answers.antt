@@ -1,8 +1,6 @@
-use Rattle.std.proofs.Common.{ℕ, ◌≡◌, ◌+◌, ◌*◌, ◌/◌, ◌%◌, ◌<◌, ◌≤◌, ◌∙◌, Bool, true, false, List, length, map, get_or, replicate, refl, sym, ap, arith, subst, inl, inr}
+use Rattle.std.proofs.Common.{◌≡◌, ◌*◌, ◌/◌, length, sym, arith, subst}
 use Rattle.ct_planes.proofs.Planed.{seen_count, marked_is, fit_marked}
-use Rattle.def_memory.specs.declared.Granule.{Granule}
-use Rattle.def_memory.specs.Ranges.{IsRange, IsMarked}
-use Rattle.ct_planes.specs.View.{granules_of, Fit}
+use Rattle.def_memory.specs.Ranges.{IsRange}
 use Rattle.ct_planes.proofs.planes.PlanesMemory.mark.Goals as goal
 
 pub fill-requires-clause-inside : goal.fill-requires-clause-inside

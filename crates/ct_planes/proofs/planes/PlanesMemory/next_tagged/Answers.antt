@@ -1,8 +1,6 @@
-use Rattle.std.proofs.Common.{ℕ, ◌≡◌, ◌+◌, ◌*◌, ◌/◌, ◌%◌, ◌<◌, ◌≤◌, ◌∙◌, Bool, true, false, List, length, map, get_or, replicate, refl, sym, ap, arith, subst, inl, inr}
+use Rattle.std.proofs.Common.{◌*◌, subst}
 use Rattle.ct_planes.proofs.Planed.{none_tagged, next_tagged_is}
-use Rattle.def_memory.specs.declared.Granule.{Granule}
 use Rattle.def_memory.specs.Ranges.{IsNextTagged, NoneTagged}
-use Rattle.ct_planes.specs.View.{granules_of, Fit}
 use Rattle.ct_planes.proofs.planes.PlanesMemory.next_tagged.Goals as goal
 
 pub returns-in-Some : goal.returns-in-Some

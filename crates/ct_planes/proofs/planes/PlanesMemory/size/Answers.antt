@@ -1,4 +1,4 @@
-use Rattle.std.proofs.Common.{◌≡◌, ◌*◌, ◌∙◌, length, ap}
+use Rattle.std.proofs.Common.{◌*◌, ◌∙◌, ap}
 use Rattle.ct_planes.proofs.Planed.{seen_count}
 use Rattle.ct_planes.proofs.planes.PlanesMemory.size.Goals as goal
 

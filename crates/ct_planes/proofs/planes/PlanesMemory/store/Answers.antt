@@ -1,5 +1,5 @@
-use Rattle.std.proofs.Common.{ℕ, ◌≡◌, ◌+◌, ◌*◌, ◌/◌, ◌%◌, ◌<◌, ◌≤◌, ◌∙◌, Bool, true, false, List, length, map, get_or, replicate, refl, sym, ap, arith, subst, inl, inr}
-use Rattle.ct_planes.proofs.Planed.{seen_count, seen_granule, set_of, fit_set}
+use Rattle.std.proofs.Common.{ℕ, ◌≡◌, ◌*◌, ◌/◌, ◌%◌, ◌∙◌, false, length, get_or, sym, ap, arith, subst}
+use Rattle.ct_planes.proofs.Planed.{seen_count, seen_granule, set_of}
 use Rattle.std.proofs.Math.ListN.{set}
 use Rattle.law_granules.proofs.Lists.{in_list}
 use Rattle.def_memory.specs.declared.Granule.{Granule}

@@ -1,5 +1,5 @@
-use Rattle.std.proofs.Common.{ℕ, ◌≡◌, ◌+◌, ◌*◌, ◌/◌, ◌%◌, ◌<◌, ◌≤◌, ◌∙◌, Bool, true, false, List, length, map, get_or, replicate, refl, sym, ap, arith, subst, inl, inr}
-use Rattle.ct_planes.proofs.Planed.{seen_count, seen_granule, set_of, fit_set}
+use Rattle.std.proofs.Common.{◌≡◌, ◌/◌, ◌∙◌, length, sym, ap, arith}
+use Rattle.ct_planes.proofs.Planed.{seen_count, seen_granule, set_of}
 use Rattle.std.proofs.Math.ListN.{set}
 use Rattle.def_memory.specs.declared.Granule.{Granule}
 use Rattle.def_memory.specs.Granules.{granule_at}

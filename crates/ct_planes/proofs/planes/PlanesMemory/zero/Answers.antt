@@ -1,8 +1,6 @@
-use Rattle.std.proofs.Common.{ℕ, ◌≡◌, ◌+◌, ◌*◌, ◌/◌, ◌%◌, ◌<◌, ◌≤◌, ◌∙◌, Bool, true, false, List, length, map, get_or, replicate, refl, sym, ap, arith, subst, inl, inr}
+use Rattle.std.proofs.Common.{◌≡◌, ◌*◌, ◌/◌, length, sym, arith, subst}
 use Rattle.ct_planes.proofs.Planed.{seen_count, zeroed_is, fit_zeroed}
-use Rattle.def_memory.specs.declared.Granule.{Granule}
-use Rattle.def_memory.specs.Ranges.{IsRange, IsZeroed}
-use Rattle.ct_planes.specs.View.{granules_of, Fit, no_shadow}
+use Rattle.def_memory.specs.Ranges.{IsRange}
 use Rattle.ct_planes.proofs.planes.PlanesMemory.zero.Goals as goal
 
 pub zero-requires-clause-inside : goal.zero-requires-clause-inside
