@@ -1,7 +1,7 @@
 -- A row of tokens is read as a statement just where the statement is written so.
-use Rattle.std.proofs.Common.{◌≡◌, ℕ, List, [], ◌∷◌, Option, Some, None, refl, sym, ap, ◌∙◌, subst, ◌↔◌}
+use Rattle.std.proofs.Common.{◌≡◌, ℕ, [], ◌∷◌, Option, Some, None, refl, sym, ap, ◌∙◌, subst, ◌↔◌}
 use Rattle.std.specs.Prelude.{option_map}
-use Rattle.def_source.specs.Source.{Name, Row, form_of, directive_form, register_jump_form, or_else, ended, two_registers, three_registers, two_registers_number, two_registers_target, register_number, register_target, register_name, register_address, one_register, one_number, one_target}
+use Rattle.def_source.specs.Source.{Name, Row, form_of, directive_form, or_else, ended, two_registers, three_registers, two_registers_number, two_registers_target, register_number, register_target, register_name, register_address, one_register, one_number, one_target}
 use Rattle.def_source.specs.declared.words.Head.{Head}
 use Rattle.def_source.specs.declared.words.Head.TheVariants as head
 use Rattle.def_source.specs.declared.words.Directive.{Directive}

@@ -1,5 +1,5 @@
 -- What the instructions of `li`, `cimport`, `cla` and `clg` leave in the registers.
-use Rattle.std.proofs.Common.{◌≡◌, ◌≢◌, ℕ, zero, suc, ◌+◌, ◌-◌, ◌*◌, ◌%◌, ◌^◌, ◌<◌, List, [], ◌∷◌, length, Bool, true, false, cond, refl, sym, ap, ◌∙◌, subst, arith, set, get_or}
+use Rattle.std.proofs.Common.{◌≡◌, ℕ, zero, suc, ◌+◌, ◌*◌, ◌%◌, ◌^◌, ◌<◌, [], ◌∷◌, length, Bool, true, false, cond, sym, ap, ◌∙◌, subst, arith}
 use Rattle.std.proofs.lemmas.List.{get_or-set_same, get_or-set_other, length-set}
 use Rattle.def_words.specs.declared.Cap.{Cap}
 use Rattle.def_words.specs.declared.Posture.{Posture}
@@ -7,14 +7,13 @@ use Rattle.def_words.specs.Authority.{cap_address}
 use Rattle.def_words.specs.Capability.{integer, raised, with_address}
 use Rattle.def_memory.specs.Granules.{plain}
 use Rattle.def_bits.specs.Bits.{extended}
-use Rattle.def_instr.specs.declared.Instr.{Instr}
-use Rattle.def_instr.specs.declared.Instr.TheVariants.{Lui, Addi, AuiPcc, AuiCgp, CIncAddrImm}
+use Rattle.def_instr.specs.declared.Instr.TheVariants.{Lui, Addi, AuiPcc, CIncAddrImm}
 use Rattle.def_capstep.specs.Results.{capability_result, upper_offset}
 use Rattle.def_machine.specs.State.{Thread, register}
 use Rattle.def_machine.specs.Threads.{jumped}
 use Rattle.def_step.specs.Accesses.{Space}
 use Rattle.def_object.specs.Object.{high_piece, low_piece, way, is_short, upper_part, rest_part, number_instructions, text_instructions, global_instructions}
-use Rattle.law_assembly.specs.Loading.{effect, onward, after, MayWrite, Gives, first_address, AreApart, LeadsTo, IsWayOn, Leads, LeadsToSlot}
+use Rattle.law_assembly.specs.Loading.{effect, onward, after, MayWrite, Gives, AreApart, IsWayOn, Leads, LeadsToSlot}
 use Rattle.law_assembly.proofs.Pieces.{pieces_back, leads_to}
 
 -- ---- one register is written

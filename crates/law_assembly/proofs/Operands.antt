@@ -1,12 +1,12 @@
 -- What is read of a statement's operands is how they are written, and what is written is read.
-use Rattle.std.proofs.Common.{◌≡◌, ℕ, List, [], ◌∷◌, ◌++◌, Option, Some, None, refl, sym, ap, ◌∙◌, subst}
-use Rattle.std.specs.Prelude.{option_and_then, option_map}
+use Rattle.std.proofs.Common.{◌≡◌, ℕ, [], ◌∷◌, ◌++◌, Option, Some, None, refl, ap, ◌∙◌, subst}
+use Rattle.std.specs.Prelude.{option_and_then}
 use Rattle.def_source.specs.Source.{Name, Row, register_of, name_at, comma_at, open_at, close_at, number_at, target_at, register_at, register_comma, address_at, ended, two_registers, three_registers, two_registers_number, two_registers_target, register_number, register_target, register_name, register_address, one_register, one_number, one_target}
 use Rattle.def_source.specs.declared.parts.Number.{Number}
 use Rattle.def_source.specs.declared.parts.Token.TheVariants as token
 use Rattle.def_source.specs.declared.parts.Target.{Target}
 use Rattle.def_source.specs.declared.parts.Target.TheVariants as target
-use Rattle.law_assembly.specs.Written.{Operand, Register, Numbered, Named, Towards, Address, IsWritten, AreWritten}
+use Rattle.law_assembly.specs.Written.{Register, Numbered, Named, Towards, Address, IsWritten, AreWritten}
 
 -- a reader that gave something, its first step gave something
 bind : {A B : Type 0} (o : Option A) (f : A → Option B) (y : B) → option_and_then f o ≡ Some y → (x : A) × ((o ≡ Some x) × (f x ≡ Some y))

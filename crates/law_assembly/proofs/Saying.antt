@@ -6,7 +6,6 @@ use Rattle.def_instr.specs.declared.shapes.Shape.TheVariants as shape
 use Rattle.def_instr.specs.Table.{InRange, word_of, IsSigned}
 use Rattle.ct_isa.proofs.Complete.{complete}
 use Rattle.def_source.specs.Source.{Name, Statements, IsLawful, lawful_from, is_lawful, in_section, numbers_fit, registers_exist, section_after, exists, or_else}
-use Rattle.def_source.specs.declared.parts.Number.{Number}
 use Rattle.def_source.specs.declared.parts.Section.{Section}
 use Rattle.def_source.specs.declared.parts.Section.TheVariants as section
 use Rattle.def_source.specs.declared.parts.Part.{Part}

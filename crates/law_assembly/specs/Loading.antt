@@ -3,7 +3,7 @@ use Rattle.std.specs.Prelude.{◌≡◌, ◌≢◌, ℕ, ◌+◌, ◌*◌, ◌%�
 use Rattle.def_words.specs.declared.Cap.{Cap}
 use Rattle.def_words.specs.declared.Trap.{Trap}
 use Rattle.def_words.specs.Authority.{cap_address}
-use Rattle.def_words.specs.Capability.{integer, raised}
+use Rattle.def_words.specs.Capability.{raised}
 use Rattle.def_memory.specs.Granules.{plain}
 use Rattle.def_bits.specs.Bits.{extended}
 use Rattle.def_instr.specs.declared.Instr.{Instr}
@@ -14,8 +14,7 @@ use Rattle.def_machine.specs.Threads.{jumped}
 use Rattle.def_step.specs.Accesses.{Space, access_of, access_address}
 use Rattle.def_step.specs.Operands.{operands_of, class_of}
 use Rattle.def_step.specs.Instructions.{Done, carried_out}
-use Rattle.def_source.specs.Source.{Name}
-use Rattle.def_object.specs.Object.{high_piece, low_piece, way, number_instructions, text_instructions, global_instructions, import_instructions, slot_number, slot_of}
+use Rattle.def_object.specs.Object.{high_piece, low_piece, way}
 
 -- what an instruction does to the thread; one that traps leaves it
 abbrev pub effect : Space → Thread → Instr → Result Done Trap
