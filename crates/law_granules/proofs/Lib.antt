@@ -1,4 +1,5 @@
 pub mod Numbers
 pub mod Words
+pub mod Bytes
 pub mod Lists
 pub mod Apart
