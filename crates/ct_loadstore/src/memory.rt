@@ -3,7 +3,6 @@
 ghost use Rattle.std.specs.Prelude.{◌≡◌, ◌+◌, ◌*◌, ◌%◌, ◌≤◌, ◌<◌, ◌⊎◌, ◌^◌, ◌-◌, false, true, length};
 ghost use Rattle.def_words.specs.Loaded.{attenuated, stored_through};
 ghost use Rattle.def_memory.specs.Accesses.{loaded, loaded_cap, stored, stored_cap};
-
 ghost use Rattle.def_step.specs.Accesses.{ram_value, ram_stored, widened, filtered_in};
 ghost use Rattle.ct_loadstore.specs.Shapes.{IsShape, Reaches};
 

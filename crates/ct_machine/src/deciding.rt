@@ -290,7 +290,15 @@ pub(crate) fn run_one<M: Memory>(
     }
     match next(mem, bus, ram, active.pcc.address(), time) {
         Next::Returning => Ran::Returned,
-        Next::Instruction { instruction } => carry_out(instruction, active, mem, bus, ram, heap, time),
+        Next::Instruction { instruction } => carry_out(
+            instruction,
+            active,
+            mem,
+            bus,
+            ram,
+            heap,
+            time,
+        ),
         Next::Nothing => Ran::Trapped {
             trap: Trap::plain(ILLEGAL_INSTRUCTION),
         },

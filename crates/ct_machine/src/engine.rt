@@ -171,6 +171,14 @@ impl<M: Memory + Drop> Engine<M> {
         self.running = true;
     }
 
+    /// Where the heap begins.
+    #[tactic(auto, unfolding(def_step::specs::Boot::image_of))]
+    fn heap(&self) -> u32
+        ensures { result ≡ self.now.board.image.heap_base }
+    {
+        self.firmware.heap
+    }
+
     /// The running thread carries on, by one instruction or native routine.
     fn carry_on(&mut self) -> Option<Deed>
         requires { deeds_of self.old.state.counts < self.old.state.counts.steps }
@@ -184,8 +192,8 @@ impl<M: Memory + Drop> Engine<M> {
         if !self.running {
             return None;
         }
-        let (ram, heap) = (self.ram, self.firmware.heap);
-        let (stack, time) = (self.stack, self.time);
+        let heap = self.heap();
+        let (ram, stack, time) = (self.ram, self.stack, self.time);
         let top = self.works.active.frame_top();
         let actor = self.works.active.frame_actor();
         let ran = run_works(&mut self.works, ram, heap, time);

@@ -11,3 +11,4 @@ pub mod Passing
 pub mod Making
 pub mod Away
 pub mod Rights
+pub mod Blocks
