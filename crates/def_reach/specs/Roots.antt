@@ -1,7 +1,7 @@
 -- What the root number of a capability stands for: an entry of the report, or the trusted part.
 use Rattle.std.specs.Prelude.{ℕ, zero, suc, ◌+◌, ◌==◌, Bool, true, false, List, [], ◌∷◌, Option, Some, None, slice_get, if◌then◌else◌}
 use Rattle.ct_entry.specs.declared.rows.Owner.{Owner}
-use Rattle.ct_entry.specs.declared.rows.Owner.TheVariants.{Trusted}
+use Rattle.ct_entry.specs.declared.rows.Owner.TheVariants.{Trusted, Compartment, Library, Thread}
 use Rattle.ct_entry.specs.declared.rows.Kind.{Kind}
 use Rattle.ct_entry.specs.declared.rows.Kind.TheVariants.{Code, Stack, Library, Service, Quota, Export}
 use Rattle.ct_entry.specs.declared.rows.Mode.{Mode}
@@ -69,6 +69,13 @@ listed_root (Some r) g = record {
 unfoldable pub root_of : Listed → ℕ → Root
 root_of e zero = trusted_root
 root_of e (suc n) = listed_root (slice_get e.rows n) (gate_for e.gates (suc n))
+
+-- the index of an owner, among those of its sort
+abbrev pub compartment_of : Owner → ℕ
+compartment_of Trusted = 0
+compartment_of (Compartment b) = b
+compartment_of (Library l) = l
+compartment_of (Thread t) = t
 
 -- ---- tests of the kind
 

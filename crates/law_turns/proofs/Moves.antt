@@ -4,7 +4,8 @@ use Rattle.std.proofs.Math.ListN.{get_or}
 use Rattle.def_words.specs.declared.Cap.{Cap}
 use Rattle.def_memory.specs.Granules.{plain}
 use Rattle.def_machine.specs.Image.{Image}
-use Rattle.def_machine.specs.State.{State, Status, thread, register}
+use Rattle.def_machine.specs.State.{State, thread, register}
+use Rattle.def_sched.specs.declared.Status.{Status}
 use Rattle.def_machine.specs.Memory.{filtered}
 use Rattle.def_machine.specs.Threads.{Clockwork, changed, picked, with_status}
 use Rattle.def_confined.specs.Capabilities.{Kept}
