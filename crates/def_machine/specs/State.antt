@@ -2,10 +2,10 @@
 use Rattle.std.specs.Prelude.{ℕ, Bool, false, List, [], Option, slice_index_or}
 use Rattle.def_words.specs.declared.Cap.{Cap}
 use Rattle.def_words.specs.declared.Posture.{Posture}
+pub use Rattle.def_sched.specs.declared.Status.{Status}
+pub use Rattle.def_sched.specs.declared.Status.TheVariants.{Ready, Sleeping, Waiting, Ended}
 use Rattle.def_memory.specs.declared.Granule.{Granule}
 use Rattle.def_memory.specs.Granules.{plain, granule_at}
-use Rattle.def_sched.specs.declared.Status.{Status}
-use Rattle.def_sched.specs.declared.Status.TheVariants.{Ended}
 
 -- A frame: its compartment, its export's entry number, its top, whether its error handler was entered, and the caller's
 -- saved registers. Of a thread's outermost frame, which has no caller, the saved registers are plain.
