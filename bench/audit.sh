@@ -2,12 +2,12 @@
 # How long audits take: 1, 4 and 16 MiB of JSON that is accepted (the small sample after blanks) and
 # that is refused (many devices with distinct names, many words of code, open brackets alone), and the
 # largest lawful description.
-# Build first: (cd crates/ct_main && rt run -- audit ../../samples/tiny.json)
+# Build first: bin/build
 here=$(cd "$(dirname "$0")/.." && pwd)
 program=${1:-$here/crates/ct_main/out/ct_main}
 work=$(mktemp -d)
 trap 'rm -rf "$work"' EXIT
-python3 - "$here/samples/tiny.json" "$work" <<'PYTHON'
+python3 - "$here/samples/tiny/tiny.json" "$work" <<'PYTHON'
 import json, sys
 tiny = open(sys.argv[1]).read().strip()
 def put(name, text):

@@ -2,13 +2,13 @@
 # Steps per second of `run`: a loop of the machine's five first instructions (auipcc, clc, addi, csw and
 # the register jump) that loads and stores in the globals, and the smallest loop, a jump to itself.
 # The second word is the number of steps, 100 million by default.
-# Build first: (cd crates/ct_main && rt run -- audit ../../samples/tiny.json)
+# Build first: bin/build
 here=$(cd "$(dirname "$0")/.." && pwd)
 program=${1:-$here/crates/ct_main/out/ct_main}
 limit=${2:-100000000}
 work=$(mktemp -d)
 trap 'rm -rf "$work"' EXIT
-python3 - "$here/samples/tiny.json" "$work" <<'PYTHON'
+python3 - "$here/samples/tiny/tiny.json" "$work" <<'PYTHON'
 import json, sys
 for name, words in (("five", ["00000097", "0001b283", "00150513", "00a1a023", "00008067"]), ("jump", ["0000006f"])):
     firmware = json.load(open(sys.argv[1]))

@@ -1,0 +1,53 @@
+#!/usr/bin/env python3
+"""A Graphviz picture of a report: who shares with whom, who holds which device, where threads begin.
+
+    bin/capfw audit FIRMWARE.json | python3 examples/sharing.py | dot -Tsvg > picture.svg
+
+Boxes are compartments, folders libraries, ovals devices. A thick line without an arrow is an edge of the
+sharing graph: either side may come to use what the other owns. An arrow to a device is an entry of the
+report, with its number and what it allows. A dashed arrow is where a thread begins.
+"""
+import json
+import sys
+
+LETTERS = {"LD": "read", "SD": "write"}
+
+
+def quoted(text):
+    return json.dumps(text)
+
+
+def allowed(entry):
+    rights = entry["rights"].split()
+    return " and ".join(LETTERS[right] for right in ("LD", "SD") if right in rights)
+
+
+def lines(report):
+    yield f"graph {quoted(report['firmware'])} {{"
+    yield '  rankdir=LR; node [fontname="Helvetica"]; edge [fontname="Helvetica", fontsize=10];'
+    for name in report["compartments"]:
+        yield f"  {quoted('owner ' + name)} [shape=box, label={quoted(name)}];"
+    for name in report["libraries"]:
+        yield f"  {quoted('owner ' + name)} [shape=folder, label={quoted(name)}];"
+    for device in report["devices"]:
+        label = f"{device['name']}\n{device['kind']} at {device['base']:#x}"
+        yield f"  {quoted('device ' + device['name'])} [label={quoted(label)}];"
+    for first, second in report["edges"]:
+        names = [report["compartments"][first], report["compartments"][second]]
+        yield f"  {quoted('owner ' + names[0])} -- {quoted('owner ' + names[1])} [penwidth=3];"
+    for entry in report["entries"]:
+        if entry["kind"] == "device":
+            label = f"{entry['number']}: {allowed(entry)}"
+            ends = f"{quoted('owner ' + entry['owner'])} -- {quoted('device ' + entry['of'])}"
+            yield f"  {ends} [dir=forward, label={quoted(label)}];"
+    entries = {entry["number"]: entry for entry in report["entries"]}
+    for thread in report["threads"]:
+        gate = entries[thread["entry"]]
+        yield f"  {quoted('thread ' + thread['name'])} [shape=plaintext, label={quoted(thread['name'])}];"
+        ends = f"{quoted('thread ' + thread['name'])} -- {quoted('owner ' + gate['owner'])}"
+        yield f"  {ends} [dir=forward, style=dashed, label={quoted(gate['name'])}];"
+    yield "}"
+
+
+if __name__ == "__main__":
+    print("\n".join(lines(json.load(sys.stdin))))
