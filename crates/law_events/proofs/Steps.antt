@@ -21,7 +21,6 @@ use Rattle.def_step.specs.declared.Class.TheVariants as class
 use Rattle.def_step.specs.declared.Next.{Next}
 use Rattle.def_step.specs.declared.Next.TheVariants.{Returning, Instruction, Nothing}
 use Rattle.def_profile.specs.declared.traps.TheConstants.{SYSTEM_REGISTER_CODE, ILLEGAL_INSTRUCTION, BREAKPOINT, ENVIRONMENT_CALL}
-
 use Rattle.def_step.specs.Accesses.{Space, Accessed, access_of, access_checks, access_address, access_result, accessed, unless}
 use Rattle.def_step.specs.Jumps.{Flowed, flow_result}
 use Rattle.def_step.specs.Operands.{operands_of, class_of}

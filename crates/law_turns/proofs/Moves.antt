@@ -16,7 +16,6 @@ use Rattle.law_places.proofs.Places.{plain_in}
 use Rattle.law_places.proofs.Puts.{plain_kept}
 use Rattle.law_places.proofs.Turns.{changed_confined, fits_as}
 use Rattle.law_registers.proofs.Filters.{filter_case, filter_in, filter_kept, filter_live, in_object}
-
 use Rattle.law_lists.proofs.Maps.{at_map}
 
 pub pick_confined : (i : Image) (s : State) (t : ℕ) (w : Clockwork) → Partitioned i → Confined i s → Confined i (changed s t (picked i s (thread s t)) (Some t) w)
