@@ -1,1 +1,2 @@
 pub mod Shutting
+pub mod Seeing

@@ -1,0 +1,27 @@
+//! Laws of settled values: in no state that a machine comes to does an untagged value have a root or a source.
+#![tactic(auto)]
+
+ghost use Rattle.std.specs.Prelude.{List};
+ghost use Rattle.ct_entry.specs.Listed.{FirmwareRow};
+ghost use Rattle.def_machine.specs.State.{State};
+ghost use Rattle.def_step.specs.Boot.{boot_state};
+ghost use Rattle.def_step.specs.declared.Event.{Event};
+ghost use Rattle.def_step.specs.Instructions.{Board};
+ghost use Rattle.def_step.specs.Events.{happens, run};
+ghost use Rattle.law_settled.specs.Settled.{Settled};
+
+/// What is untagged in RAM, in registers, in program counters and in frames is settled after an event, where it was
+/// before.
+pub fn events_settle()
+    ensures { (b : Board) (s : State) (e : Event) → Settled s → Settled (happens b s e).0 }
+{}
+
+/// So after any list of events.
+pub fn runs_settle()
+    ensures { (b : Board) (s : State) (es : List Event) → Settled s → Settled (run b s es) }
+{}
+
+/// All that any firmware boots is settled.
+pub fn boots_settle()
+    ensures { (f : FirmwareRow) → Settled (boot_state f) }
+{}
