@@ -1,10 +1,17 @@
 //! The regions of the smallest sample, by hand.
 
+ghost use Rattle.std.specs.Prelude.{◌%◌, ◌≡◌, ◌≤◌, IfOk};
+ghost use Rattle.ct_layout.specs.Rows.{IsPlaceable};
+
 use crate::{LayoutFault, Region, Sizes, place};
 use std::alloc::{AllocError, Global};
 
 /// Code, export table, globals, stack and trusted region of the smallest sample.
-fn tiny(alloc: Global, size: u32) -> Result<Sizes, AllocError> {
+fn tiny(alloc: Global, size: u32) -> Result<Sizes, AllocError>
+    requires whole { size % 16 ≡ 0 }
+    requires few { size ≤ 4096 }
+    ensures { IfOk result (λ sizes. IsPlaceable sizes) }
+{
     let regions = vec![in alloc; 36u32, 32, 0, 256, 304]?;
     Ok(Sizes {
         base: 0x8000_0000,
@@ -25,7 +32,7 @@ fn regions_of_tiny(rt: HostRuntime) {
         (0x8000_0160, 304),
     ];
     for (index, (base, length)) in wanted.iter().enumerate() {
-        let region = places.regions[index];
+        let region = places.regions.get(index).expect(&rt, "a region");
         assert_eq!(rt; (region.base, region.length), (*base, *length));
     }
     let heap = Region {

@@ -75,16 +75,22 @@ pub record IsShaped (r : RawImage) : Type 0 where
   pub libraries : IsNumber (length r.libraries) × AllByRecursion IsCode r.libraries
   pub threads : IsNumber (length r.threads) × AllByRecursion IsThread r.threads
 
--- ---- parts: a name is what its field gives back, so it holds no zero
+-- ---- parts: a name is what its field gives back, so it holds no zero; the numbers of a row are of 32 bits too, so that
+-- none is spelled as a smaller one is
 
 abbrev pub Clean : List ℕ → Type 0
 Clean name = AllByRecursion (λ b. 0 < b) name
 
-abbrev pub CleanCode : CodeRow → Type 0
-CleanCode c =
-    Clean c.name
-    × AllByRecursion (λ (s : SlotRow). Clean s.name) c.slots
-    × AllByRecursion (λ (x : GateRow). Clean x.name) c.exports
+abbrev pub SpellableSlot : SlotRow → Type 0
+SpellableSlot s = Clean s.name × IsNumber s.row.first × IsNumber s.row.second
+
+abbrev pub SpellableGate : GateRow → Type 0
+SpellableGate x = Clean x.name × IsNumber x.row.offset × IsNumber x.row.stack × IsNumber x.row.entry
+
+pub record SpellableCode (c : CodeRow) : Type 0 where
+  pub name : Clean c.name
+  pub slots : AllByRecursion SpellableSlot c.slots
+  pub exports : AllByRecursion SpellableGate c.exports
 
 pub record IsSpellable (p : PartsRow) : Type 0 where
   pub shaped : IsShaped (raw_of p)
@@ -92,6 +98,6 @@ pub record IsSpellable (p : PartsRow) : Type 0 where
   pub devices : AllByRecursion (λ (d : DeviceRow). Clean d.name) p.devices
   pub shared : AllByRecursion (λ (s : SharedRow). Clean s.name) p.shared
   pub sealed : AllByRecursion (λ (s : SealedRow). Clean s.name) p.sealed
-  pub compartments : AllByRecursion (λ (c : CompartmentRow). CleanCode c.code) p.compartments
-  pub libraries : AllByRecursion CleanCode p.libraries
+  pub compartments : AllByRecursion (λ (c : CompartmentRow). SpellableCode c.code) p.compartments
+  pub libraries : AllByRecursion SpellableCode p.libraries
   pub threads : AllByRecursion (λ (t : ThreadRow). Clean t.name) p.threads

@@ -1,0 +1,9 @@
+pub mod Tells
+pub mod Passing
+pub mod Laying
+pub mod Members
+pub mod Rows
+pub mod Limited
+pub mod Named
+pub mod Owners
+pub mod Sounds

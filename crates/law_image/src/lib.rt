@@ -1,0 +1,22 @@
+//! Laws of images: what acceptance says of an image, in the plain facts that the laws of entries,
+//! regions and boot take as their premise. Functions with empty bodies whose contracts are the laws.
+#![tactic(auto)]
+
+ghost use Rattle.std.specs.Prelude.{◌≡◌, None};
+ghost use Rattle.def_image.specs.Accepted.{IsFaultless};
+ghost use Rattle.def_image.specs.Checks.{first};
+ghost use Rattle.def_image.specs.Laid.{AreLaid};
+ghost use Rattle.def_image.specs.Lying.{region_checks};
+ghost use Rattle.def_image.specs.Parts.{PartsRow};
+ghost use Rattle.def_image.specs.Sound.{Sound};
+
+/// Regions of an image whose checks of regions pass are laid out apart, in RAM below the heap.
+pub fn regions_laid()
+    ensures { (p : PartsRow) → first (region_checks p) ≡ None → AreLaid p }
+{}
+
+/// Parts on which no check fails, as those of each accepted image, are sound: RAM and heap, the
+/// regions, and by index each device, object, compartment, library, slot, export and thread.
+pub fn accepted_is_sound()
+    ensures { (p : PartsRow) → IsFaultless p → Sound p }
+{}
