@@ -7,7 +7,7 @@ use Rattle.def_step.specs.Instructions.{Board}
 use Rattle.def_step.specs.Events.{MachineRow, happens, run, told, end_of}
 use Rattle.def_port.specs.Bytes.{Rose, Appends, AppendsBefore}
 use Rattle.def_port.specs.Writes.{Writes, WriteFails}
-use Rattle.def_output.specs.Trace.{trace_line}
+use Rattle.def_trace.specs.Trace.{trace_line}
 use Rattle.def_output.specs.Runs.{steps_until, unless_ended, trace_from, run_lines, last_line, run_text}
 use Rattle.def_desc.specs.Rows.{DescRow}
 use Rattle.def_report.specs.Report.{report_line}

@@ -4,8 +4,6 @@
 #![tactic(auto)]
 
 mod commands;
-mod lines;
-mod numbers;
 mod output;
 mod reading;
 mod running;

@@ -6,16 +6,15 @@ ghost use Rattle.ct_entry.specs.declared.acts.End.TheVariants.{Limit};
 ghost use Rattle.def_port.specs.Writes.{Writes, WriteFails};
 ghost use Rattle.def_step.specs.declared.Event.TheVariants.{Step};
 ghost use Rattle.def_step.specs.Events.{happens, end_of};
-ghost use Rattle.def_output.specs.Trace.{trace_line};
+ghost use Rattle.def_trace.specs.Trace.{trace_line};
 ghost use Rattle.def_output.specs.Runs.{last_line, run_lines};
 ghost use Rattle.ct_top.specs.Left.{lines_left, Traced};
 
-use crate::lines::{line_of, summary_of};
-use crate::numbers::Line;
-use ct_entry::End;
+use ct_entry::{End, Happened};
 use ct_machine::{Event, Machine};
 use ct_mem::Memory;
 use ct_port::{Sink, WriteFailed};
+use ct_trace::{Line, line_of, summary_of};
 
 /// Writes a line that isn't empty.
 #[tactic(auto, using(crate::proofs::Pieces::wrote_nothing))]
@@ -30,7 +29,18 @@ fn write_line<S: Sink>(line: &Line, sink: &mut S) -> Result<(), WriteFailed>
     sink.write(line.as_str().as_bytes())
 }
 
-/// Makes one step, and writes what it did.
+/// Writes the lines of what a step did.
+#[inline(never)]
+fn write_lines<S: Sink>(happened: &Happened, number: u32, sink: &mut S) -> Result<(), WriteFailed>
+    ensures { MatchResult result
+        (λ _. Writes (S.bytes sink.old) (S.bytes sink.new) (S.faults sink.old) (S.faults sink.new) (trace_line number happened.now))
+        (λ _. WriteFails (S.bytes sink.old) (S.bytes sink.new) (S.faults sink.old) (S.faults sink.new) (trace_line number happened.now)) }
+{
+    write_line(&line_of(happened, number), sink)
+}
+
+/// Makes one step, and writes what it did. Where nothing happened no line is made.
+#[tactic(auto, unfolding(def_trace::specs::Trace::trace_line), using(crate::proofs::Pieces::wrote_nothing))]
 fn write_step<M: Memory + Drop, S: Sink>(
     machine: &mut Machine<M>,
     number: u32,
@@ -44,7 +54,13 @@ fn write_step<M: Memory + Drop, S: Sink>(
         (λ _. WriteFails (S.bytes sink.old) (S.bytes sink.new) (S.faults sink.old) (S.faults sink.new) (trace_line number (happens machine.old.board machine.old.state Step).1)) }
 {
     let happened = machine.advance(Event::Step);
-    write_line(&line_of(&happened, number), sink)
+    match happened.deed {
+        Some(_) => write_lines(&happened, number, sink),
+        None => match happened.off {
+            Some(_) => write_lines(&happened, number, sink),
+            None => Ok(()),
+        },
+    }
 }
 
 /// Steps up to an end or the limit, with the lines of what they did.

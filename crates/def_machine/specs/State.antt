@@ -2,6 +2,8 @@
 use Rattle.std.specs.Prelude.{ℕ, Bool, false, List, [], Option, slice_index_or}
 use Rattle.def_words.specs.declared.Cap.{Cap}
 use Rattle.def_words.specs.declared.Posture.{Posture}
+pub use Rattle.def_sched.specs.declared.Status.{Status}
+pub use Rattle.def_sched.specs.declared.Status.TheVariants.{Ready, Sleeping, Waiting, Ended}
 use Rattle.def_memory.specs.declared.Granule.{Granule}
 use Rattle.def_memory.specs.Granules.{plain, granule_at}
 
@@ -16,13 +18,6 @@ pub record Frame : Type 0 where
   pub c3 : Cap
   pub c8 : Cap
   pub c9 : Cap
-
--- a sleeping thread has the ticks that are left, a waiting one the address of its word
-pub data Status : Type 0 where
-  Ready : Status
-  Sleeping : ℕ → Status
-  Waiting : ℕ → Status
-  Ended : Status
 
 -- frames stand innermost first; an ended thread has none
 pub record Thread : Type 0 where

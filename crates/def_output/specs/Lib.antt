@@ -1,6 +1,5 @@
 pub mod Commands
 pub mod Lines
-pub mod Trace
 pub mod Runs
 pub mod Licences
 pub mod Answers

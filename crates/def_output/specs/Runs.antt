@@ -13,7 +13,7 @@ use Rattle.def_desc.specs.Rows.{DescRow}
 use Rattle.def_firmware.specs.Firmware.{firmware_of}
 use Rattle.def_report.specs.Report.{report_line}
 use Rattle.def_output.specs.Commands.{Command, Audit, Run}
-use Rattle.def_output.specs.Trace.{trace_line, summary_line}
+use Rattle.def_trace.specs.Trace.{trace_line, summary_line}
 
 -- no step comes after the end
 abbrev pub unless_ended : Option End → List Event → List Event

@@ -1,6 +1,6 @@
 -- Which thread is picked. The record of picks is the order of the threads by their last pick: those never
 -- picked stand first, by their numbers, then the others, the one picked longest ago first.
-use Rattle.std.specs.Prelude.{ℕ, ◌==◌, ◌&&◌, ◌||◌, ◌++◌, ◌∷◌, [], Bool, not, nat_le, List, Option, filter, find, slice_index_or}
+use Rattle.std.specs.Prelude.{ℕ, ◌==◌, ◌&&◌, ◌||◌, ◌++◌, ◌∷◌, [], ◌≡◌, ◌<◌, Bool, not, nat_le, List, Option, All, AllPairs, Contains, length, filter, find, slice_index_or}
 use Rattle.std.specs.List.{range_with_len, list_all}
 use Rattle.def_sched.specs.declared.Status.{Status}
 use Rattle.def_sched.specs.Statuses.{is_ready, status_of}
@@ -12,6 +12,13 @@ first_order count = range_with_len 0 count
 -- after a pick of thread t it stands last
 abbrev pub moved_last : ℕ → List ℕ → List ℕ
 moved_last t order = filter (λ u. not (u == t)) order ++ t ∷ []
+
+-- each of so many threads stands in the order once
+pub record IsOrder (count : ℕ) (order : List ℕ) : Type 0 where
+  pub size : length order ≡ count
+  pub below : All (λ t. t < count) order
+  pub each : (t : ℕ) → t < count → Contains order t
+  pub once : AllPairs (λ t u. t ≡ u → ⊥) order
 
 -- greater runs first
 abbrev pub priority_of : List ℕ → ℕ → ℕ

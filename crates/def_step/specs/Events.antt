@@ -8,7 +8,8 @@ use Rattle.ct_entry.specs.declared.acts.Happened.{Happened}
 use Rattle.ct_entry.specs.declared.acts.End.{End}
 use Rattle.ct_entry.specs.declared.acts.End.TheVariants.{Finished, Idle}
 use Rattle.ct_entry.specs.declared.acts.Totals.{Totals}
-use Rattle.def_machine.specs.State.{State, Thread, Status, Ready, Sleeping, Waiting, Ended, Counts, thread}
+pub use Rattle.def_sched.specs.Statuses.{is_ready, is_ended, is_waiting}
+use Rattle.def_machine.specs.State.{State, Thread, Counts, thread}
 use Rattle.def_machine.specs.Threads.{picked}
 use Rattle.def_step.specs.declared.Event.{Event}
 use Rattle.def_step.specs.declared.Event.TheVariants.{Step, Tick, Input}
@@ -46,12 +47,6 @@ preempted_from s (Some t) = if s.pending && not (thread s t).posture.off then re
 
 abbrev pub preempted : State → State
 preempted s = preempted_from s s.running
-
-abbrev pub is_ready : Status → Bool
-is_ready Ready = true
-is_ready (Sleeping ticks) = false
-is_ready (Waiting address) = false
-is_ready Ended = false
 
 -- Where none runs, the scheduler picks. There is one thread at most: thread 0, where it is ready. Its
 -- registers and pcc pass the load filter, and the number of this Step is noted.
@@ -154,18 +149,6 @@ AreLawful b s [] = Unit {0}
 AreLawful b s (e ∷ es) = (is_lawful s e ≡ true) × AreLawful b (happens b s e).0 es
 
 -- ---- the end of a run
-
-abbrev pub is_ended : Status → Bool
-is_ended Ready = false
-is_ended (Sleeping ticks) = false
-is_ended (Waiting address) = false
-is_ended Ended = true
-
-abbrev pub is_waiting : Status → Bool
-is_waiting Ready = false
-is_waiting (Sleeping ticks) = false
-is_waiting (Waiting address) = true
-is_waiting Ended = false
 
 abbrev pub all_ended : List Thread → Bool
 all_ended [] = true

@@ -3,3 +3,4 @@ pub mod Maps
 pub mod Tests
 pub mod Leasts
 pub mod Added
+pub mod Finds

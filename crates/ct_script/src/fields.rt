@@ -1,0 +1,149 @@
+//! The parts of a line: numbers and names, each before the byte that ends it.
+
+ghost use Rattle.std.specs.Prelude.{ℕ, ◌≡◌, ◌+◌, ◌<◌, ◌≤◌, ◌^◌, ◌++◌, ◌∷◌, length, take, drop, decimal, false, MatchOption, slice_index_or};
+ghost use Rattle.std.specs.List.{list_all, prefix_len};
+ghost use Rattle.def_script.specs.Script.{is_inner, NoLine, Begins};
+ghost use Rattle.ct_script.specs.Fields.{IsNumber, NoNumber, IsName, NoName, row_of};
+
+use def_profile::limits::MOST_STEPS;
+use itoa::Buffer;
+
+/// A number, and what follows its end.
+#[derive(Clone, Copy)]
+pub(crate) struct Counted<'a> {
+    pub number: u32,
+    pub rest: &'a [u8],
+}
+
+/// A name, and what follows its end.
+#[derive(Clone, Copy)]
+pub(crate) struct Named<'a> {
+    pub name: &'a [u8],
+    pub rest: &'a [u8],
+}
+
+/// What a line says, and what follows it.
+#[derive(Clone, Copy)]
+pub(crate) struct Line<'a> {
+    pub step: u32,
+    pub name: &'a [u8],
+    pub byte: u8,
+    pub rest: &'a [u8],
+}
+
+/// Neither a space nor a line feed.
+fn is_inner(byte: u8) -> bool
+    ensures { result ≡ is_inner byte }
+{
+    byte != b' ' && byte != b'\n'
+}
+
+/// How many bytes stand before the first space or line feed.
+fn run_length(text: &[u8]) -> usize
+    ensures is { result ≡ prefix_len is_inner text.now }
+    ensures within { result ≤ length text.now }
+{
+    for (place, byte) in text.iter().enumerate() {
+        if !is_inner(*byte) {
+            return place;
+        }
+    }
+    text.len()
+}
+
+/// The number whose decimal digits these are, with no sign and no leading zero.
+fn number_of(digits: &[u8]) -> Option<u32>
+    ensures { MatchOption result ((n : ℕ) → n < 2 ^ 32 → decimal n ≡ digits.now → ⊥) (λ n. decimal n ≡ digits.now) }
+{
+    let number: u32 = match std::str::from_utf8(digits) {
+        Ok(text) => match text.parse() {
+            Ok(number) => number,
+            Err(_) => return None,
+        },
+        Err(_) => return None,
+    };
+    let mut buffer = Buffer::new();
+    if buffer.format(number).as_bytes() == digits {
+        Some(number)
+    } else {
+        None
+    }
+}
+
+/// The number before a space or a line feed, where that is the byte `end`.
+#[tactic(auto, using(crate::proofs::Parts::endless, crate::proofs::Parts::other_end, crate::proofs::Parts::no_digits, crate::proofs::Parts::number_is))]
+fn number_before(text: &[u8], end: u8) -> Option<Counted<'_>>
+    requires { is_inner end ≡ false }
+    ensures { MatchOption result (NoNumber text.now end) (λ c. IsNumber text.now end c.number c.rest.now) }
+{
+    let place = run_length(text);
+    if place == text.len() {
+        return None;
+    }
+    if text[place] != end {
+        return None;
+    }
+    match number_of(&text[..place]) {
+        Some(number) => Some(Counted {
+            number,
+            rest: &text[place + 1..],
+        }),
+        None => None,
+    }
+}
+
+/// The name before a space.
+#[tactic(auto, using(crate::proofs::Parts::no_front, crate::proofs::Parts::no_space, crate::proofs::Parts::other_byte, crate::proofs::Parts::name_is))]
+fn name_before(text: &[u8]) -> Option<Named<'_>>
+    ensures { MatchOption result (NoName text.now) (λ n. IsName text.now n.name.now n.rest.now) }
+{
+    let place = run_length(text);
+    if place == 0 {
+        return None;
+    }
+    if place == text.len() {
+        return None;
+    }
+    if text[place] != b' ' {
+        return None;
+    }
+    Some(Named {
+        name: &text[..place],
+        rest: &text[place + 1..],
+    })
+}
+
+/// The line at the front of a text.
+#[tactic(auto, using(crate::proofs::Parts::no_step, crate::proofs::Parts::no_count, crate::proofs::Parts::too_many, crate::proofs::Parts::no_name, crate::proofs::Parts::no_byte, crate::proofs::Parts::bad_byte, crate::proofs::Parts::line_is))]
+pub(crate) fn first_line(text: &[u8]) -> Option<Line<'_>>
+    requires { 0 < length text.now }
+    ensures { MatchOption result (NoLine text.now) (λ l. Begins text.now (row_of l.step l.name.now l.byte) l.rest.now) }
+{
+    let step = match number_before(text, b' ') {
+        Some(step) => step,
+        None => return None,
+    };
+    if step.number == 0 {
+        return None;
+    }
+    if step.number > MOST_STEPS {
+        return None;
+    }
+    let name = match name_before(step.rest) {
+        Some(name) => name,
+        None => return None,
+    };
+    let byte = match number_before(name.rest, b'\n') {
+        Some(byte) => byte,
+        None => return None,
+    };
+    if byte.number > 255 {
+        return None;
+    }
+    Some(Line {
+        step: step.number,
+        name: name.name,
+        byte: byte.number as u8,
+        rest: byte.rest,
+    })
+}

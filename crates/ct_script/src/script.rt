@@ -1,0 +1,48 @@
+//! A script: what is given, in order, each with the step before which it comes.
+
+ghost use Rattle.std.specs.Prelude.{ℕ, ◌≡◌, ◌<◌, ◌^◌, length, MatchResult};
+ghost use Rattle.def_script.specs.Script.{Reads, IsCause, given_at};
+
+use crate::reading::{Lines, read_lines};
+use ct_entry::Devices;
+use def_script::{Given, ScriptFault};
+use std::alloc::Global;
+use std::marker::Model;
+
+/// Bytes that come to devices, each before a step, in the order of the text.
+#[derive(Drop)]
+pub struct Script {
+    lines: Lines,
+}
+
+impl Model for Script {
+    ghost use Rattle.std.specs.Prelude.{List};
+    ghost use Rattle.def_script.specs.Script.{Due};
+    ghost use Rattle.ct_script.specs.Lines.{dues_of, AreLines};
+
+    ghost Value = { List Due };
+
+    ghost view = { λ s. dues_of s.lines.steps s.lines.givens };
+
+    ghost invariant = { λ s. AreLines s.lines };
+}
+
+/// Reads a script. The answer `At` names the least line that breaks a rule, and on it the least rule;
+/// `NoMemory` wants memory.
+pub fn read(alloc: Global, bytes: &[u8], devices: &Devices) -> Result<Script, ScriptFault>
+    requires bytes { length bytes.now < 2 ^ 32 }
+    requires devices { length devices.now < 2 ^ 32 }
+    ensures { MatchResult result (λ s. Reads devices.now bytes.now s) (λ fault. IsCause devices.now bytes.now fault) }
+{
+    let lines = read_lines(alloc, bytes, devices)?;
+    Ok(Script { lines })
+}
+
+impl Script {
+    /// The bytes that come before a step, in the script's order.
+    pub fn at(&self, step: u32) -> &[Given]
+        ensures { result.now ≡ given_at self.now step }
+    {
+        self.lines.given_at(step)
+    }
+}
