@@ -10,6 +10,3 @@ mod plain;
 pub use def_memory::Granule;
 pub use memory::Memory;
 pub use plain::Plain;
-
-#[cfg(test)]
-mod tests;

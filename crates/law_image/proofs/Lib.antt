@@ -7,3 +7,6 @@ pub mod Limited
 pub mod Named
 pub mod Owners
 pub mod Sounds
+pub mod Cuts
+pub mod OneCut
+pub mod Backs

@@ -1,5 +1,5 @@
-//! Laws of images: what acceptance says of an image, in the plain facts that the laws of entries,
-//! regions and boot take as their premise. Functions with empty bodies whose contracts are the laws.
+//! Laws of images: an image has one spelling and a spelling one image; and what acceptance says of
+//! one, in the plain facts that the laws of entries, regions and boot take as their premise. Functions with empty bodies whose contracts are the laws.
 #![tactic(auto)]
 
 ghost use Rattle.std.specs.Prelude.{◌≡◌, None};
@@ -8,6 +8,7 @@ ghost use Rattle.def_image.specs.Checks.{first};
 ghost use Rattle.def_image.specs.Laid.{AreLaid};
 ghost use Rattle.def_image.specs.Lying.{region_checks};
 ghost use Rattle.def_image.specs.Parts.{PartsRow};
+ghost use Rattle.def_image.specs.Reading.{OneCut, OneReading};
 ghost use Rattle.def_image.specs.Sound.{Sound};
 
 /// Regions of an image whose checks of regions pass are laid out apart, in RAM below the heap.
@@ -19,4 +20,11 @@ pub fn regions_laid()
 /// regions, and by index each device, object, compartment, library, slot, export and thread.
 pub fn accepted_is_sound()
     ensures { (p : PartsRow) → IsFaultless p → Sound p }
+{}
+
+/// Bytes are cut into the fields of an image in one way, if in any; and they are the image of one
+/// list of parts, if of any.
+pub fn one_reading()
+    ensures cut { OneCut }
+    ensures parts { OneReading }
 {}

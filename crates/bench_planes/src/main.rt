@@ -1,0 +1,168 @@
+//! Calls of memory, many times: words KIND WORK COUNT. KIND is `plain`, `planes` or `array`, an array
+//! of Rust's own with words of eight bytes; WORK is `load`, `store` or `cap`, a load of a capability,
+//! on 64 KiB. WORK `make` makes memory of COUNT bytes and writes all of it.
+#![tactic(auto)]
+
+ghost use Rattle.std.specs.Prelude.{◌≡◌, ◌<◌, ◌%◌, ◌*◌, length};
+
+use ct_mem::{Memory, Plain};
+use ct_planes::Planes;
+use def_refusals::NoMemory;
+use def_words::{Cap, Shadow};
+use std::alloc::Global;
+use std::env;
+use std::process::ExitCode;
+
+/// The bytes of memory that is read and written.
+const SIZE: u32 = 65536;
+
+/// A place in memory, another one each time.
+fn place(k: u32) -> u32
+    ensures aligned { result % 8 ≡ 0 }
+    ensures inside { result < 65536 }
+{
+    k.wrapping_mul(0x9E37_79B1) / 8192 % 8192 * 8
+}
+
+fn loads<M: Memory>(memory: &M, count: u32) -> u64
+    requires { length (M.granules memory.now) ≡ 8192 }
+{
+    let mut sum = 0u64;
+    for k in 0..count {
+        sum = sum.wrapping_add(memory.load(place(k) + k % 2 * 4, 4) as u64);
+    }
+    sum
+}
+
+fn stores<M: Memory>(memory: &mut M, count: u32)
+    requires { length (M.granules memory.old) ≡ 8192 }
+    ensures { length (M.granules memory.new) ≡ 8192 }
+{
+    for k in 0..count {
+        memory.store(place(k) + k % 2 * 4, 4, k);
+    }
+}
+
+fn cap_loads<M: Memory>(memory: &M, count: u32) -> u64
+    requires { length (M.granules memory.now) ≡ 8192 }
+{
+    let mut sum = 0u64;
+    for k in 0..count {
+        let cap = memory.load_cap(place(k));
+        if cap.tag {
+            sum = sum.wrapping_add(1);
+        }
+        sum = sum
+            .wrapping_add(cap.word)
+            .wrapping_add(cap.shadow.source as u64);
+    }
+    sum
+}
+
+/// Every fourth granule is a tagged capability, so that a load meets both.
+fn fill<M: Memory>(memory: &mut M)
+    requires { length (M.granules memory.old) ≡ 8192 }
+    ensures { length (M.granules memory.new) ≡ 8192 }
+{
+    for k in 0..2048u32 {
+        let shadow = Shadow { root: 1, source: k };
+        let cap = Cap {
+            tag: true,
+            word: k as u64,
+            shadow,
+        };
+        memory.store_cap(32 * k, cap);
+    }
+}
+
+/// The work on a memory of 64 KiB.
+fn work<M: Memory>(memory: &mut M, work: &str, count: u32) -> u64
+    requires { length (M.granules memory.old) ≡ 8192 }
+{
+    fill(memory);
+    if work == "load" {
+        return loads(memory, count);
+    }
+    if work == "cap" {
+        return cap_loads(memory, count);
+    }
+    stores(memory, count);
+    loads(memory, 1)
+}
+
+/// The same on an array of words; a capability is such a word.
+fn array_work(words: &mut [u64], work: &str, count: u32) -> u64
+    requires { length words.old ≡ 8192 }
+{
+    let mut sum = 0u64;
+    if work == "store" {
+        for k in 0..count {
+            words[(place(k) / 8) as usize] = k as u64;
+        }
+        return words[0];
+    }
+    for k in 0..count {
+        sum = sum.wrapping_add(words[(place(k) / 8) as usize]);
+    }
+    sum
+}
+
+/// Memory of which every byte and every mark was written.
+fn written<M: Memory>(mut memory: M) -> M {
+    let size = memory.size();
+    memory.zero(0, size);
+    memory.mark(0, size, true);
+    memory
+}
+
+/// What a run adds up, or the first tagged granule of new memory.
+fn run(alloc: Global, kind: &str, task: &str, count: u32) -> Result<u64, NoMemory> {
+    if task == "make" {
+        let size = count - count % 16;
+        let next = if kind == "plain" {
+            written(Plain::new(alloc, size)?).next_tagged(0)
+        } else {
+            written(Planes::new(alloc, size)?).next_tagged(0)
+        };
+        return Ok(next.unwrap_or(0) as u64);
+    }
+    if kind == "plain" {
+        return Ok(work(&mut Plain::new(alloc, SIZE)?, task, count));
+    }
+    if kind == "planes" {
+        return Ok(work(&mut Planes::new(alloc, SIZE)?, task, count));
+    }
+    let mut words = vec![in alloc; 0u64; 8192]?;
+    Ok(array_work(&mut words, task, count))
+}
+
+fn word<'a>(words: &'a [String], place: usize) -> &'a str {
+    match words.get(place) {
+        Some(word) => word.as_str(),
+        None => "",
+    }
+}
+
+fn main(rt: HostRuntime) -> ExitCode {
+    let alloc = rt.alloc();
+    let mut words = Vec::new(alloc);
+    if let Ok(given) = env::args(&rt) {
+        for word in given {
+            if words.push(word).is_err() {
+                return ExitCode::from(1);
+            }
+        }
+    }
+    let (kind, task) = (word(&words, 1), word(&words, 2));
+    let count = match word(&words, 3).parse() {
+        Ok(count) => count,
+        Err(_) => 0,
+    };
+    match run(alloc, kind, task, count) {
+        Ok(sum) => match println!(rt; "{kind} {task} {count}: {sum}") {
+            Ok(()) => ExitCode::from(0),
+            Err(_) => ExitCode::from(9),
+        },
+        Err(_) => ExitCode::from(1),
+    }
+}

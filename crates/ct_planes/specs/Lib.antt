@@ -1,0 +1,6 @@
+pub mod Fills
+pub mod Bits
+pub mod Bytes
+pub mod Lent
+pub mod View
+pub mod Scan
