@@ -44,34 +44,7 @@ label_step q n l rows later = by_row (label_named n rows) refl (bytes_eq q n) re
 
 one_statement : (q : Name) (rows : List (Name × Label)) (p : Place) (k : ℕ) (x : Part Name) (later : Option Label) → or_else (label_named q (noted rows p k x)) later ≡ or_else (label_named q rows) (cond (is_label q x) (Some (record { section = p.section; offset = offset p; index = k })) later)
 one_statement q rows p k (part.Label a) later = label_step q a (record { section = p.section; offset = offset p; index = k }) rows later
-one_statement q rows p k part.Text later = refl
-one_statement q rows p k part.Data later = refl
-one_statement q rows p k (part.Word a) later = refl
-one_statement q rows p k (part.Byte a) later = refl
-one_statement q rows p k (part.Zero a) later = refl
-one_statement q rows p k (part.Align a) later = refl
-one_statement q rows p k (part.Registers a b c d) later = refl
-one_statement q rows p k (part.Immediate a b c d) later = refl
-one_statement q rows p k (part.Upper a b c) later = refl
-one_statement q rows p k (part.Load a b c d) later = refl
-one_statement q rows p k (part.JumpCapability a b) later = refl
-one_statement q rows p k (part.Store a b c d) later = refl
-one_statement q rows p k (part.Branch a b c d) later = refl
-one_statement q rows p k (part.Jal a b) later = refl
-one_statement q rows p k (part.Source a b c) later = refl
-one_statement q rows p k (part.Bare a) later = refl
-one_statement q rows p k part.Nop later = refl
-one_statement q rows p k (part.Move a b) later = refl
-one_statement q rows p k (part.Go a) later = refl
-one_statement q rows p k (part.Link a b) later = refl
-one_statement q rows p k part.Return later = refl
-one_statement q rows p k (part.JumpRegister a) later = refl
-one_statement q rows p k (part.IfZero a b) later = refl
-one_statement q rows p k (part.IfNotZero a b) later = refl
-one_statement q rows p k (part.Number a b) later = refl
-one_statement q rows p k (part.Import a b) later = refl
-one_statement q rows p k (part.TextAddress a b) later = refl
-one_statement q rows p k (part.GlobalAddress a b) later = refl
+one_statement q rows p k x later = refl
 
 -- the labels so far and those to come, one statement further
 pub label_further : (q : Name) (rows rows' : List (Name × Label)) (p p' : Place) (k : ℕ) (x : Statement Name) (xs all : Statements) (whole : Option Label) → all ≡ x ∷ xs → rows' ≡ noted rows p k x.part → p' ≡ advanced p x.part → or_else (label_named q rows) (label_from q p k all) ≡ whole → or_else (label_named q rows') (label_from q p' (k + 1) xs) ≡ whole

@@ -1,7 +1,6 @@
 pub mod FreshNames
 pub mod LabelSteps
 pub mod LabelTables
-pub mod Loads
 pub mod Objects
 pub mod Reach
 pub mod Walks

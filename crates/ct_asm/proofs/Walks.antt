@@ -8,8 +8,9 @@ use Rattle.def_source.specs.declared.parts.Section.{Section}
 use Rattle.def_source.specs.Source.{Name, Statements, lawful_from, is_lawful, in_section, numbers_fit, registers_exist, section_after, is_text, or_else}
 use Rattle.def_object.specs.declared.Place.{Place}
 use Rattle.def_object.specs.declared.Fault.{Fault}
-use Rattle.def_object.specs.Object.{Labels, advanced, grown, size_at, offset, lesser, on_line, statement_fault, reference_fault, size_fault, fault_from, section_bytes, bytes_from}
+use Rattle.def_object.specs.Object.{Labels, advanced, grown, size_at, offset, is_least, lesser, on_line, statement_fault, reference_fault, size_fault, fault_from, section_bytes, bytes_from}
 use Rattle.ct_source.specs.Views.{statement_view, statements_view}
+use Rattle.ct_asm.specs.Emitting.{IsFound}
 
 -- the statements from number k on begin with number k
 pub from_here : (ss : List (Statement (Bor Name))) (k : ℕ) (d : Statement (Bor Name)) → k < length ss → statements_view (drop k ss) ≡ statement_view (get_or ss k d) ∷ statements_view (drop (k + 1) ss)
@@ -37,35 +38,9 @@ grown_section p n = by_test (is_text p.section)
     by_test false = refl
 
 pub advanced_section : (p : Place) (q : Part Name) → (advanced p q).section ≡ section_after p.section (Some q)
-advanced_section p (part.Label a) = grown_section p (size_at (part.Label a) (offset p))
 advanced_section p part.Text = refl
 advanced_section p part.Data = refl
-advanced_section p (part.Word a) = grown_section p (size_at (part.Word a) (offset p))
-advanced_section p (part.Byte a) = grown_section p (size_at (part.Byte a) (offset p))
-advanced_section p (part.Zero a) = grown_section p (size_at (part.Zero a) (offset p))
-advanced_section p (part.Align a) = grown_section p (size_at (part.Align a) (offset p))
-advanced_section p (part.Registers a b c d) = grown_section p (size_at (part.Registers a b c d) (offset p))
-advanced_section p (part.Immediate a b c d) = grown_section p (size_at (part.Immediate a b c d) (offset p))
-advanced_section p (part.Upper a b c) = grown_section p (size_at (part.Upper a b c) (offset p))
-advanced_section p (part.Load a b c d) = grown_section p (size_at (part.Load a b c d) (offset p))
-advanced_section p (part.JumpCapability a b) = grown_section p (size_at (part.JumpCapability a b) (offset p))
-advanced_section p (part.Store a b c d) = grown_section p (size_at (part.Store a b c d) (offset p))
-advanced_section p (part.Branch a b c d) = grown_section p (size_at (part.Branch a b c d) (offset p))
-advanced_section p (part.Jal a b) = grown_section p (size_at (part.Jal a b) (offset p))
-advanced_section p (part.Source a b c) = grown_section p (size_at (part.Source a b c) (offset p))
-advanced_section p (part.Bare a) = grown_section p (size_at (part.Bare a) (offset p))
-advanced_section p part.Nop = grown_section p (size_at part.Nop (offset p))
-advanced_section p (part.Move a b) = grown_section p (size_at (part.Move a b) (offset p))
-advanced_section p (part.Go a) = grown_section p (size_at (part.Go a) (offset p))
-advanced_section p (part.Link a b) = grown_section p (size_at (part.Link a b) (offset p))
-advanced_section p part.Return = grown_section p (size_at part.Return (offset p))
-advanced_section p (part.JumpRegister a) = grown_section p (size_at (part.JumpRegister a) (offset p))
-advanced_section p (part.IfZero a b) = grown_section p (size_at (part.IfZero a b) (offset p))
-advanced_section p (part.IfNotZero a b) = grown_section p (size_at (part.IfNotZero a b) (offset p))
-advanced_section p (part.Number a b) = grown_section p (size_at (part.Number a b) (offset p))
-advanced_section p (part.Import a b) = grown_section p (size_at (part.Import a b) (offset p))
-advanced_section p (part.TextAddress a b) = grown_section p (size_at (part.TextAddress a b) (offset p))
-advanced_section p (part.GlobalAddress a b) = grown_section p (size_at (part.GlobalAddress a b) (offset p))
+advanced_section p q = grown_section p (size_at q (offset p))
 
 -- the statements after a lawful one are lawful in the section after it
 pub rest_lawful : (p p' : Place) (x : Statement Name) (xs all : Statements) → all ≡ x ∷ xs → p' ≡ advanced p x.part → lawful_from p.section all ≡ true → lawful_from p'.section xs ≡ true
@@ -73,18 +48,27 @@ rest_lawful p p' x xs all cut next e =
     let later = (both (is_lawful p.section x.part) (lawful_from (section_after p.section (Some x.part)) xs) (sym (ap (lawful_from p.section) cut) ∙ e)).1 in
     ap (λ q. lawful_from q.section xs) next ∙ ap (λ s. lawful_from s xs) (advanced_section p x.part) ∙ later
 
+least_first : (a b c : Fault) → is_least a b ≡ true → is_least b c ≡ true → is_least a c ≡ true
+least_first a b c e f = grind (arith, e, f)
+
+least_last : (a b c : Fault) → is_least a b ≡ false → is_least b c ≡ false → is_least a c ≡ false
+least_last a b c e f = grind (arith, e, f)
+
 lesser_assoc : (a b c : Option Fault) → lesser (lesser a b) c ≡ lesser a (lesser b c)
 lesser_assoc None b c = refl
 lesser_assoc (Some a) None c = refl
-lesser_assoc (Some a) (Some b) None = by_test (nat_le (a.line * 16 + a.number) (b.line * 16 + b.number))
+lesser_assoc (Some a) (Some b) None = by_test (is_least a b)
   where
     by_test : (t : Bool) → lesser (cond t (Some a) (Some b)) None ≡ cond t (Some a) (Some b)
     by_test true = refl
     by_test false = refl
-lesser_assoc (Some a) (Some b) (Some c) = keyed (a.line * 16 + a.number) (b.line * 16 + b.number) (c.line * 16 + c.number) a b c refl refl refl
+lesser_assoc (Some a) (Some b) (Some c) = by_tests (is_least a b) (is_least b c) refl refl
   where
-    keyed : (x y z : ℕ) (a b c : Fault) → x ≡ a.line * 16 + a.number → y ≡ b.line * 16 + b.number → z ≡ c.line * 16 + c.number → lesser (lesser (Some a) (Some b)) (Some c) ≡ lesser (Some a) (lesser (Some b) (Some c))
-    keyed x y z a b c ex ey ez = grind (arith, ex, ey, ez)
+    by_tests : (t u : Bool) → is_least a b ≡ t → is_least b c ≡ u → lesser (cond t (Some a) (Some b)) (Some c) ≡ lesser (Some a) (cond u (Some b) (Some c))
+    by_tests true true e f = ap (λ x. cond x (Some a) (Some c)) (least_first a b c e f) ∙ sym (ap (λ x. cond x (Some a) (Some b)) e)
+    by_tests true false e f = refl
+    by_tests false true e f = ap (λ x. cond x (Some b) (Some c)) f ∙ sym (ap (λ x. cond x (Some a) (Some b)) e)
+    by_tests false false e f = ap (λ x. cond x (Some b) (Some c)) f ∙ sym (ap (λ x. cond x (Some a) (Some c)) (least_last a b c e f))
 
 -- the least fault so far, one statement further
 pub fault_step : (labels : Labels) (least least' fault : Option Fault) (number : Option ℕ) (p p' : Place) (k : ℕ) (x : Statement Name) (xs all : Statements) (whole : Option Fault) → all ≡ x ∷ xs → fault ≡ on_line x.line number → number ≡ statement_fault labels p k x.part → least' ≡ lesser least fault → p' ≡ advanced p x.part → lesser least (fault_from labels p k all) ≡ whole → lesser least' (fault_from labels p' (k + 1) xs) ≡ whole
@@ -105,7 +89,7 @@ bytes_step wanted labels slots front front' p p' x xs all whole cut grown next s
 neither : (a b : Option Fault) → lesser a b ≡ None → (a ≡ None) × (b ≡ None)
 neither None b e = (refl, e)
 neither (Some a) None e = cc e
-neither (Some a) (Some b) e = by_test (nat_le (a.line * 16 + a.number) (b.line * 16 + b.number)) e
+neither (Some a) (Some b) e = by_test (is_least a b) e
   where
     by_test : (t : Bool) → cond t (Some a) (Some b) ≡ None → (Some a ≡ None) × (Some b ≡ None)
     by_test true e = cc e
@@ -128,3 +112,8 @@ first_faultless labels p k x xs all cut e =
 pub rest_faultless : (labels : Labels) (p p' : Place) (k : ℕ) (x : Statement Name) (xs all : Statements) → all ≡ x ∷ xs → p' ≡ advanced p x.part → fault_from labels p k all ≡ None → fault_from labels p' (k + 1) xs ≡ None
 rest_faultless labels p p' k x xs all cut next e =
     ap (λ q. fault_from labels q (k + 1) xs) next ∙ (neither (on_line x.line (statement_fault labels p k x.part)) (fault_from labels (advanced p x.part) (k + 1) xs) (sym (ap (fault_from labels p k) cut) ∙ e)).1
+
+-- what a statement without a fault refers to is found, whatever its number
+pub found_here : (labels : Labels) (k at : ℕ) (q : Part Name) → reference_fault labels k at q ≡ None → IsFound labels at q
+found_here labels k at (part.Label name) e = tt
+found_here labels k at q e = e

@@ -1,2 +1,2 @@
+pub mod Emitting
 pub mod Labels
-pub mod Laws

@@ -5,24 +5,15 @@ ghost use Rattle.def_source.specs.Source as source;
 ghost use Rattle.def_object.specs.Object as object;
 ghost use Rattle.ct_source.specs.Views.{part_view, statements_view};
 ghost use Rattle.ct_asm.specs.Labels.{label_named};
+ghost use Rattle.ct_asm.specs.Emitting.{IsFound};
 
 use crate::emit::push_statement;
 use crate::labels::Labels;
 use crate::names::Names;
-use crate::places::{advanced, is_data, is_text, offset};
+use crate::places::{START, advanced, offset};
 use def_object::Place;
 use def_source::parts::{Part, Section, Statement};
 use std::alloc::{AllocError, Global};
-
-/// Whether two sections are one.
-fn same_section(a: Section, b: Section) -> bool
-    ensures { result ≡ object.same_section a b }
-{
-    match a {
-        Section::Text => is_text(b),
-        Section::Data => is_data(b),
-    }
-}
 
 /// Adds the bytes of a statement, if it stands in the wanted section.
 fn push_in(
@@ -30,19 +21,18 @@ fn push_in(
     wanted: Section,
     labels: &Labels,
     slots: &Names,
-    k: u64,
     place: Place,
     part: Part<&[u8]>,
 ) -> Result<(), AllocError>
     requires fit { source.numbers_fit (part_view part) ≡ true }
     requires exist { source.registers_exist (part_view part) ≡ true }
-    requires found { object.reference_fault (λ n. label_named n labels.now) k (object.offset place) (part_view part) ≡ None }
+    requires found { IsFound (λ n. label_named n labels.now) (object.offset place) (part_view part) }
     requires text { place.text < 2 ^ 100 }
     requires initial { place.initial < 2 ^ 100 }
     ensures { OnOk result (out.new.items ≡ out.old.items ++ object.section_bytes wanted (λ n. label_named n labels.now) slots.now place (part_view part.entry)) }
 {
-    if same_section(place.section, wanted) {
-        return push_statement(out, labels, slots, k, offset(place), part);
+    if place.section == wanted {
+        return push_statement(out, labels, slots, offset(place), part);
     }
     Ok(())
 }
@@ -60,13 +50,9 @@ pub(crate) fn section_bytes(
     ensures { IfOk result (λ v. v.items ≡ object.bytes_from wanted (λ n. label_named n labels.now) slots.now object.start (statements_view statements.now)) }
 {
     let mut out = Vec::new(alloc);
-    let mut place = Place {
-        section: Section::Text,
-        text: 0,
-        initial: 0,
-    };
-    for (k, s) in statements.iter().enumerate() {
-        push_in(&mut out, wanted, labels, slots, k as u64, place, s.part)?;
+    let mut place = START;
+    for s in statements {
+        push_in(&mut out, wanted, labels, slots, place, s.part)?;
         place = advanced(place, s.part);
     }
     Ok(out)

@@ -7,9 +7,9 @@ ghost use Rattle.ct_source.specs.Views.{part_view, target_view, statements_view}
 ghost use Rattle.ct_asm.specs.Labels.{label_named};
 
 use crate::labels::Labels;
-use crate::places::{advanced, is_data, is_text, offset, size_at};
+use crate::places::{START, advanced, offset, size_at};
 use def_object::{Fault, Label, Place};
-use def_source::parts::{Part, Section, Statement, Target};
+use def_source::parts::{Part, Statement, Target};
 
 /// Whether a label lies within a reach: even, backwards by at most so many bytes and forwards by
 /// two less.
@@ -33,7 +33,7 @@ fn reach_fault(reach: u128, at: u128, label: Option<Label>) -> Option<u32>
     match label {
         None => Some(6),
         Some(l) => {
-            if is_data(l.section) {
+            if l.section.is_data() {
                 return Some(6);
             }
             if is_near(reach, at, l.offset) {
@@ -62,7 +62,7 @@ fn text_fault(label: Option<Label>) -> Option<u32>
 {
     match label {
         None => Some(6),
-        Some(l) => if is_text(l.section) { None } else { Some(6) },
+        Some(l) => if l.section.is_text() { None } else { Some(6) },
     }
 }
 
@@ -72,7 +72,7 @@ fn data_fault(label: Option<Label>) -> Option<u32>
 {
     match label {
         None => Some(6),
-        Some(l) => if is_data(l.section) { None } else { Some(6) },
+        Some(l) => if l.section.is_data() { None } else { Some(6) },
     }
 }
 
@@ -96,8 +96,8 @@ fn reference_fault(labels: &Labels, k: u64, at: u128, part: Part<&[u8]>) -> Opti
         Part::IfZero { target, .. } => target_fault(labels, 4096, at, target),
         Part::IfNotZero { target, .. } => target_fault(labels, 4096, at, target),
         Part::Jal { target, .. } => target_fault(labels, 1048576, at, target),
-        Part::Go { target } => target_fault(labels, 1048576, at, target),
-        Part::Link { target, .. } => target_fault(labels, 1048576, at, target),
+        Part::Jump { target } => target_fault(labels, 1048576, at, target),
+        Part::JumpAndLink { target, .. } => target_fault(labels, 1048576, at, target),
         Part::TextAddress { label, .. } => text_fault(labels.get(label)),
         Part::GlobalAddress { label, .. } => data_fault(labels.get(label)),
         Part::Text
@@ -110,6 +110,7 @@ fn reference_fault(labels: &Labels, k: u64, at: u128, part: Part<&[u8]>) -> Opti
         | Part::Immediate { .. }
         | Part::Upper { .. }
         | Part::Load { .. }
+        | Part::RegisterJump { .. }
         | Part::JumpCapability { .. }
         | Part::Store { .. }
         | Part::Source { .. }
@@ -118,7 +119,7 @@ fn reference_fault(labels: &Labels, k: u64, at: u128, part: Part<&[u8]>) -> Opti
         | Part::Move { .. }
         | Part::Return
         | Part::JumpRegister { .. }
-        | Part::Number { .. }
+        | Part::LoadImmediate { .. }
         | Part::Import { .. } => None,
     }
 }
@@ -156,14 +157,15 @@ fn lesser(a: Option<Fault>, b: Option<Fault>) -> Option<Fault>
     match (a, b) {
         (None, b) => b,
         (a, None) => a,
-        (Some(x), Some(y)) => if key(x) <= key(y) { Some(x) } else { Some(y) },
+        (Some(x), Some(y)) => if is_least(x, y) { Some(x) } else { Some(y) },
     }
 }
 
-fn key(fault: Fault) -> u64
-    ensures { result ≡ fault.line * 16 + fault.number }
+/// Whether the first fault is of the lesser line, or on one line has the lesser number.
+fn is_least(a: Fault, b: Fault) -> bool
+    ensures { result ≡ object.is_least a b }
 {
-    fault.line as u64 * 16 + fault.number as u64
+    a.line < b.line || a.line == b.line && a.number <= b.number
 }
 
 fn on_line(line: u32, number: Option<u32>) -> Option<Fault>
@@ -180,11 +182,7 @@ pub(crate) fn least_fault(labels: &Labels, statements: &[Statement<&[u8]>]) -> O
     requires { source.IsLawful (statements_view statements.now) }
     ensures { result ≡ object.fault_from (λ n. label_named n labels.now) object.start 0 (statements_view statements.now) }
 {
-    let mut place = Place {
-        section: Section::Text,
-        text: 0,
-        initial: 0,
-    };
+    let mut place = START;
     let mut least = None;
     for (k, s) in statements.iter().enumerate() {
         let fault = on_line(s.line, statement_fault(labels, place, k as u64, s.part));

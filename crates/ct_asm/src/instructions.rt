@@ -1,17 +1,33 @@
-//! Which instruction an operation with its operands is.
+//! The instructions of a statement.
 
-ghost use Rattle.std.specs.Prelude.{◌≡◌, ◌<◌, ◌%◌, ◌^◌, true};
-ghost use Rattle.def_instr.specs.Table.{InRange, IsSigned, IsOffset};
+ghost use Rattle.std.specs.Prelude.{◌≡◌, ◌∷◌, ◌<◌, ◌^◌, ◌%◌, [], true};
+ghost use Rattle.def_instr.specs.Table.{FieldsFit, FitsImmediate, InRange, IsSigned};
+ghost use Rattle.def_instr.specs.Shapes.{shaped};
 ghost use Rattle.def_source.specs.Source as source;
 ghost use Rattle.def_object.specs.Object as object;
+ghost use Rattle.ct_source.specs.Views.{part_view};
+ghost use Rattle.ct_asm.specs.Labels.{label_named};
+ghost use Rattle.def_instr.specs.declared.Instr.TheVariants as instr;
+ghost use Rattle.def_instr.specs.declared.shapes.Shape.TheVariants as shapes;
+ghost use Rattle.ct_asm.specs.Emitting.{instructions_in, AreInRange, IsFound, is_plain, plain_shape};
 
-use crate::places::number_word;
-use ct_isa::Instr;
-use def_source::operations::{
-    BareOperation, BranchOperation, ImmediateOperation, LoadOperation, RegisterOperation,
-    SourceOperation, StoreOperation, UpperOperation,
+use crate::labels::Labels;
+use crate::names::Names;
+use crate::places::{is_short, number_word};
+use crate::ways::{
+    branch_target, high_piece, jump_target, label_offset, low_piece, rest_part, upper_part,
 };
-use def_source::parts::Number;
+use ct_isa::{Instr, instruction};
+use def_instr::shapes::{BranchOperation, ImmediateOperation, Shape};
+use def_source::parts::{BareOperation, Number, Part};
+
+/// The instructions that a statement stands for.
+#[derive(Clone, Copy, Debug, Drop)]
+pub(crate) enum Emitted {
+    Nothing,
+    One { only: Instr },
+    Two { first: Instr, second: Instr },
+}
 
 /// The word of a number from -2048 to 2047.
 #[tactic(auto, using(crate::proofs::Reach::signed_word))]
@@ -43,244 +59,21 @@ fn length_word(number: Number) -> u32
     number_word(number)
 }
 
-/// Two sources and a result.
-pub(crate) fn register_instruction(
-    operation: RegisterOperation,
-    rd: u32,
-    rs1: u32,
-    rs2: u32,
-) -> Instr
-    requires rd { rd < 16 }
-    requires rs1 { rs1 < 16 }
-    requires rs2 { rs2 < 16 }
-    ensures value { result ≡ object.register_instruction operation rd rs1 rs2 }
-    ensures range { InRange result }
+/// The word of an operation's number.
+fn immediate_word(operation: ImmediateOperation, number: Number) -> u32
+    requires { source.fits_immediate operation number ≡ true }
+    ensures value { result ≡ object.number_word number }
+    ensures range { FitsImmediate operation result }
 {
     match operation {
-        RegisterOperation::Add => Instr::Add { rd, rs1, rs2 },
-        RegisterOperation::Sub => Instr::Sub { rd, rs1, rs2 },
-        RegisterOperation::Sll => Instr::Sll { rd, rs1, rs2 },
-        RegisterOperation::Slt => Instr::Slt { rd, rs1, rs2 },
-        RegisterOperation::Sltu => Instr::Sltu { rd, rs1, rs2 },
-        RegisterOperation::Xor => Instr::Xor { rd, rs1, rs2 },
-        RegisterOperation::Srl => Instr::Srl { rd, rs1, rs2 },
-        RegisterOperation::Sra => Instr::Sra { rd, rs1, rs2 },
-        RegisterOperation::Or => Instr::Or { rd, rs1, rs2 },
-        RegisterOperation::And => Instr::And { rd, rs1, rs2 },
-        RegisterOperation::Mul => Instr::Mul { rd, rs1, rs2 },
-        RegisterOperation::Mulh => Instr::Mulh { rd, rs1, rs2 },
-        RegisterOperation::Mulhsu => Instr::Mulhsu { rd, rs1, rs2 },
-        RegisterOperation::Mulhu => Instr::Mulhu { rd, rs1, rs2 },
-        RegisterOperation::Div => Instr::Div { rd, rs1, rs2 },
-        RegisterOperation::Divu => Instr::Divu { rd, rs1, rs2 },
-        RegisterOperation::Rem => Instr::Rem { rd, rs1, rs2 },
-        RegisterOperation::Remu => Instr::Remu { rd, rs1, rs2 },
-        RegisterOperation::CSetBounds => Instr::CSetBounds { rd, rs1, rs2 },
-        RegisterOperation::CSetBoundsExact => Instr::CSetBoundsExact { rd, rs1, rs2 },
-        RegisterOperation::CSeal => Instr::CSeal { rd, rs1, rs2 },
-        RegisterOperation::CUnseal => Instr::CUnseal { rd, rs1, rs2 },
-        RegisterOperation::CAndPerm => Instr::CAndPerm { rd, rs1, rs2 },
-        RegisterOperation::CSetAddr => Instr::CSetAddr { rd, rs1, rs2 },
-        RegisterOperation::CIncAddr => Instr::CIncAddr { rd, rs1, rs2 },
-        RegisterOperation::CSub => Instr::CSub { rd, rs1, rs2 },
-        RegisterOperation::CSetHigh => Instr::CSetHigh { rd, rs1, rs2 },
-        RegisterOperation::CTestSubset => Instr::CTestSubset { rd, rs1, rs2 },
-        RegisterOperation::CSetEqualExact => Instr::CSetEqualExact { rd, rs1, rs2 },
+        ImmediateOperation::Signed(_) | ImmediateOperation::CIncAddrImm => signed_word(number),
+        ImmediateOperation::Shift(_) => amount_word(number),
+        ImmediateOperation::CSetBoundsImm => length_word(number),
     }
 }
 
-/// A source, a number and a result.
-pub(crate) fn immediate_instruction(
-    operation: ImmediateOperation,
-    rd: u32,
-    rs1: u32,
-    number: Number,
-) -> Instr
-    requires rd { rd < 16 }
-    requires rs1 { rs1 < 16 }
-    requires fit { source.fits_immediate operation number ≡ true }
-    ensures value { result ≡ object.immediate_instruction operation rd rs1 (object.number_word number) }
-    ensures range { InRange result }
-{
-    match operation {
-        ImmediateOperation::Addi => Instr::Addi {
-            rd,
-            rs1,
-            immediate: signed_word(number),
-        },
-        ImmediateOperation::Slti => Instr::Slti {
-            rd,
-            rs1,
-            immediate: signed_word(number),
-        },
-        ImmediateOperation::Sltiu => Instr::Sltiu {
-            rd,
-            rs1,
-            immediate: signed_word(number),
-        },
-        ImmediateOperation::Xori => Instr::Xori {
-            rd,
-            rs1,
-            immediate: signed_word(number),
-        },
-        ImmediateOperation::Ori => Instr::Ori {
-            rd,
-            rs1,
-            immediate: signed_word(number),
-        },
-        ImmediateOperation::Andi => Instr::Andi {
-            rd,
-            rs1,
-            immediate: signed_word(number),
-        },
-        ImmediateOperation::Slli => Instr::Slli {
-            rd,
-            rs1,
-            amount: amount_word(number),
-        },
-        ImmediateOperation::Srli => Instr::Srli {
-            rd,
-            rs1,
-            amount: amount_word(number),
-        },
-        ImmediateOperation::Srai => Instr::Srai {
-            rd,
-            rs1,
-            amount: amount_word(number),
-        },
-        ImmediateOperation::CIncAddrImm => Instr::CIncAddrImm {
-            rd,
-            rs1,
-            immediate: signed_word(number),
-        },
-        ImmediateOperation::CSetBoundsImm => Instr::CSetBoundsImm {
-            rd,
-            rs1,
-            immediate: length_word(number),
-        },
-    }
-}
-
-/// A number of twenty bits and a result.
-pub(crate) fn upper_instruction(operation: UpperOperation, rd: u32, number: Number) -> Instr
-    requires rd { rd < 16 }
-    ensures value { result ≡ object.upper_instruction operation rd (object.number_word number % 2 ^ 20) }
-    ensures range { InRange result }
-{
-    let immediate = number_word(number) % (1 << 20);
-    match operation {
-        UpperOperation::Lui => Instr::Lui { rd, immediate },
-        UpperOperation::AuiPcc => Instr::AuiPcc { rd, immediate },
-        UpperOperation::AuiCgp => Instr::AuiCgp { rd, immediate },
-    }
-}
-
-/// An address and a result.
-pub(crate) fn load_instruction(operation: LoadOperation, rd: u32, rs1: u32, number: Number) -> Instr
-    requires rd { rd < 16 }
-    requires rs1 { rs1 < 16 }
-    requires fit { source.within 2048 2047 number ≡ true }
-    ensures value { result ≡ object.load_instruction operation rd rs1 (object.number_word number) }
-    ensures range { InRange result }
-{
-    let immediate = signed_word(number);
-    match operation {
-        LoadOperation::Lb => Instr::Lb { rd, rs1, immediate },
-        LoadOperation::Lh => Instr::Lh { rd, rs1, immediate },
-        LoadOperation::Lw => Instr::Lw { rd, rs1, immediate },
-        LoadOperation::Clc => Instr::Clc { rd, rs1, immediate },
-        LoadOperation::Lbu => Instr::Lbu { rd, rs1, immediate },
-        LoadOperation::Lhu => Instr::Lhu { rd, rs1, immediate },
-        LoadOperation::CJalr => Instr::CJalr { rd, rs1, immediate },
-    }
-}
-
-/// An address and a source.
-pub(crate) fn store_instruction(
-    operation: StoreOperation,
-    rs1: u32,
-    rs2: u32,
-    number: Number,
-) -> Instr
-    requires rs1 { rs1 < 16 }
-    requires rs2 { rs2 < 16 }
-    requires fit { source.within 2048 2047 number ≡ true }
-    ensures value { result ≡ object.store_instruction operation rs1 rs2 (object.number_word number) }
-    ensures range { InRange result }
-{
-    let immediate = signed_word(number);
-    match operation {
-        StoreOperation::Sb => Instr::Sb {
-            rs1,
-            rs2,
-            immediate,
-        },
-        StoreOperation::Sh => Instr::Sh {
-            rs1,
-            rs2,
-            immediate,
-        },
-        StoreOperation::Sw => Instr::Sw {
-            rs1,
-            rs2,
-            immediate,
-        },
-        StoreOperation::Csc => Instr::Csc {
-            rs1,
-            rs2,
-            immediate,
-        },
-    }
-}
-
-/// Two sources and an offset.
-pub(crate) fn branch_instruction(
-    operation: BranchOperation,
-    rs1: u32,
-    rs2: u32,
-    offset: u32,
-) -> Instr
-    requires rs1 { rs1 < 16 }
-    requires rs2 { rs2 < 16 }
-    requires reach { IsOffset 13 offset }
-    ensures value { result ≡ object.branch_instruction operation rs1 rs2 offset }
-    ensures range { InRange result }
-{
-    match operation {
-        BranchOperation::Beq => Instr::Beq { rs1, rs2, offset },
-        BranchOperation::Bne => Instr::Bne { rs1, rs2, offset },
-        BranchOperation::Blt => Instr::Blt { rs1, rs2, offset },
-        BranchOperation::Bge => Instr::Bge { rs1, rs2, offset },
-        BranchOperation::Bltu => Instr::Bltu { rs1, rs2, offset },
-        BranchOperation::Bgeu => Instr::Bgeu { rs1, rs2, offset },
-    }
-}
-
-/// One source and a result.
-pub(crate) fn source_instruction(operation: SourceOperation, rd: u32, rs1: u32) -> Instr
-    requires rd { rd < 16 }
-    requires rs1 { rs1 < 16 }
-    ensures value { result ≡ object.source_instruction operation rd rs1 }
-    ensures range { InRange result }
-{
-    match operation {
-        SourceOperation::CGetPerm => Instr::CGetPerm { rd, rs1 },
-        SourceOperation::CGetType => Instr::CGetType { rd, rs1 },
-        SourceOperation::CGetBase => Instr::CGetBase { rd, rs1 },
-        SourceOperation::CGetLen => Instr::CGetLen { rd, rs1 },
-        SourceOperation::CGetTag => Instr::CGetTag { rd, rs1 },
-        SourceOperation::Crrl => Instr::Crrl { rd, rs1 },
-        SourceOperation::Cram => Instr::Cram { rd, rs1 },
-        SourceOperation::CMove => Instr::CMove { rd, rs1 },
-        SourceOperation::CClearTag => Instr::CClearTag { rd, rs1 },
-        SourceOperation::CGetAddr => Instr::CGetAddr { rd, rs1 },
-        SourceOperation::CGetHigh => Instr::CGetHigh { rd, rs1 },
-        SourceOperation::CGetTop => Instr::CGetTop { rd, rs1 },
-    }
-}
-
-/// No operand.
-pub(crate) fn bare_instruction(operation: BareOperation) -> Instr
+/// The instruction of a mnemonic without operands.
+fn bare(operation: BareOperation) -> Instr
     ensures value { result ≡ object.bare_instruction operation }
     ensures range { InRange result }
 {
@@ -288,5 +81,287 @@ pub(crate) fn bare_instruction(operation: BareOperation) -> Instr
         BareOperation::Fence => Instr::Fence { immediate: 0 },
         BareOperation::Ecall => Instr::Ecall,
         BareOperation::Ebreak => Instr::Ebreak,
+    }
+}
+
+/// The instruction of a shape.
+fn formed(shape: Shape) -> Instr
+    requires { FieldsFit shape }
+    ensures value { result ≡ shaped shape }
+    ensures range { InRange result }
+{
+    instruction(shape)
+}
+
+/// One instruction.
+fn one(only: Instr) -> Emitted
+    requires { InRange only }
+    ensures value { instructions_in result ≡ only ∷ [] }
+    ensures range { AreInRange (instructions_in result) }
+{
+    Emitted::One { only }
+}
+
+/// Two instructions.
+fn two(first: Instr, second: Instr) -> Emitted
+    requires first { InRange first }
+    requires second { InRange second }
+    ensures value { instructions_in result ≡ first ∷ second ∷ [] }
+    ensures range { AreInRange (instructions_in result) }
+{
+    Emitted::Two { first, second }
+}
+
+/// `addi rd, rs1, immediate`
+fn add(rd: u32, rs1: u32, immediate: u32) -> Instr
+    requires rd { rd < 16 }
+    requires rs1 { rs1 < 16 }
+    requires immediate { IsSigned 12 immediate }
+    ensures value { result ≡ instr.Addi rd rs1 immediate }
+    ensures range { InRange result }
+{
+    Instr::Addi { rd, rs1, immediate }
+}
+
+/// `cjalr c0, 0(rs1)`, and with a link in rd.
+fn jump_register(rd: u32, rs1: u32) -> Instr
+    requires rd { rd < 16 }
+    requires rs1 { rs1 < 16 }
+    ensures value { result ≡ instr.CJalr rd rs1 0 }
+    ensures range { InRange result }
+{
+    Instr::CJalr {
+        rd,
+        rs1,
+        immediate: 0,
+    }
+}
+
+/// The instructions that load a number.
+fn load_number(rd: u32, number: Number) -> Emitted
+    requires { rd < 16 }
+    ensures value { instructions_in result ≡ object.number_instructions rd (object.number_word number) }
+    ensures range { AreInRange (instructions_in result) }
+{
+    let word = number_word(number);
+    if is_short(word) {
+        return one(add(rd, 0, word));
+    }
+    let upper = Instr::Lui {
+        rd,
+        immediate: upper_part(word),
+    };
+    two(upper, add(rd, rd, rest_part(word)))
+}
+
+/// `cincaddrimm rd, rd, immediate`, the second of two that lead to an address.
+fn add_to_address(rd: u32, immediate: u32) -> Instr
+    requires rd { rd < 16 }
+    requires immediate { IsSigned 12 immediate }
+    ensures value { result ≡ instr.CIncAddrImm rd rd immediate }
+    ensures range { InRange result }
+{
+    Instr::CIncAddrImm {
+        rd,
+        rs1: rd,
+        immediate,
+    }
+}
+
+/// The number of a name's slot.
+fn slot_number(slots: &Names, name: &[u8]) -> u128
+    ensures value { result ≡ object.slot_number (object.slot_of slots.now name.now) }
+    ensures small { result < 2 ^ 64 }
+{
+    match slots.slot(name) {
+        Some(k) => k as u128,
+        None => 0,
+    }
+}
+
+/// The instructions that load the capability of a slot. Slots of eight bytes stand before the text.
+fn load_slot(slots: &Names, at: u128, rd: u32, name: &[u8]) -> Emitted
+    requires rd { rd < 16 }
+    requires at { at < 2 ^ 101 }
+    ensures value { instructions_in result ≡ object.import_instructions slots.now at rd name.now }
+    ensures range { AreInRange (instructions_in result) }
+{
+    let from = 8 * slots.len() as u128 + at;
+    let to = 8 * slot_number(slots, name);
+    let first = Instr::AuiPcc {
+        rd,
+        immediate: high_piece(from, to),
+    };
+    let second = Instr::Clc {
+        rd,
+        rs1: rd,
+        immediate: low_piece(from, to),
+    };
+    two(first, second)
+}
+
+/// The instructions that make the address of a text label.
+fn text_address(at: u128, rd: u32, to: u128) -> Emitted
+    requires { rd < 16 }
+    ensures value { instructions_in result ≡ object.text_instructions at rd to }
+    ensures range { AreInRange (instructions_in result) }
+{
+    let first = Instr::AuiPcc {
+        rd,
+        immediate: high_piece(at, to),
+    };
+    two(first, add_to_address(rd, low_piece(at, to)))
+}
+
+/// The instructions that make the address of a label of the initial bytes.
+fn global_address(rd: u32, to: u128) -> Emitted
+    requires { rd < 16 }
+    ensures value { instructions_in result ≡ object.global_instructions rd to }
+    ensures range { AreInRange (instructions_in result) }
+{
+    let first = Instr::AuiCgp {
+        rd,
+        immediate: high_piece(0, to),
+    };
+    two(first, add_to_address(rd, low_piece(0, to)))
+}
+
+/// The shape of a statement with a mnemonic and no target.
+fn shape(part: Part<&[u8]>) -> Shape
+    requires plain { is_plain (part_view part) ≡ true }
+    requires fit { source.numbers_fit (part_view part) ≡ true }
+    requires exist { source.registers_exist (part_view part) ≡ true }
+    ensures value { result ≡ plain_shape (part_view part.entry) }
+    ensures range { FieldsFit result }
+{
+    match part {
+        Part::Registers {
+            operation,
+            rd,
+            rs1,
+            rs2,
+        } => Shape::Registers {
+            operation,
+            rd,
+            rs1,
+            rs2,
+        },
+        Part::Immediate {
+            operation,
+            rd,
+            rs1,
+            number,
+        } => Shape::Immediate {
+            operation,
+            rd,
+            rs1,
+            immediate: immediate_word(operation, number),
+        },
+        Part::Upper {
+            operation,
+            rd,
+            number,
+        } => Shape::Upper {
+            operation,
+            rd,
+            immediate: number_word(number) % (1 << 20),
+        },
+        Part::Load {
+            operation,
+            rd,
+            number,
+            rs1,
+        } => Shape::Load {
+            operation,
+            rd,
+            rs1,
+            immediate: signed_word(number),
+        },
+        Part::Store {
+            operation,
+            rs2,
+            number,
+            rs1,
+        } => Shape::Store {
+            operation,
+            rs1,
+            rs2,
+            immediate: signed_word(number),
+        },
+        _ => unreachable!(),
+    }
+}
+
+/// The instructions that a statement at a place of the text stands for.
+pub(crate) fn instructions(labels: &Labels, slots: &Names, at: u128, part: Part<&[u8]>) -> Emitted
+    requires fit { source.numbers_fit (part_view part) ≡ true }
+    requires exist { source.registers_exist (part_view part) ≡ true }
+    requires found { IsFound (λ n. label_named n labels.now) at (part_view part) }
+    requires at { at < 2 ^ 101 }
+    ensures value { instructions_in result ≡ object.instructions_at (λ n. label_named n labels.now) slots.now at (part_view part.entry) }
+    ensures range { AreInRange (instructions_in result) }
+{
+    match part {
+        Part::Registers { .. }
+        | Part::Immediate { .. }
+        | Part::Upper { .. }
+        | Part::Load { .. }
+        | Part::Store { .. } => one(formed(shape(part))),
+        Part::Branch {
+            operation,
+            rs1,
+            rs2,
+            target,
+        } => one(formed(branch(operation, rs1, rs2, branch_target(labels, at, target)))),
+        Part::IfZero { rs, target } => {
+            let offset = branch_target(labels, at, target);
+            one(formed(branch(BranchOperation::Beq, rs, 0, offset)))
+        }
+        Part::IfNotZero { rs, target } => {
+            let offset = branch_target(labels, at, target);
+            one(formed(branch(BranchOperation::Bne, rs, 0, offset)))
+        }
+        Part::Jal { rd, target } | Part::JumpAndLink { rd, target } => {
+            let offset = jump_target(labels, at, target);
+            one(Instr::Jal { rd, offset })
+        }
+        Part::Jump { target } => {
+            let offset = jump_target(labels, at, target);
+            one(Instr::Jal { rd: 0, offset })
+        }
+        Part::RegisterJump { rd, number, rs1 } => {
+            let immediate = signed_word(number);
+            one(Instr::CJalr { rd, rs1, immediate })
+        }
+        Part::Source { operation, rd, rs1 } => one(formed(Shape::OneSource { operation, rd, rs1 })),
+        Part::JumpCapability { rd, rs1 } => one(jump_register(rd, rs1)),
+        Part::Return => one(jump_register(0, 1)),
+        Part::JumpRegister { rs } => one(jump_register(0, rs)),
+        Part::Bare { operation } => one(bare(operation)),
+        Part::Nop => one(add(0, 0, 0)),
+        Part::Move { rd, rs } => one(add(rd, rs, 0)),
+        Part::LoadImmediate { rd, number } => load_number(rd, number),
+        Part::Import { rd, name } => load_slot(slots, at, rd, name),
+        Part::TextAddress { rd, label } => text_address(at, rd, label_offset(labels.get(label))),
+        Part::GlobalAddress { rd, label } => global_address(rd, label_offset(labels.get(label))),
+        Part::Label { .. }
+        | Part::Text
+        | Part::Data
+        | Part::Word { .. }
+        | Part::Byte { .. }
+        | Part::Zero { .. }
+        | Part::Align { .. } => Emitted::Nothing,
+    }
+}
+
+/// A branch's shape.
+fn branch(operation: BranchOperation, rs1: u32, rs2: u32, offset: u32) -> Shape
+    ensures { result ≡ shapes.Branch operation rs1 rs2 offset }
+{
+    Shape::Branch {
+        operation,
+        rs1,
+        rs2,
+        offset,
     }
 }

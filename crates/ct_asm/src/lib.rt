@@ -16,12 +16,11 @@ mod tables;
 mod tests;
 mod ways;
 
-ghost use Rattle.std.specs.Prelude.{◌≡◌, ◌<◌, ◌^◌, ℕ, None, IfOk, IfErr};
+ghost use Rattle.std.specs.Prelude.{◌≡◌, None, IfOk, IfErr};
 ghost use Rattle.def_source.specs.Source.{IsLawful};
-ghost use Rattle.def_object.specs.Object.{undeclared_in, number_instructions};
+ghost use Rattle.def_object.specs.Object.{undeclared_in};
 ghost use Rattle.ct_source.specs.Views.{program_view, statements_view};
 ghost use Rattle.ct_asm.specs.Labels.{Stands, Refuses};
-ghost use Rattle.ct_asm.specs.Laws.{loaded, AreApart, LeadsTo};
 
 pub use crate::names::Names;
 pub use crate::object::Object;
@@ -64,15 +63,3 @@ pub fn assemble(alloc: Global, program: &Program<'_>, imports: &Names) -> Result
 {
     object::assembled(alloc, program.statements.as_slice(), imports)
 }
-
-/// The pseudo `li` loads its number: after its instructions, run from a register that holds 0, the
-/// register holds the 32-bit word.
-pub fn numbers_are_loaded()
-    ensures { (rd word : ℕ) → word < 2 ^ 32 → loaded 0 (number_instructions rd word) ≡ word }
-{}
-
-/// The two words of `cimport`, `cla` and `clg` lead to the place that is meant, and the first word's
-/// address lies between the place from which they count and it.
-pub fn ways_lead_there()
-    ensures { (at to : ℕ) → AreApart at to → LeadsTo at to }
-{}

@@ -1,6 +1,6 @@
 //! The names of a compartment's slots, or of a library's, in slot order.
 
-ghost use Rattle.std.specs.Prelude.{◌≡◌, ◌++◌, ◌∷◌, ◌<◌, ◌^◌, [], length, IfOk, OnErr, option_map, is_none, if◌then◌else◌, map, string_bytes};
+ghost use Rattle.std.specs.Prelude.{◌≡◌, ◌++◌, ◌∷◌, ◌<◌, ◌^◌, [], length, IfOk, OnErr, is_none, if◌then◌else◌};
 ghost use Rattle.def_object.specs.Object as object;
 
 use indexmap::IndexSet;
@@ -10,15 +10,15 @@ use std::marker::Model;
 /// Names in slot order, each once.
 #[derive(Debug, Drop)]
 pub struct Names {
-    set: IndexSet<String>,
+    set: IndexSet<Vec<u8>>,
 }
 
 impl Model for Names {
-    ghost use Rattle.std.specs.Prelude.{List, map, ℕ, string_bytes};
+    ghost use Rattle.std.specs.Prelude.{List, map, ℕ};
 
     ghost Value = { List (List ℕ) };
 
-    ghost view = { λ n. map string_bytes n.set.keys };
+    ghost view = { λ n. map (λ k. k.items) n.set.keys };
 }
 
 impl Names {
@@ -43,7 +43,7 @@ impl Names {
     pub fn slot(&self, name: &[u8]) -> Option<usize>
         ensures { result ≡ object.slot_of self.now name.now }
     {
-        slot_among(self.set.as_slice(), name)
+        self.set.get_index_of(name)
     }
 
     /// Gives a name the next slot, unless it has one. An `Err` changes nothing.
@@ -55,21 +55,8 @@ impl Names {
         if self.slot(name.as_bytes()).is_some() {
             return Ok(false);
         }
-        let text = String::from_str(alloc, name)?;
-        self.set.insert(text)?;
+        let key = Vec::from_slice(alloc, name.as_bytes())?;
+        self.set.insert(key)?;
         Ok(true)
     }
-}
-
-/// The index of a name among texts.
-#[tactic(auto, unfolding(def_object::specs::Object::slot_of))]
-fn slot_among(names: &[String], name: &[u8]) -> Option<usize>
-    ensures { result ≡ object.slot_of (map string_bytes names.now) name.now }
-{
-    for (i, known) in names.iter().enumerate() {
-        if name == known.as_bytes() {
-            return Some(i);
-        }
-    }
-    None
 }

@@ -9,7 +9,6 @@ use crate::bytes::section_bytes;
 use crate::faults::least_fault;
 use crate::labels::Labels;
 use crate::names::Names;
-use crate::places::is_text;
 use crate::tables::labels_of;
 use def_source::AsmFault;
 use def_source::parts::{Section, Statement};
@@ -41,7 +40,7 @@ impl Object {
     {
         match self.labels.get(label.as_bytes()) {
             Some(l) => {
-                if is_text(l.section) {
+                if l.section.is_text() {
                     return Some(l.offset as u32);
                 }
                 None

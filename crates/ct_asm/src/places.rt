@@ -36,29 +36,18 @@ pub(crate) fn padding(multiple: u128, at: u128) -> u128
     (multiple - at % multiple) % multiple
 }
 
-pub(crate) fn is_text(section: Section) -> bool
-    ensures { result ≡ source.is_text section }
-{
-    match section {
-        Section::Text => true,
-        Section::Data => false,
-    }
-}
-
-pub(crate) fn is_data(section: Section) -> bool
-    ensures { result ≡ source.is_data section }
-{
-    match section {
-        Section::Text => false,
-        Section::Data => true,
-    }
-}
+/// Where the first statement stands.
+pub(crate) const START: Place = Place {
+    section: Section::Text,
+    text: 0,
+    initial: 0,
+};
 
 /// How many bytes of its section stand before a place.
 pub(crate) fn offset(place: Place) -> u128
     ensures { result ≡ object.offset place }
 {
-    if is_text(place.section) {
+    if place.section.is_text() {
         place.text
     } else {
         place.initial
@@ -84,7 +73,7 @@ pub(crate) fn size_at(part: Part<&[u8]>, at: u128) -> u128
         Part::Byte { .. } => 1,
         Part::Zero { number } => number.magnitude,
         Part::Align { number } => padding(number.magnitude, at),
-        Part::Number { number, .. } => number_size(number),
+        Part::LoadImmediate { number, .. } => number_size(number),
         Part::Import { .. } | Part::TextAddress { .. } | Part::GlobalAddress { .. } => 8,
         _ => 4,
     }
@@ -99,7 +88,7 @@ fn grown(place: Place, size: u128) -> Place
     ensures text { result.text ≤ place.text + 2 ^ 20 }
     ensures initial { result.initial ≤ place.initial + 2 ^ 20 }
 {
-    if is_text(place.section) {
+    if place.section.is_text() {
         return Place {
             section: place.section,
             text: place.text + size,

@@ -8,9 +8,9 @@ ghost use Rattle.ct_asm.specs.Labels.{label_named, noted};
 
 use crate::labels::Labels;
 use crate::names::Names;
-use crate::places::{advanced, offset};
+use crate::places::{START, advanced, offset};
 use def_object::{Label, Place};
-use def_source::parts::{Part, Section, Statement};
+use def_source::parts::{Part, Statement};
 use std::alloc::{AllocError, Global};
 
 /// Adds the label that a statement is, unless its name is there.
@@ -46,11 +46,7 @@ pub(crate) fn labels_of(
     ensures { IfOk result (λ t. (name : source.Name) → label_named name t ≡ object.label_from name object.start 0 (statements_view statements.now)) }
 {
     let mut labels = Labels::new(alloc);
-    let mut place = Place {
-        section: Section::Text,
-        text: 0,
-        initial: 0,
-    };
+    let mut place = START;
     for (k, s) in statements.iter().enumerate() {
         note(alloc, &mut labels, place, k as u64, s.part)?;
         place = advanced(place, s.part);

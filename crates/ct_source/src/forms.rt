@@ -6,13 +6,12 @@ ghost use Rattle.def_source.specs.Source as source;
 ghost use Rattle.ct_source.specs.Views.{row_view, part_view, takes_number};
 ghost use Rattle.def_source.specs.declared.words.Head.TheVariants as head;
 ghost use Rattle.def_source.specs.declared.parts.Part.TheVariants as part;
-ghost use Rattle.def_source.specs.declared.operations.LoadOperation.TheVariants as load;
 
 use crate::operands::{
     one_number, one_register, one_target, register_address, register_name, register_number,
     register_target, three_registers, two_registers, two_registers_number, two_registers_target,
 };
-use def_source::operations::{
+use def_instr::shapes::{
     BranchOperation, ImmediateOperation, LoadOperation, RegisterOperation, SourceOperation,
     StoreOperation, UpperOperation,
 };
@@ -106,18 +105,18 @@ fn moved<'a>(row: &[Token<&'a [u8]>]) -> Option<Part<&'a [u8]>>
     Some(Part::Move { rd, rs })
 }
 
-fn go<'a>(row: &[Token<&'a [u8]>]) -> Option<Part<&'a [u8]>>
-    ensures { option_map part_view result ≡ source.form_of head.Go (row_view row.now) }
+fn jump<'a>(row: &[Token<&'a [u8]>]) -> Option<Part<&'a [u8]>>
+    ensures { option_map part_view result ≡ source.form_of head.Jump (row_view row.now) }
 {
     let target = one_target(row)?;
-    Some(Part::Go { target })
+    Some(Part::Jump { target })
 }
 
-fn link<'a>(row: &[Token<&'a [u8]>]) -> Option<Part<&'a [u8]>>
-    ensures { option_map part_view result ≡ source.form_of head.Link (row_view row.now) }
+fn jump_and_link<'a>(row: &[Token<&'a [u8]>]) -> Option<Part<&'a [u8]>>
+    ensures { option_map part_view result ≡ source.form_of head.JumpAndLink (row_view row.now) }
 {
     let (rd, target) = register_target(row)?;
-    Some(Part::Link { rd, target })
+    Some(Part::JumpAndLink { rd, target })
 }
 
 fn jump_register<'a>(row: &[Token<&'a [u8]>]) -> Option<Part<&'a [u8]>>
@@ -141,11 +140,11 @@ fn if_not_zero<'a>(row: &[Token<&'a [u8]>]) -> Option<Part<&'a [u8]>>
     Some(Part::IfNotZero { rs, target })
 }
 
-fn load_number<'a>(row: &[Token<&'a [u8]>]) -> Option<Part<&'a [u8]>>
-    ensures { option_map part_view result ≡ source.form_of head.Number (row_view row.now) }
+fn load_immediate<'a>(row: &[Token<&'a [u8]>]) -> Option<Part<&'a [u8]>>
+    ensures { option_map part_view result ≡ source.form_of head.LoadImmediate (row_view row.now) }
 {
     let (rd, number) = register_number(row)?;
-    Some(Part::Number { rd, number })
+    Some(Part::LoadImmediate { rd, number })
 }
 
 fn import<'a>(row: &[Token<&'a [u8]>]) -> Option<Part<&'a [u8]>>
@@ -169,9 +168,8 @@ fn global_address<'a>(row: &[Token<&'a [u8]>]) -> Option<Part<&'a [u8]>>
     Some(Part::GlobalAddress { rd, label })
 }
 
-/// A load, whose address is a number and a register in brackets.
-fn address_load<'a>(operation: LoadOperation, row: &[Token<&'a [u8]>]) -> Option<Part<&'a [u8]>>
-    ensures { option_map part_view result ≡ option_map (λ o. part.Load operation o.0 o.1 o.2) (source.register_address (row_view row.now)) }
+fn load<'a>(operation: LoadOperation, row: &[Token<&'a [u8]>]) -> Option<Part<&'a [u8]>>
+    ensures { option_map part_view result ≡ source.form_of (head.Load operation) (row_view row.now) }
 {
     let (rd, number, rs1) = register_address(row)?;
     Some(Part::Load {
@@ -180,6 +178,14 @@ fn address_load<'a>(operation: LoadOperation, row: &[Token<&'a [u8]>]) -> Option
         number,
         rs1,
     })
+}
+
+/// `cjalr rd, number(rs1)`
+fn jump_address<'a>(row: &[Token<&'a [u8]>]) -> Option<Part<&'a [u8]>>
+    ensures { option_map part_view result ≡ option_map (λ o. part.RegisterJump o.0 o.1 o.2) (source.register_address (row_view row.now)) }
+{
+    let (rd, number, rs1) = register_address(row)?;
+    Some(Part::RegisterJump { rd, number, rs1 })
 }
 
 /// `cjalr rd, rs1`
@@ -191,27 +197,12 @@ fn jump_capability<'a>(row: &[Token<&'a [u8]>]) -> Option<Part<&'a [u8]>>
 }
 
 /// `cjalr`, which has a second form without a number.
-fn load_or_jump<'a>(row: &[Token<&'a [u8]>]) -> Option<Part<&'a [u8]>>
-    ensures { option_map part_view result ≡ source.load_form load.CJalr (row_view row.now) }
+fn register_jump<'a>(row: &[Token<&'a [u8]>]) -> Option<Part<&'a [u8]>>
+    ensures { option_map part_view result ≡ source.register_jump_form (row_view row.now) }
 {
-    match address_load(LoadOperation::CJalr, row) {
+    match jump_address(row) {
         Some(part) => Some(part),
         None => jump_capability(row),
-    }
-}
-
-/// A load, or `cjalr`.
-fn load<'a>(operation: LoadOperation, row: &[Token<&'a [u8]>]) -> Option<Part<&'a [u8]>>
-    ensures { option_map part_view result ≡ source.load_form operation (row_view row.now) }
-{
-    match operation {
-        LoadOperation::CJalr => load_or_jump(row),
-        LoadOperation::Lb => address_load(LoadOperation::Lb, row),
-        LoadOperation::Lh => address_load(LoadOperation::Lh, row),
-        LoadOperation::Lw => address_load(LoadOperation::Lw, row),
-        LoadOperation::Clc => address_load(LoadOperation::Clc, row),
-        LoadOperation::Lbu => address_load(LoadOperation::Lbu, row),
-        LoadOperation::Lhu => address_load(LoadOperation::Lhu, row),
     }
 }
 
@@ -227,13 +218,14 @@ pub(crate) fn form<'a>(head: Head, row: &[Token<&'a [u8]>]) -> Option<Part<&'a [
         Head::Branch(operation) => branch(operation, row),
         Head::Source(operation) => source(operation, row),
         Head::Jal => jal(row),
+        Head::RegisterJump => register_jump(row),
         Head::Move => moved(row),
-        Head::Go => go(row),
-        Head::Link => link(row),
+        Head::Jump => jump(row),
+        Head::JumpAndLink => jump_and_link(row),
         Head::JumpRegister => jump_register(row),
         Head::IfZero => if_zero(row),
         Head::IfNotZero => if_not_zero(row),
-        Head::Number => load_number(row),
+        Head::LoadImmediate => load_immediate(row),
         Head::Import => import(row),
         Head::TextAddress => text_address(row),
         Head::GlobalAddress => global_address(row),

@@ -5,7 +5,7 @@ ghost use Rattle.std.specs.Prelude.{◌≡◌, ◌-◌, ◌≤◌, ◌%◌, ◌=
 ghost use Rattle.def_source.specs.Source as source;
 ghost use Rattle.ct_source.specs.Views.{part_view, target_view};
 
-use def_source::operations::ImmediateOperation;
+use def_instr::shapes::ImmediateOperation;
 use def_source::parts::{Number, Part, Section, Target};
 
 /// Whether the section has such statements: instructions stand in text, bytes, zeros and alignment
@@ -15,26 +15,8 @@ pub(crate) fn in_section(section: Section, part: Part<&[u8]>) -> bool
 {
     match part {
         Part::Label { .. } | Part::Text | Part::Data | Part::Word { .. } => true,
-        Part::Byte { .. } | Part::Zero { .. } | Part::Align { .. } => is_data(section),
-        _ => is_text(section),
-    }
-}
-
-fn is_text(section: Section) -> bool
-    ensures { result ≡ source.is_text section }
-{
-    match section {
-        Section::Text => true,
-        Section::Data => false,
-    }
-}
-
-fn is_data(section: Section) -> bool
-    ensures { result ≡ source.is_data section }
-{
-    match section {
-        Section::Text => false,
-        Section::Data => true,
+        Part::Byte { .. } | Part::Zero { .. } | Part::Align { .. } => section.is_data(),
+        _ => section.is_text(),
     }
 }
 
@@ -53,11 +35,11 @@ fn fits_immediate(operation: ImmediateOperation, number: Number) -> bool
     ensures { result ≡ source.fits_immediate operation number }
 {
     match operation {
-        ImmediateOperation::Slli | ImmediateOperation::Srli | ImmediateOperation::Srai => {
-            within(0, 31, number)
+        ImmediateOperation::Signed(_) | ImmediateOperation::CIncAddrImm => {
+            within(2048, 2047, number)
         }
+        ImmediateOperation::Shift(_) => within(0, 31, number),
         ImmediateOperation::CSetBoundsImm => within(0, 4095, number),
-        _ => within(2048, 2047, number),
     }
 }
 
@@ -84,7 +66,7 @@ pub(crate) fn numbers_fit(part: Part<&[u8]>) -> bool
     ensures { result ≡ source.numbers_fit (part_view part.entry) }
 {
     match part {
-        Part::Word { number } | Part::Number { number, .. } => {
+        Part::Word { number } | Part::LoadImmediate { number, .. } => {
             within(1 << 31, (1 << 32) - 1, number)
         }
         Part::Byte { number } => within(128, 255, number),
@@ -96,11 +78,13 @@ pub(crate) fn numbers_fit(part: Part<&[u8]>) -> bool
             ..
         } => fits_immediate(operation, number),
         Part::Upper { number, .. } => within(524288, 1048575, number),
-        Part::Load { number, .. } | Part::Store { number, .. } => within(2048, 2047, number),
+        Part::Load { number, .. }
+        | Part::RegisterJump { number, .. }
+        | Part::Store { number, .. } => within(2048, 2047, number),
         Part::Branch { target, .. }
         | Part::IfZero { target, .. }
         | Part::IfNotZero { target, .. } => { fits_target(4096, target) }
-        Part::Jal { target, .. } | Part::Go { target } | Part::Link { target, .. } => {
+        Part::Jal { target, .. } | Part::Jump { target } | Part::JumpAndLink { target, .. } => {
             fits_target(1048576, target)
         }
         Part::Label { .. }
@@ -135,6 +119,7 @@ pub(crate) fn registers_exist(part: Part<&[u8]>) -> bool
         Part::Registers { rd, rs1, rs2, .. } => exists(rd) && exists(rs1) && exists(rs2),
         Part::Immediate { rd, rs1, .. }
         | Part::Load { rd, rs1, .. }
+        | Part::RegisterJump { rd, rs1, .. }
         | Part::JumpCapability { rd, rs1 }
         | Part::Source { rd, rs1, .. } => exists(rd) && exists(rs1),
         Part::Store { rs2, rs1, .. } => exists(rs2) && exists(rs1),
@@ -142,14 +127,24 @@ pub(crate) fn registers_exist(part: Part<&[u8]>) -> bool
         Part::Move { rd, rs } => exists(rd) && exists(rs),
         Part::Upper { rd, .. }
         | Part::Jal { rd, .. }
-        | Part::Link { rd, .. }
-        | Part::Number { rd, .. }
+        | Part::JumpAndLink { rd, .. }
+        | Part::LoadImmediate { rd, .. }
         | Part::Import { rd, .. }
         | Part::TextAddress { rd, .. }
         | Part::GlobalAddress { rd, .. } => exists(rd),
         Part::JumpRegister { rs } | Part::IfZero { rs, .. } | Part::IfNotZero { rs, .. } => exists(
             rs,
         ),
-        _ => true,
+        Part::Label { .. }
+        | Part::Text
+        | Part::Data
+        | Part::Word { .. }
+        | Part::Byte { .. }
+        | Part::Zero { .. }
+        | Part::Align { .. }
+        | Part::Bare { .. }
+        | Part::Nop
+        | Part::Jump { .. }
+        | Part::Return => true,
     }
 }

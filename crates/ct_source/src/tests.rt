@@ -1,7 +1,7 @@
 //! Lines and their faults, from the written language (docs/use/assembler.md).
 
 use super::*;
-use def_source::operations::StoreOperation;
+use def_instr::shapes::StoreOperation;
 use def_source::parts::Number;
 use std::process::Abort;
 

@@ -1,7 +1,7 @@
 -- Which object statements stand for: *Source and object*, its second half (docs/use/assembler.md).
 -- A label's value is the sum of the lengths of the statements before it in its section, and the
 -- object is the statements' bytes in order, with each reference replaced by its value.
-use Rattle.std.specs.Prelude.{ℕ, ◌+◌, ◌*◌, ◌-◌, ◌/◌, ◌%◌, ◌^◌, Bool, false, ◌==◌, ◌&&◌, nat_lt, nat_le, if◌then◌else◌, List, [], ◌∷◌, ◌++◌, length, option_map, Option, Some, None, is_none, replicate}
+use Rattle.std.specs.Prelude.{ℕ, ◌+◌, ◌*◌, ◌-◌, ◌/◌, ◌%◌, ◌^◌, Bool, false, ◌==◌, ◌&&◌, ◌||◌, nat_lt, nat_le, if◌then◌else◌, List, [], ◌∷◌, ◌++◌, length, option_map, Option, Some, None, is_none, replicate}
 use Rattle.std.specs.List.{flat_map}
 use Rattle.std.specs.Int.{w32, to_le_bytes}
 use Rattle.std.specs.Str.{bytes_eq}
@@ -9,6 +9,10 @@ use Rattle.def_instr.specs.Table.{word_of}
 use Rattle.def_instr.specs.Reading.{extended}
 use Rattle.def_instr.specs.declared.Instr.{Instr}
 use Rattle.def_instr.specs.declared.Instr.TheVariants as instr
+use Rattle.def_instr.specs.declared.shapes.Shape.TheVariants as shape
+use Rattle.def_instr.specs.Shapes.{shaped}
+use Rattle.def_source.specs.declared.parts.BareOperation.{BareOperation}
+use Rattle.def_source.specs.declared.parts.BareOperation.TheVariants as bare
 use Rattle.def_source.specs.Source.{Name, Statements, is_text, is_data, or_else}
 use Rattle.def_source.specs.declared.parts.Number.{Number}
 use Rattle.def_source.specs.declared.parts.Section.{Section}
@@ -17,22 +21,6 @@ use Rattle.def_source.specs.declared.parts.Target.{Target}
 use Rattle.def_source.specs.declared.parts.Target.TheVariants as target
 use Rattle.def_source.specs.declared.parts.Part.{Part}
 use Rattle.def_source.specs.declared.parts.Part.TheVariants as part
-use Rattle.def_source.specs.declared.operations.RegisterOperation.{RegisterOperation}
-use Rattle.def_source.specs.declared.operations.RegisterOperation.TheVariants as register
-use Rattle.def_source.specs.declared.operations.ImmediateOperation.{ImmediateOperation}
-use Rattle.def_source.specs.declared.operations.ImmediateOperation.TheVariants as immediate
-use Rattle.def_source.specs.declared.operations.UpperOperation.{UpperOperation}
-use Rattle.def_source.specs.declared.operations.UpperOperation.TheVariants as upper
-use Rattle.def_source.specs.declared.operations.LoadOperation.{LoadOperation}
-use Rattle.def_source.specs.declared.operations.LoadOperation.TheVariants as load
-use Rattle.def_source.specs.declared.operations.StoreOperation.{StoreOperation}
-use Rattle.def_source.specs.declared.operations.StoreOperation.TheVariants as store
-use Rattle.def_source.specs.declared.operations.BranchOperation.{BranchOperation}
-use Rattle.def_source.specs.declared.operations.BranchOperation.TheVariants as branch
-use Rattle.def_source.specs.declared.operations.SourceOperation.{SourceOperation}
-use Rattle.def_source.specs.declared.operations.SourceOperation.TheVariants as source
-use Rattle.def_source.specs.declared.operations.BareOperation.{BareOperation}
-use Rattle.def_source.specs.declared.operations.BareOperation.TheVariants as bare
 use Rattle.def_object.specs.declared.Place.{Place}
 use Rattle.def_object.specs.declared.Label.{Label}
 use Rattle.def_object.specs.declared.Fault.{Fault}
@@ -59,7 +47,7 @@ size_at part.Data at = 0
 size_at (part.Byte number) at = 1
 size_at (part.Zero number) at = number.magnitude
 size_at (part.Align number) at = padding number.magnitude at
-size_at (part.Number rd number) at = if is_short (number_word number) then 4 else 8
+size_at (part.LoadImmediate rd number) at = if is_short (number_word number) then 4 else 8
 size_at (part.Import rd name) at = 8
 size_at (part.TextAddress rd label) at = 8
 size_at (part.GlobalAddress rd label) at = 8
@@ -133,8 +121,8 @@ reference_fault labels k at (part.Branch operation rs1 rs2 target) = target_faul
 reference_fault labels k at (part.IfZero rs target) = target_fault labels 4096 at target
 reference_fault labels k at (part.IfNotZero rs target) = target_fault labels 4096 at target
 reference_fault labels k at (part.Jal rd target) = target_fault labels 1048576 at target
-reference_fault labels k at (part.Go target) = target_fault labels 1048576 at target
-reference_fault labels k at (part.Link rd target) = target_fault labels 1048576 at target
+reference_fault labels k at (part.Jump target) = target_fault labels 1048576 at target
+reference_fault labels k at (part.JumpAndLink rd target) = target_fault labels 1048576 at target
 reference_fault labels k at (part.TextAddress rd label) = text_fault (labels label)
 reference_fault labels k at (part.GlobalAddress rd label) = data_fault (labels label)
 reference_fault labels k at _ = None
@@ -150,11 +138,15 @@ size_fault at q = if nat_lt limit (at + size_at q at) then Some 8 else None
 abbrev pub statement_fault : Labels → Place → ℕ → Part Name → Option ℕ
 statement_fault labels p k q = or_else (reference_fault labels k (offset p) q) (size_fault (offset p) q)
 
+-- the lesser line, and on one line the lesser number
+abbrev pub is_least : Fault → Fault → Bool
+is_least a b = nat_lt a.line b.line || (a.line == b.line && nat_le a.number b.number)
+
 -- the fault of the lesser line, and on one line of the lesser number
 abbrev pub lesser : Option Fault → Option Fault → Option Fault
 lesser None b = b
 lesser (Some a) None = Some a
-lesser (Some a) (Some b) = if nat_le (a.line * 16 + a.number) (b.line * 16 + b.number) then Some a else Some b
+lesser (Some a) (Some b) = if is_least a b then Some a else Some b
 
 abbrev pub on_line : ℕ → Option ℕ → Option Fault
 on_line line o = option_map (λ n. record { number = n; line = line }) o
@@ -185,92 +177,6 @@ undeclared_in slots [] = None
 undeclared_in slots (s ∷ ss) = if is_undeclared slots s.part then Some s.line else undeclared_in slots ss
 
 -- ---- instructions
-
-abbrev pub register_instruction : RegisterOperation → ℕ → ℕ → ℕ → Instr
-register_instruction register.Add rd rs1 rs2 = instr.Add rd rs1 rs2
-register_instruction register.Sub rd rs1 rs2 = instr.Sub rd rs1 rs2
-register_instruction register.Sll rd rs1 rs2 = instr.Sll rd rs1 rs2
-register_instruction register.Slt rd rs1 rs2 = instr.Slt rd rs1 rs2
-register_instruction register.Sltu rd rs1 rs2 = instr.Sltu rd rs1 rs2
-register_instruction register.Xor rd rs1 rs2 = instr.Xor rd rs1 rs2
-register_instruction register.Srl rd rs1 rs2 = instr.Srl rd rs1 rs2
-register_instruction register.Sra rd rs1 rs2 = instr.Sra rd rs1 rs2
-register_instruction register.Or rd rs1 rs2 = instr.Or rd rs1 rs2
-register_instruction register.And rd rs1 rs2 = instr.And rd rs1 rs2
-register_instruction register.Mul rd rs1 rs2 = instr.Mul rd rs1 rs2
-register_instruction register.Mulh rd rs1 rs2 = instr.Mulh rd rs1 rs2
-register_instruction register.Mulhsu rd rs1 rs2 = instr.Mulhsu rd rs1 rs2
-register_instruction register.Mulhu rd rs1 rs2 = instr.Mulhu rd rs1 rs2
-register_instruction register.Div rd rs1 rs2 = instr.Div rd rs1 rs2
-register_instruction register.Divu rd rs1 rs2 = instr.Divu rd rs1 rs2
-register_instruction register.Rem rd rs1 rs2 = instr.Rem rd rs1 rs2
-register_instruction register.Remu rd rs1 rs2 = instr.Remu rd rs1 rs2
-register_instruction register.CSetBounds rd rs1 rs2 = instr.CSetBounds rd rs1 rs2
-register_instruction register.CSetBoundsExact rd rs1 rs2 = instr.CSetBoundsExact rd rs1 rs2
-register_instruction register.CSeal rd rs1 rs2 = instr.CSeal rd rs1 rs2
-register_instruction register.CUnseal rd rs1 rs2 = instr.CUnseal rd rs1 rs2
-register_instruction register.CAndPerm rd rs1 rs2 = instr.CAndPerm rd rs1 rs2
-register_instruction register.CSetAddr rd rs1 rs2 = instr.CSetAddr rd rs1 rs2
-register_instruction register.CIncAddr rd rs1 rs2 = instr.CIncAddr rd rs1 rs2
-register_instruction register.CSub rd rs1 rs2 = instr.CSub rd rs1 rs2
-register_instruction register.CSetHigh rd rs1 rs2 = instr.CSetHigh rd rs1 rs2
-register_instruction register.CTestSubset rd rs1 rs2 = instr.CTestSubset rd rs1 rs2
-register_instruction register.CSetEqualExact rd rs1 rs2 = instr.CSetEqualExact rd rs1 rs2
-
-abbrev pub immediate_instruction : ImmediateOperation → ℕ → ℕ → ℕ → Instr
-immediate_instruction immediate.Addi rd rs1 n = instr.Addi rd rs1 n
-immediate_instruction immediate.Slti rd rs1 n = instr.Slti rd rs1 n
-immediate_instruction immediate.Sltiu rd rs1 n = instr.Sltiu rd rs1 n
-immediate_instruction immediate.Xori rd rs1 n = instr.Xori rd rs1 n
-immediate_instruction immediate.Ori rd rs1 n = instr.Ori rd rs1 n
-immediate_instruction immediate.Andi rd rs1 n = instr.Andi rd rs1 n
-immediate_instruction immediate.Slli rd rs1 n = instr.Slli rd rs1 n
-immediate_instruction immediate.Srli rd rs1 n = instr.Srli rd rs1 n
-immediate_instruction immediate.Srai rd rs1 n = instr.Srai rd rs1 n
-immediate_instruction immediate.CIncAddrImm rd rs1 n = instr.CIncAddrImm rd rs1 n
-immediate_instruction immediate.CSetBoundsImm rd rs1 n = instr.CSetBoundsImm rd rs1 n
-
-abbrev pub upper_instruction : UpperOperation → ℕ → ℕ → Instr
-upper_instruction upper.Lui rd n = instr.Lui rd n
-upper_instruction upper.AuiPcc rd n = instr.AuiPcc rd n
-upper_instruction upper.AuiCgp rd n = instr.AuiCgp rd n
-
-abbrev pub load_instruction : LoadOperation → ℕ → ℕ → ℕ → Instr
-load_instruction load.Lb rd rs1 n = instr.Lb rd rs1 n
-load_instruction load.Lh rd rs1 n = instr.Lh rd rs1 n
-load_instruction load.Lw rd rs1 n = instr.Lw rd rs1 n
-load_instruction load.Clc rd rs1 n = instr.Clc rd rs1 n
-load_instruction load.Lbu rd rs1 n = instr.Lbu rd rs1 n
-load_instruction load.Lhu rd rs1 n = instr.Lhu rd rs1 n
-load_instruction load.CJalr rd rs1 n = instr.CJalr rd rs1 n
-
-abbrev pub store_instruction : StoreOperation → ℕ → ℕ → ℕ → Instr
-store_instruction store.Sb rs1 rs2 n = instr.Sb rs1 rs2 n
-store_instruction store.Sh rs1 rs2 n = instr.Sh rs1 rs2 n
-store_instruction store.Sw rs1 rs2 n = instr.Sw rs1 rs2 n
-store_instruction store.Csc rs1 rs2 n = instr.Csc rs1 rs2 n
-
-abbrev pub branch_instruction : BranchOperation → ℕ → ℕ → ℕ → Instr
-branch_instruction branch.Beq rs1 rs2 n = instr.Beq rs1 rs2 n
-branch_instruction branch.Bne rs1 rs2 n = instr.Bne rs1 rs2 n
-branch_instruction branch.Blt rs1 rs2 n = instr.Blt rs1 rs2 n
-branch_instruction branch.Bge rs1 rs2 n = instr.Bge rs1 rs2 n
-branch_instruction branch.Bltu rs1 rs2 n = instr.Bltu rs1 rs2 n
-branch_instruction branch.Bgeu rs1 rs2 n = instr.Bgeu rs1 rs2 n
-
-abbrev pub source_instruction : SourceOperation → ℕ → ℕ → Instr
-source_instruction source.CGetPerm rd rs1 = instr.CGetPerm rd rs1
-source_instruction source.CGetType rd rs1 = instr.CGetType rd rs1
-source_instruction source.CGetBase rd rs1 = instr.CGetBase rd rs1
-source_instruction source.CGetLen rd rs1 = instr.CGetLen rd rs1
-source_instruction source.CGetTag rd rs1 = instr.CGetTag rd rs1
-source_instruction source.Crrl rd rs1 = instr.Crrl rd rs1
-source_instruction source.Cram rd rs1 = instr.Cram rd rs1
-source_instruction source.CMove rd rs1 = instr.CMove rd rs1
-source_instruction source.CClearTag rd rs1 = instr.CClearTag rd rs1
-source_instruction source.CGetAddr rd rs1 = instr.CGetAddr rd rs1
-source_instruction source.CGetHigh rd rs1 = instr.CGetHigh rd rs1
-source_instruction source.CGetTop rd rs1 = instr.CGetTop rd rs1
 
 abbrev pub bare_instruction : BareOperation → Instr
 bare_instruction bare.Fence = instr.Fence 0
@@ -325,25 +231,26 @@ global_instructions rd to = instr.AuiCgp rd (high_piece 0 to) ∷ instr.CIncAddr
 
 -- the instructions of a statement at a place of the text
 abbrev pub instructions_at : Labels → List Name → ℕ → Part Name → List Instr
-instructions_at labels slots at (part.Registers operation rd rs1 rs2) = register_instruction operation rd rs1 rs2 ∷ []
-instructions_at labels slots at (part.Immediate operation rd rs1 number) = immediate_instruction operation rd rs1 (number_word number) ∷ []
-instructions_at labels slots at (part.Upper operation rd number) = upper_instruction operation rd (number_word number % 2 ^ 20) ∷ []
-instructions_at labels slots at (part.Load operation rd number rs1) = load_instruction operation rd rs1 (number_word number) ∷ []
+instructions_at labels slots at (part.Registers operation rd rs1 rs2) = shaped (shape.Registers operation rd rs1 rs2) ∷ []
+instructions_at labels slots at (part.Immediate operation rd rs1 number) = shaped (shape.Immediate operation rd rs1 (number_word number)) ∷ []
+instructions_at labels slots at (part.Upper operation rd number) = shaped (shape.Upper operation rd (number_word number % 2 ^ 20)) ∷ []
+instructions_at labels slots at (part.Load operation rd number rs1) = shaped (shape.Load operation rd rs1 (number_word number)) ∷ []
+instructions_at labels slots at (part.RegisterJump rd number rs1) = instr.CJalr rd rs1 (number_word number) ∷ []
 instructions_at labels slots at (part.JumpCapability rd rs1) = instr.CJalr rd rs1 0 ∷ []
-instructions_at labels slots at (part.Store operation rs2 number rs1) = store_instruction operation rs1 rs2 (number_word number) ∷ []
-instructions_at labels slots at (part.Branch operation rs1 rs2 target) = branch_instruction operation rs1 rs2 (target_word labels at target) ∷ []
+instructions_at labels slots at (part.Store operation rs2 number rs1) = shaped (shape.Store operation rs1 rs2 (number_word number)) ∷ []
+instructions_at labels slots at (part.Branch operation rs1 rs2 target) = shaped (shape.Branch operation rs1 rs2 (target_word labels at target)) ∷ []
 instructions_at labels slots at (part.Jal rd target) = instr.Jal rd (target_word labels at target) ∷ []
-instructions_at labels slots at (part.Source operation rd rs1) = source_instruction operation rd rs1 ∷ []
+instructions_at labels slots at (part.Source operation rd rs1) = shaped (shape.OneSource operation rd rs1) ∷ []
 instructions_at labels slots at (part.Bare operation) = bare_instruction operation ∷ []
 instructions_at labels slots at part.Nop = instr.Addi 0 0 0 ∷ []
 instructions_at labels slots at (part.Move rd rs) = instr.Addi rd rs 0 ∷ []
-instructions_at labels slots at (part.Go target) = instr.Jal 0 (target_word labels at target) ∷ []
-instructions_at labels slots at (part.Link rd target) = instr.Jal rd (target_word labels at target) ∷ []
+instructions_at labels slots at (part.Jump target) = instr.Jal 0 (target_word labels at target) ∷ []
+instructions_at labels slots at (part.JumpAndLink rd target) = instr.Jal rd (target_word labels at target) ∷ []
 instructions_at labels slots at part.Return = instr.CJalr 0 1 0 ∷ []
 instructions_at labels slots at (part.JumpRegister rs) = instr.CJalr 0 rs 0 ∷ []
 instructions_at labels slots at (part.IfZero rs target) = instr.Beq rs 0 (target_word labels at target) ∷ []
 instructions_at labels slots at (part.IfNotZero rs target) = instr.Bne rs 0 (target_word labels at target) ∷ []
-instructions_at labels slots at (part.Number rd number) = number_instructions rd (number_word number)
+instructions_at labels slots at (part.LoadImmediate rd number) = number_instructions rd (number_word number)
 instructions_at labels slots at (part.Import rd name) = import_instructions slots at rd name
 instructions_at labels slots at (part.TextAddress rd label) = text_instructions at rd (label_offset (labels label))
 instructions_at labels slots at (part.GlobalAddress rd label) = global_instructions rd (label_offset (labels label))

@@ -7,10 +7,8 @@ use Rattle.std.specs.Str.{bytes_eq}
 use Rattle.def_source.specs.declared.words.TheConstants.{HEADS, DIRECTIVES, REGISTERS}
 use Rattle.def_source.specs.declared.AsmFault.{AsmFault}
 use Rattle.def_source.specs.declared.AsmFault.TheVariants.{At, NoMemory}
-use Rattle.def_source.specs.declared.operations.ImmediateOperation.{ImmediateOperation}
-use Rattle.def_source.specs.declared.operations.ImmediateOperation.TheVariants as immediate
-use Rattle.def_source.specs.declared.operations.LoadOperation.{LoadOperation}
-use Rattle.def_source.specs.declared.operations.LoadOperation.TheVariants as load
+use Rattle.def_instr.specs.declared.shapes.ImmediateOperation.{ImmediateOperation}
+use Rattle.def_instr.specs.declared.shapes.ImmediateOperation.TheVariants as immediates
 use Rattle.def_source.specs.declared.words.Head.{Head}
 use Rattle.def_source.specs.declared.words.Head.TheVariants as head
 use Rattle.def_source.specs.declared.words.Directive.{Directive}
@@ -291,30 +289,32 @@ result_map f (Err e) = Err e
 -- ---- statements
 
 -- `cjalr` has two forms
-abbrev pub load_form : LoadOperation → Row → Option (Part Name)
-load_form load.CJalr ts = or_else (option_map (λ o. part.Load load.CJalr o.0 o.1 o.2) (register_address ts)) (option_map (λ o. part.JumpCapability o.0 o.1) (two_registers ts))
-load_form operation ts = option_map (λ o. part.Load operation o.0 o.1 o.2) (register_address ts)
+abbrev pub register_jump_form : Row → Option (Part Name)
+register_jump_form ts = or_else
+    (option_map (λ o. part.RegisterJump o.0 o.1 o.2) (register_address ts))
+    (option_map (λ o. part.JumpCapability o.0 o.1) (two_registers ts))
 
 -- the statement of a word and the tokens after it, if they are one of its operand forms
 abbrev pub form_of : Head → Row → Option (Part Name)
 form_of (head.Registers operation) ts = option_map (λ o. part.Registers operation o.0 o.1 o.2) (three_registers ts)
 form_of (head.Immediate operation) ts = option_map (λ o. part.Immediate operation o.0 o.1 o.2) (two_registers_number ts)
 form_of (head.Upper operation) ts = option_map (λ o. part.Upper operation o.0 o.1) (register_number ts)
-form_of (head.Load operation) ts = load_form operation ts
+form_of (head.Load operation) ts = option_map (λ o. part.Load operation o.0 o.1 o.2) (register_address ts)
 form_of (head.Store operation) ts = option_map (λ o. part.Store operation o.0 o.1 o.2) (register_address ts)
 form_of (head.Branch operation) ts = option_map (λ o. part.Branch operation o.0 o.1 o.2) (two_registers_target ts)
 form_of (head.Source operation) ts = option_map (λ o. part.Source operation o.0 o.1) (two_registers ts)
 form_of (head.Bare operation) ts = ended ts (part.Bare operation)
 form_of head.Jal ts = option_map (λ o. part.Jal o.0 o.1) (register_target ts)
+form_of head.RegisterJump ts = register_jump_form ts
 form_of head.Nop ts = ended ts part.Nop
 form_of head.Move ts = option_map (λ o. part.Move o.0 o.1) (two_registers ts)
-form_of head.Go ts = option_map (λ o. part.Go o) (one_target ts)
-form_of head.Link ts = option_map (λ o. part.Link o.0 o.1) (register_target ts)
+form_of head.Jump ts = option_map (λ o. part.Jump o) (one_target ts)
+form_of head.JumpAndLink ts = option_map (λ o. part.JumpAndLink o.0 o.1) (register_target ts)
 form_of head.Return ts = ended ts part.Return
 form_of head.JumpRegister ts = option_map (λ o. part.JumpRegister o) (one_register ts)
 form_of head.IfZero ts = option_map (λ o. part.IfZero o.0 o.1) (register_target ts)
 form_of head.IfNotZero ts = option_map (λ o. part.IfNotZero o.0 o.1) (register_target ts)
-form_of head.Number ts = option_map (λ o. part.Number o.0 o.1) (register_number ts)
+form_of head.LoadImmediate ts = option_map (λ o. part.LoadImmediate o.0 o.1) (register_number ts)
 form_of head.Import ts = option_map (λ o. part.Import o.0 o.1) (register_name ts)
 form_of head.TextAddress ts = option_map (λ o. part.TextAddress o.0 o.1) (register_name ts)
 form_of head.GlobalAddress ts = option_map (λ o. part.GlobalAddress o.0 o.1) (register_name ts)
@@ -353,11 +353,10 @@ abbrev pub within : ℕ → ℕ → Number → Bool
 within low high n = if n.negative then nat_le n.magnitude low else nat_le n.magnitude high
 
 abbrev pub fits_immediate : ImmediateOperation → Number → Bool
-fits_immediate immediate.Slli n = within 0 31 n
-fits_immediate immediate.Srli n = within 0 31 n
-fits_immediate immediate.Srai n = within 0 31 n
-fits_immediate immediate.CSetBoundsImm n = within 0 4095 n
-fits_immediate _ n = within 2048 2047 n
+fits_immediate (immediates.Signed operation) n = within 2048 2047 n
+fits_immediate (immediates.Shift operation) n = within 0 31 n
+fits_immediate immediates.CIncAddrImm n = within 2048 2047 n
+fits_immediate immediates.CSetBoundsImm n = within 0 4095 n
 
 -- an even offset of at most so many bytes; a label's reach is a matter of the object
 abbrev pub fits_target : ℕ → Target Name → Bool
@@ -372,14 +371,15 @@ numbers_fit (part.Align number) = within 0 4096 number && nat_lt 0 number.magnit
 numbers_fit (part.Immediate operation rd rs1 number) = fits_immediate operation number
 numbers_fit (part.Upper operation rd number) = within 524288 1048575 number
 numbers_fit (part.Load operation rd number rs1) = within 2048 2047 number
+numbers_fit (part.RegisterJump rd number rs1) = within 2048 2047 number
 numbers_fit (part.Store operation rs2 number rs1) = within 2048 2047 number
 numbers_fit (part.Branch operation rs1 rs2 target) = fits_target 4096 target
 numbers_fit (part.Jal rd target) = fits_target 1048576 target
-numbers_fit (part.Go target) = fits_target 1048576 target
-numbers_fit (part.Link rd target) = fits_target 1048576 target
+numbers_fit (part.Jump target) = fits_target 1048576 target
+numbers_fit (part.JumpAndLink rd target) = fits_target 1048576 target
 numbers_fit (part.IfZero rs target) = fits_target 4096 target
 numbers_fit (part.IfNotZero rs target) = fits_target 4096 target
-numbers_fit (part.Number rd number) = within (2 ^ 31) (2 ^ 32 - 1) number
+numbers_fit (part.LoadImmediate rd number) = within (2 ^ 31) (2 ^ 32 - 1) number
 numbers_fit _ = true
 
 -- the registers that the machine has
@@ -391,17 +391,18 @@ registers_exist (part.Registers operation rd rs1 rs2) = exists rd && exists rs1 
 registers_exist (part.Immediate operation rd rs1 number) = exists rd && exists rs1
 registers_exist (part.Upper operation rd number) = exists rd
 registers_exist (part.Load operation rd number rs1) = exists rd && exists rs1
+registers_exist (part.RegisterJump rd number rs1) = exists rd && exists rs1
 registers_exist (part.JumpCapability rd rs1) = exists rd && exists rs1
 registers_exist (part.Store operation rs2 number rs1) = exists rs2 && exists rs1
 registers_exist (part.Branch operation rs1 rs2 target) = exists rs1 && exists rs2
 registers_exist (part.Jal rd target) = exists rd
 registers_exist (part.Source operation rd rs1) = exists rd && exists rs1
 registers_exist (part.Move rd rs) = exists rd && exists rs
-registers_exist (part.Link rd target) = exists rd
+registers_exist (part.JumpAndLink rd target) = exists rd
 registers_exist (part.JumpRegister rs) = exists rs
 registers_exist (part.IfZero rs target) = exists rs
 registers_exist (part.IfNotZero rs target) = exists rs
-registers_exist (part.Number rd number) = exists rd
+registers_exist (part.LoadImmediate rd number) = exists rd
 registers_exist (part.Import rd name) = exists rd
 registers_exist (part.TextAddress rd label) = exists rd
 registers_exist (part.GlobalAddress rd label) = exists rd

@@ -1,10 +1,8 @@
 //! The language of the assembler as plain data: the words that may begin a statement, the names of
-//! registers, tokens, statements, and the faults of a source. The written definitions stand in
-//! specs/: which statements a text stands for (Source), and which object statements stand for
-//! (Object). Nothing here computes. docs/use/assembler.md tells the same in prose.
+//! registers, tokens, statements, and the faults of a source. The written definition of which
+//! statements a text stands for is specs/Source. docs/use/assembler.md tells the same in prose.
 #![tactic(auto)]
 
-pub mod operations;
 pub mod parts;
 pub mod words;
 

@@ -1,10 +1,21 @@
 //! Statements, and the pieces of which lines are made. `N` is what stands for a name: its text in
 //! the code, its bytes in definitions.
 
-use crate::operations::{
-    BareOperation, BranchOperation, ImmediateOperation, LoadOperation, RegisterOperation,
-    SourceOperation, StoreOperation, UpperOperation,
+ghost use Rattle.std.specs.Prelude.{◌≡◌};
+ghost use Rattle.def_source.specs.Source.{is_text, is_data};
+
+use def_instr::shapes::{
+    BranchOperation, ImmediateOperation, LoadOperation, RegisterOperation, SourceOperation,
+    StoreOperation, UpperOperation,
 };
+
+/// The mnemonics without operands.
+#[derive(Clone, Copy, Debug, PartialEq, Eq, Drop)]
+pub enum BareOperation {
+    Fence,
+    Ecall,
+    Ebreak,
+}
 
 /// A number as it is written: a magnitude, and whether a minus stands before it.
 #[derive(Clone, Copy, Debug, PartialEq, Eq, Drop)]
@@ -30,6 +41,25 @@ pub enum Token<N> {
 pub enum Section {
     Text,
     Data,
+}
+
+impl Section {
+    /// Whether it is the text.
+    pub fn is_text(self) -> bool
+        ensures { result ≡ is_text self }
+    {
+        match self {
+            Section::Text => true,
+            Section::Data => false,
+        }
+    }
+
+    /// Whether it is the initial bytes.
+    pub fn is_data(self) -> bool
+        ensures { result ≡ is_data self }
+    {
+        !self.is_text()
+    }
 }
 
 /// Where a branch or a jump goes: to a label, or by an offset in bytes.
@@ -94,6 +124,12 @@ pub enum Part<N> {
         number: Number,
         rs1: u32,
     },
+    /// `cjalr rd, number(rs1)`
+    RegisterJump {
+        rd: u32,
+        number: Number,
+        rs1: u32,
+    },
     /// `cjalr rd, rs1`, whose immediate is 0.
     JumpCapability {
         rd: u32,
@@ -136,11 +172,11 @@ pub enum Part<N> {
         rs: u32,
     },
     /// `j target`
-    Go {
+    Jump {
         target: Target<N>,
     },
     /// `cjal rd, target`
-    Link {
+    JumpAndLink {
         rd: u32,
         target: Target<N>,
     },
@@ -161,7 +197,7 @@ pub enum Part<N> {
         target: Target<N>,
     },
     /// `li rd, number`
-    Number {
+    LoadImmediate {
         rd: u32,
         number: Number,
     },

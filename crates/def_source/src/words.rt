@@ -1,29 +1,36 @@
 //! What a statement's first word says, and the tables of words.
 
-use crate::operations;
+use crate::parts::BareOperation;
+use def_instr::shapes::{
+    BranchOperation, CapabilityOperation, ImmediateOperation, IntegerOperation, LoadOperation,
+    RegisterOperation, ShiftOperation, SignedOperation, SourceOperation, StoreOperation,
+    UpperOperation,
+};
 
-/// What a statement's first word says: an operation by its operand form, `jal`, or a pseudo
+/// What a statement's first word says: an operation by its operand form, a jump, or a pseudo
 /// instruction.
 #[derive(Clone, Copy, Debug, PartialEq, Eq, Drop)]
 pub enum Head {
-    Registers(operations::RegisterOperation),
-    Immediate(operations::ImmediateOperation),
-    Upper(operations::UpperOperation),
-    Load(operations::LoadOperation),
-    Store(operations::StoreOperation),
-    Branch(operations::BranchOperation),
-    Source(operations::SourceOperation),
-    Bare(operations::BareOperation),
+    Registers(RegisterOperation),
+    Immediate(ImmediateOperation),
+    Upper(UpperOperation),
+    Load(LoadOperation),
+    Store(StoreOperation),
+    Branch(BranchOperation),
+    Source(SourceOperation),
+    Bare(BareOperation),
     /// `jal`.
     Jal,
+    /// `cjalr`.
+    RegisterJump,
     /// `nop`.
     Nop,
     /// `mv`.
     Move,
     /// `j`.
-    Go,
+    Jump,
     /// `cjal`.
-    Link,
+    JumpAndLink,
     /// `cret`.
     Return,
     /// `cjr`.
@@ -33,7 +40,7 @@ pub enum Head {
     /// `bnez`.
     IfNotZero,
     /// `li`.
-    Number,
+    LoadImmediate,
     /// `cimport`.
     Import,
     /// `cla`.
@@ -56,192 +63,219 @@ pub enum Directive {
 /// Each word that may begin a statement of text, and what it says. Loads and stores are listed with
 /// and without a leading `c`.
 pub const HEADS: [(&'static str, Head); 96] = [
-    ("add", Head::Registers(operations::RegisterOperation::Add)),
-    ("sub", Head::Registers(operations::RegisterOperation::Sub)),
-    ("sll", Head::Registers(operations::RegisterOperation::Sll)),
-    ("slt", Head::Registers(operations::RegisterOperation::Slt)),
-    ("sltu", Head::Registers(operations::RegisterOperation::Sltu)),
-    ("xor", Head::Registers(operations::RegisterOperation::Xor)),
-    ("srl", Head::Registers(operations::RegisterOperation::Srl)),
-    ("sra", Head::Registers(operations::RegisterOperation::Sra)),
-    ("or", Head::Registers(operations::RegisterOperation::Or)),
-    ("and", Head::Registers(operations::RegisterOperation::And)),
-    ("mul", Head::Registers(operations::RegisterOperation::Mul)),
-    ("mulh", Head::Registers(operations::RegisterOperation::Mulh)),
+    (
+        "add",
+        Head::Registers(RegisterOperation::Integer(IntegerOperation::Add)),
+    ),
+    (
+        "sub",
+        Head::Registers(RegisterOperation::Integer(IntegerOperation::Sub)),
+    ),
+    (
+        "sll",
+        Head::Registers(RegisterOperation::Integer(IntegerOperation::Sll)),
+    ),
+    (
+        "slt",
+        Head::Registers(RegisterOperation::Integer(IntegerOperation::Slt)),
+    ),
+    (
+        "sltu",
+        Head::Registers(RegisterOperation::Integer(IntegerOperation::Sltu)),
+    ),
+    (
+        "xor",
+        Head::Registers(RegisterOperation::Integer(IntegerOperation::Xor)),
+    ),
+    (
+        "srl",
+        Head::Registers(RegisterOperation::Integer(IntegerOperation::Srl)),
+    ),
+    (
+        "sra",
+        Head::Registers(RegisterOperation::Integer(IntegerOperation::Sra)),
+    ),
+    (
+        "or",
+        Head::Registers(RegisterOperation::Integer(IntegerOperation::Or)),
+    ),
+    (
+        "and",
+        Head::Registers(RegisterOperation::Integer(IntegerOperation::And)),
+    ),
+    (
+        "mul",
+        Head::Registers(RegisterOperation::Integer(IntegerOperation::Mul)),
+    ),
+    (
+        "mulh",
+        Head::Registers(RegisterOperation::Integer(IntegerOperation::Mulh)),
+    ),
     (
         "mulhsu",
-        Head::Registers(operations::RegisterOperation::Mulhsu),
+        Head::Registers(RegisterOperation::Integer(IntegerOperation::Mulhsu)),
     ),
     (
         "mulhu",
-        Head::Registers(operations::RegisterOperation::Mulhu),
+        Head::Registers(RegisterOperation::Integer(IntegerOperation::Mulhu)),
     ),
-    ("div", Head::Registers(operations::RegisterOperation::Div)),
-    ("divu", Head::Registers(operations::RegisterOperation::Divu)),
-    ("rem", Head::Registers(operations::RegisterOperation::Rem)),
-    ("remu", Head::Registers(operations::RegisterOperation::Remu)),
+    (
+        "div",
+        Head::Registers(RegisterOperation::Integer(IntegerOperation::Div)),
+    ),
+    (
+        "divu",
+        Head::Registers(RegisterOperation::Integer(IntegerOperation::Divu)),
+    ),
+    (
+        "rem",
+        Head::Registers(RegisterOperation::Integer(IntegerOperation::Rem)),
+    ),
+    (
+        "remu",
+        Head::Registers(RegisterOperation::Integer(IntegerOperation::Remu)),
+    ),
     (
         "csetbounds",
-        Head::Registers(operations::RegisterOperation::CSetBounds),
+        Head::Registers(RegisterOperation::Capability(CapabilityOperation::CSetBounds)),
     ),
     (
         "csetboundsexact",
-        Head::Registers(operations::RegisterOperation::CSetBoundsExact),
+        Head::Registers(RegisterOperation::Capability(CapabilityOperation::CSetBoundsExact)),
     ),
     (
         "cseal",
-        Head::Registers(operations::RegisterOperation::CSeal),
+        Head::Registers(RegisterOperation::Capability(CapabilityOperation::CSeal)),
     ),
     (
         "cunseal",
-        Head::Registers(operations::RegisterOperation::CUnseal),
+        Head::Registers(RegisterOperation::Capability(CapabilityOperation::CUnseal)),
     ),
     (
         "candperm",
-        Head::Registers(operations::RegisterOperation::CAndPerm),
+        Head::Registers(RegisterOperation::Capability(CapabilityOperation::CAndPerm)),
     ),
     (
         "csetaddr",
-        Head::Registers(operations::RegisterOperation::CSetAddr),
+        Head::Registers(RegisterOperation::Capability(CapabilityOperation::CSetAddr)),
     ),
     (
         "cincaddr",
-        Head::Registers(operations::RegisterOperation::CIncAddr),
+        Head::Registers(RegisterOperation::Capability(CapabilityOperation::CIncAddr)),
     ),
-    ("csub", Head::Registers(operations::RegisterOperation::CSub)),
+    (
+        "csub",
+        Head::Registers(RegisterOperation::Capability(CapabilityOperation::CSub)),
+    ),
     (
         "csethigh",
-        Head::Registers(operations::RegisterOperation::CSetHigh),
+        Head::Registers(RegisterOperation::Capability(CapabilityOperation::CSetHigh)),
     ),
     (
         "ctestsubset",
-        Head::Registers(operations::RegisterOperation::CTestSubset),
+        Head::Registers(RegisterOperation::Capability(CapabilityOperation::CTestSubset)),
     ),
     (
         "csetequalexact",
-        Head::Registers(operations::RegisterOperation::CSetEqualExact),
+        Head::Registers(RegisterOperation::Capability(CapabilityOperation::CSetEqualExact)),
     ),
     (
         "addi",
-        Head::Immediate(operations::ImmediateOperation::Addi),
+        Head::Immediate(ImmediateOperation::Signed(SignedOperation::Addi)),
     ),
     (
         "slti",
-        Head::Immediate(operations::ImmediateOperation::Slti),
+        Head::Immediate(ImmediateOperation::Signed(SignedOperation::Slti)),
     ),
     (
         "sltiu",
-        Head::Immediate(operations::ImmediateOperation::Sltiu),
+        Head::Immediate(ImmediateOperation::Signed(SignedOperation::Sltiu)),
     ),
     (
         "xori",
-        Head::Immediate(operations::ImmediateOperation::Xori),
+        Head::Immediate(ImmediateOperation::Signed(SignedOperation::Xori)),
     ),
-    ("ori", Head::Immediate(operations::ImmediateOperation::Ori)),
+    (
+        "ori",
+        Head::Immediate(ImmediateOperation::Signed(SignedOperation::Ori)),
+    ),
     (
         "andi",
-        Head::Immediate(operations::ImmediateOperation::Andi),
+        Head::Immediate(ImmediateOperation::Signed(SignedOperation::Andi)),
     ),
     (
         "slli",
-        Head::Immediate(operations::ImmediateOperation::Slli),
+        Head::Immediate(ImmediateOperation::Shift(ShiftOperation::Slli)),
     ),
     (
         "srli",
-        Head::Immediate(operations::ImmediateOperation::Srli),
+        Head::Immediate(ImmediateOperation::Shift(ShiftOperation::Srli)),
     ),
     (
         "srai",
-        Head::Immediate(operations::ImmediateOperation::Srai),
+        Head::Immediate(ImmediateOperation::Shift(ShiftOperation::Srai)),
     ),
     (
         "cincaddrimm",
-        Head::Immediate(operations::ImmediateOperation::CIncAddrImm),
+        Head::Immediate(ImmediateOperation::CIncAddrImm),
     ),
     (
         "csetboundsimm",
-        Head::Immediate(operations::ImmediateOperation::CSetBoundsImm),
+        Head::Immediate(ImmediateOperation::CSetBoundsImm),
     ),
-    ("lui", Head::Upper(operations::UpperOperation::Lui)),
-    ("auipcc", Head::Upper(operations::UpperOperation::AuiPcc)),
-    ("auicgp", Head::Upper(operations::UpperOperation::AuiCgp)),
-    ("lb", Head::Load(operations::LoadOperation::Lb)),
-    ("lh", Head::Load(operations::LoadOperation::Lh)),
-    ("lw", Head::Load(operations::LoadOperation::Lw)),
-    ("clc", Head::Load(operations::LoadOperation::Clc)),
-    ("lbu", Head::Load(operations::LoadOperation::Lbu)),
-    ("lhu", Head::Load(operations::LoadOperation::Lhu)),
-    ("cjalr", Head::Load(operations::LoadOperation::CJalr)),
-    ("clb", Head::Load(operations::LoadOperation::Lb)),
-    ("clh", Head::Load(operations::LoadOperation::Lh)),
-    ("clw", Head::Load(operations::LoadOperation::Lw)),
-    ("clbu", Head::Load(operations::LoadOperation::Lbu)),
-    ("clhu", Head::Load(operations::LoadOperation::Lhu)),
-    ("sb", Head::Store(operations::StoreOperation::Sb)),
-    ("sh", Head::Store(operations::StoreOperation::Sh)),
-    ("sw", Head::Store(operations::StoreOperation::Sw)),
-    ("csc", Head::Store(operations::StoreOperation::Csc)),
-    ("csb", Head::Store(operations::StoreOperation::Sb)),
-    ("csh", Head::Store(operations::StoreOperation::Sh)),
-    ("csw", Head::Store(operations::StoreOperation::Sw)),
-    ("beq", Head::Branch(operations::BranchOperation::Beq)),
-    ("bne", Head::Branch(operations::BranchOperation::Bne)),
-    ("blt", Head::Branch(operations::BranchOperation::Blt)),
-    ("bge", Head::Branch(operations::BranchOperation::Bge)),
-    ("bltu", Head::Branch(operations::BranchOperation::Bltu)),
-    ("bgeu", Head::Branch(operations::BranchOperation::Bgeu)),
-    (
-        "cgetperm",
-        Head::Source(operations::SourceOperation::CGetPerm),
-    ),
-    (
-        "cgettype",
-        Head::Source(operations::SourceOperation::CGetType),
-    ),
-    (
-        "cgetbase",
-        Head::Source(operations::SourceOperation::CGetBase),
-    ),
-    (
-        "cgetlen",
-        Head::Source(operations::SourceOperation::CGetLen),
-    ),
-    (
-        "cgettag",
-        Head::Source(operations::SourceOperation::CGetTag),
-    ),
-    ("crrl", Head::Source(operations::SourceOperation::Crrl)),
-    ("cram", Head::Source(operations::SourceOperation::Cram)),
-    ("cmove", Head::Source(operations::SourceOperation::CMove)),
-    (
-        "ccleartag",
-        Head::Source(operations::SourceOperation::CClearTag),
-    ),
-    (
-        "cgetaddr",
-        Head::Source(operations::SourceOperation::CGetAddr),
-    ),
-    (
-        "cgethigh",
-        Head::Source(operations::SourceOperation::CGetHigh),
-    ),
-    (
-        "cgettop",
-        Head::Source(operations::SourceOperation::CGetTop),
-    ),
-    ("fence", Head::Bare(operations::BareOperation::Fence)),
-    ("ecall", Head::Bare(operations::BareOperation::Ecall)),
-    ("ebreak", Head::Bare(operations::BareOperation::Ebreak)),
+    ("lui", Head::Upper(UpperOperation::Lui)),
+    ("auipcc", Head::Upper(UpperOperation::AuiPcc)),
+    ("auicgp", Head::Upper(UpperOperation::AuiCgp)),
+    ("lb", Head::Load(LoadOperation::Lb)),
+    ("lh", Head::Load(LoadOperation::Lh)),
+    ("lw", Head::Load(LoadOperation::Lw)),
+    ("clc", Head::Load(LoadOperation::Clc)),
+    ("lbu", Head::Load(LoadOperation::Lbu)),
+    ("lhu", Head::Load(LoadOperation::Lhu)),
+    ("cjalr", Head::RegisterJump),
+    ("clb", Head::Load(LoadOperation::Lb)),
+    ("clh", Head::Load(LoadOperation::Lh)),
+    ("clw", Head::Load(LoadOperation::Lw)),
+    ("clbu", Head::Load(LoadOperation::Lbu)),
+    ("clhu", Head::Load(LoadOperation::Lhu)),
+    ("sb", Head::Store(StoreOperation::Sb)),
+    ("sh", Head::Store(StoreOperation::Sh)),
+    ("sw", Head::Store(StoreOperation::Sw)),
+    ("csc", Head::Store(StoreOperation::Csc)),
+    ("csb", Head::Store(StoreOperation::Sb)),
+    ("csh", Head::Store(StoreOperation::Sh)),
+    ("csw", Head::Store(StoreOperation::Sw)),
+    ("beq", Head::Branch(BranchOperation::Beq)),
+    ("bne", Head::Branch(BranchOperation::Bne)),
+    ("blt", Head::Branch(BranchOperation::Blt)),
+    ("bge", Head::Branch(BranchOperation::Bge)),
+    ("bltu", Head::Branch(BranchOperation::Bltu)),
+    ("bgeu", Head::Branch(BranchOperation::Bgeu)),
+    ("cgetperm", Head::Source(SourceOperation::CGetPerm)),
+    ("cgettype", Head::Source(SourceOperation::CGetType)),
+    ("cgetbase", Head::Source(SourceOperation::CGetBase)),
+    ("cgetlen", Head::Source(SourceOperation::CGetLen)),
+    ("cgettag", Head::Source(SourceOperation::CGetTag)),
+    ("crrl", Head::Source(SourceOperation::Crrl)),
+    ("cram", Head::Source(SourceOperation::Cram)),
+    ("cmove", Head::Source(SourceOperation::CMove)),
+    ("ccleartag", Head::Source(SourceOperation::CClearTag)),
+    ("cgetaddr", Head::Source(SourceOperation::CGetAddr)),
+    ("cgethigh", Head::Source(SourceOperation::CGetHigh)),
+    ("cgettop", Head::Source(SourceOperation::CGetTop)),
+    ("fence", Head::Bare(BareOperation::Fence)),
+    ("ecall", Head::Bare(BareOperation::Ecall)),
+    ("ebreak", Head::Bare(BareOperation::Ebreak)),
     ("jal", Head::Jal),
     ("nop", Head::Nop),
     ("mv", Head::Move),
-    ("j", Head::Go),
-    ("cjal", Head::Link),
+    ("j", Head::Jump),
+    ("cjal", Head::JumpAndLink),
     ("cret", Head::Return),
     ("cjr", Head::JumpRegister),
     ("beqz", Head::IfZero),
     ("bnez", Head::IfNotZero),
-    ("li", Head::Number),
+    ("li", Head::LoadImmediate),
     ("cimport", Head::Import),
     ("cla", Head::TextAddress),
     ("clg", Head::GlobalAddress),

@@ -21,19 +21,6 @@ use Rattle.def_step.specs.Devices.{Bank, found, bank_value, bank_read, bank_writ
 
 -- ---- the instructions
 
-abbrev pub is_access : Instr → Bool
-is_access (Lb rd rs1 n) = true
-is_access (Lh rd rs1 n) = true
-is_access (Lw rd rs1 n) = true
-is_access (Clc rd rs1 n) = true
-is_access (Lbu rd rs1 n) = true
-is_access (Lhu rd rs1 n) = true
-is_access (Sb rs1 rs2 n) = true
-is_access (Sh rs1 rs2 n) = true
-is_access (Sw rs1 rs2 n) = true
-is_access (Csc rs1 rs2 n) = true
-is_access _ = false
-
 abbrev pub load_of : ℕ → Bool → Bool → ℕ → ℕ → Access
 load_of width signed whole by n = record { loads = true; width = width; signed = signed; whole = whole; by = by; immediate = n }
 

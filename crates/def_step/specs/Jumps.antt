@@ -14,17 +14,6 @@ use Rattle.def_instr.specs.Results.{signed}
 use Rattle.def_step.specs.Checks.{Check, capability_trap, plain_trap, first_failed, not_tagged, wrong_seal, no_execute, misaligned_fetch}
 use Rattle.def_step.specs.Accesses.{unless}
 
-abbrev pub is_jump : Instr → Bool
-is_jump (Jal rd offset) = true
-is_jump (CJalr rd rs1 n) = true
-is_jump (Beq rs1 rs2 offset) = true
-is_jump (Bne rs1 rs2 offset) = true
-is_jump (Blt rs1 rs2 offset) = true
-is_jump (Bge rs1 rs2 offset) = true
-is_jump (Bltu rs1 rs2 offset) = true
-is_jump (Bgeu rs1 rs2 offset) = true
-is_jump _ = false
-
 -- where execution goes on: the link that the jump leaves, if any, pcc and posture
 pub record Flowed : Type 0 where
   pub link : Option Cap

@@ -1,2 +1,6 @@
+mod Forms
+mod Loading
+mod Operands
+mod Pieces
 pub mod Ranges
 pub mod Saying

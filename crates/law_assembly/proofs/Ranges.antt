@@ -1,63 +1,27 @@
 -- The instructions of a lawful statement hold what their fields may hold.
-use Rattle.std.proofs.Common.{◌≡◌, ℕ, ◌-◌, ◌/◌, ◌%◌, ◌^◌, ◌<◌, ◌≤◌, Bool, true, false, cond, nat_lt, refl, arith, Option, Some, None}
-use Rattle.def_instr.specs.Table.{InRange, IsSigned, IsOffset}
+use Rattle.std.proofs.Common.{◌≡◌, ℕ, ◌-◌, ◌/◌, ◌%◌, ◌^◌, ◌<◌, ◌≤◌, Bool, true, false, cond, nat_lt, refl, sym, subst, arith, Option, Some, None}
+use Rattle.def_instr.specs.Table.{InRange, FieldsFit, FitsImmediate, IsSigned, IsOffset}
+use Rattle.def_instr.specs.Shapes.{shaped}
+use Rattle.def_instr.specs.declared.shapes.Shape.{Shape}
+use Rattle.def_instr.specs.declared.shapes.ImmediateOperation.{ImmediateOperation}
+use Rattle.def_instr.specs.declared.shapes.ImmediateOperation.TheVariants as immediates
+use Rattle.ct_isa.proofs.Back.{shape_back}
+use Rattle.def_source.specs.declared.parts.BareOperation.{BareOperation}
+use Rattle.def_source.specs.declared.parts.BareOperation.TheVariants as bare
 use Rattle.def_instr.specs.Reading.{extended}
 use Rattle.def_source.specs.declared.parts.Number.{Number}
 use Rattle.def_source.specs.declared.parts.Target.{Target}
 use Rattle.def_source.specs.declared.parts.Target.TheVariants as target
-use Rattle.def_source.specs.declared.operations.RegisterOperation.{RegisterOperation}
-use Rattle.def_source.specs.declared.operations.RegisterOperation.TheVariants as register
-use Rattle.def_source.specs.declared.operations.ImmediateOperation.{ImmediateOperation}
-use Rattle.def_source.specs.declared.operations.ImmediateOperation.TheVariants as immediate
-use Rattle.def_source.specs.declared.operations.UpperOperation.{UpperOperation}
-use Rattle.def_source.specs.declared.operations.UpperOperation.TheVariants as upper
-use Rattle.def_source.specs.declared.operations.LoadOperation.{LoadOperation}
-use Rattle.def_source.specs.declared.operations.LoadOperation.TheVariants as load
-use Rattle.def_source.specs.declared.operations.StoreOperation.{StoreOperation}
-use Rattle.def_source.specs.declared.operations.StoreOperation.TheVariants as store
-use Rattle.def_source.specs.declared.operations.BranchOperation.{BranchOperation}
-use Rattle.def_source.specs.declared.operations.BranchOperation.TheVariants as branch
-use Rattle.def_source.specs.declared.operations.SourceOperation.{SourceOperation}
-use Rattle.def_source.specs.declared.operations.SourceOperation.TheVariants as source
-use Rattle.def_source.specs.declared.operations.BareOperation.{BareOperation}
-use Rattle.def_source.specs.declared.operations.BareOperation.TheVariants as bare
 use Rattle.def_object.specs.declared.Label.{Label}
 use Rattle.def_source.specs.Source.{Name, within, fits_immediate, fits_target, is_data}
-use Rattle.def_object.specs.Object.{Labels, number_word, is_short, register_instruction, immediate_instruction, upper_instruction, load_instruction, store_instruction, branch_instruction, source_instruction, bare_instruction, label_offset, target_word, target_fault, reach_fault, is_near, high_piece, low_piece, upper_part, rest_part}
+use Rattle.def_object.specs.Object.{Labels, number_word, is_short, bare_instruction, label_offset, target_word, target_fault, reach_fault, is_near, high_piece, low_piece, upper_part, rest_part}
 use Rattle.ct_asm.proofs.Reach.{signed_word, small_word, branch_word, jump_word, near_branch, near_jump}
 
--- ---- operations by operands
+-- ---- shapes
 
-pub registers_range : (operation : RegisterOperation) (rd rs1 rs2 : ℕ) → rd < 16 → rs1 < 16 → rs2 < 16 → InRange (register_instruction operation rd rs1 rs2)
-registers_range register.Add rd rs1 rs2 hd h1 h2 = (hd, h1, h2)
-registers_range register.Sub rd rs1 rs2 hd h1 h2 = (hd, h1, h2)
-registers_range register.Sll rd rs1 rs2 hd h1 h2 = (hd, h1, h2)
-registers_range register.Slt rd rs1 rs2 hd h1 h2 = (hd, h1, h2)
-registers_range register.Sltu rd rs1 rs2 hd h1 h2 = (hd, h1, h2)
-registers_range register.Xor rd rs1 rs2 hd h1 h2 = (hd, h1, h2)
-registers_range register.Srl rd rs1 rs2 hd h1 h2 = (hd, h1, h2)
-registers_range register.Sra rd rs1 rs2 hd h1 h2 = (hd, h1, h2)
-registers_range register.Or rd rs1 rs2 hd h1 h2 = (hd, h1, h2)
-registers_range register.And rd rs1 rs2 hd h1 h2 = (hd, h1, h2)
-registers_range register.Mul rd rs1 rs2 hd h1 h2 = (hd, h1, h2)
-registers_range register.Mulh rd rs1 rs2 hd h1 h2 = (hd, h1, h2)
-registers_range register.Mulhsu rd rs1 rs2 hd h1 h2 = (hd, h1, h2)
-registers_range register.Mulhu rd rs1 rs2 hd h1 h2 = (hd, h1, h2)
-registers_range register.Div rd rs1 rs2 hd h1 h2 = (hd, h1, h2)
-registers_range register.Divu rd rs1 rs2 hd h1 h2 = (hd, h1, h2)
-registers_range register.Rem rd rs1 rs2 hd h1 h2 = (hd, h1, h2)
-registers_range register.Remu rd rs1 rs2 hd h1 h2 = (hd, h1, h2)
-registers_range register.CSetBounds rd rs1 rs2 hd h1 h2 = (hd, h1, h2)
-registers_range register.CSetBoundsExact rd rs1 rs2 hd h1 h2 = (hd, h1, h2)
-registers_range register.CSeal rd rs1 rs2 hd h1 h2 = (hd, h1, h2)
-registers_range register.CUnseal rd rs1 rs2 hd h1 h2 = (hd, h1, h2)
-registers_range register.CAndPerm rd rs1 rs2 hd h1 h2 = (hd, h1, h2)
-registers_range register.CSetAddr rd rs1 rs2 hd h1 h2 = (hd, h1, h2)
-registers_range register.CIncAddr rd rs1 rs2 hd h1 h2 = (hd, h1, h2)
-registers_range register.CSub rd rs1 rs2 hd h1 h2 = (hd, h1, h2)
-registers_range register.CSetHigh rd rs1 rs2 hd h1 h2 = (hd, h1, h2)
-registers_range register.CTestSubset rd rs1 rs2 hd h1 h2 = (hd, h1, h2)
-registers_range register.CSetEqualExact rd rs1 rs2 hd h1 h2 = (hd, h1, h2)
+-- an instruction by its shape has the ranges of the shape
+pub shaped_range : (s : Shape) → FieldsFit s → InRange (shaped s)
+shaped_range s h = subst FieldsFit (sym (shape_back s)) h
 
 under32 : (n : Number) → within 0 31 n ≡ true → number_word n < 32
 under32 n e = let h : number_word n ≤ 31 = small_word n 31 (omega arith) e in omega (arith, h)
@@ -65,60 +29,11 @@ under32 n e = let h : number_word n ≤ 31 = small_word n 31 (omega arith) e in 
 under4096 : (n : Number) → within 0 4095 n ≡ true → number_word n < 2 ^ 12
 under4096 n e = let h : number_word n ≤ 4095 = small_word n 4095 (omega arith) e in omega (arith, h)
 
-pub immediates_range : (operation : ImmediateOperation) (rd rs1 : ℕ) (n : Number) → rd < 16 → rs1 < 16 → fits_immediate operation n ≡ true → InRange (immediate_instruction operation rd rs1 (number_word n))
-immediates_range immediate.Addi rd rs1 n hd h1 e = (hd, h1, signed_word n e)
-immediates_range immediate.Slti rd rs1 n hd h1 e = (hd, h1, signed_word n e)
-immediates_range immediate.Sltiu rd rs1 n hd h1 e = (hd, h1, signed_word n e)
-immediates_range immediate.Xori rd rs1 n hd h1 e = (hd, h1, signed_word n e)
-immediates_range immediate.Ori rd rs1 n hd h1 e = (hd, h1, signed_word n e)
-immediates_range immediate.Andi rd rs1 n hd h1 e = (hd, h1, signed_word n e)
-immediates_range immediate.Slli rd rs1 n hd h1 e = (hd, h1, under32 n e)
-immediates_range immediate.Srli rd rs1 n hd h1 e = (hd, h1, under32 n e)
-immediates_range immediate.Srai rd rs1 n hd h1 e = (hd, h1, under32 n e)
-immediates_range immediate.CIncAddrImm rd rs1 n hd h1 e = (hd, h1, signed_word n e)
-immediates_range immediate.CSetBoundsImm rd rs1 n hd h1 e = (hd, h1, under4096 n e)
-
-pub uppers_range : (operation : UpperOperation) (rd n : ℕ) → rd < 16 → n < 2 ^ 20 → InRange (upper_instruction operation rd n)
-uppers_range upper.Lui rd n hd hn = (hd, hn)
-uppers_range upper.AuiPcc rd n hd hn = (hd, hn)
-uppers_range upper.AuiCgp rd n hd hn = (hd, hn)
-
-pub loads_range : (operation : LoadOperation) (rd rs1 n : ℕ) → rd < 16 → rs1 < 16 → IsSigned 12 n → InRange (load_instruction operation rd rs1 n)
-loads_range load.Lb rd rs1 n hd h1 hn = (hd, h1, hn)
-loads_range load.Lh rd rs1 n hd h1 hn = (hd, h1, hn)
-loads_range load.Lw rd rs1 n hd h1 hn = (hd, h1, hn)
-loads_range load.Clc rd rs1 n hd h1 hn = (hd, h1, hn)
-loads_range load.Lbu rd rs1 n hd h1 hn = (hd, h1, hn)
-loads_range load.Lhu rd rs1 n hd h1 hn = (hd, h1, hn)
-loads_range load.CJalr rd rs1 n hd h1 hn = (hd, h1, hn)
-
-pub stores_range : (operation : StoreOperation) (rs1 rs2 n : ℕ) → rs1 < 16 → rs2 < 16 → IsSigned 12 n → InRange (store_instruction operation rs1 rs2 n)
-stores_range store.Sb rs1 rs2 n h1 h2 hn = (h1, h2, hn)
-stores_range store.Sh rs1 rs2 n h1 h2 hn = (h1, h2, hn)
-stores_range store.Sw rs1 rs2 n h1 h2 hn = (h1, h2, hn)
-stores_range store.Csc rs1 rs2 n h1 h2 hn = (h1, h2, hn)
-
-pub branches_range : (operation : BranchOperation) (rs1 rs2 n : ℕ) → rs1 < 16 → rs2 < 16 → IsOffset 13 n → InRange (branch_instruction operation rs1 rs2 n)
-branches_range branch.Beq rs1 rs2 n h1 h2 hn = (h1, h2, hn)
-branches_range branch.Bne rs1 rs2 n h1 h2 hn = (h1, h2, hn)
-branches_range branch.Blt rs1 rs2 n h1 h2 hn = (h1, h2, hn)
-branches_range branch.Bge rs1 rs2 n h1 h2 hn = (h1, h2, hn)
-branches_range branch.Bltu rs1 rs2 n h1 h2 hn = (h1, h2, hn)
-branches_range branch.Bgeu rs1 rs2 n h1 h2 hn = (h1, h2, hn)
-
-pub sources_range : (operation : SourceOperation) (rd rs1 : ℕ) → rd < 16 → rs1 < 16 → InRange (source_instruction operation rd rs1)
-sources_range source.CGetPerm rd rs1 hd h1 = (hd, h1)
-sources_range source.CGetType rd rs1 hd h1 = (hd, h1)
-sources_range source.CGetBase rd rs1 hd h1 = (hd, h1)
-sources_range source.CGetLen rd rs1 hd h1 = (hd, h1)
-sources_range source.CGetTag rd rs1 hd h1 = (hd, h1)
-sources_range source.Crrl rd rs1 hd h1 = (hd, h1)
-sources_range source.Cram rd rs1 hd h1 = (hd, h1)
-sources_range source.CMove rd rs1 hd h1 = (hd, h1)
-sources_range source.CClearTag rd rs1 hd h1 = (hd, h1)
-sources_range source.CGetAddr rd rs1 hd h1 = (hd, h1)
-sources_range source.CGetHigh rd rs1 hd h1 = (hd, h1)
-sources_range source.CGetTop rd rs1 hd h1 = (hd, h1)
+pub immediate_range : (operation : ImmediateOperation) (n : Number) → fits_immediate operation n ≡ true → FitsImmediate operation (number_word n)
+immediate_range (immediates.Signed operation) n e = signed_word n e
+immediate_range (immediates.Shift operation) n e = under32 n e
+immediate_range immediates.CIncAddrImm n e = signed_word n e
+immediate_range immediates.CSetBoundsImm n e = under4096 n e
 
 pub bares_range : (operation : BareOperation) → InRange (bare_instruction operation)
 bares_range bare.Fence = (omega arith, omega arith)

@@ -2,10 +2,10 @@
 use Rattle.std.proofs.Common.{◌≡◌, ℕ, ◌+◌, ◌*◌, ◌<◌, ◌^◌, Bool, true, false, ◌&&◌, cond, List, [], ◌∷◌, length, refl, arith, Option, Some, None}
 use Rattle.def_instr.specs.declared.Instr.{Instr}
 use Rattle.def_instr.specs.declared.Instr.TheVariants as instr
+use Rattle.def_instr.specs.declared.shapes.Shape.TheVariants as shape
 use Rattle.def_instr.specs.Table.{InRange, word_of, IsSigned}
 use Rattle.ct_isa.proofs.Complete.{complete}
 use Rattle.def_source.specs.Source.{Name, Statements, IsLawful, lawful_from, is_lawful, in_section, numbers_fit, registers_exist, section_after, exists, or_else}
-use Rattle.def_source.specs.declared.parts.Number.{Number}
 use Rattle.def_source.specs.declared.parts.Section.{Section}
 use Rattle.def_source.specs.declared.parts.Section.TheVariants as section
 use Rattle.def_source.specs.declared.parts.Part.{Part}
@@ -14,7 +14,7 @@ use Rattle.def_object.specs.declared.Place.{Place}
 use Rattle.def_object.specs.declared.Fault.{Fault}
 use Rattle.def_object.specs.Object.{Labels, instructions_at, number_instructions, instruction_bytes, bytes_at, offset, advanced, fault_in, fault_from, label_in, start, lesser, on_line, statement_fault, reference_fault, size_fault, is_short, number_word, upper_part, rest_part, label_offset, slot_number, slot_of}
 use Rattle.law_assembly.specs.Decoding.{Decodes, Says, AllSay, is_instruction}
-use Rattle.law_assembly.proofs.Ranges.{registers_range, immediates_range, uppers_range, loads_range, stores_range, branches_range, sources_range, bares_range, high_range, low_range, upper_range, rest_range, word_small, short_range, cut_range, branch_range, jump_range}
+use Rattle.law_assembly.proofs.Ranges.{shaped_range, immediate_range, bares_range, high_range, low_range, upper_range, rest_range, word_small, short_range, cut_range, branch_range, jump_range}
 use Rattle.ct_asm.proofs.Reach.{signed_word}
 
 -- each of the instructions holds what its fields may hold
@@ -54,25 +54,26 @@ number_in_range rd word hd small = by_test (is_short word) refl
     by_test false e = ((hd, upper_range word), ((hd, hd, rest_range word), tt))
 
 ranged : (labels : Labels) (slots : List Name) (k at : ℕ) (q : Part Name) → numbers_fit q ≡ true → registers_exist q ≡ true → reference_fault labels k at q ≡ None → AllInRange (instructions_at labels slots at q)
-ranged labels slots k at (part.Registers operation rd rs1 rs2) fit there found = let h = three rd rs1 rs2 there in (registers_range operation rd rs1 rs2 h.0 h.1 h.2, tt)
-ranged labels slots k at (part.Immediate operation rd rs1 number) fit there found = let h = two rd rs1 there in (immediates_range operation rd rs1 number h.0 h.1 fit, tt)
-ranged labels slots k at (part.Upper operation rd number) fit there found = (uppers_range operation rd _ (exists_below rd there) (cut_range (number_word number)), tt)
-ranged labels slots k at (part.Load operation rd number rs1) fit there found = let h = two rd rs1 there in (loads_range operation rd rs1 _ h.0 h.1 (signed_word number fit), tt)
+ranged labels slots k at (part.Registers operation rd rs1 rs2) fit there found = let h = three rd rs1 rs2 there in (shaped_range (shape.Registers operation rd rs1 rs2) h, tt)
+ranged labels slots k at (part.Immediate operation rd rs1 number) fit there found = let h = two rd rs1 there in (shaped_range (shape.Immediate operation rd rs1 _) (h.0, h.1, immediate_range operation number fit), tt)
+ranged labels slots k at (part.Upper operation rd number) fit there found = (shaped_range (shape.Upper operation rd _) (exists_below rd there, cut_range (number_word number)), tt)
+ranged labels slots k at (part.Load operation rd number rs1) fit there found = let h = two rd rs1 there in (shaped_range (shape.Load operation rd rs1 _) (h.0, h.1, signed_word number fit), tt)
+ranged labels slots k at (part.RegisterJump rd number rs1) fit there found = let h = two rd rs1 there in ((h.0, h.1, signed_word number fit), tt)
 ranged labels slots k at (part.JumpCapability rd rs1) fit there found = let h = two rd rs1 there in ((h.0, h.1, zero_signed), tt)
-ranged labels slots k at (part.Store operation rs2 number rs1) fit there found = let h = two rs2 rs1 there in (stores_range operation rs1 rs2 _ h.1 h.0 (signed_word number fit), tt)
-ranged labels slots k at (part.Branch operation rs1 rs2 target) fit there found = let h = two rs1 rs2 there in (branches_range operation rs1 rs2 _ h.0 h.1 (branch_range labels at target fit found), tt)
+ranged labels slots k at (part.Store operation rs2 number rs1) fit there found = let h = two rs2 rs1 there in (shaped_range (shape.Store operation rs1 rs2 _) (h.1, h.0, signed_word number fit), tt)
+ranged labels slots k at (part.Branch operation rs1 rs2 target) fit there found = let h = two rs1 rs2 there in (shaped_range (shape.Branch operation rs1 rs2 _) (h.0, h.1, branch_range labels at target fit found), tt)
 ranged labels slots k at (part.Jal rd target) fit there found = ((exists_below rd there, jump_range labels at target fit found), tt)
-ranged labels slots k at (part.Source operation rd rs1) fit there found = let h = two rd rs1 there in (sources_range operation rd rs1 h.0 h.1, tt)
+ranged labels slots k at (part.Source operation rd rs1) fit there found = let h = two rd rs1 there in (shaped_range (shape.OneSource operation rd rs1) h, tt)
 ranged labels slots k at (part.Bare operation) fit there found = (bares_range operation, tt)
 ranged labels slots k at part.Nop fit there found = ((omega arith, omega arith, zero_signed), tt)
 ranged labels slots k at (part.Move rd rs) fit there found = let h = two rd rs there in ((h.0, h.1, zero_signed), tt)
-ranged labels slots k at (part.Go target) fit there found = ((omega arith, jump_range labels at target fit found), tt)
-ranged labels slots k at (part.Link rd target) fit there found = ((exists_below rd there, jump_range labels at target fit found), tt)
+ranged labels slots k at (part.Jump target) fit there found = ((omega arith, jump_range labels at target fit found), tt)
+ranged labels slots k at (part.JumpAndLink rd target) fit there found = ((exists_below rd there, jump_range labels at target fit found), tt)
 ranged labels slots k at part.Return fit there found = ((omega arith, omega arith, zero_signed), tt)
 ranged labels slots k at (part.JumpRegister rs) fit there found = ((omega arith, exists_below rs there, zero_signed), tt)
 ranged labels slots k at (part.IfZero rs target) fit there found = ((exists_below rs there, omega arith, branch_range labels at target fit found), tt)
 ranged labels slots k at (part.IfNotZero rs target) fit there found = ((exists_below rs there, omega arith, branch_range labels at target fit found), tt)
-ranged labels slots k at (part.Number rd number) fit there found = number_in_range rd (number_word number) (exists_below rd there) (word_small number)
+ranged labels slots k at (part.LoadImmediate rd number) fit there found = number_in_range rd (number_word number) (exists_below rd there) (word_small number)
 ranged labels slots k at (part.Import rd name) fit there found =
     let hd = exists_below rd there in
     let from : ℕ = 8 * length slots + at in
@@ -86,13 +87,7 @@ ranged labels slots k at (part.GlobalAddress rd label) fit there found =
     let hd = exists_below rd there in
     let to : ℕ = label_offset (labels label) in
     ((hd, high_range 0 to), ((hd, hd, low_range 0 to), tt))
-ranged labels slots k at (part.Label name) fit there found = tt
-ranged labels slots k at part.Text fit there found = tt
-ranged labels slots k at part.Data fit there found = tt
-ranged labels slots k at (part.Word number) fit there found = tt
-ranged labels slots k at (part.Byte number) fit there found = tt
-ranged labels slots k at (part.Zero number) fit there found = tt
-ranged labels slots k at (part.Align number) fit there found = tt
+ranged labels slots k at q fit there found = tt
 
 -- an instruction's bytes are those of its instructions
 bytes_are : (labels : Labels) (slots : List Name) (at : ℕ) (q : Part Name) → is_instruction q ≡ true → bytes_at labels slots at q ≡ instruction_bytes (instructions_at labels slots at q)
@@ -103,28 +98,7 @@ bytes_are labels slots at (part.Word number) e = cc e
 bytes_are labels slots at (part.Byte number) e = cc e
 bytes_are labels slots at (part.Zero number) e = cc e
 bytes_are labels slots at (part.Align number) e = cc e
-bytes_are labels slots at (part.Registers a b c d) e = refl
-bytes_are labels slots at (part.Immediate a b c d) e = refl
-bytes_are labels slots at (part.Upper a b c) e = refl
-bytes_are labels slots at (part.Load a b c d) e = refl
-bytes_are labels slots at (part.JumpCapability a b) e = refl
-bytes_are labels slots at (part.Store a b c d) e = refl
-bytes_are labels slots at (part.Branch a b c d) e = refl
-bytes_are labels slots at (part.Jal a b) e = refl
-bytes_are labels slots at (part.Source a b c) e = refl
-bytes_are labels slots at (part.Bare a) e = refl
-bytes_are labels slots at part.Nop e = refl
-bytes_are labels slots at (part.Move a b) e = refl
-bytes_are labels slots at (part.Go a) e = refl
-bytes_are labels slots at (part.Link a b) e = refl
-bytes_are labels slots at part.Return e = refl
-bytes_are labels slots at (part.JumpRegister a) e = refl
-bytes_are labels slots at (part.IfZero a b) e = refl
-bytes_are labels slots at (part.IfNotZero a b) e = refl
-bytes_are labels slots at (part.Number a b) e = refl
-bytes_are labels slots at (part.Import a b) e = refl
-bytes_are labels slots at (part.TextAddress a b) e = refl
-bytes_are labels slots at (part.GlobalAddress a b) e = refl
+bytes_are labels slots at q e = refl
 
 -- ---- along the statements
 

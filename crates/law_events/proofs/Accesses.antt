@@ -23,7 +23,7 @@ use Rattle.law_jumps.proofs.Moves.{in_rooted}
 use Rattle.law_memory.proofs.Authorities.{headed}
 use Rattle.law_licensed.proofs.Deeds.{load_licensed, store_licensed}
 use Rattle.def_instr.specs.declared.Instr.{Instr}
-use Rattle.def_instr.specs.declared.Instr.TheVariants.{Lui, AuiPcc, AuiCgp, Jal, CJalr, Beq, Bne, Blt, Bge, Bltu, Bgeu, Lb, Lh, Lw, Clc, Lbu, Lhu, Sb, Sh, Sw, Csc, Addi, Slti, Sltiu, Xori, Ori, Andi, Slli, Srli, Srai, Add, Sub, Sll, Slt, Sltu, Xor, Srl, Sra, Or, And, Mul, Mulh, Mulhsu, Mulhu, Div, Divu, Rem, Remu, Fence, Ecall, Ebreak, Csr, CIncAddrImm, CSetBoundsImm, CSpecialRw, CSetBounds, CSetBoundsExact, CSeal, CUnseal, CAndPerm, CSetAddr, CIncAddr, CSub, CSetHigh, CTestSubset, CSetEqualExact, CGetPerm, CGetType, CGetBase, CGetLen, CGetTag, Crrl, Cram, CMove, CClearTag, CGetAddr, CGetHigh, CGetTop}
+use Rattle.def_instr.specs.declared.Instr.TheVariants.{Clc, Csc}
 use Rattle.def_machine.specs.Image.{granule_of, root}
 use Rattle.def_machine.specs.State.{State, Frame, thread, register, granule}
 use Rattle.def_machine.specs.Memory.{cap_stored, bytes_stored}
@@ -89,92 +89,17 @@ all_pass (c ∷ cs) e = by_test c.0 refl e (λ later. all_pass cs later)
 
 -- ---- the widths of accesses
 
-pub record Shape (a : Access) : Type 0 where
+pub record HasWidth (a : Access) : Type 0 where
   pub some : 0 < a.width
   pub eight : a.whole ≡ true → a.width ≡ 8
 
-plain_shape : (a : Access) → 0 < a.width → a.whole ≡ false → Shape a
-plain_shape a some part = record { some = some; eight = λ is. absurd (let clash : true ≡ false = sym is ∙ part in cc) }
+plain_width : (a : Access) → 0 < a.width → a.whole ≡ false → HasWidth a
+plain_width a some part = record { some = some; eight = λ is. absurd (let clash : true ≡ false = sym is ∙ part in cc) }
 
-shape_of : (k : Instr) → Shape (access_of k)
-shape_of (Lui v0 v1) = plain_shape (access_of (Lui v0 v1)) (omega arith) refl
-shape_of (AuiPcc v0 v1) = plain_shape (access_of (AuiPcc v0 v1)) (omega arith) refl
-shape_of (AuiCgp v0 v1) = plain_shape (access_of (AuiCgp v0 v1)) (omega arith) refl
-shape_of (Jal v0 v1) = plain_shape (access_of (Jal v0 v1)) (omega arith) refl
-shape_of (CJalr v0 v1 v2) = plain_shape (access_of (CJalr v0 v1 v2)) (omega arith) refl
-shape_of (Beq v0 v1 v2) = plain_shape (access_of (Beq v0 v1 v2)) (omega arith) refl
-shape_of (Bne v0 v1 v2) = plain_shape (access_of (Bne v0 v1 v2)) (omega arith) refl
-shape_of (Blt v0 v1 v2) = plain_shape (access_of (Blt v0 v1 v2)) (omega arith) refl
-shape_of (Bge v0 v1 v2) = plain_shape (access_of (Bge v0 v1 v2)) (omega arith) refl
-shape_of (Bltu v0 v1 v2) = plain_shape (access_of (Bltu v0 v1 v2)) (omega arith) refl
-shape_of (Bgeu v0 v1 v2) = plain_shape (access_of (Bgeu v0 v1 v2)) (omega arith) refl
-shape_of (Lb v0 v1 v2) = plain_shape (access_of (Lb v0 v1 v2)) (omega arith) refl
-shape_of (Lh v0 v1 v2) = plain_shape (access_of (Lh v0 v1 v2)) (omega arith) refl
-shape_of (Lw v0 v1 v2) = plain_shape (access_of (Lw v0 v1 v2)) (omega arith) refl
-shape_of (Clc v0 v1 v2) = record { some = omega arith; eight = λ is. refl }
-shape_of (Lbu v0 v1 v2) = plain_shape (access_of (Lbu v0 v1 v2)) (omega arith) refl
-shape_of (Lhu v0 v1 v2) = plain_shape (access_of (Lhu v0 v1 v2)) (omega arith) refl
-shape_of (Sb v0 v1 v2) = plain_shape (access_of (Sb v0 v1 v2)) (omega arith) refl
-shape_of (Sh v0 v1 v2) = plain_shape (access_of (Sh v0 v1 v2)) (omega arith) refl
-shape_of (Sw v0 v1 v2) = plain_shape (access_of (Sw v0 v1 v2)) (omega arith) refl
-shape_of (Csc v0 v1 v2) = record { some = omega arith; eight = λ is. refl }
-shape_of (Addi v0 v1 v2) = plain_shape (access_of (Addi v0 v1 v2)) (omega arith) refl
-shape_of (Slti v0 v1 v2) = plain_shape (access_of (Slti v0 v1 v2)) (omega arith) refl
-shape_of (Sltiu v0 v1 v2) = plain_shape (access_of (Sltiu v0 v1 v2)) (omega arith) refl
-shape_of (Xori v0 v1 v2) = plain_shape (access_of (Xori v0 v1 v2)) (omega arith) refl
-shape_of (Ori v0 v1 v2) = plain_shape (access_of (Ori v0 v1 v2)) (omega arith) refl
-shape_of (Andi v0 v1 v2) = plain_shape (access_of (Andi v0 v1 v2)) (omega arith) refl
-shape_of (Slli v0 v1 v2) = plain_shape (access_of (Slli v0 v1 v2)) (omega arith) refl
-shape_of (Srli v0 v1 v2) = plain_shape (access_of (Srli v0 v1 v2)) (omega arith) refl
-shape_of (Srai v0 v1 v2) = plain_shape (access_of (Srai v0 v1 v2)) (omega arith) refl
-shape_of (Add v0 v1 v2) = plain_shape (access_of (Add v0 v1 v2)) (omega arith) refl
-shape_of (Sub v0 v1 v2) = plain_shape (access_of (Sub v0 v1 v2)) (omega arith) refl
-shape_of (Sll v0 v1 v2) = plain_shape (access_of (Sll v0 v1 v2)) (omega arith) refl
-shape_of (Slt v0 v1 v2) = plain_shape (access_of (Slt v0 v1 v2)) (omega arith) refl
-shape_of (Sltu v0 v1 v2) = plain_shape (access_of (Sltu v0 v1 v2)) (omega arith) refl
-shape_of (Xor v0 v1 v2) = plain_shape (access_of (Xor v0 v1 v2)) (omega arith) refl
-shape_of (Srl v0 v1 v2) = plain_shape (access_of (Srl v0 v1 v2)) (omega arith) refl
-shape_of (Sra v0 v1 v2) = plain_shape (access_of (Sra v0 v1 v2)) (omega arith) refl
-shape_of (Or v0 v1 v2) = plain_shape (access_of (Or v0 v1 v2)) (omega arith) refl
-shape_of (And v0 v1 v2) = plain_shape (access_of (And v0 v1 v2)) (omega arith) refl
-shape_of (Mul v0 v1 v2) = plain_shape (access_of (Mul v0 v1 v2)) (omega arith) refl
-shape_of (Mulh v0 v1 v2) = plain_shape (access_of (Mulh v0 v1 v2)) (omega arith) refl
-shape_of (Mulhsu v0 v1 v2) = plain_shape (access_of (Mulhsu v0 v1 v2)) (omega arith) refl
-shape_of (Mulhu v0 v1 v2) = plain_shape (access_of (Mulhu v0 v1 v2)) (omega arith) refl
-shape_of (Div v0 v1 v2) = plain_shape (access_of (Div v0 v1 v2)) (omega arith) refl
-shape_of (Divu v0 v1 v2) = plain_shape (access_of (Divu v0 v1 v2)) (omega arith) refl
-shape_of (Rem v0 v1 v2) = plain_shape (access_of (Rem v0 v1 v2)) (omega arith) refl
-shape_of (Remu v0 v1 v2) = plain_shape (access_of (Remu v0 v1 v2)) (omega arith) refl
-shape_of (Fence v0) = plain_shape (access_of (Fence v0)) (omega arith) refl
-shape_of Ecall = plain_shape (access_of Ecall) (omega arith) refl
-shape_of Ebreak = plain_shape (access_of Ebreak) (omega arith) refl
-shape_of (Csr v0 v1 v2 v3) = plain_shape (access_of (Csr v0 v1 v2 v3)) (omega arith) refl
-shape_of (CIncAddrImm v0 v1 v2) = plain_shape (access_of (CIncAddrImm v0 v1 v2)) (omega arith) refl
-shape_of (CSetBoundsImm v0 v1 v2) = plain_shape (access_of (CSetBoundsImm v0 v1 v2)) (omega arith) refl
-shape_of (CSpecialRw v0 v1 v2) = plain_shape (access_of (CSpecialRw v0 v1 v2)) (omega arith) refl
-shape_of (CSetBounds v0 v1 v2) = plain_shape (access_of (CSetBounds v0 v1 v2)) (omega arith) refl
-shape_of (CSetBoundsExact v0 v1 v2) = plain_shape (access_of (CSetBoundsExact v0 v1 v2)) (omega arith) refl
-shape_of (CSeal v0 v1 v2) = plain_shape (access_of (CSeal v0 v1 v2)) (omega arith) refl
-shape_of (CUnseal v0 v1 v2) = plain_shape (access_of (CUnseal v0 v1 v2)) (omega arith) refl
-shape_of (CAndPerm v0 v1 v2) = plain_shape (access_of (CAndPerm v0 v1 v2)) (omega arith) refl
-shape_of (CSetAddr v0 v1 v2) = plain_shape (access_of (CSetAddr v0 v1 v2)) (omega arith) refl
-shape_of (CIncAddr v0 v1 v2) = plain_shape (access_of (CIncAddr v0 v1 v2)) (omega arith) refl
-shape_of (CSub v0 v1 v2) = plain_shape (access_of (CSub v0 v1 v2)) (omega arith) refl
-shape_of (CSetHigh v0 v1 v2) = plain_shape (access_of (CSetHigh v0 v1 v2)) (omega arith) refl
-shape_of (CTestSubset v0 v1 v2) = plain_shape (access_of (CTestSubset v0 v1 v2)) (omega arith) refl
-shape_of (CSetEqualExact v0 v1 v2) = plain_shape (access_of (CSetEqualExact v0 v1 v2)) (omega arith) refl
-shape_of (CGetPerm v0 v1) = plain_shape (access_of (CGetPerm v0 v1)) (omega arith) refl
-shape_of (CGetType v0 v1) = plain_shape (access_of (CGetType v0 v1)) (omega arith) refl
-shape_of (CGetBase v0 v1) = plain_shape (access_of (CGetBase v0 v1)) (omega arith) refl
-shape_of (CGetLen v0 v1) = plain_shape (access_of (CGetLen v0 v1)) (omega arith) refl
-shape_of (CGetTag v0 v1) = plain_shape (access_of (CGetTag v0 v1)) (omega arith) refl
-shape_of (Crrl v0 v1) = plain_shape (access_of (Crrl v0 v1)) (omega arith) refl
-shape_of (Cram v0 v1) = plain_shape (access_of (Cram v0 v1)) (omega arith) refl
-shape_of (CMove v0 v1) = plain_shape (access_of (CMove v0 v1)) (omega arith) refl
-shape_of (CClearTag v0 v1) = plain_shape (access_of (CClearTag v0 v1)) (omega arith) refl
-shape_of (CGetAddr v0 v1) = plain_shape (access_of (CGetAddr v0 v1)) (omega arith) refl
-shape_of (CGetHigh v0 v1) = plain_shape (access_of (CGetHigh v0 v1)) (omega arith) refl
-shape_of (CGetTop v0 v1) = plain_shape (access_of (CGetTop v0 v1)) (omega arith) refl
+width_of : (k : Instr) → HasWidth (access_of k)
+width_of (Clc v0 v1 v2) = record { some = omega arith; eight = λ is. refl }
+width_of (Csc v0 v1 v2) = record { some = omega arith; eight = λ is. refl }
+width_of k = plain_width (access_of k) (omega arith) refl
 
 -- ---- what an access leaves
 
@@ -202,7 +127,7 @@ pub record Accessing (b : Board) (s : State) (t n m : ℕ) (a : Access) (at : �
   pub f : Fetching b.image s t
   pub wired : Wired b
   pub runs : s.running ≡ Some t
-  pub shape : Shape a
+  pub wide : HasWidth a
   pub passed : AllPass (access_checks a (register (thread s t) n) (register (thread s t) m) at)
 
 load_says : (b : Board) (s : State) (t n m : ℕ) (a : Access) (at : ℕ) → Accessing b s t n m a at → a.loads ≡ true → LoadPasses a (register (thread s t) n) at
@@ -213,8 +138,8 @@ store_says : (b : Board) (s : State) (t n m : ℕ) (a : Access) (at : ℕ) → A
 store_says b s t n m a at w stores = store_passes a (register (thread s t) n) at (a.whole && (register (thread s t) m).tag)
     (when_false AllPass a.loads (load_checks a (register (thread s t) n) at) (store_checks a (register (thread s t) n) at (a.whole && (register (thread s t) m).tag)) stores w.passed)
 
-aligned_eight : (a : Access) (at : ℕ) → Shape a → a.whole ≡ true → at % a.width ≡ 0 → at % 8 ≡ 0
-aligned_eight a at shape whole h = let P : ℕ → Type 0 = λ n. at % n ≡ 0 in subst P (shape.eight whole) h
+aligned_eight : (a : Access) (at : ℕ) → HasWidth a → a.whole ≡ true → at % a.width ≡ 0 → at % 8 ≡ 0
+aligned_eight a at wide whole h = let P : ℕ → Type 0 = λ n. at % n ≡ 0 in subst P (wide.eight whole) h
 
 in_ram_says : (b : Board) (s : State) (a : Access) (at : ℕ) → is_ram (space_of b s) at a.width ≡ true → b.image.ram ≤ at
 in_ram_says b s a at e = leb-true b.image.ram at (and_parts (nat_le b.image.ram at) (nat_le (at + a.width) (b.image.ram + 8 * length s.granules)) e).0
@@ -243,11 +168,11 @@ ram_puts : (b : Board) (s : State) (t n m : ℕ) (a : Access) (at : ℕ) → Acc
 ram_puts b s t n m a at w loads inside =
     let x : Cap = register (thread s t) n in
     let says = load_says b s t n m a at w loads in
-    let some = w.shape.some in
+    let some = w.wide.some in
     let high : at < cap_top (register (thread s t) n) = omega (arith, says.high, some) in
     chosen (Puts b.image s t) a.whole (filtered_in b.image.ram s.granules (attenuated (register (thread s t) n) (loaded_cap s.granules (at - b.image.ram)))) (integer (widened a (loaded s.granules (at - b.image.ram) a.width)))
     (λ whole.
-    let l = load_stands b.image s t n at (attenuated (register (thread s t) n) (granule s (granule_of b.image at)).cap) w.f.parts w.f.held w.runs inside says.tagged says.loads says.low high (aligned_eight a at w.shape whole says.aligned)
+    let l = load_stands b.image s t n at (attenuated (register (thread s t) n) (granule s (granule_of b.image at)).cap) w.f.parts w.f.held w.runs inside says.tagged says.loads says.low high (aligned_eight a at w.wide whole says.aligned)
     (attenuated_derived (register (thread s t) n) (granule s (granule_of b.image at)).cap) (attenuated_carries (register (thread s t) n) (granule s (granule_of b.image at)).cap) in
     record { there = l.there; kept = l.kept; live = l.live })
     (λ part. untagged_puts b.image s t (integer (widened a (loaded s.granules (at - b.image.ram) a.width))) refl)
@@ -262,12 +187,12 @@ store_confined : (b : Board) (s : State) (t n m to : ℕ) (a : Access) (at : ℕ
     → Confined b.image (put_done s t (done_of (around b s t) to (record { value = None; act = None; granules = ram_stored a (register (thread s t) n) (register (thread s t) m) at b.image.ram s.granules; bank = bank_of b s })))
 store_confined b s t n m to a at w stores inside =
     let says = store_says b s t n m a at w stores in
-    let some = w.shape.some in
+    let some = w.wide.some in
     let high : at < cap_top (register (thread s t) n) = omega (arith, says.high, some) in
     let P : List Granule → Type 0 = λ gs. Confined b.image (record s { granules = gs }) in
     stored_confined b s t to (ram_stored a (register (thread s t) n) (register (thread s t) m) at b.image.ram s.granules) w.f
     (chosen P a.whole (cap_stored b.image s at (register (thread s t) n) (register (thread s t) m)).granules (bytes_stored b.image s at a.width (cap_address (register (thread s t) m))).granules
-    (λ whole. store_cap_confined b.image s t n m at w.f.parts w.f.held w.runs inside says.tagged says.stores (λ tagged. says.may_carry (let both : (a.whole && (register (thread s t) m).tag) ≡ true = cc in both)) says.low high (aligned_eight a at w.shape whole says.aligned))
+    (λ whole. store_cap_confined b.image s t n m at w.f.parts w.f.held w.runs inside says.tagged says.stores (λ tagged. says.may_carry (let both : (a.whole && (register (thread s t) m).tag) ≡ true = cc in both)) says.low high (aligned_eight a at w.wide whole says.aligned))
     (λ part. store_bytes_confined b.image s t n at a.width (cap_address (register (thread s t) m)) w.f.parts w.f.held inside says.tagged says.stores says.low high))
 
 -- ---- whole
@@ -340,7 +265,7 @@ some_tells b s t n act h other e =
 load_told : (b : Board) (s : State) (t n m : ℕ) (a : Access) (at value : ℕ) → Accessing b s t n m a at → a.loads ≡ true → Tells b s t n (deed_at (space_of b s) at (acts.Load at a.width value))
 load_told b s t n m a at value w loads =
     let says = load_says b s t n m a at w loads in
-    let some = w.shape.some in
+    let some = w.wide.some in
     let high : at < cap_top (register (thread s t) n) = omega (arith, says.high, some) in
     let head = headed b.image s.objects t (thread s t).frames (register (thread s t) n) (w.f.held.registers t n) says.tagged in
     chosen (Tells b s t n) (is_some (found b.bases at)) (Some (acts.Load at a.width value)) None
@@ -352,7 +277,7 @@ load_told b s t n m a at value w loads =
 store_told : (b : Board) (s : State) (t n m : ℕ) (a : Access) (at value : ℕ) → Accessing b s t n m a at → a.loads ≡ false → Tells b s t n (deed_at (space_of b s) at (acts.Store at a.width value))
 store_told b s t n m a at value w stores =
     let says = store_says b s t n m a at w stores in
-    let some = w.shape.some in
+    let some = w.wide.some in
     let high : at < cap_top (register (thread s t) n) = omega (arith, says.high, some) in
     let head = headed b.image s.objects t (thread s t).frames (register (thread s t) n) (w.f.held.registers t n) says.tagged in
     chosen (Tells b s t n) (is_some (found b.bases at)) (Some (acts.Store at a.width value)) None
@@ -406,10 +331,10 @@ access_laws b s t k wired f runs =
           (accessed (access_of k) (operand s t (operands_of k).first) (operand s t (operands_of k).second) (access_address (access_of k) (operand s t (operands_of k).first)) (space_of b s)) d e in
           subst (λ (z : Done). Confined b.image (put_done s t z)) (sym c.is)
           (accessed_confined b s t (operands_of k).first (operands_of k).second (operands_of k).to (access_of k) (access_address (access_of k) (operand s t (operands_of k).first))
-          (record { f = f; wired = wired; runs = runs; shape = shape_of k; passed = all_pass _ c.passed }));
+          (record { f = f; wired = wired; runs = runs; wide = width_of k; passed = all_pass _ c.passed }));
       licensed = λ d act e is.
           let c = carried (around b s t) (operands_of k).to (first_failed (access_checks (access_of k) (operand s t (operands_of k).first) (operand s t (operands_of k).second) (access_address (access_of k) (operand s t (operands_of k).first))))
           (accessed (access_of k) (operand s t (operands_of k).first) (operand s t (operands_of k).second) (access_address (access_of k) (operand s t (operands_of k).first)) (space_of b s)) d e in
           accessed_licensed b s t (operands_of k).first (operands_of k).second (access_of k) (access_address (access_of k) (operand s t (operands_of k).first))
-          (record { f = f; wired = wired; runs = runs; shape = shape_of k; passed = all_pass _ c.passed }) act (sym (ap (λ (z : Done). z.act) c.is) ∙ is);
+          (record { f = f; wired = wired; runs = runs; wide = width_of k; passed = all_pass _ c.passed }) act (sym (ap (λ (z : Done). z.act) c.is) ∙ is);
     }

@@ -4,7 +4,7 @@ use Rattle.def_words.specs.declared.Cap.{Cap}
 use Rattle.def_words.specs.Authority.{cap_address}
 use Rattle.def_words.specs.Capability.{raised, with_address, with_bounds, with_exact_bounds, masked, sealed_by, unsealed_by}
 use Rattle.def_instr.specs.declared.Instr.{Instr}
-use Rattle.def_instr.specs.declared.Instr.TheVariants.{Lui, AuiPcc, AuiCgp, Jal, CJalr, Beq, Bne, Blt, Bge, Bltu, Bgeu, Lb, Lh, Lw, Clc, Lbu, Lhu, Sb, Sh, Sw, Csc, Addi, Slti, Sltiu, Xori, Ori, Andi, Slli, Srli, Srai, Add, Sub, Sll, Slt, Sltu, Xor, Srl, Sra, Or, And, Mul, Mulh, Mulhsu, Mulhu, Div, Divu, Rem, Remu, Fence, Ecall, Ebreak, Csr, CIncAddrImm, CSetBoundsImm, CSpecialRw, CSetBounds, CSetBoundsExact, CSeal, CUnseal, CAndPerm, CSetAddr, CIncAddr, CSub, CSetHigh, CTestSubset, CSetEqualExact, CGetPerm, CGetType, CGetBase, CGetLen, CGetTag, Crrl, Cram, CMove, CClearTag, CGetAddr, CGetHigh, CGetTop}
+use Rattle.def_instr.specs.declared.Instr.TheVariants.{AuiPcc, AuiCgp, CIncAddrImm, CSetBoundsImm, CSetBounds, CSetBoundsExact, CSeal, CUnseal, CAndPerm, CSetAddr, CIncAddr, CMove}
 use Rattle.def_capstep.specs.Results.{capability_result, upper_offset}
 use Rattle.def_reach.specs.Roots.{is_native}
 use Rattle.def_machine.specs.Image.{Image, root}
@@ -59,61 +59,10 @@ same_derived i s t from h runs = record { there = h.registers t from; kept = h.k
 pub result_puts : (i : Image) (s : State) (t m n : ℕ) (k : Instr) → Partitioned i → Confined i s → s.running ≡ Some t → is_native (root i (thread s t).pcc.shadow.root).origin ≡ false
     → Puts i s t (capability_result k (register (thread s t) m) (register (thread s t) n) (thread s t).pcc)
 unfolding capability_result
-result_puts i s t m n (Lui v0 v1) parts h runs other = untagged_puts i s t _ refl
 result_puts i s t m n (AuiPcc v0 v1) parts h runs other = pcc_puts i s t (raised (thread s t).pcc (upper_offset v1)) h other (raised_derived (thread s t).pcc (upper_offset v1))
 result_puts i s t m n (AuiCgp v0 v1) parts h runs other = register_puts i s t m (raised (register (thread s t) m) (upper_offset v1)) h runs (raised_derived (register (thread s t) m) (upper_offset v1))
-result_puts i s t m n (Jal v0 v1) parts h runs other = untagged_puts i s t _ refl
-result_puts i s t m n (CJalr v0 v1 v2) parts h runs other = untagged_puts i s t _ refl
-result_puts i s t m n (Beq v0 v1 v2) parts h runs other = untagged_puts i s t _ refl
-result_puts i s t m n (Bne v0 v1 v2) parts h runs other = untagged_puts i s t _ refl
-result_puts i s t m n (Blt v0 v1 v2) parts h runs other = untagged_puts i s t _ refl
-result_puts i s t m n (Bge v0 v1 v2) parts h runs other = untagged_puts i s t _ refl
-result_puts i s t m n (Bltu v0 v1 v2) parts h runs other = untagged_puts i s t _ refl
-result_puts i s t m n (Bgeu v0 v1 v2) parts h runs other = untagged_puts i s t _ refl
-result_puts i s t m n (Lb v0 v1 v2) parts h runs other = untagged_puts i s t _ refl
-result_puts i s t m n (Lh v0 v1 v2) parts h runs other = untagged_puts i s t _ refl
-result_puts i s t m n (Lw v0 v1 v2) parts h runs other = untagged_puts i s t _ refl
-result_puts i s t m n (Clc v0 v1 v2) parts h runs other = untagged_puts i s t _ refl
-result_puts i s t m n (Lbu v0 v1 v2) parts h runs other = untagged_puts i s t _ refl
-result_puts i s t m n (Lhu v0 v1 v2) parts h runs other = untagged_puts i s t _ refl
-result_puts i s t m n (Sb v0 v1 v2) parts h runs other = untagged_puts i s t _ refl
-result_puts i s t m n (Sh v0 v1 v2) parts h runs other = untagged_puts i s t _ refl
-result_puts i s t m n (Sw v0 v1 v2) parts h runs other = untagged_puts i s t _ refl
-result_puts i s t m n (Csc v0 v1 v2) parts h runs other = untagged_puts i s t _ refl
-result_puts i s t m n (Addi v0 v1 v2) parts h runs other = untagged_puts i s t _ refl
-result_puts i s t m n (Slti v0 v1 v2) parts h runs other = untagged_puts i s t _ refl
-result_puts i s t m n (Sltiu v0 v1 v2) parts h runs other = untagged_puts i s t _ refl
-result_puts i s t m n (Xori v0 v1 v2) parts h runs other = untagged_puts i s t _ refl
-result_puts i s t m n (Ori v0 v1 v2) parts h runs other = untagged_puts i s t _ refl
-result_puts i s t m n (Andi v0 v1 v2) parts h runs other = untagged_puts i s t _ refl
-result_puts i s t m n (Slli v0 v1 v2) parts h runs other = untagged_puts i s t _ refl
-result_puts i s t m n (Srli v0 v1 v2) parts h runs other = untagged_puts i s t _ refl
-result_puts i s t m n (Srai v0 v1 v2) parts h runs other = untagged_puts i s t _ refl
-result_puts i s t m n (Add v0 v1 v2) parts h runs other = untagged_puts i s t _ refl
-result_puts i s t m n (Sub v0 v1 v2) parts h runs other = untagged_puts i s t _ refl
-result_puts i s t m n (Sll v0 v1 v2) parts h runs other = untagged_puts i s t _ refl
-result_puts i s t m n (Slt v0 v1 v2) parts h runs other = untagged_puts i s t _ refl
-result_puts i s t m n (Sltu v0 v1 v2) parts h runs other = untagged_puts i s t _ refl
-result_puts i s t m n (Xor v0 v1 v2) parts h runs other = untagged_puts i s t _ refl
-result_puts i s t m n (Srl v0 v1 v2) parts h runs other = untagged_puts i s t _ refl
-result_puts i s t m n (Sra v0 v1 v2) parts h runs other = untagged_puts i s t _ refl
-result_puts i s t m n (Or v0 v1 v2) parts h runs other = untagged_puts i s t _ refl
-result_puts i s t m n (And v0 v1 v2) parts h runs other = untagged_puts i s t _ refl
-result_puts i s t m n (Mul v0 v1 v2) parts h runs other = untagged_puts i s t _ refl
-result_puts i s t m n (Mulh v0 v1 v2) parts h runs other = untagged_puts i s t _ refl
-result_puts i s t m n (Mulhsu v0 v1 v2) parts h runs other = untagged_puts i s t _ refl
-result_puts i s t m n (Mulhu v0 v1 v2) parts h runs other = untagged_puts i s t _ refl
-result_puts i s t m n (Div v0 v1 v2) parts h runs other = untagged_puts i s t _ refl
-result_puts i s t m n (Divu v0 v1 v2) parts h runs other = untagged_puts i s t _ refl
-result_puts i s t m n (Rem v0 v1 v2) parts h runs other = untagged_puts i s t _ refl
-result_puts i s t m n (Remu v0 v1 v2) parts h runs other = untagged_puts i s t _ refl
-result_puts i s t m n (Fence v0) parts h runs other = untagged_puts i s t _ refl
-result_puts i s t m n Ecall parts h runs other = untagged_puts i s t _ refl
-result_puts i s t m n Ebreak parts h runs other = untagged_puts i s t _ refl
-result_puts i s t m n (Csr v0 v1 v2 v3) parts h runs other = untagged_puts i s t _ refl
 result_puts i s t m n (CIncAddrImm v0 v1 v2) parts h runs other = register_puts i s t m (raised (register (thread s t) m) v2) h runs (raised_derived (register (thread s t) m) v2)
 result_puts i s t m n (CSetBoundsImm v0 v1 v2) parts h runs other = register_puts i s t m (with_bounds (register (thread s t) m) v2) h runs (bounds_derived (register (thread s t) m) v2)
-result_puts i s t m n (CSpecialRw v0 v1 v2) parts h runs other = untagged_puts i s t _ refl
 result_puts i s t m n (CSetBounds v0 v1 v2) parts h runs other = register_puts i s t m (with_bounds (register (thread s t) m) (cap_address (register (thread s t) n))) h runs (bounds_derived (register (thread s t) m) (cap_address (register (thread s t) n)))
 result_puts i s t m n (CSetBoundsExact v0 v1 v2) parts h runs other = register_puts i s t m (with_exact_bounds (register (thread s t) m) (cap_address (register (thread s t) n))) h runs (exact_derived (register (thread s t) m) (cap_address (register (thread s t) n)))
 result_puts i s t m n (CSeal v0 v1 v2) parts h runs other = register_puts i s t m (sealed_by (register (thread s t) m) (register (thread s t) n)) h runs (sealed_derived i (register (thread s t) m) (register (thread s t) n) parts (in_rooted i s.objects t (thread s t).frames (register (thread s t) n) (h.registers t n)))
@@ -121,19 +70,5 @@ result_puts i s t m n (CUnseal v0 v1 v2) parts h runs other = register_puts i s 
 result_puts i s t m n (CAndPerm v0 v1 v2) parts h runs other = register_puts i s t m (masked (register (thread s t) m) (cap_address (register (thread s t) n))) h runs (masked_derived (register (thread s t) m) (cap_address (register (thread s t) n)))
 result_puts i s t m n (CSetAddr v0 v1 v2) parts h runs other = register_puts i s t m (with_address (register (thread s t) m) (cap_address (register (thread s t) n))) h runs (address_derived (register (thread s t) m) (cap_address (register (thread s t) n)) (omega arith))
 result_puts i s t m n (CIncAddr v0 v1 v2) parts h runs other = register_puts i s t m (raised (register (thread s t) m) (cap_address (register (thread s t) n))) h runs (raised_derived (register (thread s t) m) (cap_address (register (thread s t) n)))
-result_puts i s t m n (CSub v0 v1 v2) parts h runs other = untagged_puts i s t _ refl
-result_puts i s t m n (CSetHigh v0 v1 v2) parts h runs other = untagged_puts i s t _ refl
-result_puts i s t m n (CTestSubset v0 v1 v2) parts h runs other = untagged_puts i s t _ refl
-result_puts i s t m n (CSetEqualExact v0 v1 v2) parts h runs other = untagged_puts i s t _ refl
-result_puts i s t m n (CGetPerm v0 v1) parts h runs other = untagged_puts i s t _ refl
-result_puts i s t m n (CGetType v0 v1) parts h runs other = untagged_puts i s t _ refl
-result_puts i s t m n (CGetBase v0 v1) parts h runs other = untagged_puts i s t _ refl
-result_puts i s t m n (CGetLen v0 v1) parts h runs other = untagged_puts i s t _ refl
-result_puts i s t m n (CGetTag v0 v1) parts h runs other = untagged_puts i s t _ refl
-result_puts i s t m n (Crrl v0 v1) parts h runs other = untagged_puts i s t _ refl
-result_puts i s t m n (Cram v0 v1) parts h runs other = untagged_puts i s t _ refl
 result_puts i s t m n (CMove v0 v1) parts h runs other = same_derived i s t m h runs
-result_puts i s t m n (CClearTag v0 v1) parts h runs other = untagged_puts i s t _ refl
-result_puts i s t m n (CGetAddr v0 v1) parts h runs other = untagged_puts i s t _ refl
-result_puts i s t m n (CGetHigh v0 v1) parts h runs other = untagged_puts i s t _ refl
-result_puts i s t m n (CGetTop v0 v1) parts h runs other = untagged_puts i s t _ refl
+result_puts i s t m n k parts h runs other = untagged_puts i s t _ refl

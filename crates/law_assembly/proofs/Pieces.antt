@@ -1,26 +1,15 @@
--- `li` loads its number, and the address pairs lead to their places.
-use Rattle.std.proofs.Common.{◌≡◌, ℕ, ◌+◌, ◌-◌, ◌*◌, ◌/◌, ◌%◌, ◌^◌, ◌<◌, ◌≤◌, Bool, true, false, cond, nat_lt, List, zero, suc, ◌⊎◌, inl, inr, refl, ap, arith}
+-- `li` loads its number, and the pairs of words lead to their places.
+use Rattle.std.proofs.Common.{◌≡◌, ℕ, ◌+◌, ◌-◌, ◌*◌, ◌/◌, ◌%◌, ◌^◌, ◌<◌, ◌≤◌, Bool, true, false, cond, nat_lt, zero, suc, ◌⊎◌, inl, inr, refl, ap, arith}
 use Rattle.def_instr.specs.Reading.{extended}
-use Rattle.def_instr.specs.declared.Instr.{Instr}
-use Rattle.def_object.specs.Object.{number_instructions, is_short, upper_part, rest_part, high_piece, low_piece}
-use Rattle.ct_asm.specs.Laws.{loaded, first_address, AreApart, LeadsTo}
+use Rattle.def_object.specs.Object.{upper_part, rest_part, high_piece, low_piece}
+use Rattle.law_assembly.specs.Loading.{first_address, AreApart, LeadsTo}
 
-pieces_back : (word : ℕ) → word < 2 ^ 32 → (upper_part word * 2 ^ 12 % 2 ^ 32 + rest_part word) % 2 ^ 32 ≡ word
+pub pieces_back : (word : ℕ) → word < 2 ^ 32 → (upper_part word * 2 ^ 12 % 2 ^ 32 + rest_part word) % 2 ^ 32 ≡ word
 pieces_back word h = by_test (nat_lt (word % 2 ^ 12) (2 ^ 11)) refl
   where
     by_test : (b : Bool) → nat_lt (word % 2 ^ 12) (2 ^ 11) ≡ b → ((word + 2 ^ 11) / 2 ^ 12 % 2 ^ 20 * 2 ^ 12 % 2 ^ 32 + cond b (word % 2 ^ 12) (word % 2 ^ 12 + (2 ^ 32 - 2 ^ 12))) % 2 ^ 32 ≡ word
     by_test true e = grind (arith, e, h)
     by_test false e = grind (arith, e, h)
-
-short_back : (word : ℕ) → word < 2 ^ 32 → (0 + word) % 2 ^ 32 ≡ word
-short_back word h = omega arith
-
-chosen : (b : Bool) (xs ys : List Instr) (word : ℕ) → loaded 0 xs ≡ word → loaded 0 ys ≡ word → loaded 0 (cond b xs ys) ≡ word
-chosen true xs ys word h k = h
-chosen false xs ys word h k = k
-
-pub number_loaded : (rd word : ℕ) → word < 2 ^ 32 → loaded 0 (number_instructions rd word) ≡ word
-number_loaded rd word h = chosen (is_short word) _ _ word (short_back word h) (pieces_back word h)
 
 up : (n : ℕ) → n < 2 ^ 19 → extended 20 n ≡ n
 up n h = grind (arith, h)

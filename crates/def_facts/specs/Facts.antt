@@ -1,0 +1,62 @@
+-- What holds of an image's entries and of the capabilities that boot makes for them. All x are addresses.
+use Rattle.std.specs.Prelude.{ℕ, ◌≡◌, ◌%◌, ◌≤◌, ◌<◌, ◌⊎◌, Bool, true, false}
+use Rattle.ct_entry.specs.declared.rows.Owner.{Owner}
+use Rattle.ct_entry.specs.declared.rows.Owner.TheVariants.{Compartment, Library}
+use Rattle.ct_entry.specs.declared.rows.Kind.TheVariants as kind
+use Rattle.def_profile.specs.declared.native.TheConstants.{NATIVE_BASE, NATIVE_END}
+use Rattle.def_profile.specs.declared.seals.TheConstants.{EXPORT_TYPE, QUOTA_TYPE}
+use Rattle.def_words.specs.LeastBounds.{rounded_of}
+use Rattle.def_words.specs.Permissions.{bit, load_data, store_data, execute}
+use Rattle.def_words.specs.Seals.{cap_seal}
+use Rattle.def_reach.specs.Roots.{Root, Origin, Listing, is_root, is_native, gate_for}
+use Rattle.def_machine.specs.Image.{Image, root, made_cap, code_entry}
+
+-- ---- what is named
+
+-- number m is an export of a compartment
+pub record IsCompartmentExport (i : Image) (m : ℕ) : Type 0 where
+  pub kind_is : (root i m).origin ≡ Listing kind.Export
+  pub owner_is : (a : ℕ) × ((root i m).owner ≡ Compartment a)
+
+-- number m is an export of a library, with the range of entry n
+pub record IsLibraryExport (i : Image) (n m : ℕ) : Type 0 where
+  pub kind_is : (root i m).origin ≡ Listing kind.Export
+  pub owner_is : (l : ℕ) × ((root i m).owner ≡ Library l)
+  pub base_is : (root i n).base ≡ (root i m).base
+  pub top_is : (root i n).top ≡ (root i m).top
+
+-- ---- where gates lie
+
+abbrev pub gate_code : Image → ℕ → ℕ
+gate_code i n = (gate_for i.entries.gates n).code
+
+abbrev pub IsInside : Root → ℕ → Type 0
+IsInside r x = (r.base ≤ x) × (x < r.top)
+
+-- a word of its owner's code: a library's export has the range of that code itself
+pub record GateFits (i : Image) (n : ℕ) : Type 0 where
+  pub even : gate_code i n % 4 ≡ 0
+  pub compartment : (b : ℕ) → (root i n).owner ≡ Compartment b → IsInside (root i (code_entry i b)) (gate_code i n)
+  pub library : (l : ℕ) → (root i n).owner ≡ Library l → IsInside (root i n) (gate_code i n)
+
+-- ---- what boot makes
+
+-- entry n has a capability of its own: a library's code has none, since it runs by its importers' sentries
+pub record HasCapability (i : Image) (n : ℕ) : Type 0 where
+  pub rooted : is_root (root i n).origin ≡ true
+  pub owned : (root i n).origin ≡ Listing kind.Code → (b : ℕ) × ((root i n).owner ≡ Compartment b)
+
+-- what may load, store or run through an entry
+abbrev pub Reads : Root → Type 0
+Reads r = (bit r.rights load_data ≡ true) ⊎ (bit r.rights store_data ≡ true) ⊎ (bit r.rights execute ≡ true)
+
+pub record Facts (i : Image) : Type 0 where
+  pub made : (n : ℕ) → HasCapability i n → (made_cap i n).tag ≡ true
+  pub quotas : (n : ℕ) → cap_seal (made_cap i n) ≡ QUOTA_TYPE → (root i n).origin ≡ Listing kind.Quota
+  pub calls : (n : ℕ) → cap_seal (made_cap i n) ≡ EXPORT_TYPE → (root i n).origin ≡ Listing kind.Call
+  pub called : (n : ℕ) → (root i n).origin ≡ Listing kind.Call → IsCompartmentExport i (root i n).of
+  pub imported : (n : ℕ) → (root i n).origin ≡ Listing kind.Library → IsLibraryExport i n (root i n).of
+  pub gates : (n : ℕ) → (root i n).origin ≡ Listing kind.Export → GateFits i n
+  pub stacks : (n : ℕ) → (root i n).origin ≡ Listing kind.Stack → (rounded_of (root i n).base (root i n).top).exact ≡ true
+  pub natives : (n x : ℕ) → is_native (root i n).origin ≡ false → Reads (root i n) → IsInside (root i n) x → (x < NATIVE_BASE) ⊎ (NATIVE_END ≤ x)
+  pub heap : (n x : ℕ) → Reads (root i n) → IsInside (root i n) x → (x < i.heap_base) ⊎ (i.heap_end ≤ x)
