@@ -9,6 +9,7 @@ ghost use Rattle.ct_asm.specs.Labels.{label_named};
 
 use crate::labels::Labels;
 use crate::places::number_word;
+use ct_bits::extended;
 use def_object::Label;
 use def_source::parts::{Number, Target};
 
@@ -96,12 +97,7 @@ pub(crate) fn rest_part(word: u32) -> u32
     ensures value { result ≡ object.rest_part word }
     ensures range { IsSigned 12 result }
 {
-    let low = word % (1 << 12);
-    if low < 1 << 11 {
-        low
-    } else {
-        low + 0xFFFF_F000
-    }
+    extended(12, word % (1 << 12))
 }
 
 /// Where a label stands in its section.

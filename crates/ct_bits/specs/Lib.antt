@@ -1,2 +1,0 @@
--- What the three calls of this crate give.
-pub mod Bits

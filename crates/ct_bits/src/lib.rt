@@ -1,11 +1,11 @@
 //! Bits of words by arithmetic: a field, sign extension, the least multiple.
 //!
-//! Everything that decodes or encodes words stands on these three calls. Their contracts speak of
-//! division and remainder (specs/Bits.antt), the code shifts and masks.
+//! Everything that decodes or encodes words stands on these calls. Their contracts speak of division
+//! and remainder (def_bits), the code shifts and masks.
 #![tactic(auto)]
 
 ghost use Rattle.std.specs.Prelude.{◌≡◌, ◌+◌, ◌≤◌, ◌<◌, ◌^◌};
-ghost use Rattle.ct_bits.specs.Bits.{IsLeastMultiple, field_of, signed_of};
+ghost use Rattle.def_bits.specs.Bits.{IsLeastMultiple, extended, field_of, signed_of};
 
 /// The `width` bits of `word` from bit `low` on, as a number.
 pub fn field(word: u32, low: u32, width: u32) -> u32
@@ -28,6 +28,29 @@ pub fn sign(value: u32, width: u32) -> i32
     } else {
         let gap = (1u64 << width) - low as u64;
         -1 - (gap - 1) as i32
+    }
+}
+
+/// A number of `width` bits, read in two's complement, as a 32-bit word.
+pub fn extended(width: u32, n: u32) -> u32
+    requires some { 1 ≤ width }
+    requires fits { width ≤ 32 }
+    requires small { n < 2 ^ width }
+    ensures { result ≡ extended width n }
+{
+    extended_wide(width, n) as u32
+}
+
+/// The same of any number: one that isn't below half of `2^width` counts as negative.
+pub fn extended_wide(width: u32, n: u32) -> u64
+    requires some { 1 ≤ width }
+    requires fits { width ≤ 32 }
+    ensures { result ≡ extended width n }
+{
+    if (n as u64) < 1u64 << (width - 1) {
+        n as u64
+    } else {
+        n as u64 + ((1u64 << 32) - (1u64 << width))
     }
 }
 
@@ -64,6 +87,9 @@ mod tests {
         assert_eq!(rt; sign(0x7FF, 12), 2047);
         assert_eq!(rt; sign(0xFFFFFFFF, 32), -1);
         assert_eq!(rt; sign(0x1E, 5), -2);
+        assert_eq!(rt; extended(12, 0x800), 0xFFFFF800);
+        assert_eq!(rt; extended(12, 0x7FF), 0x7FF);
+        assert_eq!(rt; extended(20, 0xFFFFF), 0xFFFFFFFF);
         assert_eq!(rt; align_up(0, 8), 0);
         assert_eq!(rt; align_up(1, 8), 8);
         assert_eq!(rt; align_up(8, 8), 8);

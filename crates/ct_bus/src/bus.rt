@@ -2,7 +2,7 @@
 
 ghost use Rattle.std.specs.Prelude.{◌≡◌, ◌<◌, ◌≤◌, ◌*◌, ◌⊎◌, ◌^◌, length, map, IfOk, IfSome, true, is_some};
 ghost use Rattle.def_step.specs.Boot.{fresh_device};
-ghost use Rattle.def_step.specs.Devices.{is_of, base_of, found, bank_value, bank_read, bank_written, bank_input};
+ghost use Rattle.def_step.specs.Devices.{IsWidth, is_of, base_of, found, bank_value, bank_read, bank_written, bank_input};
 
 use crate::unit::Unit;
 use ct_entry::Devices;
@@ -81,7 +81,7 @@ impl Bus {
     /// A load of 1, 2, 4 or 8 bytes at a time in ticks. A serial port's oldest byte goes with its
     /// register 0. Where no device has the address it is 0 and nothing changes.
     pub fn read(&mut self, address: u32, width: u32, time: u64) -> u64
-        requires { (width ≤ 4) ⊎ (width ≡ 8) }
+        requires { IsWidth width }
         ensures value { result ≡ bank_value self.old address width time }
         ensures small { (width ≤ 4) → result < 2 ^ (8 * width) }
         ensures left { self.new ≡ bank_read self.old address width }
@@ -95,10 +95,10 @@ impl Bus {
         }
     }
 
-    /// A store of 1, 2, 4 or 8 bytes. Where no device has the address nothing changes.
+    /// A store of the low 1, 2, 4 or 8 bytes of a value. Where no device has the address nothing
+    /// changes.
     pub fn write(&mut self, address: u32, width: u32, value: u64)
-        requires width { (width ≤ 4) ⊎ (width ≡ 8) }
-        requires value { (width ≤ 4) → value < 2 ^ 32 }
+        requires { IsWidth width }
         ensures { self.new ≡ bank_written self.old address width value }
     {
         match find(&self.bases, address) {

@@ -3,7 +3,7 @@
 ghost use Rattle.std.specs.Prelude.{◌≡◌, ◌<◌, ◌≤◌, ◌*◌, ◌⊎◌, ◌^◌, ◌/◌, ◌%◌, IfOk, length};
 ghost use Rattle.def_machine.specs.State.{Serial, Clock, Pins};
 ghost use Rattle.def_step.specs.Boot.{fresh_device};
-ghost use Rattle.def_step.specs.Devices.{register_value, after_read, after_write, after_input, part_read, part_written, value_read, left_by_read, left_by_write};
+ghost use Rattle.def_step.specs.Devices.{IsWidth, register_value, after_read, after_write, after_input, part_read, part_written, value_read, left_by_read, left_by_write};
 
 use circular_buffer::HeapCircularBuffer;
 use ct_entry::DeviceKind;
@@ -14,25 +14,32 @@ use std::marker::Model;
 /// How many bytes a serial port's queue holds.
 const QUEUE: usize = 64;
 
-/// A device. The queue is a serial port's, oldest byte first; output and input are a gpio's.
+/// What a device keeps.
+#[derive(Drop)]
+pub(crate) enum Kept {
+    /// A serial port's queue, the oldest byte first.
+    Serial(HeapCircularBuffer<u8>),
+    /// A timer, which reads the time.
+    Clock,
+    /// A gpio's output, and the byte that came last.
+    Pins { output: u32, input: u32 },
+}
+
+/// A device.
 #[derive(Drop)]
 pub(crate) struct Unit {
-    kind: DeviceKind,
-    queue: HeapCircularBuffer<u8>,
-    output: u32,
-    input: u32,
+    kept: Kept,
 }
 
 impl Model for Unit {
-    ghost use Rattle.std.specs.Prelude.{◌≡◌, ◌≤◌, length};
     ghost use Rattle.def_machine.specs.State.{DeviceState};
-    ghost use Rattle.ct_bus.specs.Units.{state_by};
+    ghost use Rattle.ct_bus.specs.Units.{state_of, IsSound};
 
     ghost Value = { DeviceState };
 
-    ghost view = { λ u. state_by u.kind u.queue.items u.output u.input };
+    ghost view = { λ u. state_of u.kept };
 
-    ghost invariant = { λ u. (u.queue.capacity ≡ 64) × (length u.queue.items ≤ 64) };
+    ghost invariant = { λ u. IsSound u.kept };
 }
 
 impl Unit {
@@ -40,23 +47,25 @@ impl Unit {
     pub(crate) fn new(alloc: Global, kind: DeviceKind) -> Result<Unit, NoMemory>
         ensures { IfOk result (λ u. u ≡ fresh_device kind) }
     {
-        let queue = HeapCircularBuffer::with_capacity(alloc, QUEUE)?;
-        Ok(Unit {
-            kind,
-            queue,
-            output: 0,
-            input: 0,
-        })
+        let kept = match kind {
+            DeviceKind::Uart => Kept::Serial(HeapCircularBuffer::with_capacity(alloc, QUEUE)?),
+            DeviceKind::Timer => Kept::Clock,
+            DeviceKind::Gpio => Kept::Pins {
+                output: 0,
+                input: 0,
+            },
+        };
+        Ok(Unit { kept })
     }
 
     /// What register 0, 1, 2 or 3 has.
     fn register(&self, number: u32, time: u64) -> u32
         ensures { result ≡ register_value self.now number time }
     {
-        match self.kind {
-            DeviceKind::Uart => serial_value(&self.queue, number),
-            DeviceKind::Timer => timer_value(number, time),
-            DeviceKind::Gpio => pins_value(self.output, self.input, number),
+        match &self.kept {
+            Kept::Serial(queue) => serial_value(queue, number),
+            Kept::Clock => timer_value(number, time),
+            Kept::Pins { output, input } => pins_value(*output, *input, number),
         }
     }
 
@@ -67,12 +76,12 @@ impl Unit {
         if number != 0 {
             return;
         }
-        match self.kind {
-            DeviceKind::Uart => {
-                self.queue.pop_front();
+        match &mut self.kept {
+            Kept::Serial(queue) => {
+                queue.pop_front();
             }
-            DeviceKind::Timer => {}
-            DeviceKind::Gpio => {}
+            Kept::Clock => {}
+            Kept::Pins { .. } => {}
         }
     }
 
@@ -83,11 +92,11 @@ impl Unit {
         if number != 0 {
             return;
         }
-        match self.kind {
-            DeviceKind::Uart => {}
-            DeviceKind::Timer => {}
-            DeviceKind::Gpio => {
-                self.output = value;
+        match &mut self.kept {
+            Kept::Serial(_) => {}
+            Kept::Clock => {}
+            Kept::Pins { output, .. } => {
+                *output = value;
             }
         }
     }
@@ -97,13 +106,13 @@ impl Unit {
     pub(crate) fn receive(&mut self, byte: u8)
         ensures { self.new ≡ after_input self.old byte }
     {
-        match self.kind {
-            DeviceKind::Uart => {
-                self.queue.push_back(byte);
+        match &mut self.kept {
+            Kept::Serial(queue) => {
+                queue.push_back(byte);
             }
-            DeviceKind::Timer => {}
-            DeviceKind::Gpio => {
-                self.input = byte as u32;
+            Kept::Clock => {}
+            Kept::Pins { input, .. } => {
+                *input = byte as u32;
             }
         }
     }
@@ -120,18 +129,19 @@ impl Unit {
         value
     }
 
-    /// A store of 1, 2 or 4 bytes: it counts at a multiple of 4, with zeros above its value.
-    fn write_part(&mut self, offset: u32, value: u32)
-        ensures { self.new ≡ part_written self.old offset value }
+    /// A store of 1, 2 or 4 bytes: it counts at a multiple of 4, with zeros above the bytes stored.
+    fn write_part(&mut self, offset: u32, width: u32, value: u64)
+        requires { width ≤ 4 }
+        ensures { self.new ≡ part_written self.old offset width value }
     {
         if offset % 4 == 0 {
-            self.put(offset / 4, value);
+            self.put(offset / 4, (value % (1u64 << (8 * width))) as u32);
         }
     }
 
     /// A load at an offset; one of 8 bytes is the load at the offset, then that at the offset + 4.
     pub(crate) fn read(&mut self, offset: u32, width: u32, time: u64) -> u64
-        requires width { (width ≤ 4) ⊎ (width ≡ 8) }
+        requires width { IsWidth width }
         requires offset { offset < 16 }
         ensures value { result ≡ value_read self.old offset width time }
         ensures small { (width ≤ 4) → result < 2 ^ (8 * width) }
@@ -148,17 +158,16 @@ impl Unit {
     /// A store at an offset; one of 8 bytes is the store of the low half, then that of the high half
     /// at the offset + 4.
     pub(crate) fn write(&mut self, offset: u32, width: u32, value: u64)
-        requires width { (width ≤ 4) ⊎ (width ≡ 8) }
+        requires width { IsWidth width }
         requires offset { offset < 16 }
-        requires value { (width ≤ 4) → value < 2 ^ 32 }
         ensures { self.new ≡ left_by_write self.old offset width value }
     {
         if width == 8 {
-            self.write_part(offset, (value % (1 << 32)) as u32);
-            self.write_part(offset + 4, (value / (1 << 32)) as u32);
+            self.write_part(offset, 4, value);
+            self.write_part(offset + 4, 4, value / (1 << 32));
             return;
         }
-        self.write_part(offset, value as u32);
+        self.write_part(offset, width, value);
     }
 }
 

@@ -8,7 +8,7 @@ ghost use Rattle.def_words.specs.LeastBounds.{rounded_of};
 use crate::live::{Live, made};
 use crate::words;
 use crate::words::{address_of, high_of};
-use ct_bounds::{Bounds, Rounded, least};
+use ct_bounds::{Rounded, least};
 
 /// The capability with bounds from its address to a length, rounded outwards where no word spells
 /// them.
@@ -20,7 +20,7 @@ pub fn set_bounds(l: Live, length: u32) -> Live
     ensures { result ≡ with_bounds l length }
 {
     let rounded = rounded(l.cap.word, length);
-    let keeps = l.cap.tag & (l.seal == 0) & covers(l.bounds, address_of(l.cap.word), length);
+    let keeps = l.cap.tag & (l.seal == 0) & l.covers(l.address(), length);
     made(keeps, bounded(l.cap.word, rounded.fields), l.cap.shadow)
 }
 
@@ -30,10 +30,7 @@ pub fn set_bounds_exact(l: Live, length: u32) -> Live
     ensures { result ≡ with_exact_bounds l length }
 {
     let rounded = rounded(l.cap.word, length);
-    let keeps = l.cap.tag
-        & (l.seal == 0)
-        & covers(l.bounds, address_of(l.cap.word), length)
-        & rounded.exact;
+    let keeps = l.cap.tag & (l.seal == 0) & l.covers(l.address(), length) & rounded.exact;
     made(keeps, bounded(l.cap.word, rounded.fields), l.cap.shadow)
 }
 
@@ -45,13 +42,6 @@ fn rounded(word: u64, length: u32) -> Rounded
     let from = address_of(word) as u64;
     let room = (1 << 32) - from;
     least(from, room.min(length as u64))
-}
-
-/// Whether a range lies in bounds.
-fn covers(bounds: Bounds, from: u32, length: u32) -> bool
-    ensures { result ≡ (nat_le bounds.base from && nat_le (from + length) bounds.top) }
-{
-    (bounds.base <= from as u64) & (from as u64 + length as u64 <= bounds.top)
 }
 
 /// A word with these fields E, B and T.

@@ -1,8 +1,8 @@
 //! A capability with what its word decodes to.
 
 ghost use Rattle.std.specs.Prelude.{◌+◌, ◌<◌, ◌≡◌, if◌then◌else◌};
-ghost use Rattle.def_words.specs.Authority.{cap_bounds};
-ghost use Rattle.def_words.specs.Capability.{cap_of};
+ghost use Rattle.def_words.specs.Authority.{cap_address, cap_bounds};
+ghost use Rattle.def_words.specs.Capability.{cap_of, integer, is_range_inside};
 ghost use Rattle.def_words.specs.Permissions.{cap_perms};
 ghost use Rattle.def_words.specs.Seals.{cap_seal, seal_type};
 
@@ -10,6 +10,7 @@ use crate::words::{address_of, cap_of, high_of};
 use ct_bits::field;
 use ct_bounds::{Bounds, decode};
 use ct_perm::{Permission, Perms};
+use def_profile::seals::DATA_TYPES;
 use def_words::{Cap, Shadow};
 use std::marker::Model;
 
@@ -66,6 +67,52 @@ pub fn shrink(l: Live) -> Cap
     l.cap
 }
 
+impl Live {
+    /// The address.
+    pub fn address(self) -> u32
+        ensures { result ≡ cap_address self }
+    {
+        address_of(self.cap.word)
+    }
+
+    /// An untagged word, from nowhere.
+    pub fn plain(word: u64) -> Live
+        ensures { result ≡ integer word }
+    {
+        made(false, word, Shadow { root: 0, source: 0 })
+    }
+
+    /// An integer: untagged, with high word 0. Its bounds are empty, at the block of 512 that it lies
+    /// in, and it has no permission.
+    #[tactic(auto, unfolding(def_words::specs::Authority::cap_bounds, def_words::specs::Permissions::cap_perms, def_words::specs::Seals::cap_seal))]
+    pub fn integer(value: u32) -> Live
+        ensures { result ≡ integer value }
+    {
+        let block = (value / 512 * 512) as u64;
+        Live {
+            cap: Cap {
+                tag: false,
+                word: value as u64,
+                shadow: Shadow { root: 0, source: 0 },
+            },
+            bounds: Bounds {
+                exponent: 0,
+                base: block,
+                top: block,
+            },
+            perms: Perms(0),
+            seal: 0,
+        }
+    }
+
+    /// Whether so many bytes from an address on lie in the bounds, also where there are none.
+    pub fn covers(self, from: u32, width: u32) -> bool
+        ensures { result ≡ is_range_inside self from (from + width) }
+    {
+        (self.bounds.base <= from as u64) & (from as u64 + width as u64 <= self.bounds.top)
+    }
+}
+
 /// The type that a seal field stands for, 0 where it is unsealed.
 fn type_of(executes: bool, field: u32) -> u32
     requires { field < 8 }
@@ -76,7 +123,7 @@ fn type_of(executes: bool, field: u32) -> u32
     } else if executes {
         field
     } else {
-        8 + field
+        DATA_TYPES + field
     }
 }
 

@@ -15,6 +15,8 @@ use crate::rights::{and_perms, with_bits};
 use crate::words;
 use crate::words::{address_of, high_of};
 use ct_perm::Permission;
+use def_profile::rights::{ALL_RIGHTS, GL, LG, LM, SD};
+use def_profile::seals::{RETURN_DISABLE, RETURN_ENABLE};
 use def_words::{Posture, Shadow};
 
 /// A capability loaded through another: it loses its tag where that one lacks MC; unsealed, SD and LM
@@ -46,16 +48,20 @@ fn passed(unsealed: bool, mutable: bool, globals: bool) -> u32
 {
     if unsealed {
         if mutable {
-            if globals { 4095 } else { 4092 }
+            if globals {
+                ALL_RIGHTS
+            } else {
+                ALL_RIGHTS - GL - LG
+            }
         } else if globals {
-            4083
+            ALL_RIGHTS - SD - LM
         } else {
-            4080
+            ALL_RIGHTS - SD - LM - GL - LG
         }
     } else if globals {
-        4095
+        ALL_RIGHTS
     } else {
-        4094
+        ALL_RIGHTS - GL
     }
 }
 
@@ -79,7 +85,11 @@ pub fn link(pcc: Live, before: Posture) -> Live
     ensures { result ≡ linked pcc before }
 {
     let next = add_address(pcc, 4);
-    let field = if before.off { 4 } else { 5 };
+    let field = if before.off {
+        RETURN_DISABLE
+    } else {
+        RETURN_ENABLE
+    };
     let source = if before.off { before.source } else { 0 };
     made(
         next.cap.tag,

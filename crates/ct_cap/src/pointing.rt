@@ -4,7 +4,7 @@ ghost use Rattle.std.specs.Prelude.{◌≡◌};
 ghost use Rattle.def_words.specs.Capability.{raised, with_address};
 
 use crate::live::Live;
-use crate::words::{address_of, cap_of, high_of, word_of};
+use crate::words::{cap_of, high_of, word_of};
 use ct_bounds::decode;
 
 /// The capability at another address.
@@ -31,5 +31,5 @@ pub fn set_address(l: Live, address: u32) -> Live
 pub fn add_address(l: Live, by: u32) -> Live
     ensures { result ≡ raised l by }
 {
-    set_address(l, address_of(l.cap.word).wrapping_add(by))
+    set_address(l, l.address().wrapping_add(by))
 }

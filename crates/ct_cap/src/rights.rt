@@ -7,7 +7,6 @@ ghost use Rattle.def_words.specs.Capability.{masked, untagged, with_permission_b
 use crate::live::{Live, made};
 use crate::words;
 use crate::words::{address_of, high_of};
-use def_words::Shadow;
 
 /// The capability with only the permissions that a mask has too, as far as a form spells them.
 ///
@@ -29,7 +28,7 @@ pub fn and_perms(l: Live, mask: u32) -> Live
 pub fn clear_tag(l: Live) -> Live
     ensures { result ≡ untagged l }
 {
-    made(false, l.cap.word, Shadow { root: 0, source: 0 })
+    Live::plain(l.cap.word)
 }
 
 /// A word with these six permission bits.

@@ -11,6 +11,7 @@ use crate::words::{address_of, high_of};
 use ct_bits::field;
 use ct_bounds::Bounds;
 use ct_perm::Permission;
+use def_profile::seals::{EXPORT_TYPE, LAST_KEY_TYPE, RETURN_ENABLE, SENTRY_INHERIT};
 
 /// The capability sealed as the type that the key's address is.
 ///
@@ -21,7 +22,7 @@ use ct_perm::Permission;
 pub fn seal(l: Live, key: Live) -> Live
     ensures { result ≡ sealed_by l key }
 {
-    let kind = address_of(key.cap.word);
+    let kind = key.address();
     let lawful = is_key_type(l.perms.has(Permission::Execute), kind);
     let keeps = l.cap.tag
         & key.cap.tag
@@ -42,10 +43,10 @@ pub fn seal(l: Live, key: Live) -> Live
 pub fn unseal(l: Live, key: Live) -> Live
     ensures { result ≡ unsealed_by l key }
 {
-    let kind = address_of(key.cap.word);
+    let kind = key.address();
     let keeps = l.cap.tag
         & key.cap.tag
-        & !(l.seal == 0)
+        & (l.seal != 0)
         & (key.seal == 0)
         & key.perms.has(Permission::Unseal)
         & holds(key.bounds, kind)
@@ -69,9 +70,9 @@ fn is_key_type(executes: bool, kind: u32) -> bool
     ensures { result ≡ is_key_type executes kind }
 {
     if executes {
-        (1 <= kind) & (kind <= 5)
+        (SENTRY_INHERIT <= kind) & (kind <= RETURN_ENABLE)
     } else {
-        (9 <= kind) & (kind <= 15)
+        (EXPORT_TYPE <= kind) & (kind <= LAST_KEY_TYPE)
     }
 }
 

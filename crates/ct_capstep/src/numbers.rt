@@ -3,53 +3,25 @@
 ghost use Rattle.std.specs.Prelude.{◌%◌, ◌^◌, ◌≡◌, false};
 ghost use Rattle.def_capstep.specs.Results.{cap_length, capped, upper_offset};
 ghost use Rattle.def_words.specs.Authority.{cap_address, cap_base, cap_high, cap_top, word_of};
-ghost use Rattle.def_words.specs.Capability.{cap_of, integer, nowhere};
+ghost use Rattle.def_words.specs.Capability.{cap_of, nowhere};
 ghost use Rattle.def_words.specs.LeastBounds.{align_mask_of, round_length_of};
 
+use ct_bits::extended_wide;
 use ct_bounds::{align_mask, round_length};
-use ct_cap::{Live, expand};
-use def_words::{Cap, Shadow};
-
-/// An integer: untagged, with high word 0.
-pub fn integer(n: u32) -> Live
-    ensures { result ≡ integer n }
-{
-    expand(Cap {
-        tag: false,
-        word: n as u64,
-        shadow: Shadow { root: 0, source: 0 },
-    })
-}
+use ct_cap::Live;
 
 /// An untagged word of a capability's address and this high word.
 pub fn with_high(l: Live, high: u32) -> Live
     ensures { result ≡ cap_of false (word_of high (cap_address l)) nowhere }
 {
-    let word = ((high as u64) << 32) + address(l) as u64;
-    expand(Cap {
-        tag: false,
-        word,
-        shadow: Shadow { root: 0, source: 0 },
-    })
+    Live::plain(((high as u64) << 32) + l.address() as u64)
 }
 
 /// 2048 times a signed number of 20 bits, modulo 2^32.
 pub fn upper_offset(n: u32) -> u32
     ensures { result ≡ upper_offset n }
 {
-    let extended = if n < 1 << 19 {
-        n as u64
-    } else {
-        n as u64 + ((1 << 32) - (1 << 20))
-    };
-    (extended * 2048 % (1 << 32)) as u32
-}
-
-/// The address.
-pub fn address(l: Live) -> u32
-    ensures { result ≡ cap_address l }
-{
-    (l.cap.word % (1 << 32)) as u32
+    (extended_wide(20, n) * 2048 % (1 << 32)) as u32
 }
 
 /// The high word.
@@ -85,12 +57,12 @@ pub fn length(l: Live) -> u32
 pub fn rounded(l: Live) -> u32
     ensures { result ≡ round_length_of (cap_address l) % 2 ^ 32 }
 {
-    (round_length(address(l)) % (1 << 32)) as u32
+    (round_length(l.address()) % (1 << 32)) as u32
 }
 
 /// The mask of the addresses at which it is.
 pub fn mask(l: Live) -> u32
     ensures { result ≡ align_mask_of (cap_address l) % 2 ^ 32 }
 {
-    align_mask(address(l))
+    align_mask(l.address())
 }

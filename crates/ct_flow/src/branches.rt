@@ -19,11 +19,11 @@ pub(crate) fn takes(instruction: Instr, x: u32, y: u32) -> bool
 {
     match instruction {
         Instr::Beq { .. } => x == y,
-        Instr::Bne { .. } => !(x == y),
+        Instr::Bne { .. } => x != y,
         Instr::Blt { .. } => is_less_signed(x, y),
         Instr::Bge { .. } => !is_less_signed(x, y),
         Instr::Bltu { .. } => x < y,
-        Instr::Bgeu { .. } => !(x < y),
+        Instr::Bgeu { .. } => x >= y,
         _ => false,
     }
 }

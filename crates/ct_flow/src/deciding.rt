@@ -1,8 +1,7 @@
 //! Where execution goes on.
 
-ghost use Rattle.std.specs.Prelude.{◌≡◌, ◌%◌, ◌^◌};
-ghost use Rattle.def_words.specs.Authority.{cap_address};
-ghost use Rattle.def_step.specs.Checks.{plain_trap, misaligned_fetch};
+ghost use Rattle.std.specs.Prelude.{IsTrue, ◌≡◌, ◌%◌, ◌^◌};
+ghost use Rattle.def_instr.specs.Shapes.{is_jump};
 ghost use Rattle.def_step.specs.Jumps.{flow_result, target_at, jumped_to, passed_over, branched};
 
 use crate::branches::takes;
@@ -10,31 +9,14 @@ use crate::outcome::Flow;
 use crate::registers::register_jump;
 use ct_cap::{Live, Posture, Trap, add_address, link, set_address};
 use def_instr::Instr;
-
-/// The trap of a target that isn't a multiple of 4.
-pub(crate) fn misaligned() -> Trap
-    ensures { result ≡ plain_trap misaligned_fetch }
-{
-    Trap {
-        cause: 0,
-        code: 0,
-        register: 0,
-    }
-}
-
-/// The address of a capability.
-pub(crate) fn address(c: Live) -> u32
-    ensures { result ≡ cap_address c }
-{
-    (c.cap.word % (1 << 32)) as u32
-}
+use def_profile::traps::MISALIGNED_FETCH;
 
 /// The program counter goes to a target, by the address rule.
 fn jump_to(pcc: Live, posture: Posture, target: u32, link: Option<Live>) -> Result<Flow, Trap>
     ensures { result ≡ jumped_to pcc posture target link }
 {
     if target % 4 != 0 {
-        return Err(misaligned());
+        return Err(Trap::plain(MISALIGNED_FETCH));
     }
     Ok(Flow {
         link,
@@ -48,7 +30,7 @@ fn branch(taken: bool, pcc: Live, posture: Posture, offset: u32) -> Result<Flow,
     ensures { result ≡ branched taken pcc posture offset }
 {
     if taken {
-        return jump_to(pcc, posture, address(pcc).wrapping_add(offset), None);
+        return jump_to(pcc, posture, pcc.address().wrapping_add(offset), None);
     }
     pass_over(pcc, posture)
 }
@@ -67,7 +49,7 @@ fn pass_over(pcc: Live, posture: Posture) -> Result<Flow, Trap>
 /// A branch, `jal` or register jump from `pcc` under posture `posture`. x and y are the values of
 /// rs1 and rs2; `named` is the export that x's root entry names, or 0.
 ///
-/// A trap where a check fails: the first. Any other instruction goes on after itself.
+/// A trap where a check fails: the first.
 #[tactic(auto, unfolding(def_step::specs::Jumps::flow_result))]
 pub fn flow(
     instruction: Instr,
@@ -77,54 +59,30 @@ pub fn flow(
     posture: Posture,
     named: u32,
 ) -> Result<Flow, Trap>
+    requires { IsTrue (is_jump instruction) }
     ensures { result ≡ flow_result instruction x y pcc posture named }
 {
     match instruction {
         Instr::Jal { offset, .. } => jump_to(
             pcc,
             posture,
-            address(pcc).wrapping_add(offset),
+            pcc.address().wrapping_add(offset),
             Some(link(pcc, posture)),
         ),
         Instr::CJalr { rd, rs1, immediate } => register_jump(
             rd, rs1, x, immediate, pcc, posture, named,
         ),
-        Instr::Beq { offset, .. } => branch(
-            takes(instruction, address(x), address(y)),
+        Instr::Beq { offset, .. }
+        | Instr::Bne { offset, .. }
+        | Instr::Blt { offset, .. }
+        | Instr::Bge { offset, .. }
+        | Instr::Bltu { offset, .. }
+        | Instr::Bgeu { offset, .. } => branch(
+            takes(instruction, x.address(), y.address()),
             pcc,
             posture,
             offset,
         ),
-        Instr::Bne { offset, .. } => branch(
-            takes(instruction, address(x), address(y)),
-            pcc,
-            posture,
-            offset,
-        ),
-        Instr::Blt { offset, .. } => branch(
-            takes(instruction, address(x), address(y)),
-            pcc,
-            posture,
-            offset,
-        ),
-        Instr::Bge { offset, .. } => branch(
-            takes(instruction, address(x), address(y)),
-            pcc,
-            posture,
-            offset,
-        ),
-        Instr::Bltu { offset, .. } => branch(
-            takes(instruction, address(x), address(y)),
-            pcc,
-            posture,
-            offset,
-        ),
-        Instr::Bgeu { offset, .. } => branch(
-            takes(instruction, address(x), address(y)),
-            pcc,
-            posture,
-            offset,
-        ),
-        _ => pass_over(pcc, posture),
+        _ => unreachable!(),
     }
 }

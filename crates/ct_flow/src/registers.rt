@@ -2,12 +2,15 @@
 
 ghost use Rattle.std.specs.Prelude.{◌≡◌, ◌%◌, ◌/◌, ◌*◌, ◌^◌};
 ghost use Rattle.def_words.specs.Seals.{is_jump_taken, posture_through};
-ghost use Rattle.def_step.specs.Checks.{capability_trap, first_failed};
+ghost use Rattle.def_step.specs.Checks.{first_failed};
 ghost use Rattle.def_step.specs.Jumps.{register_jumped, register_jump_checks, register_target};
 
-use crate::deciding::{address, misaligned};
 use crate::outcome::Flow;
 use ct_cap::{Live, Permission, Posture, Trap, link, open, set_address};
+use def_profile::seals::{
+    RETURN_DISABLE, RETURN_ENABLE, SENTRY_DISABLE, SENTRY_ENABLE, SENTRY_INHERIT,
+};
+use def_profile::traps::{EXECUTE_CODE, MISALIGNED_FETCH, SEAL_CODE, TAG_CODE};
 
 /// Whether a jump takes a target of this type: `to` gets the link, `at` holds the target.
 fn is_jump_taken(to: u32, at: u32, kind: u32) -> bool
@@ -17,12 +20,12 @@ fn is_jump_taken(to: u32, at: u32, kind: u32) -> bool
         return true;
     }
     if to == 0 && at == 1 {
-        return 4 <= kind && kind <= 5;
+        return RETURN_DISABLE <= kind && kind <= RETURN_ENABLE;
     }
     if to == 1 {
-        return 1 <= kind && kind <= 3;
+        return SENTRY_INHERIT <= kind && kind <= SENTRY_ENABLE;
     }
-    kind == 1
+    kind == SENTRY_INHERIT
 }
 
 /// The posture that a jump through a type leaves: `named` is the export that the target's root entry
@@ -31,19 +34,15 @@ fn posture_through(before: Posture, kind: u32, named: u32, kept: u32) -> Posture
     ensures { result ≡ posture_through before kind named kept }
 {
     match kind {
-        2 => Posture {
+        SENTRY_DISABLE => Posture {
             off: true,
             source: named,
         },
-        4 => Posture {
+        RETURN_DISABLE => Posture {
             off: true,
             source: kept,
         },
-        3 => Posture {
-            off: false,
-            source: 0,
-        },
-        5 => Posture {
+        SENTRY_ENABLE | RETURN_ENABLE => Posture {
             off: false,
             source: 0,
         },
@@ -51,22 +50,11 @@ fn posture_through(before: Posture, kind: u32, named: u32, kept: u32) -> Posture
     }
 }
 
-/// A trap of cause 28.
-fn refused(code: u32, register: u32) -> Trap
-    ensures { result ≡ capability_trap code register }
-{
-    Trap {
-        cause: 28,
-        code,
-        register,
-    }
-}
-
 /// The target's address: bit 0 of the sum is cleared.
 fn target_of(x: Live, immediate: u32) -> u32
     ensures { result ≡ register_target x immediate }
 {
-    address(x).wrapping_add(immediate) / 2 * 2
+    x.address().wrapping_add(immediate) / 2 * 2
 }
 
 /// The first check of a register jump that fails.
@@ -74,16 +62,16 @@ fn first_trap(to: u32, at: u32, x: Live, immediate: u32) -> Option<Trap>
     ensures { result ≡ first_failed (register_jump_checks to at x immediate) }
 {
     if !x.cap.tag {
-        return Some(refused(2, at));
+        return Some(Trap::capability(TAG_CODE, at));
     }
     if !(is_jump_taken(to, at, x.seal) && (x.seal == 0 || immediate == 0)) {
-        return Some(refused(3, at));
+        return Some(Trap::capability(SEAL_CODE, at));
     }
     if !x.perms.has(Permission::Execute) {
-        return Some(refused(17, at));
+        return Some(Trap::capability(EXECUTE_CODE, at));
     }
     if target_of(x, immediate) % 4 != 0 {
-        return Some(misaligned());
+        return Some(Trap::plain(MISALIGNED_FETCH));
     }
     None
 }

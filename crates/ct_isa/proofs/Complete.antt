@@ -4,7 +4,8 @@ use Rattle.std.proofs.Common.{◌≡◌, ℕ, ◌+◌, ◌*◌, ◌/◌, ◌%◌
 use Rattle.def_instr.specs.Table.{format_r, format_i, format_s, format_b, format_u, format_j, IsSigned, IsOffset, EncodesTo, FieldsFit, shape_word, integer_code, capability_funct7, signed_funct3, shift_code, upper_opcode, load_funct3, store_funct3, branch_funct3, source_number}
 use Rattle.def_instr.specs.Shapes.{shape_of, shaped}
 use Rattle.ct_isa.proofs.Back.{shaped_back}
-use Rattle.def_instr.specs.Reading.{cut_of, extended, instruction_of, instruction_in, one_small, two_small, three_small}
+use Rattle.def_bits.specs.Bits.{extended}
+use Rattle.def_instr.specs.Reading.{cut_of, instruction_of, instruction_in, one_small, two_small, three_small}
 use Rattle.def_instr.specs.declared.shapes.IntegerOperation.{IntegerOperation}
 use Rattle.def_instr.specs.declared.shapes.IntegerOperation.TheVariants as integers
 use Rattle.def_instr.specs.declared.shapes.CapabilityOperation.{CapabilityOperation}

@@ -6,6 +6,7 @@ ghost use Rattle.def_instr.specs.Table.{IsSigned, IsOffset};
 ghost use Rattle.def_instr.specs.Reading.{IsCut, joined};
 ghost use Rattle.def_instr.specs.Reading as reading;
 
+use ct_bits::{extended, field};
 use def_instr::Fields;
 
 /// Cuts a word.
@@ -16,10 +17,10 @@ pub(crate) fn cut(word: u32) -> Fields
 {
     Fields {
         opcode: word % (1 << 7),
-        rd: (word >> 7) % (1 << 5),
-        funct3: (word >> 12) % (1 << 3),
-        rs1: (word >> 15) % (1 << 5),
-        rs2: (word >> 20) % (1 << 5),
+        rd: field(word, 7, 5),
+        funct3: field(word, 12, 3),
+        rs1: field(word, 15, 5),
+        rs2: field(word, 20, 5),
         funct7: word >> 25,
     }
 }
@@ -54,12 +55,7 @@ pub(crate) fn signed_immediate(f: Fields) -> u32
     ensures range { IsSigned 12 result }
     ensures pieces { result % 2 ^ 12 ≡ f.rs2 + f.funct7 * 2 ^ 5 }
 {
-    let field = f.rs2 + (f.funct7 << 5);
-    if field < 1 << 11 {
-        field
-    } else {
-        field + 0xFFFF_F000
-    }
+    extended(12, f.rs2 + (f.funct7 << 5))
 }
 
 /// The signed immediate of format S, whose low bits stand in rd's place.
@@ -70,12 +66,7 @@ pub(crate) fn store_immediate(f: Fields) -> u32
     ensures low { result % 2 ^ 5 ≡ f.rd }
     ensures high { result / 2 ^ 5 % 2 ^ 7 ≡ f.funct7 }
 {
-    let field = f.rd + (f.funct7 << 5);
-    if field < 1 << 11 {
-        field
-    } else {
-        field + 0xFFFF_F000
-    }
+    extended(12, f.rd + (f.funct7 << 5))
 }
 
 /// The offset of format B in bytes.
@@ -87,12 +78,7 @@ pub(crate) fn branch_offset(f: Fields) -> u32
     ensures high { result / 2 ^ 5 % 2 ^ 6 * 2 ^ 25 + result / 2 ^ 12 % 2 * 2 ^ 31 ≡ f.funct7 * 2 ^ 25 }
 {
     let low = f.rd / 2 * 2 + ((f.funct7 % (1 << 6)) << 5);
-    let field = low + ((f.rd % 2) << 11) + ((f.funct7 >> 6) << 12);
-    if field < 1 << 12 {
-        field
-    } else {
-        field + 0xFFFF_E000
-    }
+    extended(13, low + ((f.rd % 2) << 11) + ((f.funct7 >> 6) << 12))
 }
 
 /// The offset of format J in bytes.
@@ -104,12 +90,7 @@ pub(crate) fn jump_offset(f: Fields) -> u32
     ensures low { result / 2 ^ 11 % 2 * 2 ^ 20 + result / 2 % 2 ^ 10 * 2 ^ 21 + result / 2 ^ 20 % 2 * 2 ^ 31 ≡ f.rs2 * 2 ^ 20 + f.funct7 * 2 ^ 25 }
 {
     let low = f.rs2 / 2 * 2 + ((f.funct7 % (1 << 6)) << 5) + ((f.rs2 % 2) << 11);
-    let field = low + (f.funct3 << 12) + (f.rs1 << 15) + ((f.funct7 >> 6) << 20);
-    if field < 1 << 20 {
-        field
-    } else {
-        field + 0xFFE0_0000
-    }
+    extended(21, low + (f.funct3 << 12) + (f.rs1 << 15) + ((f.funct7 >> 6) << 20))
 }
 
 /// The twenty bits of format U.

@@ -1,43 +1,15 @@
 //! The first check of a load or store that fails.
 
-ghost use Rattle.std.specs.Prelude.{◌≡◌, ◌<◌, ◌&&◌, ◌+◌};
-ghost use Rattle.def_words.specs.Authority.{cap_address};
-ghost use Rattle.def_words.specs.Capability.{is_range_inside};
-ghost use Rattle.def_step.specs.Checks.{capability_trap, plain_trap, first_failed};
+ghost use Rattle.std.specs.Prelude.{◌≡◌, ◌<◌, ◌&&◌};
+ghost use Rattle.def_step.specs.Checks.{first_failed};
 ghost use Rattle.def_step.specs.Accesses.{access_checks, load_checks, store_checks};
-ghost use Rattle.ct_loadstore.specs.Shapes.{IsShape};
 
 use ct_cap::{Live, Permission, Trap};
+use def_profile::traps::{
+    BOUNDS_CODE, LOAD_CODE, MISALIGNED_LOAD, MISALIGNED_STORE, SEAL_CODE, STORE_CAPABILITY_CODE,
+    STORE_CODE, TAG_CODE,
+};
 use def_step::Access;
-
-/// A trap of cause 28.
-fn refused(code: u32, register: u32) -> Trap
-    ensures { result ≡ capability_trap code register }
-{
-    Trap {
-        cause: 28,
-        code,
-        register,
-    }
-}
-
-/// A trap of another cause.
-fn plain(cause: u32) -> Trap
-    ensures { result ≡ plain_trap cause }
-{
-    Trap {
-        cause,
-        code: 0,
-        register: 0,
-    }
-}
-
-/// Whether so many bytes from an address on lie in the bounds.
-fn covers(x: Live, at: u32, width: u32) -> bool
-    ensures { result ≡ is_range_inside x at (at + width) }
-{
-    x.bounds.base <= at as u64 && at as u64 + width as u64 <= x.bounds.top
-}
 
 /// The first check of a load through x at an address that fails.
 fn load_trap(a: Access, x: Live, at: u32) -> Option<Trap>
@@ -45,19 +17,19 @@ fn load_trap(a: Access, x: Live, at: u32) -> Option<Trap>
     ensures { result ≡ first_failed (load_checks a x at) }
 {
     if !x.cap.tag {
-        return Some(refused(2, a.by));
+        return Some(Trap::capability(TAG_CODE, a.by));
     }
     if x.seal != 0 {
-        return Some(refused(3, a.by));
+        return Some(Trap::capability(SEAL_CODE, a.by));
     }
     if !x.perms.has(Permission::LoadData) {
-        return Some(refused(18, a.by));
+        return Some(Trap::capability(LOAD_CODE, a.by));
     }
-    if !covers(x, at, a.width) {
-        return Some(refused(1, a.by));
+    if !x.covers(at, a.width) {
+        return Some(Trap::capability(BOUNDS_CODE, a.by));
     }
     if at % a.width != 0 {
-        return Some(plain(4));
+        return Some(Trap::plain(MISALIGNED_LOAD));
     }
     None
 }
@@ -69,22 +41,22 @@ fn store_trap(a: Access, x: Live, at: u32, carries: bool) -> Option<Trap>
     ensures { result ≡ first_failed (store_checks a x at carries) }
 {
     if !x.cap.tag {
-        return Some(refused(2, a.by));
+        return Some(Trap::capability(TAG_CODE, a.by));
     }
     if x.seal != 0 {
-        return Some(refused(3, a.by));
+        return Some(Trap::capability(SEAL_CODE, a.by));
     }
     if !x.perms.has(Permission::StoreData) {
-        return Some(refused(19, a.by));
+        return Some(Trap::capability(STORE_CODE, a.by));
     }
     if carries && !x.perms.has(Permission::MemoryCapability) {
-        return Some(refused(21, a.by));
+        return Some(Trap::capability(STORE_CAPABILITY_CODE, a.by));
     }
-    if !covers(x, at, a.width) {
-        return Some(refused(1, a.by));
+    if !x.covers(at, a.width) {
+        return Some(Trap::capability(BOUNDS_CODE, a.by));
     }
     if at % a.width != 0 {
-        return Some(plain(6));
+        return Some(Trap::plain(MISALIGNED_STORE));
     }
     None
 }

@@ -4,7 +4,6 @@ ghost use Rattle.std.specs.Prelude.{◌≡◌, ◌<◌, ◌^◌, ◌*◌, ◌≤
 ghost use Rattle.def_step.specs.Accesses.{device_value, stored_value, on_device};
 ghost use Rattle.ct_loadstore.specs.Shapes.{IsShape, space};
 
-use crate::memory::{address, integer};
 use crate::moving::Moved;
 use crate::shapes::widen;
 use ct_bus::Bus;
@@ -19,21 +18,20 @@ fn given(a: Access, x: Live, value: u64) -> Live
     ensures { result ≡ device_value a x value }
 {
     if a.whole {
-        return attenuate(x, integer(value));
+        return attenuate(x, Live::plain(value));
     }
-    integer(widen(a, value as u32) as u64)
+    Live::integer(widen(a, value as u32))
 }
 
 /// What a store writes of y, cut to its width.
 fn written(a: Access, y: Live) -> u64
     requires { IsShape a }
-    ensures value { result ≡ stored_value a y }
-    ensures small { (a.width ≤ 4) → result < 2 ^ 32 }
+    ensures { result ≡ stored_value a y }
 {
     if a.whole {
         return y.cap.word;
     }
-    address(y) as u64 % (1u64 << (8 * a.width))
+    y.address() as u64 % (1u64 << (8 * a.width))
 }
 
 /// A load at an address, through x.

@@ -1,36 +1,16 @@
 //! Loads and stores in RAM.
 
 ghost use Rattle.std.specs.Prelude.{◌≡◌, ◌+◌, ◌*◌, ◌%◌, ◌≤◌, ◌<◌, ◌⊎◌, ◌^◌, ◌-◌, false, true, length};
-ghost use Rattle.def_words.specs.Authority.{cap_address};
 ghost use Rattle.def_words.specs.Loaded.{attenuated, stored_through};
-ghost use Rattle.def_words.specs.Capability.{integer};
 ghost use Rattle.def_memory.specs.Accesses.{loaded, loaded_cap, stored, stored_cap};
-ghost use Rattle.def_step.specs.Accesses.{ram_value, ram_stored, filtered_in, widened};
+ghost use Rattle.def_step.specs.Accesses.{ram_value, ram_stored, widened, filtered_in};
 ghost use Rattle.ct_loadstore.specs.Shapes.{IsShape, Reaches};
 
 use crate::marks::filter;
 use crate::shapes::widen;
-use ct_cap::{Cap, Live, Permission, Shadow, attenuate, clear_tag, expand, shrink};
+use ct_cap::{Live, Permission, attenuate, clear_tag, expand, shrink};
 use ct_mem::Memory;
 use def_step::Access;
-
-/// An integer as a register holds it.
-pub(crate) fn integer(value: u64) -> Live
-    ensures { result ≡ integer value }
-{
-    expand(Cap {
-        tag: false,
-        word: value,
-        shadow: Shadow { root: 0, source: 0 },
-    })
-}
-
-/// The address of a capability.
-pub(crate) fn address(c: Live) -> u32
-    ensures { result ≡ cap_address c }
-{
-    (c.cap.word % (1 << 32)) as u32
-}
 
 /// What is stored of a value: one without GL is stored untagged where SL is missing.
 pub(crate) fn kept(x: Live, y: Live) -> Live
@@ -51,7 +31,7 @@ pub(crate) fn load<M: Memory>(a: Access, x: Live, at: u32, mem: &M, ram: u32) ->
     if a.whole {
         return filter(mem, ram, attenuate(x, expand(mem.load_cap(at - ram))));
     }
-    integer(widen(a, mem.load(at - ram, a.width)) as u64)
+    Live::integer(widen(a, mem.load(at - ram, a.width)))
 }
 
 /// A store of y at an address in RAM, through x.
@@ -64,5 +44,5 @@ pub(crate) fn store<M: Memory>(a: Access, x: Live, y: Live, at: u32, mem: &mut M
         mem.store_cap(at - ram, shrink(kept(x, y)));
         return;
     }
-    mem.store(at - ram, a.width, address(y));
+    mem.store(at - ram, a.width, y.address());
 }

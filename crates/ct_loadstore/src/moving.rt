@@ -1,11 +1,12 @@
 //! A load or a store, whole.
 
-ghost use Rattle.std.specs.Prelude.{◌≡◌, ◌+◌, ◌*◌, ◌&&◌, ◌≤◌, ◌<◌, ◌^◌, ◌%◌, length, nat_le, true, false, MatchResult, Ok, Err};
+ghost use Rattle.std.specs.Prelude.{IsTrue, ◌≡◌, ◌+◌, ◌*◌, ◌&&◌, ◌≤◌, ◌<◌, ◌^◌, ◌%◌, length, nat_le, true, false, MatchResult, Ok, Err};
+ghost use Rattle.def_instr.specs.Shapes.{is_access};
 ghost use Rattle.def_step.specs.Accesses.{access_result, accessed, access_of, is_ram};
+ghost use Rattle.ct_loadstore.specs.Maps.{IsMap};
 ghost use Rattle.ct_loadstore.specs.Shapes.{IsShape, space_of};
 
 use crate::checks::first_trap;
-use crate::memory::address;
 use crate::shapes::access;
 use crate::{devices, memory};
 use ct_bus::Bus;
@@ -16,7 +17,8 @@ use def_instr::Instr;
 use def_step::Access;
 use std::marker::Model;
 
-/// Where RAM and the heap are: first address and length in bytes of each.
+/// Where RAM and the heap are: first address and length in bytes of each. The heap lies in RAM, and all
+/// four are multiples of 16 (but RAM's length, which is that of memory).
 #[derive(Clone, Copy, Debug, PartialEq, Eq, Drop)]
 pub struct Map {
     pub ram: u32,
@@ -34,7 +36,7 @@ pub struct Moved {
 }
 
 impl Model for Moved {
-    ghost use Rattle.std.specs.Prelude.{refl};
+    ghost use Rattle.std.specs.Prelude.{IsTrue, refl};
     ghost use Rattle.ct_loadstore.specs.Shapes.{MovedRow};
 
     ghost Value = { MovedRow };
@@ -102,13 +104,16 @@ pub fn loadstore<M: Memory>(
     bus: &mut Bus,
     time: u64,
 ) -> Result<Moved, Trap>
-    requires { map.now.ram % 16 ≡ 0 }
-    ensures { MatchResult result
+    requires access { IsTrue (is_access instruction) }
+    requires map { IsMap map.now (8 * length (M.granules mem.old)) }
+    ensures is { MatchResult result
         (λ m. access_result instruction x y (space_of map.now.ram (M.granules mem.old) bus.old time) ≡ Ok (record { value = m.value; act = m.device; granules = M.granules mem.new; bank = bus.new }))
         (λ t. (access_result instruction x y (space_of map.now.ram (M.granules mem.old) bus.old time) ≡ Err t) × (M.granules mem.new ≡ M.granules mem.old) × (bus.new ≡ bus.old)) }
+    ensures size { length (M.granules mem.new) ≡ length (M.granules mem.old) }
+    ensures bases { bus.new.bases ≡ bus.old.bases }
 {
     let a = access(instruction);
-    let at = address(x).wrapping_add(a.immediate);
+    let at = x.address().wrapping_add(a.immediate);
     if let Some(trap) = first_trap(a, x, y, at) {
         return Err(trap);
     }

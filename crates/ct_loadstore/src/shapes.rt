@@ -1,10 +1,11 @@
 //! What a load or store is, and how its value is widened.
 
-ghost use Rattle.std.specs.Prelude.{◌≡◌, ◌<◌, ◌^◌, ◌*◌, false};
+ghost use Rattle.std.specs.Prelude.{IsTrue, ◌≡◌, ◌<◌, ◌^◌, ◌*◌, false};
+ghost use Rattle.def_instr.specs.Shapes.{is_access};
 ghost use Rattle.def_step.specs.Accesses.{access_of, load_of, store_of, widened};
-ghost use Rattle.def_instr.specs.Reading.{extended};
 ghost use Rattle.ct_loadstore.specs.Shapes.{IsShape};
 
+use ct_bits::extended;
 use def_instr::Instr;
 use def_step::Access;
 
@@ -38,6 +39,7 @@ fn store(width: u32, whole: bool, by: u32, immediate: u32) -> Access
 
 /// A load or store as its instruction names it.
 pub(crate) fn access(instruction: Instr) -> Access
+    requires { IsTrue (is_access instruction) }
     ensures is { result ≡ access_of instruction }
     ensures shape { IsShape result }
 {
@@ -52,7 +54,7 @@ pub(crate) fn access(instruction: Instr) -> Access
         Instr::Sh { rs1, immediate, .. } => store(2, false, rs1, immediate),
         Instr::Sw { rs1, immediate, .. } => store(4, false, rs1, immediate),
         Instr::Csc { rs1, immediate, .. } => store(8, true, rs1, immediate),
-        _ => store(1, false, 0, 0),
+        _ => unreachable!(),
     }
 }
 
@@ -66,30 +68,5 @@ pub(crate) fn widen(a: Access, value: u32) -> u32
     if !a.signed {
         return value;
     }
-    if a.width == 1 {
-        return extend_byte(value);
-    }
-    extend_half(value)
-}
-
-/// A byte as the 32-bit word of the signed number.
-fn extend_byte(value: u32) -> u32
-    requires { value < 256 }
-    ensures { result ≡ extended 8 value }
-{
-    if value < 128 {
-        return value;
-    }
-    value + 0xFFFF_FF00
-}
-
-/// Two bytes as the 32-bit word of the signed number.
-fn extend_half(value: u32) -> u32
-    requires { value < 65536 }
-    ensures { result ≡ extended 16 value }
-{
-    if value < 32768 {
-        return value;
-    }
-    value + 0xFFFF_0000
+    extended(8 * a.width, value)
 }

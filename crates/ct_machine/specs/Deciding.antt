@@ -15,7 +15,9 @@ use Rattle.def_machine.specs.Threads.{jumped}
 use Rattle.def_machine.specs.Frames.{returned}
 use Rattle.def_step.specs.declared.Next.{Next}
 use Rattle.def_step.specs.declared.Next.TheVariants.{Returning, Instruction, Nothing}
-use Rattle.def_step.specs.Checks.{first_failed, plain_trap, illegal_instruction}
+use Rattle.def_profile.specs.declared.traps.TheConstants.{ILLEGAL_INSTRUCTION}
+use Rattle.def_words.specs.Traps.{plain_trap}
+use Rattle.def_step.specs.Checks.{first_failed}
 use Rattle.def_step.specs.Devices.{Bank}
 use Rattle.def_step.specs.Accesses.{Space}
 use Rattle.def_step.specs.Operands.{operands_of, class_of}
@@ -44,7 +46,7 @@ decide_instruction w p i =
 abbrev pub decide_next : Thread → Space → Next → Decision
 decide_next w p Returning = Returns
 decide_next w p (Instruction i) = decide_instruction w p i
-decide_next w p Nothing = Traps (plain_trap illegal_instruction)
+decide_next w p Nothing = Traps (plain_trap ILLEGAL_INSTRUCTION)
 
 abbrev pub decide_fetched : Thread → Space → Option trap_words.Trap → Decision
 decide_fetched w p (Some why) = Traps why

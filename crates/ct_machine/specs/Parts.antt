@@ -12,7 +12,7 @@ use Rattle.def_step.specs.declared.Next.TheVariants.{Returning, Instruction, Not
 use Rattle.def_step.specs.Accesses.{Space}
 use Rattle.def_step.specs.Instructions.{fetched}
 use Rattle.def_step.specs.Devices.{Bank}
-use Rattle.def_step.specs.Events.{most_events}
+use Rattle.def_profile.specs.declared.limits.TheConstants.{MOST_STEPS, RAM_END}
 use Rattle.ct_machine.specs.declared.presence.Presence.{Presence}
 use Rattle.ct_machine.specs.declared.presence.Presence.TheVariants.{Absent, Gone, Alive}
 
@@ -57,9 +57,9 @@ deeds_of c = c.calls + c.loads + c.stores + c.frees + c.traps
 
 -- each step is one deed at most, and time counts ticks
 pub record IsCounted (c : Counts) (time : ℕ) : Type 0 where
-  pub steps : c.steps ≤ most_events
-  pub ticks : c.ticks ≤ most_events
-  pub inputs : c.inputs ≤ most_events
+  pub steps : c.steps ≤ MOST_STEPS
+  pub ticks : c.ticks ≤ MOST_STEPS
+  pub inputs : c.inputs ≤ MOST_STEPS
   pub deeds : deeds_of c ≤ c.steps
   pub clock : time ≤ c.ticks
 
@@ -74,7 +74,14 @@ pub record IsStackPlaced (ram base top granules : ℕ) : Type 0 where
 -- RAM in the address space
 pub record IsRam (ram granules : ℕ) : Type 0 where
   pub even : ram % 16 ≡ 0
-  pub fits : ram + 8 * granules ≤ 4294967280
+  pub fits : ram + 8 * granules ≤ RAM_END
+
+-- the heap from an address to the end of RAM
+pub record IsHeapPlaced (ram heap granules : ℕ) : Type 0 where
+  pub placed : IsRam ram granules
+  pub whole : (heap % 16 ≡ 0) × (8 * granules % 16 ≡ 0)
+  pub low : ram ≤ heap
+  pub high : heap ≤ ram + 8 * granules
 
 -- the first frame, of a thread that has one
 abbrev pub first_in : List Frame → Frame
@@ -91,6 +98,7 @@ top_of t = (only t).top
 pub record IsKept (i : Image) (ram base top granules : ℕ) (presence : Presence) : Type 0 where
   pub ram_is : ram ≡ i.ram
   pub placed : IsRam ram granules
+  pub heap : IsHeapPlaced ram i.heap_base granules
   pub base_is : presence ≡ Alive → base ≡ stack_base i 0
   pub stack : presence ≡ Alive → IsStackPlaced ram base top granules
 

@@ -1,95 +1,52 @@
 //! One instruction: fetched, and carried out on the thread, RAM and the devices.
 
 ghost use Rattle.std.specs.Prelude.{◌≡◌, ◌<◌, ◌≤◌, ◌+◌, ◌*◌, ◌%◌, ◌^◌, ◌&&◌, ◌==◌, length, nat_le, true, false};
-ghost use Rattle.def_instr.specs.Shapes.{is_capability, is_integer, is_system};
+ghost use Rattle.def_instr.specs.Shapes.{is_access, is_capability, is_integer, is_jump, is_system};
 ghost use Rattle.def_step.specs.declared.Class.TheVariants as kinds;
 ghost use Rattle.def_instr.specs.Table.{InRange};
-ghost use Rattle.def_words.specs.Authority.{cap_address};
-ghost use Rattle.def_words.specs.Capability.{integer, raised, is_range_inside};
+ghost use Rattle.def_words.specs.Capability.{raised};
 ghost use Rattle.def_machine.specs.State.{register};
 ghost use Rattle.def_machine.specs.Threads.{jumped};
-ghost use Rattle.def_step.specs.Checks.{capability_trap, plain_trap, first_failed};
+ghost use Rattle.def_step.specs.Checks.{first_failed};
 ghost use Rattle.def_step.specs.Operands.{class_of};
 ghost use Rattle.def_step.specs.Instructions.{fetch_checks, next_at, is_native_entry};
 ghost use Rattle.ct_machine.specs.Deciding.{decide, decide_instruction, Decided};
-ghost use Rattle.ct_machine.specs.Parts.{space_by, fetched_in, InstructionInRange};
+ghost use Rattle.ct_machine.specs.Parts.{space_by, fetched_in, InstructionInRange, IsHeapPlaced};
 
 use crate::active::Active;
 use crate::operands::{class_of, operands_of};
 use crate::ran::Ran;
 use ct_alu::alu;
 use ct_bus::Bus;
-use ct_cap::{Cap, Live, Permission, Shadow, Trap, add_address, expand};
+use ct_cap::{Live, Permission, Trap, add_address};
 use ct_capstep::capstep;
 use ct_flow::flow;
 use ct_isa::decode;
 use ct_loadstore::{Map, loadstore};
 use ct_mem::Memory;
 use def_instr::Instr;
+use def_profile::native::{NATIVE_BASE, NATIVE_UNIT, REMAINING, RETURN_ENTRY};
+use def_profile::traps::{
+    BOUNDS_CODE, BREAKPOINT, ENVIRONMENT_CALL, EXECUTE_CODE, ILLEGAL_INSTRUCTION, PCC_REGISTER,
+    SEAL_CODE, SYSTEM_REGISTER_CODE, TAG_CODE,
+};
 use def_step::{Class, Next};
-
-/// An integer as a register holds it.
-fn integer(value: u32) -> Live
-    ensures { result ≡ integer value }
-{
-    expand(Cap {
-        tag: false,
-        word: value as u64,
-        shadow: Shadow { root: 0, source: 0 },
-    })
-}
-
-/// The address of a capability.
-fn address(c: Live) -> u32
-    ensures { result ≡ cap_address c }
-{
-    (c.cap.word % (1 << 32)) as u32
-}
-
-/// A trap of cause 28.
-fn refused(code: u32, register: u32) -> Trap
-    ensures { result ≡ capability_trap code register }
-{
-    Trap {
-        cause: 28,
-        code,
-        register,
-    }
-}
-
-/// A trap of another cause.
-pub(crate) fn plain_trap(cause: u32) -> Trap
-    ensures { result ≡ plain_trap cause }
-{
-    Trap {
-        cause,
-        code: 0,
-        register: 0,
-    }
-}
-
-/// Whether four bytes at an address lie in the bounds.
-fn covers_word(pcc: Live, at: u32) -> bool
-    ensures { result ≡ is_range_inside pcc at (at + 4) }
-{
-    pcc.bounds.base <= at as u64 && at as u64 + 4 <= pcc.bounds.top
-}
 
 /// The first check of a fetch that fails.
 fn fetch_trap(pcc: Live) -> Option<Trap>
     ensures { result ≡ first_failed (fetch_checks pcc) }
 {
     if !pcc.cap.tag {
-        return Some(refused(2, 16));
+        return Some(Trap::capability(TAG_CODE, PCC_REGISTER));
     }
     if pcc.seal != 0 {
-        return Some(refused(3, 16));
+        return Some(Trap::capability(SEAL_CODE, PCC_REGISTER));
     }
     if !pcc.perms.has(Permission::Execute) {
-        return Some(refused(17, 16));
+        return Some(Trap::capability(EXECUTE_CODE, PCC_REGISTER));
     }
-    if !covers_word(pcc, address(pcc)) {
-        return Some(refused(1, 16));
+    if !pcc.covers(pcc.address(), 4) {
+        return Some(Trap::capability(BOUNDS_CODE, PCC_REGISTER));
     }
     None
 }
@@ -116,7 +73,7 @@ fn fetch<M: Memory>(mem: &M, ram: u32, at: u32) -> u32
 fn is_native_entry(at: u32) -> bool
     ensures { result ≡ is_native_entry at }
 {
-    65536 <= at && at < 65680 && at % 16 == 0
+    NATIVE_BASE <= at && at < NATIVE_BASE + NATIVE_UNIT * (REMAINING + 1) && at % NATIVE_UNIT == 0
 }
 
 /// What stands at the program counter.
@@ -125,7 +82,7 @@ fn next<M: Memory>(mem: &M, bus: &Bus, ram: u32, at: u32, time: u64) -> Next
     ensures is { result ≡ next_at (space_by ram (M.granules mem.now) bus.now time) at }
     ensures ranged { InstructionInRange result }
 {
-    if at == 65552 {
+    if at == RETURN_ENTRY {
         return Next::Returning;
     }
     if is_native_entry(at) {
@@ -158,6 +115,7 @@ fn carry_jump<M: Memory>(
 ) -> Ran
     requires ranged { InRange instruction }
     requires class { class_of instruction ≡ kinds.Jump }
+    requires jump { is_jump instruction ≡ true }
     ensures is { Decided (decide_instruction active.old (space_by ram (M.granules mem.now) bus.now time) instruction) active.old (space_by ram (M.granules mem.now) bus.now time) active.new (M.granules mem.now) bus.now result }
     ensures frames { active.new.frames ≡ active.old.frames }
 {
@@ -168,7 +126,7 @@ fn carry_jump<M: Memory>(
         Ok(went) => {
             let link = match went.link {
                 Some(link) => link,
-                None => integer(0),
+                None => Live::integer(0),
             };
             active.jump(went.pcc, went.posture, operands.to, link);
             Ran::Went {
@@ -187,11 +145,13 @@ fn carry_access<M: Memory>(
     mem: &mut M,
     bus: &mut Bus,
     ram: u32,
+    heap: u32,
     time: u64,
 ) -> Ran
     requires ranged { InRange instruction }
     requires class { class_of instruction ≡ kinds.Access }
-    requires even { ram % 16 ≡ 0 }
+    requires access { is_access instruction ≡ true }
+    requires heap { IsHeapPlaced ram heap (length (M.granules mem.old)) }
     ensures is { Decided (decide_instruction active.old (space_by ram (M.granules mem.old) bus.old time) instruction) active.old (space_by ram (M.granules mem.old) bus.old time) active.new (M.granules mem.new) bus.new result }
     ensures frames { active.new.frames ≡ active.old.frames }
     ensures bases { bus.new.bases ≡ bus.old.bases }
@@ -200,17 +160,18 @@ fn carry_access<M: Memory>(
     let operands = operands_of(instruction);
     let x = active.register(operands.first);
     let y = active.register(operands.second);
+    let size = mem.size();
     let map = Map {
         ram,
-        size: 0,
-        heap: ram,
-        length: 0,
+        size,
+        heap,
+        length: ram + size - heap,
     };
     match loadstore(instruction, x, y, mem, &map, bus, time) {
         Ok(moved) => {
             let value = match moved.value {
                 Some(value) => value,
-                None => integer(0),
+                None => Live::integer(0),
             };
             advance(active, operands.to, value);
             let used = x.cap.shadow.root;
@@ -254,7 +215,7 @@ fn carry_value<M: Memory>(
             advance(
                 active,
                 operands.to,
-                integer(alu(instruction, address(x), address(y))),
+                Live::integer(alu(instruction, x.address(), y.address())),
             );
             went
         }
@@ -266,20 +227,20 @@ fn carry_value<M: Memory>(
             Err(trap) => Ran::Trapped { trap },
         },
         Class::Fence => {
-            advance(active, 0, integer(0));
+            advance(active, 0, Live::integer(0));
             went
         }
         Class::System => Ran::Trapped {
-            trap: refused(24, 16),
+            trap: Trap::capability(SYSTEM_REGISTER_CODE, PCC_REGISTER),
         },
         Class::Call => Ran::Trapped {
-            trap: plain_trap(11),
+            trap: Trap::plain(ENVIRONMENT_CALL),
         },
         Class::Break => Ran::Trapped {
-            trap: plain_trap(3),
+            trap: Trap::plain(BREAKPOINT),
         },
         _ => Ran::Trapped {
-            trap: plain_trap(2),
+            trap: Trap::plain(ILLEGAL_INSTRUCTION),
         },
     }
 }
@@ -291,10 +252,11 @@ fn carry_out<M: Memory>(
     mem: &mut M,
     bus: &mut Bus,
     ram: u32,
+    heap: u32,
     time: u64,
 ) -> Ran
     requires ranged { InRange instruction }
-    requires even { ram % 16 ≡ 0 }
+    requires heap { IsHeapPlaced ram heap (length (M.granules mem.old)) }
     ensures is { Decided (decide_instruction active.old (space_by ram (M.granules mem.old) bus.old time) instruction) active.old (space_by ram (M.granules mem.old) bus.old time) active.new (M.granules mem.new) bus.new result }
     ensures frames { active.new.frames ≡ active.old.frames }
     ensures bases { bus.new.bases ≡ bus.old.bases }
@@ -303,7 +265,7 @@ fn carry_out<M: Memory>(
     let class = class_of(instruction);
     match class {
         Class::Jump => carry_jump(instruction, active, mem, bus, ram, time),
-        Class::Access => carry_access(instruction, active, mem, bus, ram, time),
+        Class::Access => carry_access(instruction, active, mem, bus, ram, heap, time),
         _ => carry_value(class, instruction, active, mem, bus, ram, time),
     }
 }
@@ -314,9 +276,10 @@ pub(crate) fn run_one<M: Memory>(
     mem: &mut M,
     bus: &mut Bus,
     ram: u32,
+    heap: u32,
     time: u64,
 ) -> Ran
-    requires { ram % 16 ≡ 0 }
+    requires { IsHeapPlaced ram heap (length (M.granules mem.old)) }
     ensures is { Decided (decide active.old (space_by ram (M.granules mem.old) bus.old time)) active.old (space_by ram (M.granules mem.old) bus.old time) active.new (M.granules mem.new) bus.new result }
     ensures frames { active.new.frames ≡ active.old.frames }
     ensures bases { bus.new.bases ≡ bus.old.bases }
@@ -325,11 +288,19 @@ pub(crate) fn run_one<M: Memory>(
     if let Some(trap) = fetch_trap(active.pcc) {
         return Ran::Trapped { trap };
     }
-    match next(mem, bus, ram, address(active.pcc), time) {
+    match next(mem, bus, ram, active.pcc.address(), time) {
         Next::Returning => Ran::Returned,
-        Next::Instruction { instruction } => carry_out(instruction, active, mem, bus, ram, time),
+        Next::Instruction { instruction } => carry_out(
+            instruction,
+            active,
+            mem,
+            bus,
+            ram,
+            heap,
+            time,
+        ),
         Next::Nothing => Ran::Trapped {
-            trap: plain_trap(2),
+            trap: Trap::plain(ILLEGAL_INSTRUCTION),
         },
     }
 }

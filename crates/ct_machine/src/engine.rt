@@ -13,6 +13,7 @@ use crate::tally::Tally;
 use crate::works::{Works, pass_works, run_works};
 use ct_entry::{Act, Deed, End, Firmware, Happened, Owned, Totals};
 use ct_mem::Memory;
+use def_profile::limits::MOST_STEPS;
 use def_step::Event;
 use std::marker::Model;
 
@@ -56,9 +57,9 @@ impl<M: Memory + Drop> Engine<M> {
         ensures { result ≡ is_lawful self.now.state event }
     {
         match event {
-            Event::Step => self.counts.steps < 4_000_000_000,
-            Event::Tick => self.counts.ticks < 4_000_000_000,
-            Event::Input { device, .. } => self.counts.inputs < 4_000_000_000
+            Event::Step => self.counts.steps < MOST_STEPS,
+            Event::Tick => self.counts.ticks < MOST_STEPS,
+            Event::Input { device, .. } => self.counts.inputs < MOST_STEPS
                 && (device as usize) < self.works.bus.count(),
         }
     }
@@ -171,6 +172,14 @@ impl<M: Memory + Drop> Engine<M> {
         self.picked = self.counts.steps;
     }
 
+    /// Where the heap begins.
+    #[tactic(auto, unfolding(def_step::specs::Boot::image_of))]
+    fn heap(&self) -> u32
+        ensures { result ≡ self.now.board.image.heap_base }
+    {
+        self.firmware.heap
+    }
+
     /// The running thread carries on, by one instruction or native routine.
     fn carry_on(&mut self) -> Option<Deed>
         requires { deeds_of self.old.state.counts < self.old.state.counts.steps }
@@ -184,10 +193,11 @@ impl<M: Memory + Drop> Engine<M> {
         if !self.running {
             return None;
         }
+        let heap = self.heap();
         let (ram, stack, time) = (self.ram, self.stack, self.time);
         let top = self.works.active.frame_top();
         let actor = self.works.active.frame_actor();
-        let ran = run_works(&mut self.works, ram, time);
+        let ran = run_works(&mut self.works, ram, heap, time);
         leave(ran, &mut self.works.mem, ram, stack, top);
         self.presence = presence_after(ran);
         let deed = deed_of(actor, ran);

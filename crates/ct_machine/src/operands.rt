@@ -1,7 +1,7 @@
 //! The registers of an instruction, and what kind of work it is.
 
 ghost use Rattle.std.specs.Prelude.{◌≡◌, ◌<◌, true, false};
-ghost use Rattle.def_instr.specs.Shapes.{is_capability, is_integer, is_system};
+ghost use Rattle.def_instr.specs.Shapes.{is_access, is_capability, is_integer, is_jump, is_system};
 ghost use Rattle.def_step.specs.declared.Class.TheVariants as kinds;
 ghost use Rattle.def_instr.specs.Table.{InRange};
 ghost use Rattle.def_step.specs.Operands.{operands, operands_of, class_of};
@@ -58,6 +58,8 @@ pub(crate) fn class_of(instruction: Instr) -> Class
     ensures is { result ≡ class_of instruction }
     ensures integer { result ≡ kinds.Integer → is_integer instruction ≡ true }
     ensures capability { result ≡ kinds.Capability → (is_capability instruction ≡ true) × (is_system instruction ≡ false) }
+    ensures jump { result ≡ kinds.Jump → is_jump instruction ≡ true }
+    ensures access { result ≡ kinds.Access → is_access instruction ≡ true }
 {
     match shape(instruction) {
         Shape::Registers {

@@ -3,7 +3,7 @@
 ghost use Rattle.std.specs.Prelude.{◌≡◌, ◌%◌, length, map};
 ghost use Rattle.def_step.specs.Accesses.{filtered_in};
 ghost use Rattle.ct_machine.specs.Deciding.{decide, Decided};
-ghost use Rattle.ct_machine.specs.Parts.{space_by};
+ghost use Rattle.ct_machine.specs.Parts.{space_by, IsHeapPlaced};
 
 use crate::active::Active;
 use crate::deciding::run_one;
@@ -21,14 +21,26 @@ pub(crate) struct Works<M: Memory + Drop> {
 }
 
 /// The instruction or native routine at the program counter.
-pub(crate) fn run_works<M: Memory + Drop>(works: &mut Works<M>, ram: u32, time: u64) -> Ran
-    requires { ram % 16 ≡ 0 }
+pub(crate) fn run_works<M: Memory + Drop>(
+    works: &mut Works<M>,
+    ram: u32,
+    heap: u32,
+    time: u64,
+) -> Ran
+    requires { IsHeapPlaced ram heap (length (M.granules works.old.mem)) }
     ensures is { Decided (decide works.old.active (space_by ram (M.granules works.old.mem) works.old.bus time)) works.old.active (space_by ram (M.granules works.old.mem) works.old.bus time) works.new.active (M.granules works.new.mem) works.new.bus result }
     ensures frames { works.new.active.frames ≡ works.old.active.frames }
     ensures bases { works.new.bus.bases ≡ works.old.bus.bases }
     ensures size { length (M.granules works.new.mem) ≡ length (M.granules works.old.mem) }
 {
-    run_one(&mut works.active, &mut works.mem, &mut works.bus, ram, time)
+    run_one(
+        &mut works.active,
+        &mut works.mem,
+        &mut works.bus,
+        ram,
+        heap,
+        time,
+    )
 }
 
 /// The thread's capabilities pass the load filter.

@@ -2,13 +2,14 @@
 use Rattle.std.proofs.Common.{ℕ, ◌%◌, ◌<◌, ◌≤◌, ◌≡◌, ◌^◌, sym, ◌∙◌, arith, bit_and}
 use Rattle.std.proofs.lemmas.Nat.{and_mod, and_le_l}
 
-pub mask_small : (set mask : ℕ) → set < 4096 → bit_and set mask < 4096
+pub mask_small : (set mask : ℕ) → set < 2 ^ 12 → bit_and set mask < 2 ^ 12
 mask_small set mask small = let le : bit_and set mask ≤ set = and_le_l set mask in omega (arith, le, small)
 
-pub mask_low : (set mask : ℕ) → set < 4096 → bit_and set (mask % 4096) ≡ bit_and set mask
+pub mask_low : (set mask : ℕ) → set < 2 ^ 16 → bit_and set (mask % 2 ^ 16) ≡ bit_and set mask
 mask_low set mask small =
-    let cut : bit_and set mask % 2 ^ 12 ≡ bit_and (set % 2 ^ 12) (mask % 2 ^ 12) = and_mod set mask 12 in
-    let whole : set % 2 ^ 12 ≡ set = omega (arith, small) in
-    let fits : bit_and set mask % 2 ^ 12 ≡ bit_and set mask = (let lt : bit_and set mask < 4096 = mask_small set mask small in omega (arith, lt)) in
-    let there : bit_and set mask % 2 ^ 12 ≡ bit_and set (mask % 2 ^ 12) = rw whole at cut in
+    let cut : bit_and set mask % 2 ^ 16 ≡ bit_and (set % 2 ^ 16) (mask % 2 ^ 16) = and_mod set mask 16 in
+    let whole : set % 2 ^ 16 ≡ set = omega (arith, small) in
+    let le : bit_and set mask ≤ set = and_le_l set mask in
+    let fits : bit_and set mask % 2 ^ 16 ≡ bit_and set mask = omega (arith, le, small) in
+    let there : bit_and set mask % 2 ^ 16 ≡ bit_and set (mask % 2 ^ 16) = rw whole at cut in
     sym there ∙ fits

@@ -2,9 +2,10 @@
 use Rattle.std.specs.Prelude.{ℕ}
 use Rattle.ct_perm.specs.declared.Permission.{Permission}
 use Rattle.ct_perm.specs.declared.Permission.TheVariants.{Global, LoadGlobal, StoreData, LoadMutable, StoreLocal, LoadData, MemoryCapability, SystemRegisters, Execute, Unseal, Seal, User}
-use Rattle.ct_perm.specs.declared.forms.Shape.{Shape}
-use Rattle.ct_perm.specs.declared.forms.Shape.TheVariants.{Executable, ReadWrite, ReadOnly, WriteOnly, Plain, Sealing}
-use Rattle.def_words.specs.Permissions.{Form, global, load_global, store_data, load_mutable, store_local, load_data, memory_capability, system_registers, execute, unsealing, sealing, user, executable_form, read_write_form, read_only_form, write_only_form, plain_form, sealing_form}
+use Rattle.ct_perm.specs.declared.forms.Form.{Form}
+use Rattle.ct_perm.specs.declared.forms.Form.TheVariants.{Executable, ReadWrite, ReadOnly, WriteOnly, Plain, Sealing}
+use Rattle.def_words.specs.Permissions as permissions
+use Rattle.def_words.specs.Permissions.{global, load_global, store_data, load_mutable, store_local, load_data, memory_capability, system_registers, execute, unsealing, sealing, user, executable_form, read_write_form, read_only_form, write_only_form, plain_form, sealing_form}
 
 abbrev pub number_of : Permission → ℕ
 number_of Global = global
@@ -20,7 +21,7 @@ number_of Unseal = unsealing
 number_of Seal = sealing
 number_of User = user
 
-abbrev pub written : Shape → Form
+abbrev pub written : Form → permissions.Form
 written Executable = executable_form
 written ReadWrite = read_write_form
 written ReadOnly = read_only_form

@@ -9,10 +9,12 @@ mod forms;
 mod spelling;
 
 ghost use Rattle.std.specs.Prelude.{⊤, ◌<◌, ◌≡◌, ◌^◌, ◌↔◌, [], ◌∷◌, codes, IsTrue, bit_and};
+ghost use Rattle.def_profile.specs.declared.rights.TheConstants as bits;
 ghost use Rattle.ct_perm.specs.Named.{number_of};
 ghost use Rattle.def_words.specs.Permissions.{Within, bit, is_within, normal_set, packed, unpacked};
 
 use bitflags::{Flag, Flags, bitflag_items};
+use def_profile::rights;
 
 /// One of the twelve permissions.
 #[derive(Clone, Copy, Debug, PartialEq, Eq, Drop)]
@@ -73,18 +75,18 @@ pub struct Perms(pub u16);
 
 bitflag_items! {
     impl Perms: u16 {
-        const GL = 1;
-        const LG = 2;
-        const SD = 4;
-        const LM = 8;
-        const SL = 16;
-        const LD = 32;
-        const MC = 64;
-        const SR = 128;
-        const EX = 256;
-        const US = 512;
-        const SE = 1024;
-        const U0 = 2048;
+        const GL = rights::GL as u16;
+        const LG = rights::LG as u16;
+        const SD = rights::SD as u16;
+        const LM = rights::LM as u16;
+        const SL = rights::SL as u16;
+        const LD = rights::LD as u16;
+        const MC = rights::MC as u16;
+        const SR = rights::SR as u16;
+        const EX = rights::EX as u16;
+        const US = rights::US as u16;
+        const SE = rights::SE as u16;
+        const U0 = rights::U0 as u16;
     }
 }
 
@@ -93,7 +95,7 @@ impl Flags for Perms {
 
     ghost exact = { ⊤ };
 
-    ghost table = { (codes "GL", 1) ∷ (codes "LG", 2) ∷ (codes "SD", 4) ∷ (codes "LM", 8) ∷ (codes "SL", 16) ∷ (codes "LD", 32) ∷ (codes "MC", 64) ∷ (codes "SR", 128) ∷ (codes "EX", 256) ∷ (codes "US", 512) ∷ (codes "SE", 1024) ∷ (codes "U0", 2048) ∷ [] };
+    ghost table = { (codes "GL", bits.GL) ∷ (codes "LG", bits.LG) ∷ (codes "SD", bits.SD) ∷ (codes "LM", bits.LM) ∷ (codes "SL", bits.SL) ∷ (codes "LD", bits.LD) ∷ (codes "MC", bits.MC) ∷ (codes "SR", bits.SR) ∷ (codes "EX", bits.EX) ∷ (codes "US", bits.US) ∷ (codes "SE", bits.SE) ∷ (codes "U0", bits.U0) ∷ [] };
 
     ghost set_of = { λ p. p.0 };
 
@@ -119,14 +121,13 @@ impl Perms {
         (self.0 >> permission.number()) % 2 == 1
     }
 
-    /// The permissions of the set that a mask has; the mask's bits above the twelve don't count.
+    /// The permissions of the set that a mask has too.
     #[tactic(auto, using(crate::proofs::Masks::mask_low, crate::proofs::Masks::mask_small))]
     pub fn masked(self, mask: u32) -> Perms
-        requires { self.0 < 2 ^ 12 }
         ensures value { result.0 ≡ bit_and self.0 mask }
-        ensures small { result.0 < 2 ^ 12 }
+        ensures small { self.0 < 2 ^ 12 → result.0 < 2 ^ 12 }
     {
-        Perms(self.0 & (mask % 4096) as u16)
+        Perms(self.0 & (mask % (1 << 16)) as u16)
     }
 
     /// What the first form whose condition holds can spell of the set.
@@ -134,7 +135,7 @@ impl Perms {
         ensures value { result.0 ≡ normal_set self.0 }
         ensures small { result.0 < 2 ^ 12 }
     {
-        Perms(self.0 & forms::form(self).held())
+        Perms(self.0 & forms::form_of(self).held())
     }
 
     /// Whether each permission of the set is in the other.

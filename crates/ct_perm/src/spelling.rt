@@ -4,8 +4,9 @@ ghost use Rattle.std.specs.Prelude.{◌%◌, ◌*◌, ◌+◌, ◌/◌, ◌<◌,
 ghost use Rattle.ct_perm.specs.Named.{number_of};
 ghost use Rattle.def_words.specs.Permissions.{packed, spelling, unpacked};
 
-use crate::forms::{Shape, form};
+use crate::forms::{Form, form_of};
 use crate::{Permission, Perms};
+use def_profile::rights::{EX, LD, LG, LM, MC, SD, SE, SL, SR, U0, US};
 
 /// The six bits of a set's normal: GL, then the form with its bits.
 #[tactic(auto, unfolding(def_words::specs::Permissions::packed))]
@@ -13,25 +14,25 @@ pub fn packed(set: Perms) -> u8
     ensures value { result ≡ packed set.0 }
     ensures six { result < 64 }
 {
-    let low = match form(set) {
-        Shape::Executable => 8
+    let low = match form_of(set) {
+        Form::Executable => 8
             + three(
                 set,
                 Permission::SystemRegisters,
                 Permission::LoadMutable,
                 Permission::LoadGlobal,
             ),
-        Shape::ReadWrite => 24
+        Form::ReadWrite => 24
             + three(
                 set,
                 Permission::StoreLocal,
                 Permission::LoadMutable,
                 Permission::LoadGlobal,
             ),
-        Shape::ReadOnly => 20 + two(set, Permission::LoadMutable, Permission::LoadGlobal),
-        Shape::WriteOnly => 16,
-        Shape::Plain => 16 + two(set, Permission::LoadData, Permission::StoreData),
-        Shape::Sealing => three(set, Permission::User, Permission::Seal, Permission::Unseal),
+        Form::ReadOnly => 20 + two(set, Permission::LoadMutable, Permission::LoadGlobal),
+        Form::WriteOnly => 16,
+        Form::Plain => 16 + two(set, Permission::LoadData, Permission::StoreData),
+        Form::Sealing => three(set, Permission::User, Permission::Seal, Permission::Unseal),
     };
     flag(set.has(Permission::Global), 32) + low
 }
@@ -65,35 +66,35 @@ pub fn told(bits: u8) -> Perms
     ensures value { result.0 ≡ unpacked bits }
     ensures small { result.0 < 2 ^ 12 }
 {
-    Perms((bits / 32) as u16 + told_by_form(bits % 32))
+    Perms(((bits / 32) as u32 + told_by_form(bits % 32)) as u16)
 }
 
 /// The set that five bits spell, without GL.
-fn told_by_form(bits: u8) -> u16
+fn told_by_form(bits: u8) -> u32
     requires { bits < 32 }
     ensures { result ≡ unpacked bits }
 {
     if bits / 8 == 1 {
-        352 + placed(bits, 128, 8, 2)
+        LD + MC + EX + placed(bits, SR, LM, LG)
     } else if bits / 8 == 3 {
-        100 + placed(bits, 16, 8, 2)
+        SD + LD + MC + placed(bits, SL, LM, LG)
     } else if bits / 4 == 5 {
-        96 + placed(bits, 0, 8, 2)
+        LD + MC + placed(bits, 0, LM, LG)
     } else if bits == 16 {
-        68
+        SD + MC
     } else if bits / 4 == 4 {
-        placed(bits, 0, 32, 4)
+        placed(bits, 0, LD, SD)
     } else {
-        placed(bits, 2048, 1024, 512)
+        placed(bits, U0, SE, US)
     }
 }
 
 /// The permissions that the low three bits stand for.
-fn placed(bits: u8, high: u16, middle: u16, low: u16) -> u16
+fn placed(bits: u8, high: u32, middle: u32, low: u32) -> u32
     requires high { high ≤ 2048 }
     requires middle { middle ≤ 2048 }
     requires low { low ≤ 2048 }
     ensures { result ≡ bits / 4 % 2 * high + bits / 2 % 2 * middle + bits % 2 * low }
 {
-    (bits / 4 % 2) as u16 * high + (bits / 2 % 2) as u16 * middle + (bits % 2) as u16 * low
+    (bits / 4 % 2) as u32 * high + (bits / 2 % 2) as u32 * middle + (bits % 2) as u32 * low
 }

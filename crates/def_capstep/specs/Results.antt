@@ -9,7 +9,7 @@ use Rattle.def_words.specs.Seals.{cap_seal}
 use Rattle.def_words.specs.Capability.{cap_of, nowhere, integer, untagged, raised, with_address, with_bounds, with_exact_bounds, masked, sealed_by, unsealed_by, is_subset, is_same}
 use Rattle.def_instr.specs.declared.Instr.{Instr}
 use Rattle.def_instr.specs.declared.Instr.TheVariants.{AuiPcc, AuiCgp, CIncAddrImm, CSetBoundsImm, CSetBounds, CSetBoundsExact, CSeal, CUnseal, CAndPerm, CSetAddr, CIncAddr, CSub, CSetHigh, CTestSubset, CSetEqualExact, CGetPerm, CGetType, CGetBase, CGetLen, CGetTag, Crrl, Cram, CMove, CClearTag, CGetAddr, CGetHigh, CGetTop, Csr, CSpecialRw}
-use Rattle.def_instr.specs.Reading.{extended}
+use Rattle.def_bits.specs.Bits.{extended}
 use Rattle.def_instr.specs.Results.{truth}
 
 -- 2048 times the signed 20-bit number, modulo 2^32

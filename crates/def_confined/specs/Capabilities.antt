@@ -7,7 +7,7 @@ use Rattle.def_words.specs.Seals.{cap_seal}
 use Rattle.ct_entry.specs.declared.rows.Kind.TheVariants.{Call, Service}
 use Rattle.def_reach.specs.Roots.{TrustedPart, Listing, is_quota, is_stack, is_native, is_root}
 use Rattle.def_machine.specs.Image.{Image, root, made_cap}
-use Rattle.def_machine.specs.Heap.{object_rights}
+use Rattle.def_profile.specs.declared.rights.TheConstants.{HEAP_RIGHTS}
 
 -- a heap capability has a quota as root and an object's number as source
 abbrev pub heap_cap : Image → Cap → Bool
@@ -40,7 +40,7 @@ pub record Rooted (i : Image) (c : Cap) : Type 0 where
   pub range : heap_cap i c ≡ false → ((root i c.shadow.root).base ≤ cap_base c) × (cap_top c ≤ (root i c.shadow.root).top)
   pub heap : heap_cap i c ≡ true → (i.heap_base ≤ cap_base c) × (cap_top c ≤ i.heap_end)
   pub rights : heap_cap i c ≡ false → Within (cap_perms c) (root i c.shadow.root).rights
-  pub heap_rights : heap_cap i c ≡ true → Within (cap_perms c) object_rights
+  pub heap_rights : heap_cap i c ≡ true → Within (cap_perms c) HEAP_RIGHTS
   pub local : has c store_local ≡ true → stack_cap i c ≡ true
   pub held : stack_cap i c ≡ true → has c global ≡ false
   pub returns : IsReturnType (cap_seal c) → (cap_base c < cap_top c) × (has c execute ≡ true) × (heap_cap i c ≡ false)

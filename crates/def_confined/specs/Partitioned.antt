@@ -12,7 +12,8 @@ use Rattle.ct_entry.specs.declared.rows.Kind.TheVariants as kind
 use Rattle.def_reach.specs.Roots.{Listing, is_owned, is_root, is_code, gate_for}
 use Rattle.def_reach.specs.Sharing.{SharesC, Reaches}
 use Rattle.def_machine.specs.Image.{Image, Region, Fixed, Globals, Shared, HeapRam, Stack, Bare, root, made_cap, region, booted, granule_of, address_of, stack_entry, stack_base, stack_top, code_entry, globals_entry}
-use Rattle.def_machine.specs.Frames.{stack_rights}
+use Rattle.def_profile.specs.declared.limits.TheConstants.{RAM_END}
+use Rattle.def_profile.specs.declared.rights.TheConstants.{STACK_RIGHTS}
 use Rattle.def_confined.specs.Capabilities.{Rooted, heap_cap, stack_cap}
 
 -- a region that isn't as boot made it
@@ -90,7 +91,7 @@ pub record Partitioned (i : Image) : Type 0 where
   pub made : (n : ℕ) → is_root (root i n).origin ≡ true → (made_cap i n).tag ≡ true → BootMade i n (made_cap i n)
   pub own_code : (b n : ℕ) → (root i n).owner ≡ Compartment b → IsOwnEntry i b (code_entry i b) kind.Code × (has (made_cap i (code_entry i b)) execute ≡ true)
   pub own_globals : (b n : ℕ) → (root i n).owner ≡ Compartment b → IsOwnEntry i b (globals_entry i b) kind.Globals
-  pub stacks_are : (n : ℕ) → (root i n).origin ≡ Listing kind.Stack → ((root i n).rights ≡ stack_rights) × ((root i n).top ≤ 4294967280)
+  pub stacks_are : (n : ℕ) → (root i n).origin ≡ Listing kind.Stack → ((root i n).rights ≡ STACK_RIGHTS) × ((root i n).top ≤ RAM_END)
   pub heap_small : i.heap_end ≤ 2 ^ 32
   pub gates_small : (n : ℕ) → (gate_for i.entries.gates n).code < 2 ^ 32
   pub sentry : (made_cap i 0).tag ≡ true → cap_seal (made_cap i 0) ≡ 5

@@ -3,6 +3,7 @@
 -- exactly where the table gives it that word is proved of `decode` in ct_isa. A definition that has
 -- to compute, as a step of the machine, takes `instruction_in`.
 use Rattle.std.specs.Prelude.{ℕ, ◌+◌, ◌-◌, ◌*◌, ◌/◌, ◌%◌, ◌^◌, ◌<◌, Bool, ◌==◌, ◌&&◌, ◌||◌, nat_lt, nat_le, if◌then◌else◌, Option, Some, None}
+use Rattle.def_bits.specs.Bits.{extended}
 use Rattle.def_instr.specs.Table.{format_r}
 use Rattle.def_instr.specs.declared.Instr.{Instr}
 use Rattle.def_instr.specs.declared.Instr.TheVariants.{Lui, AuiPcc, AuiCgp, Jal, CJalr, Beq, Bne, Blt, Bge, Bltu, Bgeu, Lb, Lh, Lw, Clc, Lbu, Lhu, Sb, Sh, Sw, Csc, Addi, Slti, Sltiu, Xori, Ori, Andi, Slli, Srli, Srai, Add, Sub, Sll, Slt, Sltu, Xor, Srl, Sra, Or, And, Mul, Mulh, Mulhsu, Mulhu, Div, Divu, Rem, Remu, Fence, Ecall, Ebreak, Csr, CIncAddrImm, CSetBoundsImm, CSpecialRw, CSetBounds, CSetBoundsExact, CSeal, CUnseal, CAndPerm, CSetAddr, CIncAddr, CSub, CSetHigh, CTestSubset, CSetEqualExact, CGetPerm, CGetType, CGetBase, CGetLen, CGetTag, Crrl, Cram, CMove, CClearTag, CGetAddr, CGetHigh, CGetTop}
@@ -31,10 +32,6 @@ pub record IsCut (f : Fields) : Type 0 where
   pub rs1 : f.rs1 < 2 ^ 5
   pub rs2 : f.rs2 < 2 ^ 5
   pub funct7 : f.funct7 < 2 ^ 7
-
--- a field of so many bits as the 32-bit word of the signed number
-abbrev pub extended : ℕ → ℕ → ℕ
-extended width n = if nat_lt n (2 ^ (width - 1)) then n else n + (2 ^ 32 - 2 ^ width)
 
 abbrev pub low_immediate : Fields → ℕ
 low_immediate f = f.rs2 + f.funct7 * 2 ^ 5

@@ -1,5 +1,6 @@
 -- Calls, returns and unwinds, whole.
 use Rattle.std.specs.Prelude.{ℕ, ◌+◌, ◌-◌, true, List, [], ◌∷◌, Option, cond, nat_lt, slice_set}
+use Rattle.def_profile.specs.declared.rights.TheConstants.{STACK_RIGHTS}
 use Rattle.def_words.specs.declared.Cap.{Cap}
 use Rattle.def_words.specs.declared.Posture.{Posture}
 use Rattle.def_words.specs.Capability.{untagged, with_address}
@@ -30,17 +31,13 @@ pub record Given : Type 0 where
   pub stack : Cap
   pub globals : Cap
 
--- a stack's rights: LG SD LM SL LD MC
-abbrev pub stack_rights : ℕ
-stack_rights = 126
-
 -- The callee's code at the export's address, the return sentry, the stack from its base to the new top at
 -- that top with the shadow of the caller's c2, and the callee's globals.
 abbrev pub given : Image → Thread → ℕ → ℕ → ℕ → ℕ → Given
 given i old t callee export high = record {
   pcc = with_address (made_cap i (code_entry i callee)) (gate_for i.entries.gates export).code;
   back = made_cap i 0;
-  stack = derive memory_root (stack_base i t) (high - stack_base i t) stack_rights high 0 (register old 2).shadow;
+  stack = derive memory_root (stack_base i t) (high - stack_base i t) STACK_RIGHTS high 0 (register old 2).shadow;
   globals = made_cap i (globals_entry i callee);
 }
 
@@ -106,4 +103,4 @@ returned i s t (f ∷ g ∷ gs) = switched i s t f.top (left_by i s (thread s t)
 abbrev pub unwound : Image → State → ℕ → List Frame → State
 unwound i s t [] = s
 unwound i s t (f ∷ []) = switched i s t f.top nobody Option.None
-unwound i s t (f ∷ g ∷ gs) = switched i s t f.top (left_by i s (thread s t) f (g ∷ gs) (plain 4294967295) (plain 0)) s.running
+unwound i s t (f ∷ g ∷ gs) = switched i s t f.top (left_by i s (thread s t) f (g ∷ gs) (plain 0xFFFFFFFF) (plain 0)) s.running

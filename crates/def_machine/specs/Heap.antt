@@ -1,5 +1,7 @@
 -- *Heap*: places, allocation, free and the sweep.
 use Rattle.std.specs.Prelude.{ℕ, ◌+◌, ◌-◌, ◌*◌, ◌/◌, ◌%◌, ◌≡◌, ◌≤◌, ◌<◌, ◌&&◌, Bool, true, false, cond, nat_le, List, [], ◌∷◌, map, Option, Some, None}
+use Rattle.def_profile.specs.declared.layout.TheConstants.{CHUNK_HEAD}
+use Rattle.def_profile.specs.declared.rights.TheConstants.{HEAP_RIGHTS}
 use Rattle.def_words.specs.declared.Cap.{Cap}
 use Rattle.def_words.specs.LeastBounds.{round_length_of, alignment_of}
 use Rattle.def_words.specs.Derive.{derive, memory_root}
@@ -15,13 +17,13 @@ abbrev pub length_for : ℕ → ℕ
 length_for size = round_length_of ((size + 7) / 8 * 8)
 
 abbrev pub charge_for : ℕ → ℕ
-charge_for size = length_for size + 8
+charge_for size = length_for size + CHUNK_HEAD
 
 -- a lawful place: aligned, its chunk in the heap, and meeting no live and no quarantined chunk
 pub record Fits (i : Image) (objects : List Object) (length base : ℕ) : Type 0 where
   pub eight : base % 8 ≡ 0
   pub aligned : base % alignment_of length ≡ 0
-  pub low : i.heap_base + 8 ≤ base
+  pub low : i.heap_base + CHUNK_HEAD ≤ base
   pub high : base + length ≤ i.heap_end
   pub apart : Each (λ q. ApartFrom (record { number = 0; quota = 0; base = base; length = length; charge = 0; live = true }) q) objects
 
@@ -30,17 +32,13 @@ pub record IsPlaceFor (i : Image) (objects : List Object) (length base : ℕ) : 
   pub fits : Fits i objects length base
   pub least : (b : ℕ) → b < base → Fits i objects length b → ⊥
 
--- GL LG SD LM LD MC
-abbrev pub object_rights : ℕ
-object_rights = 111
-
 -- a new object of this size at this place, charged to this quota
 abbrev pub new_object : State → ℕ → ℕ → ℕ → Object
 new_object s quota size base = record { number = s.next; quota = quota; base = base; length = length_for size; charge = charge_for size; live = true }
 
 -- the capability of an object: its quota's root, its number as source
 abbrev pub object_cap : Object → Cap
-object_cap r = derive memory_root r.base r.length object_rights r.base 0 (record { root = r.quota; source = r.number })
+object_cap r = derive memory_root r.base r.length HEAP_RIGHTS r.base 0 (record { root = r.quota; source = r.number })
 
 abbrev pub with_object : State → Object → State
 with_object s r = record s { objects = r ∷ s.objects; next = s.next + 1 }
@@ -50,7 +48,7 @@ with_object s r = record s { objects = r ∷ s.objects; next = s.next + 1 }
 -- the object is zeroed, its chunk marked, and it is quarantined
 abbrev pub quarantined : Image → State → Object → State
 quarantined i s r = record s {
-  granules = marked_from (r.base - 8) (r.base + r.length) true i.ram (zeroed_from r.base (r.base + r.length) i.ram s.granules);
+  granules = marked_from (r.base - CHUNK_HEAD) (r.base + r.length) true i.ram (zeroed_from r.base (r.base + r.length) i.ram s.granules);
   objects = quarantine r.number s.objects;
 }
 

@@ -1,5 +1,6 @@
 -- Objects of the heap as rows: what is live, what is quarantined, what a quota is charged with.
 use Rattle.std.specs.Prelude.{ℕ, ◌+◌, ◌≤◌, ◌<◌, ◌⊎◌, ◌&&◌, false, List, [], ◌∷◌, cond, nat_eq}
+use Rattle.def_profile.specs.declared.layout.TheConstants.{CHUNK_HEAD}
 use Rattle.def_machine.specs.State.{Object}
 
 -- one of the elements
@@ -14,11 +15,11 @@ Each P (x ∷ xs) = P x × Each P xs
 
 -- a granule of an object's chunk: the header's granule, or one of the object
 abbrev pub InChunk : Object → ℕ → Type 0
-InChunk r x = (r.base ≤ x + 8) × (x < r.base + r.length)
+InChunk r x = (r.base ≤ x + CHUNK_HEAD) × (x < r.base + r.length)
 
 -- chunks that don't meet
 abbrev pub ApartFrom : Object → Object → Type 0
-ApartFrom r q = (r.base + r.length + 8 ≤ q.base) ⊎ (q.base + q.length + 8 ≤ r.base)
+ApartFrom r q = (r.base + r.length + CHUNK_HEAD ≤ q.base) ⊎ (q.base + q.length + CHUNK_HEAD ≤ r.base)
 
 -- the live charges on a quota
 abbrev pub charges : ℕ → List Object → ℕ

@@ -1,3 +1,4 @@
+-- Granules: what stands at each eight bytes of RAM.
 use Rattle.std.specs.Prelude.{ℕ, false, List, slice_index_or}
 use Rattle.def_words.specs.declared.Cap.{Cap}
 use Rattle.def_memory.specs.declared.Granule.{Granule}

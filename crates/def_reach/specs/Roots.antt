@@ -1,5 +1,7 @@
 -- What the root number of a capability stands for: an entry of the report, or the trusted part.
 use Rattle.std.specs.Prelude.{ℕ, zero, suc, ◌+◌, ◌==◌, Bool, true, false, List, [], ◌∷◌, Option, Some, None, slice_get, if◌then◌else◌}
+use Rattle.def_profile.specs.declared.native.TheConstants.{NATIVE_LENGTH, RETURN_ENTRY}
+use Rattle.def_profile.specs.declared.rights.TheConstants.{SERVICE_RIGHTS}
 use Rattle.ct_entry.specs.declared.rows.Owner.{Owner}
 use Rattle.ct_entry.specs.declared.rows.Owner.TheVariants.{Trusted}
 use Rattle.ct_entry.specs.declared.rows.Kind.{Kind}
@@ -34,9 +36,9 @@ abbrev pub no_root : Root
 no_root = record { origin = Unknown; owner = Trusted; base = 0; top = 0; rights = 0; of = 0; limit = 0; passes = false; disabled = false }
 
 -- The trusted part has number 0. The one capability of it that running code holds is the return sentry,
--- so it has range and rights of native entry 1: 8 bytes, and GL LD MC EX.
+-- so it has the range of the return's native entry, and the rights of one.
 abbrev pub trusted_root : Root
-trusted_root = record { origin = TrustedPart; owner = Trusted; base = 65552; top = 65560; rights = 353; of = 0; limit = 0; passes = false; disabled = false }
+trusted_root = record { origin = TrustedPart; owner = Trusted; base = RETURN_ENTRY; top = RETURN_ENTRY + NATIVE_LENGTH; rights = SERVICE_RIGHTS; of = 0; limit = 0; passes = false; disabled = false }
 
 abbrev pub no_gate : Gate
 no_gate = record { entry = 0; code = 0; stack = 0; args = 0; posture = Inherit; capabilities = false }

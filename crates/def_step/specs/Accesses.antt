@@ -14,9 +14,11 @@ use Rattle.def_memory.specs.Granules.{granule_at}
 use Rattle.def_memory.specs.Accesses.{loaded, stored, loaded_cap, stored_cap}
 use Rattle.def_instr.specs.declared.Instr.{Instr}
 use Rattle.def_instr.specs.declared.Instr.TheVariants.{Lb, Lh, Lw, Clc, Lbu, Lhu, Sb, Sh, Sw, Csc}
-use Rattle.def_instr.specs.Reading.{extended}
+use Rattle.def_bits.specs.Bits.{extended}
 use Rattle.def_step.specs.declared.Access.{Access}
-use Rattle.def_step.specs.Checks.{Check, capability_trap, plain_trap, first_failed, not_tagged, wrong_seal, no_load, no_store, no_store_capability, out_of_bounds, misaligned_load, misaligned_store}
+use Rattle.def_profile.specs.declared.traps.TheConstants.{BOUNDS_CODE, TAG_CODE, SEAL_CODE, LOAD_CODE, STORE_CODE, STORE_CAPABILITY_CODE, MISALIGNED_LOAD, MISALIGNED_STORE}
+use Rattle.def_words.specs.Traps.{capability_trap, plain_trap}
+use Rattle.def_step.specs.Checks.{Check, first_failed}
 use Rattle.def_step.specs.Devices.{Bank, found, bank_value, bank_read, bank_written}
 
 -- ---- the instructions
@@ -46,22 +48,22 @@ access_of _ = store_of 1 false 0 0
 -- x is the authorising capability, at the address
 abbrev pub load_checks : Access → Cap → ℕ → List Check
 load_checks a x at =
-    (x.tag, capability_trap not_tagged a.by)
-    ∷ (is_unsealed x, capability_trap wrong_seal a.by)
-    ∷ (has x load_data, capability_trap no_load a.by)
-    ∷ (is_range_inside x at (at + a.width), capability_trap out_of_bounds a.by)
-    ∷ (at % a.width == 0, plain_trap misaligned_load)
+    (x.tag, capability_trap TAG_CODE a.by)
+    ∷ (is_unsealed x, capability_trap SEAL_CODE a.by)
+    ∷ (has x load_data, capability_trap LOAD_CODE a.by)
+    ∷ (is_range_inside x at (at + a.width), capability_trap BOUNDS_CODE a.by)
+    ∷ (at % a.width == 0, plain_trap MISALIGNED_LOAD)
     ∷ []
 
 -- `carries`: a tagged value is stored as a capability
 abbrev pub store_checks : Access → Cap → ℕ → Bool → List Check
 store_checks a x at carries =
-    (x.tag, capability_trap not_tagged a.by)
-    ∷ (is_unsealed x, capability_trap wrong_seal a.by)
-    ∷ (has x store_data, capability_trap no_store a.by)
-    ∷ (not carries || has x memory_capability, capability_trap no_store_capability a.by)
-    ∷ (is_range_inside x at (at + a.width), capability_trap out_of_bounds a.by)
-    ∷ (at % a.width == 0, plain_trap misaligned_store)
+    (x.tag, capability_trap TAG_CODE a.by)
+    ∷ (is_unsealed x, capability_trap SEAL_CODE a.by)
+    ∷ (has x store_data, capability_trap STORE_CODE a.by)
+    ∷ (not carries || has x memory_capability, capability_trap STORE_CAPABILITY_CODE a.by)
+    ∷ (is_range_inside x at (at + a.width), capability_trap BOUNDS_CODE a.by)
+    ∷ (at % a.width == 0, plain_trap MISALIGNED_STORE)
     ∷ []
 
 abbrev pub access_checks : Access → Cap → Cap → ℕ → List Check

@@ -23,7 +23,11 @@ use Rattle.def_reach.specs.Roots.{gate_for, root_of}
 use Rattle.def_machine.specs.Image.{Image, Region, Fixed, Globals, HeapRam, Stack, Bare}
 use Rattle.def_machine.specs.State as st
 use Rattle.def_machine.specs.State.{State, Frame, DeviceState, Serial, Clock, Pins, Counts, Ready, interrupts_on}
-use Rattle.def_step.specs.Instructions.{Board, return_entry}
+use Rattle.def_profile.specs.declared.layout.TheConstants.{SLOT_SIZE, TABLE_HEAD, TABLE_ROW}
+use Rattle.def_profile.specs.declared.native.TheConstants.{NATIVE_LENGTH, RETURN_ENTRY}
+use Rattle.def_profile.specs.declared.rights.TheConstants.{SERVICE_RIGHTS}
+use Rattle.def_profile.specs.declared.seals.TheConstants.{SENTRY_INHERIT, RETURN_ENABLE}
+use Rattle.def_step.specs.Instructions.{Board}
 use Rattle.def_step.specs.Events.{MachineRow}
 
 -- ---- rows of the report by what they are
@@ -93,16 +97,16 @@ made_by n r kind.Code = derive executable_root r.base r.length r.rights r.base 0
 made_by n r kind.Globals = derive memory_root r.base r.length r.rights r.base 0 (from_entry n)
 made_by n r kind.Device = derive memory_root r.base r.length r.rights r.base 0 (from_entry n)
 made_by n r kind.Stack = derive memory_root r.base r.length r.rights (r.base + r.length) 0 (from_entry n)
-made_by n r kind.Service = derive executable_root r.base r.length r.rights r.base 1 (from_entry n)
+made_by n r kind.Service = derive executable_root r.base r.length r.rights r.base SENTRY_INHERIT (from_entry n)
 made_by n r _ = plain 0
 
 abbrev pub made_from : ℕ → List Entry → List Cap
 made_from n [] = []
 made_from n (r ∷ rs) = made_by n r r.kind ∷ made_from (n + 1) rs
 
--- the return sentry: native entry 1, of type 5, with GL LD MC EX and the trusted part's number
+-- the return sentry: of the return's native entry, of type 5, with the trusted part's number
 abbrev pub return_sentry : Cap
-return_sentry = derive executable_root return_entry 8 353 return_entry 5 (from_entry 0)
+return_sentry = derive executable_root RETURN_ENTRY NATIVE_LENGTH SERVICE_RIGHTS RETURN_ENTRY RETURN_ENABLE (from_entry 0)
 
 abbrev pub made_caps : FirmwareRow → List Cap
 made_caps f = return_sentry ∷ made_from 1 f.entries.rows
@@ -115,7 +119,7 @@ made_for f n = slice_index_or (made_caps f) n (plain 0)
 -- a slot of the import table, which begins the code region: the slots are numbered after code and globals
 abbrev pub is_slot_at : FirmwareRow → ℕ → ℕ → Owner → Bool
 is_slot_at f x n Trusted = false
-is_slot_at f x n (Compartment b) = (root_of f.entries (code_number f b)).base + 8 * (n - (code_number f b + 2)) == x
+is_slot_at f x n (Compartment b) = (root_of f.entries (code_number f b)).base + SLOT_SIZE * (n - (code_number f b + 2)) == x
 is_slot_at f x n (Library l) = false
 is_slot_at f x n (Thread t) = false
 
@@ -140,7 +144,7 @@ slots_from b [] = 0
 slots_from b (r ∷ rs) = (if is_slot_kind r.kind && is_compartment b r.owner then 1 else 0) + slots_from b rs
 
 abbrev pub text_base : FirmwareRow → ℕ → ℕ
-text_base f b = (root_of f.entries (code_number f b)).base + 8 * slots_from b f.entries.rows
+text_base f b = (root_of f.entries (code_number f b)).base + SLOT_SIZE * slots_from b f.entries.rows
 
 -- the row of an export: where its code is in the text, its stack; its argument count, posture (1 inherit, 2
 -- disabled, 3 enabled), passing (1 capabilities, 2 plain values) and number
@@ -230,7 +234,7 @@ exports_from b (r ∷ rs) = (if is_export_kind r.kind && is_compartment b r.owne
 
 abbrev pub is_table_from : FirmwareRow → ℕ → ℕ → List ℕ → Bool
 is_table_from f x b [] = false
-is_table_from f x b (table ∷ tables) = is_covered table (16 + 16 * exports_from b f.entries.rows) x || is_table_from f x (b + 1) tables
+is_table_from f x b (table ∷ tables) = is_covered table (TABLE_HEAD + TABLE_ROW * exports_from b f.entries.rows) x || is_table_from f x (b + 1) tables
 
 abbrev pub region_at : FirmwareRow → ℕ → Region
 region_at f x =

@@ -1,5 +1,6 @@
 -- Devices: 16 bytes of four 32-bit registers each. Registers that aren't named read 0 and ignore writes.
-use Rattle.std.specs.Prelude.{ℕ, ◌+◌, ◌-◌, ◌*◌, ◌/◌, ◌%◌, ◌^◌, ◌==◌, ◌&&◌, Bool, nat_le, nat_lt, List, [], ◌∷◌, ◌++◌, length, drop, slice_set, slice_index_or, Option, Some, None, if◌then◌else◌}
+use Rattle.std.specs.Prelude.{ℕ, ◌+◌, ◌-◌, ◌*◌, ◌/◌, ◌%◌, ◌^◌, ◌==◌, ◌≡◌, ◌⊎◌, ◌&&◌, Bool, nat_le, nat_lt, List, [], ◌∷◌, ◌++◌, length, drop, slice_set, slice_index_or, Option, Some, None, if◌then◌else◌}
+use Rattle.def_profile.specs.declared.layout.TheConstants.{DEVICE_SIZE}
 use Rattle.def_machine.specs.State.{DeviceState, Serial, Clock, Pins}
 
 -- ---- one device
@@ -38,13 +39,17 @@ after_input (Serial q) byte = Serial (newest queue_length (q ++ byte ∷ []))
 after_input Clock byte = Clock
 after_input (Pins output input) byte = Pins output byte
 
+-- the widths of accesses, in bytes
+abbrev pub IsWidth : ℕ → Type 0
+IsWidth width = (width ≡ 1) ⊎ (width ≡ 2) ⊎ (width ≡ 4) ⊎ (width ≡ 8)
+
 -- a load of 1, 2 or 4 bytes at an offset: the register of the offset, shifted and cut to the width
 abbrev pub part_read : DeviceState → ℕ → ℕ → ℕ → ℕ
 part_read d offset width time = register_value d (offset / 4) time / 2 ^ (8 * (offset % 4)) % 2 ^ (8 * width)
 
--- a store of 1, 2 or 4 bytes counts only at a multiple of 4, with zeros above its value
-abbrev pub part_written : DeviceState → ℕ → ℕ → DeviceState
-part_written d offset value = if offset % 4 == 0 then after_write d (offset / 4) value else d
+-- a store of 1, 2 or 4 bytes counts only at a multiple of 4, with zeros above the bytes that are stored
+abbrev pub part_written : DeviceState → ℕ → ℕ → ℕ → DeviceState
+part_written d offset width value = if offset % 4 == 0 then after_write d (offset / 4) (value % 2 ^ (8 * width)) else d
 
 -- an access of 8 bytes is the one at its offset, then the one at its offset + 4
 abbrev pub value_read : DeviceState → ℕ → ℕ → ℕ → ℕ
@@ -62,8 +67,8 @@ left_by_read d offset width =
 abbrev pub left_by_write : DeviceState → ℕ → ℕ → ℕ → DeviceState
 left_by_write d offset width value =
     if width == 8
-    then part_written (part_written d offset (value % 2 ^ 32)) (offset + 4) (value / 2 ^ 32)
-    else part_written d offset value
+    then part_written (part_written d offset 4 value) (offset + 4) 4 (value / 2 ^ 32)
+    else part_written d offset width value
 
 -- ---- all devices, each at its base
 
@@ -80,7 +85,7 @@ device ds n = slice_index_or ds n no_device
 
 -- whether an address is one of a device's 16
 abbrev pub is_of : ℕ → ℕ → Bool
-is_of base address = nat_le base address && nat_lt address (base + 16)
+is_of base address = nat_le base address && nat_lt address (base + DEVICE_SIZE)
 
 -- the first device, counting from n, that has the address
 abbrev pub found_from : ℕ → List ℕ → ℕ → Option ℕ

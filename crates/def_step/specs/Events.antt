@@ -1,5 +1,6 @@
 -- *Run*: what an event does, and what a list of events does.
 use Rattle.std.specs.Prelude.{ℕ, ◌+◌, ◌-◌, ◌==◌, ◌≡◌, ◌&&◌, ◌||◌, Bool, true, false, not, nat_lt, List, [], ◌∷◌, length, Option, Some, None, slice_set, if◌then◌else◌}
+use Rattle.def_profile.specs.declared.limits.TheConstants.{MOST_STEPS}
 use Rattle.ct_entry.specs.declared.acts.Act.{Act}
 use Rattle.ct_entry.specs.declared.acts.Act.TheVariants.{Call, Load, Store, Allocate, Free, Trap}
 use Rattle.ct_entry.specs.declared.acts.Deed.{Deed}
@@ -133,15 +134,11 @@ unfoldable pub told : Board → State → List Event → List Happened
 told b s [] = []
 told b s (e ∷ es) = (happens b s e).1 ∷ told b (happens b s e).0 es
 
--- events of each kind that may come
-abbrev pub most_events : ℕ
-most_events = 4000000000
-
 -- whether an event may come now
 abbrev pub is_lawful : State → Event → Bool
-is_lawful s Step = nat_lt s.counts.steps most_events
-is_lawful s Tick = nat_lt s.counts.ticks most_events
-is_lawful s (Input n byte) = nat_lt s.counts.inputs most_events && nat_lt n (length s.devices)
+is_lawful s Step = nat_lt s.counts.steps MOST_STEPS
+is_lawful s Tick = nat_lt s.counts.ticks MOST_STEPS
+is_lawful s (Input n byte) = nat_lt s.counts.inputs MOST_STEPS && nat_lt n (length s.devices)
 
 -- each event of the list may come when it comes
 unfoldable pub AreLawful : Board → State → List Event → Type 0

@@ -25,7 +25,10 @@ use Rattle.def_step.specs.declared.Class.{Class}
 use Rattle.def_step.specs.declared.Class.TheVariants as class
 use Rattle.def_step.specs.declared.Next.{Next}
 use Rattle.def_step.specs.declared.Next.TheVariants.{Returning, Instruction, Nothing}
-use Rattle.def_step.specs.Checks.{Check, capability_trap, plain_trap, first_failed, not_tagged, wrong_seal, no_execute, out_of_bounds, no_system_registers, program_counter, illegal_instruction, breakpoint, environment_call}
+use Rattle.def_profile.specs.declared.native.TheConstants.{NATIVE_BASE, NATIVE_UNIT, REMAINING, RETURN_ENTRY}
+use Rattle.def_profile.specs.declared.traps.TheConstants.{BOUNDS_CODE, TAG_CODE, SEAL_CODE, EXECUTE_CODE, SYSTEM_REGISTER_CODE, PCC_REGISTER, ILLEGAL_INSTRUCTION, BREAKPOINT, ENVIRONMENT_CALL}
+use Rattle.def_words.specs.Traps.{capability_trap, plain_trap}
+use Rattle.def_step.specs.Checks.{Check, first_failed}
 use Rattle.def_step.specs.Devices.{Bank}
 use Rattle.def_step.specs.Accesses.{Space, Accessed, access_result}
 use Rattle.def_step.specs.Jumps.{Flowed, flow_result}
@@ -72,37 +75,31 @@ accesses a to (Ok m) = Ok (record { to = to; value = unwrap_or m.value (plain 0)
 abbrev pub carried_out : Class → Instr → ℕ → Cap → Cap → Around → Result Done trap_words.Trap
 carried_out class.Integer i to x y a = Ok (gives a to (integer (integer_result i (cap_address x) (cap_address y))))
 carried_out class.Capability i to x y a = Ok (gives a to (capability_result i x y a.pcc))
-carried_out class.System i to x y a = Err (capability_trap no_system_registers program_counter)
+carried_out class.System i to x y a = Err (capability_trap SYSTEM_REGISTER_CODE PCC_REGISTER)
 carried_out class.Jump i to x y a = flows a to (flow_result i x y a.pcc a.posture 0)
 carried_out class.Access i to x y a = accesses a to (access_result i x y a.space)
 carried_out class.Fence i to x y a = Ok (gives a 0 (plain 0))
-carried_out class.Call i to x y a = Err (plain_trap environment_call)
-carried_out class.Break i to x y a = Err (plain_trap breakpoint)
-carried_out class.Absent i to x y a = Err (plain_trap illegal_instruction)
+carried_out class.Call i to x y a = Err (plain_trap ENVIRONMENT_CALL)
+carried_out class.Break i to x y a = Err (plain_trap BREAKPOINT)
+carried_out class.Absent i to x y a = Err (plain_trap ILLEGAL_INSTRUCTION)
 
 -- ---- fetch
 
 abbrev pub fetch_checks : Cap → List Check
 fetch_checks pcc =
-    (pcc.tag, capability_trap not_tagged program_counter)
-    ∷ (is_unsealed pcc, capability_trap wrong_seal program_counter)
-    ∷ (has pcc execute, capability_trap no_execute program_counter)
-    ∷ (is_range_inside pcc (cap_address pcc) (cap_address pcc + 4), capability_trap out_of_bounds program_counter)
+    (pcc.tag, capability_trap TAG_CODE PCC_REGISTER)
+    ∷ (is_unsealed pcc, capability_trap SEAL_CODE PCC_REGISTER)
+    ∷ (has pcc execute, capability_trap EXECUTE_CODE PCC_REGISTER)
+    ∷ (is_range_inside pcc (cap_address pcc) (cap_address pcc + 4), capability_trap BOUNDS_CODE PCC_REGISTER)
     ∷ []
 
 -- the word at an address; what isn't an aligned word of RAM is no instruction, and no pcc leads there
 abbrev pub fetched : Space → ℕ → ℕ
 fetched p at = if nat_le p.ram at && nat_le (at + 4) (p.ram + 8 * length p.granules) && (at % 4 == 0) then loaded p.granules (at - p.ram) 4 else 0
 
--- native routine n stands at 65536 + 16 n; number 1 is the return
-abbrev pub native_base : ℕ
-native_base = 65536
-
-abbrev pub return_entry : ℕ
-return_entry = 65552
-
+-- the entry of a native routine that a slot may name, or of the return
 abbrev pub is_native_entry : ℕ → Bool
-is_native_entry x = nat_le native_base x && nat_lt x (native_base + 16 * 9) && (x % 16 == 0)
+is_native_entry x = nat_le NATIVE_BASE x && nat_lt x (NATIVE_BASE + NATIVE_UNIT * (REMAINING + 1)) && (x % NATIVE_UNIT == 0)
 
 -- what stands at the program counter: the return, an instruction, or nothing that is carried out
 abbrev pub next_word : Option Instr → Next
@@ -111,7 +108,7 @@ next_word (Some i) = Instruction i
 
 abbrev pub next_at : Space → ℕ → Next
 next_at p at =
-    if at == return_entry then Returning
+    if at == RETURN_ENTRY then Returning
     else if is_native_entry at then Nothing
     else next_word (instruction_in (fetched p at))
 
@@ -161,7 +158,7 @@ instructed b s t i =
 abbrev pub goes_on : Board → State → ℕ → Next → State × Option Deed
 goes_on b s t Returning = (returned b.image s t (thread s t).frames, None)
 goes_on b s t (Instruction i) = instructed b s t i
-goes_on b s t Nothing = trapped b s t (plain_trap illegal_instruction)
+goes_on b s t Nothing = trapped b s t (plain_trap ILLEGAL_INSTRUCTION)
 
 abbrev pub after_fetch : Board → State → ℕ → Option trap_words.Trap → State × Option Deed
 after_fetch b s t (Some why) = trapped b s t why

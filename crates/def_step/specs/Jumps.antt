@@ -11,7 +11,9 @@ use Rattle.def_words.specs.Jumped.{opened, linked}
 use Rattle.def_instr.specs.declared.Instr.{Instr}
 use Rattle.def_instr.specs.declared.Instr.TheVariants.{Jal, CJalr, Beq, Bne, Blt, Bge, Bltu, Bgeu}
 use Rattle.def_instr.specs.Results.{signed}
-use Rattle.def_step.specs.Checks.{Check, capability_trap, plain_trap, first_failed, not_tagged, wrong_seal, no_execute, misaligned_fetch}
+use Rattle.def_profile.specs.declared.traps.TheConstants.{TAG_CODE, SEAL_CODE, EXECUTE_CODE, MISALIGNED_FETCH}
+use Rattle.def_words.specs.Traps.{capability_trap, plain_trap}
+use Rattle.def_step.specs.Checks.{Check, first_failed}
 use Rattle.def_step.specs.Accesses.{unless}
 
 -- where execution goes on: the link that the jump leaves, if any, pcc and posture
@@ -37,7 +39,7 @@ abbrev pub target_at : Cap → ℕ → ℕ
 target_at pcc offset = (cap_address pcc + offset) % 2 ^ 32
 
 abbrev pub target_checks : ℕ → List Check
-target_checks target = (target % 4 == 0, plain_trap misaligned_fetch) ∷ []
+target_checks target = (target % 4 == 0, plain_trap MISALIGNED_FETCH) ∷ []
 
 -- pcc's address is set by the address rule; its bounds are checked by the next fetch
 abbrev pub jumped_to : Cap → Posture → ℕ → Option Cap → Result Flowed Trap
@@ -58,10 +60,10 @@ register_target x n = (cap_address x + n) % 2 ^ 32 / 2 * 2
 -- `to` gets the link, `at` holds the target x; a sealed target takes no immediate
 abbrev pub register_jump_checks : ℕ → ℕ → Cap → ℕ → List Check
 register_jump_checks to at x n =
-    (x.tag, capability_trap not_tagged at)
-    ∷ (is_jump_taken to at (cap_seal x) && (is_unsealed x || (n == 0)), capability_trap wrong_seal at)
-    ∷ (has x execute, capability_trap no_execute at)
-    ∷ (register_target x n % 4 == 0, plain_trap misaligned_fetch)
+    (x.tag, capability_trap TAG_CODE at)
+    ∷ (is_jump_taken to at (cap_seal x) && (is_unsealed x || (n == 0)), capability_trap SEAL_CODE at)
+    ∷ (has x execute, capability_trap EXECUTE_CODE at)
+    ∷ (register_target x n % 4 == 0, plain_trap MISALIGNED_FETCH)
     ∷ []
 
 -- `named` is the export that the target's root entry names, or 0

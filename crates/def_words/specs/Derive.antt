@@ -1,5 +1,6 @@
 -- Derive: a capability made from a root word. Boot, switch and heap make all of theirs so.
 use Rattle.std.specs.Prelude.{ℕ, ◌%◌, ◌==◌, true, if◌then◌else◌}
+use Rattle.def_profile.specs.declared.rights.TheConstants.{MEMORY_ROOT, EXECUTABLE_ROOT, SEALING_ROOT}
 use Rattle.def_words.specs.declared.Cap.{Cap}
 use Rattle.def_words.specs.declared.Shadow.{Shadow}
 use Rattle.def_words.specs.Authority.{word_of}
@@ -8,13 +9,13 @@ use Rattle.def_words.specs.Capability.{cap_of, with_address, with_exact_bounds, 
 -- the high words of the three roots at reset: memory, executable, sealing; each has all permissions of its
 -- form and bounds 0 to 2^32
 unfoldable pub memory_root : ℕ
-memory_root = 2117861632  -- 7E3C0100
+memory_root = MEMORY_ROOT
 
 unfoldable pub executable_root : ℕ
-executable_root = 1580990720  -- 5E3C0100
+executable_root = EXECUTABLE_ROOT
 
 unfoldable pub sealing_root : ℕ
-sealing_root = 1312555264  -- 4E3C0100
+sealing_root = SEALING_ROOT
 
 -- the root itself, at address 0
 abbrev pub root_cap : ℕ → Shadow → Cap

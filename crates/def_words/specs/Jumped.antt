@@ -1,5 +1,6 @@
 -- The two capabilities that a jump makes: the target opened, and the link.
 use Rattle.std.specs.Prelude.{if◌then◌else◌}
+use Rattle.def_profile.specs.declared.seals.TheConstants.{RETURN_DISABLE, RETURN_ENABLE}
 use Rattle.def_words.specs.declared.Cap.{Cap}
 use Rattle.def_words.specs.declared.Posture.{Posture}
 use Rattle.def_words.specs.Capability.{cap_of, raised, word_sealed}
@@ -14,5 +15,5 @@ opened c = cap_of c.tag (word_sealed c 0) (record { root = c.shadow.root; source
 abbrev pub linked : Cap → Posture → Cap
 linked pcc before = cap_of
     (raised pcc 4).tag
-    (word_sealed (raised pcc 4) (if before.off then 4 else 5))
+    (word_sealed (raised pcc 4) (if before.off then RETURN_DISABLE else RETURN_ENABLE))
     (record { root = pcc.shadow.root; source = if before.off then before.source else 0 })

@@ -3,6 +3,7 @@ pub mod Authority
 pub mod Permissions
 pub mod LeastBounds
 pub mod Seals
+pub mod Traps
 pub mod Capability
 pub mod Loaded
 pub mod Jumped

@@ -1,7 +1,12 @@
 //! The words of a capability machine, as plain data: the capability with its shadow, decoded and
 //! rounded bounds, traps and the interrupt posture. The written definitions over them stand in
-//! specs/; nothing here computes. docs/use/capabilities.md tells the same in prose.
+//! specs/; beside the two forms of a trap nothing here computes. docs/use/capabilities.md tells the same in prose.
 #![tactic(auto)]
+
+ghost use Rattle.std.specs.Prelude.{◌≡◌};
+ghost use Rattle.def_words.specs.Traps.{capability_trap, plain_trap};
+
+use def_profile::traps::CAPABILITY_FAULT;
 
 /// Where a tagged capability comes from. No instruction reads it.
 ///
@@ -31,6 +36,30 @@ pub struct Trap {
     pub cause: u32,
     pub code: u32,
     pub register: u32,
+}
+
+impl Trap {
+    /// A failed check of a capability: the code says which check, the register which capability.
+    pub fn capability(code: u32, register: u32) -> Trap
+        ensures { result ≡ capability_trap code register }
+    {
+        Trap {
+            cause: CAPABILITY_FAULT,
+            code,
+            register,
+        }
+    }
+
+    /// A trap of another cause.
+    pub fn plain(cause: u32) -> Trap
+        ensures { result ≡ plain_trap cause }
+    {
+        Trap {
+            cause,
+            code: 0,
+            register: 0,
+        }
+    }
 }
 
 /// Whether a thread holds interrupts off, and then the entry number of the export that it holds

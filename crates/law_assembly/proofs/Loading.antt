@@ -6,7 +6,7 @@ use Rattle.def_words.specs.declared.Posture.{Posture}
 use Rattle.def_words.specs.Authority.{cap_address}
 use Rattle.def_words.specs.Capability.{integer, raised, with_address}
 use Rattle.def_memory.specs.Granules.{plain}
-use Rattle.def_instr.specs.Reading.{extended}
+use Rattle.def_bits.specs.Bits.{extended}
 use Rattle.def_instr.specs.declared.Instr.TheVariants.{Lui, Addi, AuiPcc, CIncAddrImm}
 use Rattle.def_capstep.specs.Results.{capability_result, upper_offset}
 use Rattle.def_machine.specs.State.{Thread, register}

@@ -1,6 +1,6 @@
 -- `li` loads its number, and the pairs of words lead to their places.
 use Rattle.std.proofs.Common.{◌≡◌, ℕ, ◌+◌, ◌-◌, ◌*◌, ◌/◌, ◌%◌, ◌^◌, ◌<◌, ◌≤◌, Bool, true, false, cond, nat_lt, zero, suc, ◌⊎◌, inl, inr, refl, ap, arith}
-use Rattle.def_instr.specs.Reading.{extended}
+use Rattle.def_bits.specs.Bits.{extended}
 use Rattle.def_object.specs.Object.{upper_part, rest_part, high_piece, low_piece}
 use Rattle.law_assembly.specs.Loading.{first_address, AreApart, LeadsTo}
 

@@ -8,7 +8,7 @@ use Rattle.def_instr.specs.declared.shapes.ImmediateOperation.TheVariants as imm
 use Rattle.ct_isa.proofs.Back.{shape_back}
 use Rattle.def_source.specs.declared.parts.BareOperation.{BareOperation}
 use Rattle.def_source.specs.declared.parts.BareOperation.TheVariants as bare
-use Rattle.def_instr.specs.Reading.{extended}
+use Rattle.def_bits.specs.Bits.{extended}
 use Rattle.def_source.specs.declared.parts.Number.{Number}
 use Rattle.def_source.specs.declared.parts.Target.{Target}
 use Rattle.def_source.specs.declared.parts.Target.TheVariants as target

@@ -11,11 +11,8 @@ use Rattle.def_machine.specs.State.{Frame, Object}
 use Rattle.def_confined.specs.Capabilities.{Kept, heap_cap, stack_cap}
 use Rattle.def_confined.specs.Places.{Placed, OwnStack, HasLive}
 use Rattle.def_confined.specs.Made.{IsOwn, IsReturnSentry, IsStackUpTo}
-use Rattle.law_places.proofs.Reaching.{joined_is, reaches_own}
-use Rattle.law_places.proofs.Places.{within_head}
-
-pub no_heap_of : (i : Image) (c : Cap) (o : Origin) → (root i c.shadow.root).origin ≡ o → is_quota o ≡ false → heap_cap i c ≡ false
-no_heap_of i c o is none = ap (λ b. b && not (nat_eq c.shadow.source 0)) (ap is_quota is ∙ none)
+use Rattle.law_reach.proofs.Joins.{joined_is, reaches_own}
+use Rattle.law_places.proofs.Places.{within_head, no_heap_of}
 
 pub no_live_of : (i : Image) (objects : List Object) (c : Cap) (o : Origin) → (root i c.shadow.root).origin ≡ o → is_quota o ≡ false → HasLive i objects c
 no_live_of i objects c o is none = λ tagged heap some. absurd (let clash : true ≡ false = sym heap ∙ no_heap_of i c o is none in cc)

@@ -20,20 +20,14 @@ use Rattle.def_confined.specs.Places.{InFrames, HasLive, outer}
 use Rattle.def_confined.specs.Confined.{Confined, FramesHold, SavedKept}
 use Rattle.def_confined.specs.Partitioned.{Partitioned}
 use Rattle.def_confined.specs.Made.{Opens}
-use Rattle.law_places.proofs.Places.{carry, Joins, plain_in, within_head}
+use Rattle.law_places.proofs.Places.{carry, Joins, plain_in, within_head, all_of}
 use Rattle.law_places.proofs.Puts.{plain_kept}
 use Rattle.law_places.proofs.Switches.{switched_confined}
 use Rattle.law_registers.proofs.Filters.{filter_case, filter_in, filter_kept, filter_live, in_object}
-use Rattle.law_jumps.proofs.Targets.{opened_in, opened_runs}
-use Rattle.law_jumps.proofs.Moves.{return_fits, fits_as, in_rooted}
-use Rattle.law_calls.proofs.Pushes.{all_of, passed_case}
-
--- the opened capability of a jump is its target
-address_in_word : (high word : ℕ) → (high * 2 ^ 32 + word % 2 ^ 32) % 2 ^ 32 ≡ word % 2 ^ 32
-address_in_word high word = mod-mul-add high (2 ^ 32) (word % 2 ^ 32) (mod_below word (2 ^ 32) (pow_pos 32))
-
-pub opened_opens : (c : Cap) → Opens c (opened c)
-opened_opens c = λ tagged. record { opened = opened_is c tagged; same_address = address_in_word (with_seal_field (cap_high c) 0) c.word }
+use Rattle.law_jumps.proofs.Targets.{opened_in, opened_runs, opened_opens}
+use Rattle.law_places.proofs.Turns.{fits_as}
+use Rattle.law_jumps.proofs.Moves.{return_fits, in_rooted}
+use Rattle.law_calls.proofs.Pushes.{passed_case}
 
 -- what an ending frame held comes into its caller's registers where the export passes it
 popped_joins : (i : Image) (objects : List Object) (t : ℕ) (f g : Frame) (gs : List Frame) → FramesHold i objects t (f ∷ g ∷ gs) → (root i f.export).passes ≡ true → Joins i (f ∷ g ∷ gs) (g ∷ gs)

@@ -21,17 +21,11 @@ use Rattle.def_confined.specs.Confined.{Confined, FramesHold, PostureFits}
 use Rattle.def_confined.specs.Partitioned.{Partitioned}
 use Rattle.def_confined.specs.Made.{IsReturnSentry, IsStackUpTo}
 use Rattle.def_confined.specs.Changes.{Enters}
-use Rattle.law_places.proofs.Reaching.{own_joined, joined_sym, joined_trans, joined_edge, joined_is, reaches_own}
-use Rattle.law_places.proofs.Places.{carry, Joins, plain_in}
+use Rattle.law_reach.proofs.Joins.{own_joined, joined_sym, joined_trans, joined_edge, joined_is, reaches_own}
+use Rattle.law_places.proofs.Places.{carry, Joins, plain_in, all_of}
 use Rattle.law_places.proofs.Puts.{plain_kept}
 use Rattle.law_places.proofs.Switches.{switched_confined}
 use Rattle.law_calls.proofs.Givens.{own_placed, own_live, own_kept, sentry_placed, sentry_kept, stack_placed, stack_kept, no_live_of}
-
--- what holds of each of a list and of the default holds at each place
-pub all_of : (P : Cap → Type 0) (xs : List Cap) (z : Cap) → P z → Each P xs → (n : ℕ) → P (get_or xs n z)
-all_of P [] z none h n = none
-all_of P (x ∷ xs) z none h zero = h.0
-all_of P (x ∷ xs) z none h (suc n) = all_of P xs z none h.1 n
 
 -- an export that passes capabilities joins its compartment to the caller
 gate_joins : (i : Image) (s : State) (t : ℕ) (g : Frame) (gs : List Frame) (callee export high : ℕ) (w : Given) → Partitioned i → Confined i s → Enters i s t g gs callee export high w → (root i export).passes ≡ true → Joined i.entries g.actor callee
@@ -42,7 +36,7 @@ gate_joins i s t g gs callee export high w p h e passes =
     let a = p.calls (register (thread s t) 6).shadow.root kind_is in
     let owner_is : (root i (register (thread s t) 6).shadow.root).owner ≡ Compartment a.0 = a.1 in
     let P : Owner → Type 0 = λ o. Reaches i.entries o g.actor in
-    let near : Joined i.entries a.0 g.actor = own_joined i p a.0 g.actor (subst P owner_is (gate.owner (ap is_owned kind_is) g.actor refl)) in
+    let near : Joined i.entries a.0 g.actor = own_joined i.entries a.0 g.actor (subst P owner_is (gate.owner (ap is_owned kind_is) g.actor refl)) in
     let Q : ℕ → Type 0 = λ n. (root i n).owner ≡ Compartment callee in
     let R : ℕ → Type 0 = λ n. (root i n).passes ≡ true in
     let edge : Calls i.entries a.0 callee = record {

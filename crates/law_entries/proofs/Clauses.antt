@@ -10,7 +10,7 @@ use Rattle.def_memory.specs.Granules.{plain}
 use Rattle.def_reach.specs.Roots.{Root, Origin, Unknown, TrustedPart, Listing, is_root, is_code}
 use Rattle.def_reach.specs.Sharing.{Reaches}
 use Rattle.def_machine.specs.Image.{root, made_cap}
-use Rattle.def_machine.specs.Frames.{stack_rights}
+use Rattle.def_profile.specs.declared.rights.TheConstants.{STACK_RIGHTS}
 use Rattle.def_confined.specs.Partitioned.{AwayFromHeap}
 use Rattle.def_step.specs.Boot.{image_of}
 use Rattle.def_step.specs.Firmware.{IsLawfulFirmware}
@@ -120,7 +120,7 @@ module _ (f : FirmwareRow) (l : IsLawfulFirmware f) where
         stack = λ n t s g d on fits m runs low high. absurd (let clash : false ≡ true = runs in cc);
       }) n
 
-  pub stacks_are : (n : ℕ) → (root (image_of f) n).origin ≡ Listing kind.Stack → ((root (image_of f) n).rights ≡ stack_rights) × ((root (image_of f) n).top ≤ 4294967280)
+  pub stacks_are : (n : ℕ) → (root (image_of f) n).origin ≡ Listing kind.Stack → ((root (image_of f) n).rights ≡ STACK_RIGHTS) × ((root (image_of f) n).top ≤ 4294967280)
   unfolding image_of
   stacks_are n is = (
     (lawful n).stacks is,

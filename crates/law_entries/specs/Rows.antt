@@ -10,11 +10,12 @@ use Rattle.ct_entry.specs.declared.rows.Mode.TheVariants.{Enabled}
 use Rattle.def_memory.specs.Granules.{plain}
 use Rattle.def_reach.specs.Roots.{root_of, gate_for, listed_root, no_root, trusted_root, is_disabled}
 use Rattle.def_step.specs.Boot.{made_for, made_by, return_sentry, code_number, globals_number, stack_number}
-use Rattle.def_step.specs.Firmware.{Share, DeviceImport, StackRange, code_row, globals_row, switch_row, device_row, stack_row, export_rights, text_offset}
+use Rattle.def_profile.specs.declared.rights.TheConstants.{EXPORT_RIGHTS}
+use Rattle.def_step.specs.Firmware.{Share, DeviceImport, StackRange, code_row, globals_row, switch_row, device_row, stack_row, text_offset}
 
 -- the row of a share's export, by the address of its 16 bytes in the export table
 abbrev pub export_row : ℕ → ℕ → Entry
-export_row b at = record { owner = owner.Compartment b; kind = kind.Export; base = at; length = 16; rights = export_rights; of = 0; limit = 0 }
+export_row b at = record { owner = owner.Compartment b; kind = kind.Export; base = at; length = 16; rights = EXPORT_RIGHTS; of = 0; limit = 0 }
 
 -- where the j-th export of a share has its 16 bytes
 abbrev pub export_place : Share → ℕ → ℕ

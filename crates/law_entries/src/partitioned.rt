@@ -5,7 +5,7 @@ ghost use Rattle.ct_entry.specs.Listed.{FirmwareRow};
 ghost use Rattle.ct_entry.specs.declared.rows.Kind.TheVariants as kind;
 ghost use Rattle.ct_entry.specs.declared.rows.Owner.TheVariants as owner;
 ghost use Rattle.def_confined.specs.Partitioned.{AwayFromHeap, BootMade, IsOwnEntry};
-ghost use Rattle.def_machine.specs.Frames.{stack_rights};
+ghost use Rattle.def_profile.specs.declared.rights.TheConstants.{STACK_RIGHTS};
 ghost use Rattle.def_machine.specs.Image.{code_entry, globals_entry, made_cap, root, stack_entry};
 ghost use Rattle.def_reach.specs.Roots.{Listing, gate_for, is_code, is_root};
 ghost use Rattle.def_reach.specs.Sharing.{Reaches};
@@ -29,7 +29,7 @@ pub fn rows_partition()
     ensures runs_away { (f : FirmwareRow) → IsLawfulFirmware f → (n x : ℕ) → bit (root (image_of f) n).rights execute ≡ true
         → (root (image_of f) n).base ≤ x → x < (root (image_of f) n).top → AwayFromHeap (image_of f) x }
     ensures stacks_are { (f : FirmwareRow) → IsLawfulFirmware f → (n : ℕ) → (root (image_of f) n).origin ≡ Listing kind.Stack
-        → ((root (image_of f) n).rights ≡ stack_rights) × ((root (image_of f) n).top ≤ 4294967280) }
+        → ((root (image_of f) n).rights ≡ STACK_RIGHTS) × ((root (image_of f) n).top ≤ 4294967280) }
     ensures stacks_differ { (f : FirmwareRow) → IsLawfulFirmware f → (t u : ℕ) → (root (image_of f) (stack_entry (image_of f) t)).origin ≡ Listing kind.Stack
         → stack_entry (image_of f) t ≡ stack_entry (image_of f) u → t ≡ u }
     ensures gates_small { (f : FirmwareRow) → IsLawfulFirmware f → (n : ℕ) → (gate_for (image_of f).entries.gates n).code < 2 ^ 32 }

@@ -8,7 +8,9 @@ use Rattle.def_words.specs.Authority.{cap_address, cap_base, cap_top}
 use Rattle.def_words.specs.Permissions.{has, execute}
 use Rattle.def_words.specs.Seals.{cap_seal}
 use Rattle.def_step.specs.declared.Access.{Access}
-use Rattle.def_step.specs.Checks.{Check, first_failed, capability_trap, plain_trap, out_of_bounds, not_tagged, wrong_seal, no_execute, no_load, no_store, no_store_capability, program_counter}
+use Rattle.def_profile.specs.declared.traps.TheConstants.{BOUNDS_CODE, TAG_CODE, SEAL_CODE, EXECUTE_CODE, LOAD_CODE, STORE_CODE, STORE_CAPABILITY_CODE, PCC_REGISTER}
+use Rattle.def_words.specs.Traps.{capability_trap, plain_trap}
+use Rattle.def_step.specs.Checks.{Check, first_failed}
 use Rattle.def_step.specs.Accesses.{access_checks, load_checks, store_checks}
 use Rattle.def_step.specs.Instructions.{fetch_checks}
 use Rattle.def_confined.specs.Licensed.{IsTrap}
@@ -36,7 +38,7 @@ by_checks P (c ∷ cs) all fails passes =
 pub register_tells : (code register : ℕ) → register < 16 → ((code ≡ 1) ⊎ (code ≡ 2) ⊎ (code ≡ 3) ⊎ (code ≡ 17) ⊎ (code ≡ 18) ⊎ (code ≡ 19) ⊎ (code ≡ 21)) → MayTell (capability_trap code register)
 register_tells code register small is = inr (inr (refl, small, is))
 
-pub counter_tells : (code : ℕ) → ((code ≡ 1) ⊎ (code ≡ 2) ⊎ (code ≡ 3) ⊎ (code ≡ 17) ⊎ (code ≡ 24)) → MayTell (capability_trap code program_counter)
+pub counter_tells : (code : ℕ) → ((code ≡ 1) ⊎ (code ≡ 2) ⊎ (code ≡ 3) ⊎ (code ≡ 17) ⊎ (code ≡ 24)) → MayTell (capability_trap code PCC_REGISTER)
 counter_tells code is = inr (inl (refl, refl, is))
 
 pub plain_tells : (cause : ℕ) → ((cause ≡ 0) ⊎ (cause ≡ 2) ⊎ (cause ≡ 3) ⊎ (cause ≡ 4) ⊎ (cause ≡ 6) ⊎ (cause ≡ 11)) → MayTell (plain_trap cause)
@@ -44,15 +46,15 @@ plain_tells cause is = inl (is, refl, refl)
 
 pub fetch_tells : (pcc : Cap) → AllTell (fetch_checks pcc)
 fetch_tells pcc =
-    (counter_tells not_tagged (inr (inl refl)), (counter_tells wrong_seal (inr (inr (inl refl))), (counter_tells no_execute (inr (inr (inr (inl refl)))), (counter_tells out_of_bounds (inl refl), tt))))
+    (counter_tells TAG_CODE (inr (inl refl)), (counter_tells SEAL_CODE (inr (inr (inl refl))), (counter_tells EXECUTE_CODE (inr (inr (inr (inl refl)))), (counter_tells BOUNDS_CODE (inl refl), tt))))
 
 load_tells : (a : Access) (x : Cap) (at : ℕ) → a.by < 16 → AllTell (load_checks a x at)
 load_tells a x at small =
-    (register_tells not_tagged a.by small (inr (inl refl)), (register_tells wrong_seal a.by small (inr (inr (inl refl))), (register_tells no_load a.by small (inr (inr (inr (inr (inl refl))))), (register_tells out_of_bounds a.by small (inl refl), (plain_tells 4 (inr (inr (inr (inl refl)))), tt)))))
+    (register_tells TAG_CODE a.by small (inr (inl refl)), (register_tells SEAL_CODE a.by small (inr (inr (inl refl))), (register_tells LOAD_CODE a.by small (inr (inr (inr (inr (inl refl))))), (register_tells BOUNDS_CODE a.by small (inl refl), (plain_tells 4 (inr (inr (inr (inl refl)))), tt)))))
 
 pub store_tells : (a : Access) (x : Cap) (at : ℕ) (carries : Bool) → a.by < 16 → AllTell (store_checks a x at carries)
 store_tells a x at carries small =
-    (register_tells not_tagged a.by small (inr (inl refl)), (register_tells wrong_seal a.by small (inr (inr (inl refl))), (register_tells no_store a.by small (inr (inr (inr (inr (inr (inl refl)))))), (register_tells no_store_capability a.by small (inr (inr (inr (inr (inr (inr refl)))))), (register_tells out_of_bounds a.by small (inl refl), (plain_tells 6 (inr (inr (inr (inr (inl refl))))), tt))))))
+    (register_tells TAG_CODE a.by small (inr (inl refl)), (register_tells SEAL_CODE a.by small (inr (inr (inl refl))), (register_tells STORE_CODE a.by small (inr (inr (inr (inr (inr (inl refl)))))), (register_tells STORE_CAPABILITY_CODE a.by small (inr (inr (inr (inr (inr (inr refl)))))), (register_tells BOUNDS_CODE a.by small (inl refl), (plain_tells 6 (inr (inr (inr (inr (inl refl))))), tt))))))
 
 pub access_tells : (a : Access) (x y : Cap) (at : ℕ) → a.by < 16 → AllTell (access_checks a x y at)
 access_tells a x y at small = chosen AllTell a.loads (load_checks a x at) (store_checks a x at (a.whole && y.tag)) (λ loads. load_tells a x at small) (λ stores. store_tells a x at (a.whole && y.tag) small)

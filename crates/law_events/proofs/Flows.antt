@@ -12,7 +12,7 @@ use Rattle.def_instr.specs.declared.Instr.TheVariants.{Jal, CJalr, Beq, Bne, Blt
 use Rattle.def_machine.specs.Image.{Image}
 use Rattle.def_machine.specs.State.{State, thread, register}
 use Rattle.def_step.specs.declared.Class.TheVariants as class
-use Rattle.def_step.specs.Checks.{misaligned_fetch}
+use Rattle.def_profile.specs.declared.traps.TheConstants.{MISALIGNED_FETCH}
 use Rattle.def_step.specs.Accesses.{unless}
 use Rattle.def_step.specs.Jumps.{target_at, target_checks, jumped_to, passed_over, branched, is_taken, flow_result}
 use Rattle.def_step.specs.Operands.{class_of, operands_of}
@@ -28,7 +28,7 @@ target_fits : (i : Image) (s : State) (t at : ℕ) (link : Option Cap) → at < 
 target_fits i s t at link small x puts = by_checks
     (λ o. FlowFits i s t (unless o (record { link = link; pcc = with_address (thread s t).pcc at; posture = (thread s t).posture })))
     (target_checks at)
-    (plain_tells misaligned_fetch (inl refl), tt)
+    (plain_tells MISALIGNED_FETCH (inl refl), tt)
     (λ w tells. tells)
     (λ passes. goes_to i s t (with_address (thread s t).pcc at) (unwrap_or link (plain 0)) x puts (address_derived (thread s t).pcc at small) (address_runs (thread s t).pcc at small x.fetched.executes))
 

@@ -17,7 +17,8 @@ use Rattle.def_confined.specs.Partitioned.{Partitioned}
 use Rattle.def_confined.specs.Made.{Derived}
 use Rattle.law_registers.proofs.Moves.{not_native_bound}
 use Rattle.law_registers.proofs.Derives.{derived_in}
-use Rattle.law_jumps.proofs.Moves.{Jumps, fits_as, derived_runs, runs_no_heap, in_rooted}
+use Rattle.law_places.proofs.Turns.{fits_as}
+use Rattle.law_jumps.proofs.Moves.{Jumps, derived_runs, runs_no_heap, in_rooted}
 use Rattle.law_jumps.proofs.Linking.{link_in, link_kept, link_live}
 use Rattle.law_made.proofs.Results.{raised_derived, raised_runs, linked_links}
 use Rattle.law_events.proofs.Values.{Puts}

@@ -16,11 +16,13 @@ use Rattle.def_reach.specs.Roots.{is_native}
 use Rattle.def_machine.specs.Image.{Image, root, made_cap}
 use Rattle.def_machine.specs.State.{State, Frame, Object, thread, register}
 use Rattle.def_step.specs.declared.Class.TheVariants as class
-use Rattle.def_step.specs.Checks.{not_tagged, wrong_seal, no_execute, misaligned_fetch}
+use Rattle.def_profile.specs.declared.traps.TheConstants.{TAG_CODE, SEAL_CODE, EXECUTE_CODE, MISALIGNED_FETCH}
+
 use Rattle.def_step.specs.Accesses.{unless}
 use Rattle.def_step.specs.Jumps.{register_target, register_jump_checks, register_jumped}
 use Rattle.def_step.specs.Operands.{class_of}
-use Rattle.def_step.specs.Instructions.{Board, is_native_entry, native_base}
+use Rattle.def_profile.specs.declared.native.TheConstants.{NATIVE_BASE}
+use Rattle.def_step.specs.Instructions.{Board, is_native_entry}
 use Rattle.def_board.specs.Wired.{Wired}
 use Rattle.def_confined.specs.Capabilities.{Rooted, IsReturnType, heap_cap}
 use Rattle.def_confined.specs.Places.{InFrames}
@@ -29,9 +31,10 @@ use Rattle.def_confined.specs.Partitioned.{Partitioned}
 use Rattle.def_confined.specs.Made.{Opens}
 use Rattle.law_registers.proofs.Moves.{not_native_bound}
 use Rattle.law_registers.proofs.Derives.{Bound, derived_in}
-use Rattle.law_jumps.proofs.Targets.{opened_in, opened_runs}
-use Rattle.law_jumps.proofs.Moves.{fits_as, return_fits, derived_runs, runs_no_heap, in_rooted}
-use Rattle.law_made.proofs.Results.{address_derived, address_runs, opened_opens}
+use Rattle.law_jumps.proofs.Targets.{opened_in, opened_runs, opened_opens}
+use Rattle.law_places.proofs.Turns.{fits_as}
+use Rattle.law_jumps.proofs.Moves.{return_fits, derived_runs, runs_no_heap, in_rooted}
+use Rattle.law_made.proofs.Results.{address_derived, address_runs}
 use Rattle.law_events.proofs.Checking.{by_checks, register_tells, plain_tells}
 use Rattle.law_events.proofs.Goings.{FlowFits, Fetching, link_puts}
 
@@ -40,9 +43,9 @@ use Rattle.law_events.proofs.Goings.{FlowFits, Fetching, link_puts}
 -- bit 0 of a native entry's address is clear already
 native_even : (x : ℕ) → is_native_entry x ≡ true → (x % 16 ≡ 0) × (x < 65680)
 native_even x h =
-    let parts = and_parts (nat_le native_base x && nat_lt x (native_base + 16 * 9)) (x % 16 == 0) h in
-    let ends = and_parts (nat_le native_base x) (nat_lt x (native_base + 16 * 9)) parts.0 in
-    (eqb-true (x % 16) 0 parts.1, ltb-true x (native_base + 16 * 9) ends.1)
+    let parts = and_parts (nat_le NATIVE_BASE x && nat_lt x (NATIVE_BASE + 16 * 9)) (x % 16 == 0) h in
+    let ends = and_parts (nat_le NATIVE_BASE x) (nat_lt x (NATIVE_BASE + 16 * 9)) parts.0 in
+    (eqb-true (x % 16) 0 parts.1, ltb-true x (NATIVE_BASE + 16 * 9) ends.1)
 
 target_stays : (n : ℕ) → (n % 16 ≡ 0) × (n < 65680) → (n + 0) % 2 ^ 32 / 2 * 2 ≡ n
 target_stays n h = omega (arith, h.0, h.1)
@@ -141,7 +144,7 @@ back_fits b s t wired f = by_checks
       posture = posture_through (thread s t).posture (cap_seal (register (thread s t) 1)) 0 (register (thread s t) 1).shadow.source;
     })))
     (register_jump_checks 0 1 (register (thread s t) 1) 0)
-    (register_tells not_tagged 1 (omega arith) (inr (inl refl)), (register_tells wrong_seal 1 (omega arith) (inr (inr (inl refl))), (register_tells no_execute 1 (omega arith) (inr (inr (inr (inl refl)))), (plain_tells misaligned_fetch (inl refl), tt))))
+    (register_tells TAG_CODE 1 (omega arith) (inr (inl refl)), (register_tells SEAL_CODE 1 (omega arith) (inr (inr (inl refl))), (register_tells EXECUTE_CODE 1 (omega arith) (inr (inr (inr (inl refl)))), (plain_tells MISALIGNED_FETCH (inl refl), tt))))
     (λ w tells. tells)
     (λ passes.
     let goes = goes_there b s.objects t (thread s t).frames (register (thread s t) 1) f.parts wired (f.held.registers t 1) passes.0 passes.1.1.0 in

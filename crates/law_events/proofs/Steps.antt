@@ -20,11 +20,13 @@ use Rattle.def_step.specs.declared.Class.{Class}
 use Rattle.def_step.specs.declared.Class.TheVariants as class
 use Rattle.def_step.specs.declared.Next.{Next}
 use Rattle.def_step.specs.declared.Next.TheVariants.{Returning, Instruction, Nothing}
-use Rattle.def_step.specs.Checks.{no_system_registers, illegal_instruction, breakpoint, environment_call}
+use Rattle.def_profile.specs.declared.traps.TheConstants.{SYSTEM_REGISTER_CODE, ILLEGAL_INSTRUCTION, BREAKPOINT, ENVIRONMENT_CALL}
+
 use Rattle.def_step.specs.Accesses.{Space, Accessed, access_of, access_checks, access_address, access_result, accessed, unless}
 use Rattle.def_step.specs.Jumps.{Flowed, flow_result}
 use Rattle.def_step.specs.Operands.{operands_of, class_of}
-use Rattle.def_step.specs.Instructions.{Board, Done, Around, carried_out, flows, accesses, around, space_of, deed, put_done, ends, operand, goes_on, after_fetch, executed, fetch_checks, fetched, next_at, next_word, return_entry, is_native_entry}
+use Rattle.def_profile.specs.declared.native.TheConstants.{RETURN_ENTRY}
+use Rattle.def_step.specs.Instructions.{Board, Done, Around, carried_out, flows, accesses, around, space_of, deed, put_done, ends, operand, goes_on, after_fetch, executed, fetch_checks, fetched, next_at, next_word, is_native_entry}
 use Rattle.def_board.specs.Wired.{Wired}
 use Rattle.def_confined.specs.Confined.{Confined}
 use Rattle.def_confined.specs.Partitioned.{Partitioned}
@@ -90,7 +92,7 @@ class_fair b s t k class.Integer e wired runs f small =
 class_fair b s t k class.Capability e wired runs f small =
     gives_fair b s t (operands_of k).to (capability_result k (operand s t (operands_of k).first) (operand s t (operands_of k).second) (thread s t).pcc) f
     (result_puts b.image s t (operands_of k).first (operands_of k).second k f.parts f.held runs f.other)
-class_fair b s t k class.System e wired runs f small = trapped_fair b s t _ f.parts f.held (counter_tells no_system_registers (inr (inr (inr (inr refl)))))
+class_fair b s t k class.System e wired runs f small = trapped_fair b s t _ f.parts f.held (counter_tells SYSTEM_REGISTER_CODE (inr (inr (inr (inr refl)))))
 class_fair b s t k class.Jump e wired runs f small =
     flow_fair b s t (operands_of k).to (operand s t (operands_of k).first) (flow_result k (operand s t (operands_of k).first) (operand s t (operands_of k).second) (thread s t).pcc (thread s t).posture 0) f
     (flow_fits b s t (operands_of k).first (operands_of k).second k wired f e refl)
@@ -99,9 +101,9 @@ class_fair b s t k class.Access e wired runs f small =
     (accesses_tell (around b s t) (operands_of k).to (access_result k (operand s t (operands_of k).first) (operand s t (operands_of k).second) (space_of b s))
     (result_tells k (operand s t (operands_of k).first) (operand s t (operands_of k).second) (space_of b s) small))
 class_fair b s t k class.Fence e wired runs f small = gives_fair b s t 0 (plain 0) f (untagged_puts b.image s t (plain 0) refl)
-class_fair b s t k class.Call e wired runs f small = trapped_fair b s t _ f.parts f.held (plain_tells environment_call (inr (inr (inr (inr (inr refl))))))
-class_fair b s t k class.Break e wired runs f small = trapped_fair b s t _ f.parts f.held (plain_tells breakpoint (inr (inr (inl refl))))
-class_fair b s t k class.Absent e wired runs f small = trapped_fair b s t _ f.parts f.held (plain_tells illegal_instruction (inr (inl refl)))
+class_fair b s t k class.Call e wired runs f small = trapped_fair b s t _ f.parts f.held (plain_tells ENVIRONMENT_CALL (inr (inr (inr (inr (inr refl))))))
+class_fair b s t k class.Break e wired runs f small = trapped_fair b s t _ f.parts f.held (plain_tells BREAKPOINT (inr (inr (inl refl))))
+class_fair b s t k class.Absent e wired runs f small = trapped_fair b s t _ f.parts f.held (plain_tells ILLEGAL_INSTRUCTION (inr (inl refl)))
 
 -- ---- what stands at the program counter
 
@@ -116,7 +118,7 @@ choice false false None k h = absurd (let clash : Nothing ≡ Instruction k = h 
 choice false false (Some j) k h = (refl, (let both : Instruction j ≡ Instruction k = h in let same : j ≡ k = cc in ap (λ (z : Instr). Some z) same))
 
 stands_at : (p : Space) (at : ℕ) (k : Instr) → next_at p at ≡ Instruction k → StandsAt p at k
-stands_at p at k h = let parts = choice (at == return_entry) (is_native_entry at) (instruction_in (fetched p at)) k h in record { away = parts.0; read = parts.1 }
+stands_at p at k h = let parts = choice (at == RETURN_ENTRY) (is_native_entry at) (instruction_in (fetched p at)) k h in record { away = parts.0; read = parts.1 }
 
 -- no instruction is fetched through a capability of a native routine
 not_native : (b : Board) (s : State) (t : ℕ) → Wired b → Confined b.image s → (thread s t).pcc.tag ≡ true → is_native_entry (cap_address (thread s t).pcc) ≡ false → is_native (root b.image (thread s t).pcc.shadow.root).origin ≡ false
@@ -130,7 +132,7 @@ not_native b s t wired h tagged away = elim (bool_tells (is_native (root b.image
 
 next_fair : (b : Board) (s : State) (t : ℕ) (n : Next) → next_at (space_of b s) (cap_address (thread s t).pcc) ≡ n → Partitioned b.image → Wired b → Confined b.image s → s.running ≡ Some t → Fetched (thread s t).pcc → Fair b s (goes_on b s t n)
 next_fair b s t Returning e parts wired h runs f = returned_fair b s t parts h
-next_fair b s t Nothing e parts wired h runs f = trapped_fair b s t _ parts h (plain_tells illegal_instruction (inr (inl refl)))
+next_fair b s t Nothing e parts wired h runs f = trapped_fair b s t _ parts h (plain_tells ILLEGAL_INSTRUCTION (inr (inl refl)))
 next_fair b s t (Instruction k) e parts wired h runs f =
     let stands = stands_at (space_of b s) (cap_address (thread s t).pcc) k e in
     let other = not_native b s t wired h f.tagged stands.away in

@@ -17,9 +17,9 @@ use Rattle.def_machine.specs.Objects.{Each}
 use Rattle.def_confined.specs.Capabilities.{Rooted, Kept, heap_cap}
 use Rattle.def_confined.specs.Places.{Placed, InFrames, InRegion, OwnStack, HasLive}
 use Rattle.def_confined.specs.Confined.{Confined, IsPcc, FramesHold, PostureFits, SavedKept}
-use Rattle.law_places.proofs.Reaching.{reaches_own, joined_is}
+use Rattle.law_reach.proofs.Joins.{reaches_own, joined_is}
 use Rattle.law_places.proofs.Puts.{plain_kept}
-use Rattle.law_calls.proofs.Pushes.{all_of}
+use Rattle.law_places.proofs.Places.{all_of}
 use Rattle.law_example.specs.Small.{small, made_0, made_1, made_2, made_3, made_4, made_5, made_6, made_7, made_8, made_9, made_11, made_12, made_13, made_14, made_18}
 use Rattle.law_example.specs.Starting.{starting, first_pcc, first_frame, first_thread}
 use Rattle.law_example.proofs.Cases.{by_granule}

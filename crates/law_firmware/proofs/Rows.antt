@@ -7,7 +7,8 @@ use Rattle.ct_entry.specs.declared.rows.Owner.TheVariants as owner
 use Rattle.ct_entry.specs.declared.rows.Kind.TheVariants as kind
 use Rattle.def_desc.specs.Rows.{ImportRow, ExportRow, CompartmentRow, ThreadRow, DescRow}
 use Rattle.def_report.specs.Entries.{LineRow, import_line, export_line, exports_from, compartment_lines, compartments_from, stacks_from, rows_of}
-use Rattle.def_step.specs.Firmware.{code_rights, code_row, globals_row, switch_row, device_row, export_rows, share_rows, all_share_rows, stack_row, stack_rows}
+use Rattle.def_profile.specs.declared.rights.TheConstants.{CODE_RIGHTS}
+use Rattle.def_step.specs.Firmware.{code_row, globals_row, switch_row, device_row, export_rows, share_rows, all_share_rows, stack_row, stack_rows}
 use Rattle.law_firmware.specs.Shares.{import_of, share_of, stack_of, shares_of, stacks_of}
 use Rattle.law_firmware.proofs.Sizes.{code_is}
 
@@ -34,7 +35,7 @@ share_is devices i c =
     imports_are devices i c c.imports (exports_from i c 0 c.exports)
     ∙ ap (λ rows. map (device_row i) (map (import_of devices) c.imports) ++ rows)
     (exports_are i c 0 c.exports ∙ ap (λ at. export_rows i at (map (λ (e : ExportRow). e.at) c.exports)) first) in
-    let coded : ℕ → Entry = λ n. record { owner = owner.Compartment i; kind = kind.Code; base = c.codebase; length = n; rights = code_rights; of = 0; limit = 0 } in
+    let coded : ℕ → Entry = λ n. record { owner = owner.Compartment i; kind = kind.Code; base = c.codebase; length = n; rights = CODE_RIGHTS; of = 0; limit = 0 } in
     ap (λ n. coded n ∷ globals_row i (share_of devices c) ∷ switch_row i ∷ map entry_in (map (import_line devices i c) c.imports ++ exports_from i c 0 c.exports)) (code_is devices c)
     ∙ ap (λ rest. code_row i (share_of devices c) ∷ globals_row i (share_of devices c) ∷ switch_row i ∷ rest) slots
 

@@ -20,7 +20,7 @@ use Rattle.def_confined.specs.Changes.{Fades, ThreadFades, Frees, StateFades}
 use Rattle.law_places.proofs.Rows.{each_take}
 use Rattle.law_places.proofs.Fades.{faded_confined}
 use Rattle.law_registers.proofs.Filters.{filter_case, filter_live_at, in_object}
-use Rattle.law_turns.proofs.Moves.{at_map}
+use Rattle.law_lists.proofs.Maps.{at_map}
 use Rattle.law_heap.proofs.Quarantines.{gone, quarantine_any, any_quarantine, quarantine_each, quarantine_apart, quarantine_charges, one_there}
 use Rattle.law_heap.proofs.Allocates.{stays_there, frames_stay, own_granule}
 

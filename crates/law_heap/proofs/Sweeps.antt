@@ -24,7 +24,7 @@ use Rattle.law_places.proofs.Rows.{any_take, each_take, live_any, any_live, live
 use Rattle.law_places.proofs.Fades.{faded_confined}
 use Rattle.law_registers.proofs.Derives.{code_no_heap}
 use Rattle.law_registers.proofs.Filters.{covers_live, untagged_says, granule_near}
-use Rattle.law_turns.proofs.Moves.{at_map}
+use Rattle.law_lists.proofs.Maps.{at_map}
 
 -- what is away from the heap lies over no mark
 away_unmarked : (i : Image) (s : State) (x : ℕ) → Partitioned i → Confined i s → AwayFromHeap i x → is_marked i s x ≡ false

@@ -17,7 +17,7 @@ use Rattle.def_confined.specs.Places.{InFrames, HasLive}
 use Rattle.def_confined.specs.Confined.{Confined, IsPcc, PostureFits}
 use Rattle.def_confined.specs.Partitioned.{Partitioned}
 use Rattle.def_confined.specs.Made.{Opens, Links, Derived}
-use Rattle.law_places.proofs.Turns.{changed_confined, after_written}
+use Rattle.law_places.proofs.Turns.{changed_confined, after_written, fits_as}
 use Rattle.law_registers.proofs.Derives.{Bound, kept_bound, derived_in}
 use Rattle.law_registers.proofs.Moves.{not_native_bound}
 use Rattle.law_jumps.proofs.Targets.{opened_in, opened_runs, boot_no_heap}
@@ -32,12 +32,6 @@ pub record Jumps (i : Image) (s : State) (t : ℕ) (pcc : Cap) (posture : Postur
   pub link_there : InFrames i s.objects t (thread s t).frames link
   pub link_kept : Kept i link
   pub link_live : HasLive i s.objects link
-
-pub fits_as : (i : Image) (a b : Thread) (fs : List Frame) → b.posture ≡ a.posture → PostureFits i a fs → PostureFits i b fs
-fits_as i a b [] e h = tt
-fits_as i a b (f ∷ fs) e h =
-    let P : Posture → Type 0 = λ p. p.off ≡ true → ((root i p.source).disabled ≡ true) × Reaches i.entries (root i p.source).owner f.actor in
-    subst P (sym e) h
 
 pub jumps_confined : (i : Image) (s : State) (t to : ℕ) (pcc : Cap) (posture : Posture) (link : Cap) (w : Clockwork) → Jumps i s t pcc posture link → Confined i (changed s t (jumped (thread s t) pcc posture to link) s.running w)
 jumps_confined i s t to pcc posture link w j = changed_confined i s t (jumped (thread s t) pcc posture to link) s.running w j.held (record {

@@ -2,7 +2,7 @@
 use Rattle.std.proofs.Common.{ℕ, ◌≡◌, ◌≤◌, inl, inr, ◌&&◌, Bool, true, false, not, nat_eq, List, [], ◌∷◌, refl, sym, ap, ◌∙◌, subst, arith}
 use Rattle.law_lists.proofs.Tests.{bool_tells}
 use Rattle.def_words.specs.declared.Cap.{Cap}
-use Rattle.def_words.specs.Authority.{cap_address, cap_base, cap_top}
+use Rattle.def_words.specs.Authority.{cap_address, cap_base, cap_top, cap_high}
 use Rattle.def_words.specs.Permissions.{IsLegal, Within, bit, cap_perms, has, global, store_local, execute}
 use Rattle.def_words.specs.Seals.{cap_seal}
 use Rattle.def_words.specs.Narrows.{IsOpened}
@@ -15,6 +15,10 @@ use Rattle.def_confined.specs.Places.{Placed, InFrames, WithinRun, OwnStack}
 use Rattle.def_confined.specs.Confined.{IsPcc}
 use Rattle.def_confined.specs.Partitioned.{Partitioned}
 use Rattle.def_confined.specs.Made.{IsTarget, Opens}
+use Rattle.law_words.proofs.Words.{address_back, address_small}
+use Rattle.law_words.proofs.Passing.{opened_is}
+use Rattle.def_words.specs.Jumped.{opened}
+use Rattle.def_words.specs.Capability.{with_seal_field}
 
 -- no source, no object
 opened_no_heap : (i : Image) (p : Cap) → p.shadow.source ≡ 0 → heap_cap i p ≡ false
@@ -101,3 +105,7 @@ opened_runs i c p parts x none runs r = record {
 -- what boot alone makes is of no object
 pub boot_no_heap : (i : Image) (c : Cap) → Rooted i c → IsBootType (cap_seal c) → heap_cap i c ≡ false
 boot_no_heap i c r is = opened_no_heap i c (r.boot is).source
+
+-- the opened capability of a jump is its target
+pub opened_opens : (c : Cap) → Opens c (opened c)
+opened_opens c = λ tagged. record { opened = opened_is c tagged; same_address = address_back (with_seal_field (cap_high c) 0) (cap_address c) (address_small c) }

@@ -15,7 +15,7 @@ use Rattle.def_confined.specs.Places.{Placed, InFrames, OwnStack}
 use Rattle.def_confined.specs.Confined.{Confined, IsPcc, PostureFits}
 use Rattle.def_confined.specs.Licensed.{Licensed, OffLicensed, IsDeviceAccess}
 use Rattle.law_licensed.specs.Uses.{IsUse, GatesOfExports}
-use Rattle.law_calls.proofs.Givens.{no_heap_of}
+use Rattle.law_places.proofs.Places.{no_heap_of}
 use Rattle.law_registers.proofs.Derives.{code_no_heap}
 
 placed : (i : Image) (s : State) (t n : ℕ) (f : Frame) (fs : List Frame) → Confined i s → (thread s t).frames ≡ f ∷ fs → (register (thread s t) n).tag ≡ true → Placed i s.objects (λ d. d ≡ f.actor) (OwnStack i t (f ∷ fs)) (register (thread s t) n)

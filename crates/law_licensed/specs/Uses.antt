@@ -9,7 +9,7 @@ use Rattle.def_reach.specs.Sharing.{Reaches}
 use Rattle.def_machine.specs.Image.{Image, root, stack_entry}
 use Rattle.def_machine.specs.State.{Object}
 use Rattle.def_machine.specs.Objects.{Any}
-use Rattle.def_machine.specs.Heap.{object_rights}
+use Rattle.def_profile.specs.declared.rights.TheConstants.{HEAP_RIGHTS}
 use Rattle.def_confined.specs.Capabilities.{heap_cap, stack_cap}
 use Rattle.def_confined.specs.Places.{LiveCovers}
 
@@ -22,7 +22,7 @@ pub record IsUse (i : Image) (objects : List Object) (t actor : ℕ) (c : Cap) :
   pub range : heap_cap i c ≡ false → ((root i c.shadow.root).base ≤ cap_base c) × (cap_top c ≤ (root i c.shadow.root).top)
   pub rights : heap_cap i c ≡ false → Within (cap_perms c) (root i c.shadow.root).rights
   pub heap : heap_cap i c ≡ true → (i.heap_base ≤ cap_base c) × (cap_top c ≤ i.heap_end)
-  pub heap_rights : heap_cap i c ≡ true → Within (cap_perms c) object_rights
+  pub heap_rights : heap_cap i c ≡ true → Within (cap_perms c) HEAP_RIGHTS
   pub live : heap_cap i c ≡ true → cap_base c < cap_top c → Any (LiveCovers c) objects
 
 -- gates are of exports alone

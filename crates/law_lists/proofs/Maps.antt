@@ -21,3 +21,9 @@ pub step : {A : Type 0} (f : A → A) (xs now : List A) (n : ℕ) (d y : A) → 
 step f xs now n d y is lt y_is =
     let next : n + 1 ≡ suc n = omega arith in
     rw (next, y_is, is) (stepped f xs n d lt)
+
+-- what holds of the default and of the mapped element holds after the map
+pub at_map : {A : Type 0} (P : A → Type 0) (f : A → A) (xs : List A) (k : ℕ) (z : A) → P z → P (f (get_or xs k z)) → P (get_or (map f xs) k z)
+at_map P f [] k z none h = none
+at_map P f (x ∷ xs) zero z none h = h
+at_map P f (x ∷ xs) (suc k) z none h = at_map P f xs k z none h

@@ -9,7 +9,8 @@ use Rattle.def_words.specs.LeastBounds.{rounded_of}
 use Rattle.def_words.specs.Permissions.{IsLegal, Within, bit, has, cap_perms, global, store_local, execute, normal_set, set_where, form_of, unpacked}
 use Rattle.def_words.specs.Derive.{derive, memory_root, root_cap}
 use Rattle.def_words.specs.Narrows.{IsMade}
-use Rattle.law_words.specs.Facts.{IsRoot}
+use Rattle.law_words.specs.Facts.{Spells}
+use Rattle.law_words.proofs.Rights.{heap_legal, heap_not_local, heap_spelled, memory_is_root, stack_legal, stack_not_global, stack_spelled}
 use Rattle.law_words.proofs.Narrowing.{addressed, exact_set}
 use Rattle.law_words.proofs.Making.{derive_makes}
 use Rattle.law_words.proofs.Away.{address_away, masked_away}
@@ -17,8 +18,8 @@ use Rattle.ct_entry.specs.declared.rows.Kind.TheVariants as kinds
 use Rattle.def_reach.specs.Roots.{Listing, is_quota, is_stack, is_native, is_root}
 use Rattle.def_machine.specs.Image.{Image, root, made_cap, stack_entry, stack_base, stack_top}
 use Rattle.def_machine.specs.State.{Object}
-use Rattle.def_machine.specs.Frames.{stack_rights}
-use Rattle.def_machine.specs.Heap.{object_rights, object_cap}
+use Rattle.def_profile.specs.declared.rights.TheConstants.{STACK_RIGHTS, HEAP_RIGHTS}
+use Rattle.def_machine.specs.Heap.{object_cap}
 use Rattle.def_confined.specs.Capabilities.{Rooted, AsBoot, IsBootType, IsReturnType}
 use Rattle.def_confined.specs.Confined.{ObjectFits}
 use Rattle.def_confined.specs.Partitioned.{Partitioned}
@@ -33,7 +34,7 @@ pub record Allows (i : Image) (from : Shadow) (low high set at kind : ℕ) : Typ
   pub range : of_heap i from ≡ false → ((root i from.root).base ≤ low) × (high ≤ (root i from.root).top)
   pub heap : of_heap i from ≡ true → (i.heap_base ≤ low) × (high ≤ i.heap_end)
   pub rights : of_heap i from ≡ false → Within set (root i from.root).rights
-  pub heap_rights : of_heap i from ≡ true → Within set object_rights
+  pub heap_rights : of_heap i from ≡ true → Within set HEAP_RIGHTS
   pub local : bit set store_local ≡ true → is_stack (root i from.root).origin ≡ true
   pub held : is_stack (root i from.root).origin ≡ true → bit set global ≡ false
   pub returns : IsReturnType kind → (low < high) × (bit set execute ≡ true) × (of_heap i from ≡ false)
@@ -58,8 +59,8 @@ made_rooted i d from low high set at kind m e a boots =
           let Q : ℕ → Type 0 = λ n. of_heap i from ≡ false → Within n (root i from.root).rights in
           subst P (sym e) (subst Q (sym m.rights_are) a.rights);
       heap_rights =
-          let P : Shadow → Type 0 = λ s. of_heap i s ≡ true → Within (cap_perms d) object_rights in
-          let Q : ℕ → Type 0 = λ n. of_heap i from ≡ true → Within n object_rights in
+          let P : Shadow → Type 0 = λ s. of_heap i s ≡ true → Within (cap_perms d) HEAP_RIGHTS in
+          let Q : ℕ → Type 0 = λ n. of_heap i from ≡ true → Within n HEAP_RIGHTS in
           subst P (sym e) (subst Q (sym m.rights_are) a.heap_rights);
       local =
           let P : Shadow → Type 0 = λ s. has d store_local ≡ true → is_stack (root i s.root).origin ≡ true in
@@ -91,7 +92,7 @@ derive_exact high base length set address from low fits small tagged =
       | inl is ↦ is
       | inr none ↦
           let gone : (with_address (masked (with_exact_bounds (with_address (root_cap high from) base) length) set) address).tag ≡ false =
-          address_away (masked (with_exact_bounds (with_address (root_cap high from) base) length) set) address small (masked_away (with_exact_bounds (with_address (root_cap high from) base) length) set none) in
+          address_away (masked (with_exact_bounds (with_address (root_cap high from) base) length) set) address (masked_away (with_exact_bounds (with_address (root_cap high from) base) length) set none) in
           absurd (let clash : true ≡ false = sym tagged ∙ gone in cc)
     ] in
     let says = exact_set (with_address (root_cap high from) base) length there in
@@ -100,38 +101,6 @@ derive_exact high base length set address from low fits small tagged =
     let P : ℕ → Type 0 = λ n. (rounded_of n (end_at n length)).exact ≡ true in
     let Q : ℕ → Type 0 = λ n. (rounded_of base n).exact ≡ true in
     subst Q ends (subst P at says.1)
-
-memory_is_root : IsRoot memory_root
-unfolding memory_root
-memory_is_root = record { low = refl; unsealed = refl }
-
-memory_spells : unpacked (permission_bits memory_root) ≡ 127
-unfolding memory_root unpacked set_where bit
-memory_spells = refl
-
-stack_set : normal_set (bit_and (unpacked (permission_bits memory_root)) 126) ≡ 126
-unfolding memory_root unpacked normal_set set_where form_of bit
-stack_set = refl
-
-stack_legal : IsLegal 126
-unfolding normal_set set_where form_of bit
-stack_legal = refl
-
-stack_not_global : bit 126 0 ≡ false
-unfolding bit
-stack_not_global = refl
-
-object_set : normal_set (bit_and (unpacked (permission_bits memory_root)) 111) ≡ 111
-unfolding memory_root unpacked normal_set set_where form_of bit
-object_set = refl
-
-object_legal : IsLegal 111
-unfolding normal_set set_where form_of bit
-object_legal = refl
-
-object_not_local : bit 111 4 ≡ false
-unfolding bit
-object_not_local = refl
 
 not_boot : IsBootType 0 → ⊥
 not_boot (inl e) = let clash : 0 ≡ 1 = e in omega (arith, clash)
@@ -144,7 +113,7 @@ not_return : IsReturnType 0 → ⊥
 not_return (inl e) = let clash : 0 ≡ 4 = e in omega (arith, clash)
 not_return (inr e) = let clash : 0 ≡ 5 = e in omega (arith, clash)
 
-memory_made : (base length set address : ℕ) (from : Shadow) → normal_set (bit_and (unpacked (permission_bits memory_root)) set) ≡ set → base < 2 ^ 32 → base + length ≤ 2 ^ 32 → base ≤ address → address ≤ base + length → address < 2 ^ 32 → (derive memory_root base length set address 0 from).tag ≡ true
+memory_made : (base length set address : ℕ) (from : Shadow) → Spells memory_root set → base < 2 ^ 32 → base + length ≤ 2 ^ 32 → base ≤ address → address ≤ base + length → address < 2 ^ 32 → (derive memory_root base length set address 0 from).tag ≡ true
     → IsMade base (base + length) set address 0 (derive memory_root base length set address 0 from) × ((derive memory_root base length set address 0 from).shadow ≡ from)
 memory_made base length set address from normal low fits starts ends small tagged =
     let made = derive_makes memory_root base length set address 0 from (record {
@@ -162,16 +131,16 @@ memory_made base length set address from normal low fits starts ends small tagge
 
 -- the stack that the switcher gives: up to `high`, with the shadow of a capability of the stack's root
 pub stack_made : (i : Image) (t high : ℕ) (from : Shadow) → Partitioned i → (root i (stack_entry i t)).origin ≡ Listing kinds.Stack → from.root ≡ stack_entry i t → stack_base i t ≤ high → high ≤ stack_top i t
-    → (derive memory_root (stack_base i t) (high - stack_base i t) stack_rights high 0 from).tag ≡ true → IsStackUpTo i t high (derive memory_root (stack_base i t) (high - stack_base i t) stack_rights high 0 from)
+    → (derive memory_root (stack_base i t) (high - stack_base i t) STACK_RIGHTS high 0 from).tag ≡ true → IsStackUpTo i t high (derive memory_root (stack_base i t) (high - stack_base i t) STACK_RIGHTS high 0 from)
 stack_made i t high from p kind_is roots low ends tagged =
     let are = p.stacks_are (stack_entry i t) kind_is in
     let end : stack_base i t + (high - stack_base i t) ≡ high = omega (arith, low) in
-    let made = memory_made (stack_base i t) (high - stack_base i t) 126 high from stack_set (omega (arith, low, ends, are.1)) (omega (arith, low, ends, are.1)) low (omega (arith, low)) (omega (arith, ends, are.1)) tagged in
-    let d : Cap = derive memory_root (stack_base i t) (high - stack_base i t) stack_rights high 0 from in
+    let made = memory_made (stack_base i t) (high - stack_base i t) STACK_RIGHTS high from stack_spelled (omega (arith, low, ends, are.1)) (omega (arith, low, ends, are.1)) low (omega (arith, low)) (omega (arith, ends, are.1)) tagged in
+    let d : Cap = derive memory_root (stack_base i t) (high - stack_base i t) STACK_RIGHTS high 0 from in
     let is : (root i from.root).origin ≡ Listing kinds.Stack = let P : ℕ → Type 0 = λ n. (root i n).origin ≡ Listing kinds.Stack in subst P (sym roots) kind_is in
     let no_heap : of_heap i from ≡ false = ap (λ b. b && not (nat_eq from.source 0)) (ap is_quota is) in
-    let rooted : Rooted i (derive memory_root (stack_base i t) (high - stack_base i t) stack_rights high 0 from) =
-    made_rooted i (derive memory_root (stack_base i t) (high - stack_base i t) stack_rights high 0 from) from (stack_base i t) (stack_base i t + (high - stack_base i t)) 126 high 0 made.0 made.1 (record {
+    let rooted : Rooted i (derive memory_root (stack_base i t) (high - stack_base i t) STACK_RIGHTS high 0 from) =
+    made_rooted i (derive memory_root (stack_base i t) (high - stack_base i t) STACK_RIGHTS high 0 from) from (stack_base i t) (stack_base i t + (high - stack_base i t)) STACK_RIGHTS high 0 made.0 made.1 (record {
       order = omega (arith, low);
       roots = ap is_root is;
       legal = stack_legal;
@@ -199,18 +168,18 @@ pub object_made : (i : Image) (next : ℕ) (r : Object) → Partitioned i → (r
 object_made i next r p kind_is f first some tagged =
     let small = p.heap_small in
     let from : Shadow = record { root = r.quota; source = r.number } in
-    let made = memory_made r.base r.length 111 r.base (record { root = r.quota; source = r.number }) object_set (omega (arith, f.high, small, some)) (omega (arith, f.high, small)) (omega arith) (omega arith) (omega (arith, f.high, small, some)) tagged in
+    let made = memory_made r.base r.length HEAP_RIGHTS r.base (record { root = r.quota; source = r.number }) heap_spelled (omega (arith, f.high, small, some)) (omega (arith, f.high, small)) (omega arith) (omega arith) (omega (arith, f.high, small, some)) tagged in
     let numbered : not (nat_eq r.number 0) ≡ true = elim (eq_tells r.number 0) [ inl e ↦ absurd (omega (arith, e.1, first)) | inr e ↦ ap not e.0 ] in
     let in_heap : of_heap i (record { root = r.quota; source = r.number }) ≡ true = ap (λ b. b && not (nat_eq r.number 0)) (ap is_quota kind_is) ∙ numbered in
-    let rooted : Rooted i (object_cap r) = made_rooted i (object_cap r) (record { root = r.quota; source = r.number }) r.base (r.base + r.length) 111 r.base 0 made.0 made.1 (record {
+    let rooted : Rooted i (object_cap r) = made_rooted i (object_cap r) (record { root = r.quota; source = r.number }) r.base (r.base + r.length) HEAP_RIGHTS r.base 0 made.0 made.1 (record {
       order = omega arith;
       roots = ap is_root kind_is;
-      legal = object_legal;
+      legal = heap_legal;
       range = λ no. absurd (let clash : true ≡ false = sym in_heap ∙ no in cc);
       heap = λ is. (omega (arith, f.low), f.high);
       rights = λ no. absurd (let clash : true ≡ false = sym in_heap ∙ no in cc);
       heap_rights = λ is b there. there;
-      local = λ there. absurd (let clash : true ≡ false = sym there ∙ object_not_local in cc);
+      local = λ there. absurd (let clash : true ≡ false = sym there ∙ heap_not_local in cc);
       held = λ stack. absurd (let clash : true ≡ false = sym stack ∙ ap is_stack kind_is in cc);
       returns = λ any. absurd (not_return any);
       off = λ four. let clash : 0 ≡ 4 = four in omega (arith, clash);

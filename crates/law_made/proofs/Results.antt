@@ -70,11 +70,5 @@ address_runs c a small runs tagged =
 pub raised_runs : (c : Cap) (n : ℕ) → has c execute ≡ true → (raised c n).tag ≡ true → (cap_seal (raised c n) ≡ 0) × (has (raised c n) execute ≡ true)
 raised_runs c n = address_runs c ((cap_address c + n) % 2 ^ 32) (omega arith)
 
-address_in_word : (high word : ℕ) → (high * 2 ^ 32 + word % 2 ^ 32) % 2 ^ 32 ≡ word % 2 ^ 32
-address_in_word high word = mod-mul-add high (2 ^ 32) (word % 2 ^ 32) (mod_below word (2 ^ 32) (pow_pos 32))
-
-pub opened_opens : (c : Cap) → Opens c (opened c)
-opened_opens c = λ tagged. record { opened = opened_is c tagged; same_address = address_in_word (with_seal_field (cap_high c) 0) c.word }
-
 pub linked_links : (pcc : Cap) (before : Posture) → has pcc execute ≡ true → Links pcc before (linked pcc before)
 linked_links pcc before runs = λ tagged. linked_is pcc before runs tagged

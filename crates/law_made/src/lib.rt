@@ -17,7 +17,8 @@ ghost use Rattle.ct_entry.specs.declared.rows.Kind.TheVariants.{Stack, Quota};
 ghost use Rattle.def_reach.specs.Roots.{Listing};
 ghost use Rattle.def_machine.specs.Image.{Image, root, stack_entry, stack_base, stack_top};
 ghost use Rattle.def_machine.specs.State.{State, Frame, Object, register, thread};
-ghost use Rattle.def_machine.specs.Frames.{given, stack_rights};
+ghost use Rattle.def_profile.specs.declared.rights.TheConstants.{STACK_RIGHTS};
+ghost use Rattle.def_machine.specs.Frames.{given};
 ghost use Rattle.def_machine.specs.Objects.{charges};
 ghost use Rattle.def_machine.specs.Heap.{object_cap, Fits, length_for, charge_for, new_object};
 ghost use Rattle.def_confined.specs.Capabilities.{Rooted, IsReturnType};
@@ -52,7 +53,7 @@ pub fn jumps_made()
 
 /// What the switcher gives a callee, where the checks of a call passed, is as the law of a call takes it.
 pub fn calls_made()
-    ensures stack { (i : Image) (t high : ℕ) (from : Shadow) → Partitioned i → (root i (stack_entry i t)).origin ≡ Listing Stack → from.root ≡ stack_entry i t → stack_base i t ≤ high → high ≤ stack_top i t → (derive memory_root (stack_base i t) (high - stack_base i t) stack_rights high 0 from).tag ≡ true → IsStackUpTo i t high (derive memory_root (stack_base i t) (high - stack_base i t) stack_rights high 0 from) }
+    ensures stack { (i : Image) (t high : ℕ) (from : Shadow) → Partitioned i → (root i (stack_entry i t)).origin ≡ Listing Stack → from.root ≡ stack_entry i t → stack_base i t ≤ high → high ≤ stack_top i t → (derive memory_root (stack_base i t) (high - stack_base i t) STACK_RIGHTS high 0 from).tag ≡ true → IsStackUpTo i t high (derive memory_root (stack_base i t) (high - stack_base i t) STACK_RIGHTS high 0 from) }
     ensures enters { (i : Image) (s : State) (t : ℕ) (g : Frame) (gs : List Frame) (callee export high : ℕ) → Partitioned i → Confined i s → s.running ≡ Some t → (thread s t).frames ≡ g ∷ gs → (register (thread s t) 1).tag ≡ true → IsReturnType (cap_seal (register (thread s t) 1)) → (register (thread s t) 6).tag ≡ true → cap_seal (register (thread s t) 6) ≡ 9 → (root i (register (thread s t) 6).shadow.root).of ≡ export → (root i export).owner ≡ Compartment callee → (register (thread s t) 2).tag ≡ true → has (register (thread s t) 2) store_local ≡ true → high % 16 ≡ 0 → stack_base i t ≤ high → high ≤ g.top → Enters i s t g gs callee export high (given i (thread s t) t callee export high) }
 {}
 

@@ -15,7 +15,7 @@ use Rattle.def_confined.specs.Capabilities.{heap_cap, stack_cap}
 use Rattle.def_confined.specs.Places.{Placed, LiveCovers, LiveAt, HeapDomain, InFrames}
 use Rattle.def_confined.specs.Confined.{AllApart}
 use Rattle.def_confined.specs.Partitioned.{Partitioned}
-use Rattle.law_places.proofs.Reaching.{own_joined, joined_sym, joined_trans, joined_edge}
+use Rattle.law_reach.proofs.Joins.{own_joined, joined_sym, joined_trans, joined_edge}
 use Rattle.law_places.proofs.Rows.{any_map, one_at}
 
 pub quota_is : (o : Origin) → is_quota o ≡ true → o ≡ Listing Quota
@@ -45,7 +45,7 @@ no_stack_of i c o is none stack = let clash : true ≡ false = sym stack ∙ ap 
 pub owner_joined : (i : Image) (objects : List Object) (f a : ℕ) (S : Cap → Type 0) (c : Cap) → Partitioned i → Placed i objects (λ d. d ≡ f) S c → is_owned (root i c.shadow.root).origin ≡ true → (root i c.shadow.root).owner ≡ Compartment a → Joined i.entries a f
 owner_joined i objects f a S c p h owned is =
     let P : Owner → Type 0 = λ o. Reaches i.entries o f in
-    own_joined i p a f (subst P is (h.owner owned f refl))
+    own_joined i.entries a f (subst P is (h.owner owned f refl))
 
 pub quota_owned : (o : Origin) → o ≡ Listing Quota → is_owned o ≡ true
 quota_owned o e = ap is_owned e

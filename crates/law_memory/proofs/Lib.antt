@@ -1,3 +1,4 @@
 pub mod Authorities
 pub mod Stores
 pub mod Loading
+pub mod Filtering

@@ -18,7 +18,7 @@ use Rattle.def_confined.specs.Places.{Placed, InFrames, InRegion, OwnStack, NoSt
 use Rattle.def_confined.specs.Confined.{Confined}
 use Rattle.def_confined.specs.Partitioned.{Partitioned, Loads}
 use Rattle.def_confined.specs.Made.{Derived}
-use Rattle.law_places.proofs.Reaching.{reaches_on}
+use Rattle.law_reach.proofs.Joins.{reaches_on}
 use Rattle.law_places.proofs.Places.{carry, tops_back, plain_in}
 use Rattle.law_places.proofs.Turns.{put_register_confined}
 use Rattle.law_registers.proofs.Derives.{kept_bound, derived_in, derived_kept}

@@ -19,7 +19,7 @@ use Rattle.def_confined.specs.Capabilities.{Kept, heap_cap, stack_cap}
 use Rattle.def_confined.specs.Places.{Placed, InFrames, InRegion, OwnStack, NoStack, HeapDomain, LiveCovers, outer}
 use Rattle.def_confined.specs.Confined.{Confined, FramesHold}
 use Rattle.def_confined.specs.Partitioned.{Partitioned, Open, Carries}
-use Rattle.law_places.proofs.Reaching.{joined_sym}
+use Rattle.law_reach.proofs.Joins.{joined_sym}
 use Rattle.law_places.proofs.Places.{given, carry, outer_joins}
 use Rattle.law_places.proofs.Puts.{plain_kept, plain_region, put_confined}
 use Rattle.law_memory.proofs.Authorities.{heap_quota, no_stack_of, owner_joined, whole_granule, domain_there, domain_joined, share_joined, headed}

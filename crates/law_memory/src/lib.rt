@@ -13,6 +13,7 @@ ghost use Rattle.def_machine.specs.Registers.{put_register};
 ghost use Rattle.def_confined.specs.Confined.{Confined};
 ghost use Rattle.def_confined.specs.Partitioned.{Partitioned};
 ghost use Rattle.def_confined.specs.Made.{Derived};
+ghost use Rattle.law_memory.specs.Filters.{heap_filtered};
 
 /// A store of a capability, which keeps its tag only as the authorising one allows, and a store of plain
 /// bytes.
@@ -25,4 +26,9 @@ pub fn store_moves()
 /// load capabilities, comes into a register through the load filter.
 pub fn load_moves()
     ensures { (i : Image) (s : State) (t n at x : ℕ) (d : Cap) → Partitioned i → Confined i s → s.running ≡ Some t → i.ram ≤ x → (register (thread s t) at).tag ≡ true → has (register (thread s t) at) load_data ≡ true → cap_base (register (thread s t) at) ≤ x → x < cap_top (register (thread s t) at) → x % 8 ≡ 0 → Derived (granule s (granule_of i x)).cap d → (d.tag ≡ true → has (register (thread s t) at) memory_capability ≡ true) → Confined i (put_register s t n (filtered i s d)) }
+{}
+
+/// In a confined state the load filter looks at the heap alone: no granule elsewhere is marked.
+pub fn filter_is_the_heaps()
+    ensures { (i : Image) (s : State) (c : Cap) → Partitioned i → Confined i s → filtered i s c ≡ heap_filtered i s c }
 {}

@@ -19,9 +19,9 @@ use Rattle.def_machine.specs.Frames.{returned}
 use Rattle.def_confined.specs.Capabilities.{Rooted, Kept, IsBootType, heap_cap}
 use Rattle.def_confined.specs.Places.{Placed, InFrames, InRegion, OwnStack, HasLive}
 use Rattle.def_confined.specs.Confined.{IsPcc, PostureFits, SavedKept}
-use Rattle.law_places.proofs.Reaching.{reaches_own, joined_is}
+use Rattle.law_reach.proofs.Joins.{reaches_own, joined_is}
 use Rattle.law_places.proofs.Puts.{plain_kept}
-use Rattle.law_calls.proofs.Pushes.{all_of}
+use Rattle.law_places.proofs.Places.{all_of}
 use Rattle.law_made.proofs.Makes.{made_rooted}
 use Rattle.law_example.proofs.Mades.{make, executable_is_root, memory_is_root, normal_executable_root_353, normal_memory_root_111, kind_353, legal_353, legal_111}
 use Rattle.law_needed.specs.Loosely.{LooseFrames, Loosely}

@@ -1,4 +1,3 @@
-pub mod Reaching
 pub mod Rows
 pub mod Places
 pub mod Puts

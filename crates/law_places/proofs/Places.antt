@@ -1,14 +1,17 @@
 -- Places and their domains.
-use Rattle.std.proofs.Common.{ℕ, ◌≡◌, ◌≤◌, ◌<◌, inl, inr, true, false, List, [], ◌∷◌, refl, sym, ◌∙◌, subst, arith}
+use Rattle.std.proofs.Common.{ℕ, ◌≡◌, ◌≤◌, ◌<◌, inl, inr, true, false, List, [], ◌∷◌, refl, sym, ◌∙◌, subst, arith, zero, suc, ap, ◌&&◌, not, nat_eq}
 use Rattle.law_lists.proofs.Tests.{lt_tells}
 use Rattle.def_words.specs.declared.Cap.{Cap}
 use Rattle.def_reach.specs.Sharing.{Joined}
 use Rattle.def_machine.specs.Image.{Image, root}
 use Rattle.def_machine.specs.State.{Frame, Object}
-use Rattle.def_confined.specs.Capabilities.{stack_cap}
+use Rattle.def_confined.specs.Capabilities.{stack_cap, heap_cap}
 use Rattle.def_confined.specs.Places.{Placed, InFrames, WithinRun, OwnStack, outer}
 use Rattle.def_confined.specs.Confined.{FramesHold}
-use Rattle.law_places.proofs.Reaching.{joined_refl, joined_trans, joined_sym, reaches_on}
+use Rattle.law_reach.proofs.Joins.{joined_refl, joined_trans, joined_sym, reaches_on}
+use Rattle.def_reach.specs.Roots.{Origin, is_quota}
+use Rattle.def_machine.specs.Objects.{Each}
+use Rattle.std.proofs.Math.ListN.{get_or}
 
 -- an untagged word may stand in every place of a thread
 pub plain_in : (i : Image) (objects : List Object) (t : ℕ) (fs : List Frame) (c : Cap) → c.tag ≡ false → InFrames i objects t fs c
@@ -82,3 +85,13 @@ tops_back i (f ∷ g ∷ fs) x a w lt = elim (lt_tells a f.top) [
     | inr more ↦ rw e.0 (nearer i f g fs (outer (g ∷ fs) a) more.0 (tops_back i (g ∷ fs) x a more.1 lt))
   ]
 ]
+
+-- what isn't of a quota isn't of the heap
+pub no_heap_of : (i : Image) (c : Cap) (o : Origin) → (root i c.shadow.root).origin ≡ o → is_quota o ≡ false → heap_cap i c ≡ false
+no_heap_of i c o is none = ap (λ b. b && not (nat_eq c.shadow.source 0)) (ap is_quota is ∙ none)
+
+-- what holds of each of a list and of the default holds at each place
+pub all_of : (P : Cap → Type 0) (xs : List Cap) (z : Cap) → P z → Each P xs → (n : ℕ) → P (get_or xs n z)
+all_of P [] z none h n = none
+all_of P (x ∷ xs) z none h zero = h.0
+all_of P (x ∷ xs) z none h (suc n) = all_of P xs z none h.1 n

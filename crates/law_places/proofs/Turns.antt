@@ -1,11 +1,11 @@
 -- One thread changes and its frames stay; the clockwork goes on.
-use Rattle.std.proofs.Common.{ℕ, zero, suc, ◌≡◌, true, false, List, Option, Some, refl, sym, subst}
+use Rattle.std.proofs.Common.{ℕ, zero, suc, ◌≡◌, true, false, List, Option, Some, refl, sym, subst, [], ◌∷◌}
 use Rattle.law_lists.proofs.Sets.{after_set, after_set_at, after_set_split}
 use Rattle.std.proofs.Math.ListN.{get_or}
 use Rattle.def_words.specs.declared.Cap.{Cap}
 use Rattle.def_memory.specs.declared.Granule.{Granule}
 use Rattle.def_memory.specs.Granules.{plain}
-use Rattle.def_machine.specs.Image.{Image, Region, Fixed, Globals, Shared, HeapRam, Stack, Bare, region, address_of}
+use Rattle.def_machine.specs.Image.{Image, Region, Fixed, Globals, Shared, HeapRam, Stack, Bare, region, address_of, root}
 use Rattle.def_machine.specs.State.{State, Thread, Frame, granule, thread, register, nobody}
 use Rattle.def_machine.specs.Registers.{written, with_registers, put_register}
 use Rattle.def_machine.specs.Threads.{Clockwork, changed}
@@ -14,6 +14,8 @@ use Rattle.def_confined.specs.Capabilities.{Kept}
 use Rattle.def_confined.specs.Places.{InRegion, InFrames, HasLive, outer}
 use Rattle.def_confined.specs.Confined.{Confined, FramesHold, PostureFits, IsPcc, SavedKept}
 use Rattle.def_confined.specs.Changes.{Changes}
+use Rattle.def_words.specs.declared.Posture.{Posture}
+use Rattle.def_reach.specs.Sharing.{Reaches}
 
 region_stays : (i : Image) (s : State) (t : ℕ) (new : Thread) (run : Option ℕ) (w : Clockwork) (k : ℕ) (r : Region) (g : Granule) → new.frames ≡ (thread s t).frames → InRegion i s k r g → InRegion i (changed s t new run w) k r g
 region_stays i s t new run w k Fixed g e h = h
@@ -87,3 +89,10 @@ put_register_confined i s t n c h placed kept live = registers_confined i s t (w
     (λ k. after_written (λ d. InFrames i s.objects t (thread s t).frames d) (thread s t).registers n k c placed (h.registers t k))
     (λ k. after_written (Kept i) (thread s t).registers n k c kept (h.kept.registers t k))
     (λ is k. after_written (HasLive i s.objects) (thread s t).registers n k c (live is) (h.live t is k))
+
+-- a thread of the same posture fits its frames as well
+pub fits_as : (i : Image) (a b : Thread) (fs : List Frame) → b.posture ≡ a.posture → PostureFits i a fs → PostureFits i b fs
+fits_as i a b [] e h = tt
+fits_as i a b (f ∷ fs) e h =
+    let P : Posture → Type 0 = λ p. p.off ≡ true → ((root i p.source).disabled ≡ true) × Reaches i.entries (root i p.source).owner f.actor in
+    subst P (sym e) h

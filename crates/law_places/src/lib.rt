@@ -1,16 +1,12 @@
-//! Laws that every move stands on: what a list of edges gives, and that each general kind of change
-//! keeps a state confined. Each is a public function with an empty body whose contract is the law;
-//! the lemmas stand in proofs/ and are cited from there by the laws of the moves.
+//! Laws that every move stands on: each general kind of change keeps a state confined. Each is a
+//! public function with an empty body whose contract is the law; the lemmas stand in proofs/ and are
+//! cited from there by the laws of the moves.
 #![tactic(auto)]
 
 ghost use Rattle.std.specs.Prelude.{◌≡◌, ℕ, List, Option, Some, slice_set, slice_index_or};
 ghost use Rattle.def_words.specs.declared.Cap.{Cap};
 ghost use Rattle.def_memory.specs.declared.Granule.{Granule};
 ghost use Rattle.def_memory.specs.Granules.{plain};
-ghost use Rattle.ct_entry.specs.declared.rows.Owner.{Owner};
-ghost use Rattle.ct_entry.specs.declared.rows.Owner.TheVariants.{Compartment};
-ghost use Rattle.ct_entry.specs.Listed.{Listed};
-ghost use Rattle.def_reach.specs.Sharing.{Joined, Reaches};
 ghost use Rattle.def_machine.specs.Image.{Image, region};
 ghost use Rattle.def_machine.specs.State.{State, Thread, granule, thread};
 ghost use Rattle.def_machine.specs.Registers.{with_registers, put_register};
@@ -21,16 +17,6 @@ ghost use Rattle.def_confined.specs.Places.{InRegion, InFrames, HasLive};
 ghost use Rattle.def_confined.specs.Confined.{Confined};
 ghost use Rattle.def_confined.specs.Partitioned.{Partitioned};
 ghost use Rattle.def_confined.specs.Changes.{Changes, Turned, StateFades};
-
-/// To reach is an equivalence among compartments; what an owner reaches goes along it, and a
-/// compartment's own reach is that.
-pub fn reach()
-    ensures own { (e : Listed) (a : ℕ) → Joined e a a }
-    ensures along { (e : Listed) (a b c : ℕ) → Joined e a b → Joined e b c → Joined e a c }
-    ensures back { (e : Listed) (a b : ℕ) → Joined e a b → Joined e b a }
-    ensures owners { (e : Listed) (o : Owner) (a b : ℕ) → Reaches e o a → Joined e a b → Reaches e o b }
-    ensures compartments { (i : Image) → Partitioned i → (a b : ℕ) → Reaches i.entries (Compartment a) b → Joined i.entries a b }
-{}
 
 /// One granule gets another capability that may stand there.
 pub fn one_granule()

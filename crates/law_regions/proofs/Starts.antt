@@ -19,10 +19,10 @@ use Rattle.def_confined.specs.Capabilities.{Rooted, Kept, heap_cap}
 use Rattle.def_confined.specs.Places.{InFrames, OwnStack}
 use Rattle.def_confined.specs.Confined.{FramesHold, PostureFits, IsPcc, SavedKept}
 use Rattle.law_places.proofs.Puts.{plain_kept}
-use Rattle.law_places.proofs.Reaching.{reaches_own, joined_is}
+use Rattle.law_reach.proofs.Joins.{reaches_own, joined_is}
 use Rattle.law_registers.proofs.Derives.{Bound, kept_bound, derived_in}
 use Rattle.law_made.proofs.Results.{address_derived, address_runs}
-use Rattle.law_calls.proofs.Pushes.{all_of}
+use Rattle.law_places.proofs.Places.{all_of}
 use Rattle.def_step.specs.Firmware.{IsLawfulFirmware, IsStarter, StackRange}
 use Rattle.def_step.specs.Boot.{image_of, boot_state, made_for, home_of, compartment_of, stack_top_of, stack_number, code_number, globals_number, first_frame, first_pcc, first_registers, first_posture, first_thread, first_threads}
 use Rattle.law_entries.specs.Rows.{IsExportOf, HasStack}

@@ -11,7 +11,7 @@ use Rattle.ct_entry.specs.declared.rows.Kind.TheVariants.{Code, Globals, Stack, 
 use Rattle.def_reach.specs.Roots.{Origin, Unknown, TrustedPart, Listing, is_quota, is_stack, is_native, is_root, is_owned, is_code}
 use Rattle.def_reach.specs.Sharing.{Reaches}
 use Rattle.def_machine.specs.Image.{Image, root, made_cap, stack_entry}
-use Rattle.def_machine.specs.Heap.{object_rights}
+use Rattle.def_profile.specs.declared.rights.TheConstants.{HEAP_RIGHTS}
 use Rattle.def_machine.specs.State.{Frame, Object}
 use Rattle.def_machine.specs.Objects.{Any}
 use Rattle.def_confined.specs.Capabilities.{Rooted, AsBoot, IsBootType, IsReturnType, Kept, heap_cap}
@@ -97,7 +97,7 @@ derived_rooted i c d x bound r =
           let P : Shadow → Type 0 = λ s. of_heap i s ≡ false → Within (cap_perms d) (root i s.root).rights in
           subst P (sym e) (λ no p there. r.rights no p (x.narrows.rights p there));
       heap_rights =
-          let P : Shadow → Type 0 = λ s. of_heap i s ≡ true → Within (cap_perms d) object_rights in
+          let P : Shadow → Type 0 = λ s. of_heap i s ≡ true → Within (cap_perms d) HEAP_RIGHTS in
           subst P (sym e) (λ is p there. r.heap_rights is p (x.narrows.rights p there));
       local =
           let P : Shadow → Type 0 = λ s. has d store_local ≡ true → is_stack (root i s.root).origin ≡ true in

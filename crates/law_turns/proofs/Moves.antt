@@ -13,15 +13,10 @@ use Rattle.def_confined.specs.Confined.{Confined, IsPcc}
 use Rattle.def_confined.specs.Partitioned.{Partitioned}
 use Rattle.law_places.proofs.Places.{plain_in}
 use Rattle.law_places.proofs.Puts.{plain_kept}
-use Rattle.law_places.proofs.Turns.{changed_confined}
+use Rattle.law_places.proofs.Turns.{changed_confined, fits_as}
 use Rattle.law_registers.proofs.Filters.{filter_case, filter_in, filter_kept, filter_live, in_object}
-use Rattle.law_jumps.proofs.Moves.{fits_as}
 
--- what holds of the default and of the mapped element holds after the map
-pub at_map : {A : Type 0} (P : A → Type 0) (f : A → A) (xs : List A) (k : ℕ) (z : A) → P z → P (f (get_or xs k z)) → P (get_or (map f xs) k z)
-at_map P f [] k z none h = none
-at_map P f (x ∷ xs) zero z none h = h
-at_map P f (x ∷ xs) (suc k) z none h = at_map P f xs k z none h
+use Rattle.law_lists.proofs.Maps.{at_map}
 
 pub pick_confined : (i : Image) (s : State) (t : ℕ) (w : Clockwork) → Partitioned i → Confined i s → Confined i (changed s t (picked i s (thread s t)) (Some t) w)
 pick_confined i s t w p h = changed_confined i s t (picked i s (thread s t)) (Some t) w h (record {

@@ -1,11 +1,15 @@
 -- An untagged first operand gives an untagged result, and an untagged result has no shadow.
-use Rattle.std.proofs.Common.{ℕ, ◌<◌, ◌^◌, ◌≡◌, Bool, true, false, sym, ◌∙◌, refl}
+use Rattle.std.proofs.Common.{ℕ, ◌+◌, ◌%◌, ◌^◌, ◌==◌, ◌≡◌, Bool, true, false, sym, ◌∙◌, refl, inl, inr}
+use Rattle.law_lists.proofs.Tests.{bool_tells}
 use Rattle.def_words.specs.declared.Cap.{Cap}
 use Rattle.def_words.specs.declared.Posture.{Posture}
-use Rattle.def_words.specs.Capability.{IsSettled, integer, masked, sealed_by, unsealed_by, untagged, with_address, with_bounds, with_exact_bounds}
+use Rattle.def_words.specs.declared.Shadow.{Shadow}
+use Rattle.def_words.specs.Authority.{cap_address}
+use Rattle.def_words.specs.Capability.{word_sealed, IsSettled, integer, masked, raised, sealed_by, unsealed_by, untagged, with_address, with_bounds, with_exact_bounds}
+use Rattle.def_words.specs.Derive.{derive, root_cap, sealed_as}
 use Rattle.def_words.specs.Jumped.{linked, opened}
 use Rattle.def_words.specs.Loaded.{attenuated}
-use Rattle.law_words.proofs.Narrowing.{address_narrows, bounds_narrows, exact_narrows, masked_narrows}
+use Rattle.law_words.proofs.Narrowing.{bounds_narrows, exact_narrows, masked_narrows}
 use Rattle.law_words.proofs.Sealed.{sealed_narrows, unsealed_narrows}
 use Rattle.law_words.proofs.Passing.{loaded_narrows}
 use Rattle.law_words.proofs.Making.{settled}
@@ -15,8 +19,9 @@ away : (before after : Bool) → (after ≡ true → before ≡ true) → before
 away before true h off = absurd (let no_way : true ≡ false = sym (h refl) ∙ off in cc)
 away before false h off = refl
 
-pub address_away : (c : Cap) (a : ℕ) → a < 2 ^ 32 → c.tag ≡ false → (with_address c a).tag ≡ false
-address_away c a small off = away c.tag (with_address c a).tag (λ t. (address_narrows c a small t).tagged) off
+pub address_away : (c : Cap) (a : ℕ) → c.tag ≡ false → (with_address c a).tag ≡ false
+unfolding with_address
+address_away c a off = rw off refl
 
 pub bounds_away : (c : Cap) (n : ℕ) → c.tag ≡ false → (with_bounds c n).tag ≡ false
 bounds_away c n off = away c.tag (with_bounds c n).tag (λ t. (bounds_narrows c n t).0.tagged) off
@@ -39,6 +44,9 @@ loaded_away by c off = away c.tag (attenuated by c).tag (λ t. (loaded_narrows b
 pub address_settles : (c : Cap) (a : ℕ) → IsSettled (with_address c a)
 unfolding with_address
 address_settles c a = settled (with_address c a).tag (with_address c a).word c.shadow
+
+pub raise_settles : (c : Cap) (n : ℕ) → IsSettled (raised c n)
+raise_settles c n = address_settles c ((cap_address c + n) % 2 ^ 32)
 
 pub bounds_settles : (c : Cap) (n : ℕ) → IsSettled (with_bounds c n)
 unfolding with_bounds
@@ -75,3 +83,12 @@ links_settles pcc before off = rw off refl
 
 pub integers_settles : (n : ℕ) → IsSettled (integer n)
 integers_settles n off = refl
+
+sealed_as_settles : (c : Cap) (kind : ℕ) → IsSettled c → IsSettled (sealed_as c kind)
+sealed_as_settles c kind h = elim (bool_tells (kind == 0)) [ inl e ↦ rw e h | inr e ↦ rw e (settled c.tag (word_sealed c (kind % 8)) c.shadow) ]
+
+pub derives_settle : (high base length set address kind : ℕ) (from : Shadow) → IsSettled (derive high base length set address kind from)
+unfolding derive
+derives_settle high base length set address kind from =
+    sealed_as_settles (with_address (masked (with_exact_bounds (with_address (root_cap high from) base) length) set) address) kind
+    (address_settles (masked (with_exact_bounds (with_address (root_cap high from) base) length) set) address)

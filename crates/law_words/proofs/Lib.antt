@@ -10,3 +10,5 @@ pub mod Sealed
 pub mod Passing
 pub mod Making
 pub mod Away
+pub mod Rights
+pub mod Blocks

@@ -42,6 +42,10 @@ pub record IsRoot (high : ℕ) : Type 0 where
   pub low : high % 2 ^ 22 ≡ 15 * 2 ^ 18 + 256
   pub unsealed : seal_field high ≡ 0
 
+-- a root's high word spells exactly this set where it is asked for
+abbrev pub Spells : ℕ → ℕ → Type 0
+Spells high set = normal_set (bit_and (unpacked (permission_bits high)) set) ≡ set
+
 -- a type that these rights have a field for
 abbrev pub KindFits : ℕ → ℕ → Type 0
 KindFits set kind = (kind ≡ 0) ⊎ ((kind ≢ 0) × (seal_type (bit set execute) (kind % 8) ≡ kind))

@@ -28,7 +28,7 @@ pub fn operations_narrow()
 
 /// No operation makes a tagged result from an untagged first operand.
 pub fn tags_stay_away()
-    ensures address { (c : Cap) (a : ℕ) → a < 2 ^ 32 → c.tag ≡ false → (with_address c a).tag ≡ false }
+    ensures address { (c : Cap) (a : ℕ) → c.tag ≡ false → (with_address c a).tag ≡ false }
     ensures bounds { (c : Cap) (n : ℕ) → c.tag ≡ false → (with_bounds c n).tag ≡ false }
     ensures exact { (c : Cap) (n : ℕ) → c.tag ≡ false → (with_exact_bounds c n).tag ≡ false }
     ensures mask { (c : Cap) (n : ℕ) → c.tag ≡ false → (masked c n).tag ≡ false }
@@ -40,6 +40,7 @@ pub fn tags_stay_away()
 /// An untagged result has root and source 0, whatever it came from.
 pub fn results_settle()
     ensures address { (c : Cap) (a : ℕ) → IsSettled (with_address c a) }
+    ensures raise { (c : Cap) (n : ℕ) → IsSettled (raised c n) }
     ensures bounds { (c : Cap) (n : ℕ) → IsSettled (with_bounds c n) }
     ensures exact { (c : Cap) (n : ℕ) → IsSettled (with_exact_bounds c n) }
     ensures mask { (c : Cap) (n : ℕ) → IsSettled (masked c n) }
@@ -50,6 +51,8 @@ pub fn results_settle()
     ensures opens { (c : Cap) → IsSettled (opened c) }
     ensures links { (pcc : Cap) (before : Posture) → IsSettled (linked pcc before) }
     ensures integers { (n : ℕ) → IsSettled (integer n) }
+    ensures derives { (high base length set address kind : ℕ) (from : Shadow)
+        → IsSettled (derive high base length set address kind from) }
 {}
 
 /// Setting an address never changes the decoded bounds of a tagged result.

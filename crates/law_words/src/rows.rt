@@ -1,13 +1,14 @@
 //! The definitions at worked values: each row computes.
 
 ghost use Rattle.std.specs.Prelude.{false, true, ◌+◌, ◌<◌, ◌^◌, ◌≡◌, ℕ};
+ghost use Rattle.def_profile.specs.declared.rights.TheConstants.{CODE_RIGHTS, EX, EXPORT_RIGHTS, GL, GLOBALS_RIGHTS, HEAP_RIGHTS, KEY_RIGHTS, LD, LG, LM, MC, QUOTA_RIGHTS, SD, SE, SEALED_RIGHTS, SERVICE_RIGHTS, SL, SR, STACK_RIGHTS, U0, US};
 ghost use Rattle.def_words.specs.Authority.{base_of, bounds_of, cap_base, cap_top, top_of};
 ghost use Rattle.def_words.specs.Capability.{masked, nowhere, sealed_by, unsealed_by};
 ghost use Rattle.def_words.specs.Derive.{derive, executable_root, memory_root, root_cap, sealing_root};
 ghost use Rattle.def_words.specs.LeastBounds.{align_mask_of, rounded_of, round_length_of};
-ghost use Rattle.def_words.specs.Permissions.{cap_perms, normal_set};
+ghost use Rattle.def_words.specs.Permissions.{IsLegal, cap_perms, execute, global, load_data, load_global, load_mutable, memory_capability, normal_set, sealing, store_data, store_local, system_registers, unsealing, user};
 ghost use Rattle.def_words.specs.Seals.{cap_seal};
-ghost use Rattle.law_words.specs.Facts.{IsRoot};
+ghost use Rattle.law_words.specs.Facts.{IsRoot, Spells};
 
 /// The three roots: all addresses at every address, and all permissions of their forms.
 pub fn roots_hold_all()
@@ -18,9 +19,9 @@ pub fn roots_hold_all()
     ensures highest { (high address : ℕ) → IsRoot high → address < 2 ^ 32 → top_of high address ≡ 2 ^ 32 }
     ensures at_zero { bounds_of memory_root 0 ≡ record { exponent = 24; base = 0; top = 4294967296 } }
     ensures at_end { bounds_of memory_root 4294967295 ≡ record { exponent = 24; base = 0; top = 4294967296 } }
-    ensures memory_rights { cap_perms (root_cap memory_root nowhere) ≡ 127 }
-    ensures executable_rights { cap_perms (root_cap executable_root nowhere) ≡ 491 }
-    ensures sealing_rights { cap_perms (root_cap sealing_root nowhere) ≡ 3585 }
+    ensures memory_rights { cap_perms (root_cap memory_root nowhere) ≡ GL + LG + SD + LM + SL + LD + MC }
+    ensures executable_rights { cap_perms (root_cap executable_root nowhere) ≡ GL + LG + LM + LD + MC + SR + EX }
+    ensures sealing_rights { cap_perms (root_cap sealing_root nowhere) ≡ GL + US + SE + U0 }
 {}
 
 /// Least bounds at 511 and 512, where an exponent is skipped, at the greatest exponent, and of
@@ -35,19 +36,39 @@ pub fn least_bounds_rows()
     ensures masks { (align_mask_of 0 ≡ 4294967295) × (align_mask_of 512 ≡ 4294967294) × (align_mask_of 8372225 ≡ 4278190080) }
 {}
 
+/// Each bit of the profile is that of its permission.
+pub fn bits_are_permissions()
+    ensures first { (GL ≡ 2 ^ global) × (LG ≡ 2 ^ load_global) × (SD ≡ 2 ^ store_data) × (LM ≡ 2 ^ load_mutable) }
+    ensures second { (SL ≡ 2 ^ store_local) × (LD ≡ 2 ^ load_data) × (MC ≡ 2 ^ memory_capability) × (SR ≡ 2 ^ system_registers) }
+    ensures third { (EX ≡ 2 ^ execute) × (US ≡ 2 ^ unsealing) × (SE ≡ 2 ^ sealing) × (U0 ≡ 2 ^ user) }
+{}
+
+/// The rights of each kind of entry are legal, and the root that boot takes them from spells them.
+pub fn rights_are_spelled()
+    ensures code { IsLegal CODE_RIGHTS × Spells executable_root CODE_RIGHTS }
+    ensures service { IsLegal SERVICE_RIGHTS × Spells executable_root SERVICE_RIGHTS }
+    ensures globals { IsLegal GLOBALS_RIGHTS × Spells memory_root GLOBALS_RIGHTS }
+    ensures heap { IsLegal HEAP_RIGHTS × Spells memory_root HEAP_RIGHTS }
+    ensures stack { IsLegal STACK_RIGHTS × Spells memory_root STACK_RIGHTS }
+    ensures sealed { IsLegal SEALED_RIGHTS × Spells memory_root SEALED_RIGHTS }
+    ensures export { IsLegal EXPORT_RIGHTS × Spells memory_root EXPORT_RIGHTS }
+    ensures quota { IsLegal QUOTA_RIGHTS × Spells memory_root QUOTA_RIGHTS }
+    ensures key { IsLegal KEY_RIGHTS × Spells sealing_root KEY_RIGHTS }
+{}
+
 /// Removing LD from GL LG LM LD MC EX leaves GL.
 pub fn removing_load_data()
-    ensures { normal_set 331 ≡ 1 }
+    ensures { normal_set (GL + LG + LM + MC + EX) ≡ GL }
 {}
 
 /// A value with GL LD, and a key with bounds 13 to 14 and GL US SE: sealing at key address 13 keeps
 /// the tag and gives field 5, which the key opens again; at 14, the key's top, the result is untagged
 /// with field 6.
 pub fn sealing_rows()
-    ensures inside { (sealed_by (derive memory_root 64 32 33 64 0 nowhere) (derive sealing_root 13 1 1537 13 0 nowhere)).tag ≡ true }
-    ensures thirteen { cap_seal (sealed_by (derive memory_root 64 32 33 64 0 nowhere) (derive sealing_root 13 1 1537 13 0 nowhere)) ≡ 13 }
-    ensures at_top { (derive sealing_root 13 1 1537 14 0 nowhere).tag ≡ true }
-    ensures outside { (sealed_by (derive memory_root 64 32 33 64 0 nowhere) (derive sealing_root 13 1 1537 14 0 nowhere)).tag ≡ false }
-    ensures fourteen { cap_seal (sealed_by (derive memory_root 64 32 33 64 0 nowhere) (derive sealing_root 13 1 1537 14 0 nowhere)) ≡ 14 }
-    ensures opens { unsealed_by (sealed_by (derive memory_root 64 32 33 64 0 nowhere) (derive sealing_root 13 1 1537 13 0 nowhere)) (derive sealing_root 13 1 1537 13 0 nowhere) ≡ derive memory_root 64 32 33 64 0 nowhere }
+    ensures inside { (sealed_by (derive memory_root 64 32 EXPORT_RIGHTS 64 0 nowhere) (derive sealing_root 13 1 KEY_RIGHTS 13 0 nowhere)).tag ≡ true }
+    ensures thirteen { cap_seal (sealed_by (derive memory_root 64 32 EXPORT_RIGHTS 64 0 nowhere) (derive sealing_root 13 1 KEY_RIGHTS 13 0 nowhere)) ≡ 13 }
+    ensures at_top { (derive sealing_root 13 1 KEY_RIGHTS 14 0 nowhere).tag ≡ true }
+    ensures outside { (sealed_by (derive memory_root 64 32 EXPORT_RIGHTS 64 0 nowhere) (derive sealing_root 13 1 KEY_RIGHTS 14 0 nowhere)).tag ≡ false }
+    ensures fourteen { cap_seal (sealed_by (derive memory_root 64 32 EXPORT_RIGHTS 64 0 nowhere) (derive sealing_root 13 1 KEY_RIGHTS 14 0 nowhere)) ≡ 14 }
+    ensures opens { unsealed_by (sealed_by (derive memory_root 64 32 EXPORT_RIGHTS 64 0 nowhere) (derive sealing_root 13 1 KEY_RIGHTS 13 0 nowhere)) (derive sealing_root 13 1 KEY_RIGHTS 13 0 nowhere) ≡ derive memory_root 64 32 EXPORT_RIGHTS 64 0 nowhere }
 {}

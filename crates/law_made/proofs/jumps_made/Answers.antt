@@ -1,4 +1,5 @@
-use Rattle.law_made.proofs.Results.{opened_opens, address_runs, raised_runs, linked_links}
+use Rattle.law_jumps.proofs.Targets.{opened_opens}
+use Rattle.law_made.proofs.Results.{address_runs, raised_runs, linked_links}
 use Rattle.law_made.proofs.jumps_made.Goals as goal
 
 pub returns : goal.returns

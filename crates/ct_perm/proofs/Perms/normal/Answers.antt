@@ -5,7 +5,7 @@ use Rattle.ct_perm.proofs.Perms.normal.Goals as goal
 
 pub returns-clause-value : goal.returns-clause-value
 unfolding normal_set
-returns-clause-value c = c.held.ensures c.args.self.0 ∙ ap (λ form. set_where (λ p. bit c.args.self.0 p && holds form p)) c.form.ensures
+returns-clause-value c = c.held.ensures c.args.self.0 ∙ ap (λ form. set_where (λ p. bit c.args.self.0 p && holds form p)) c.form_of.ensures
 
 pub returns-clause-small : goal.returns-clause-small
 returns-clause-small c = rw (returns-clause-value c) (normal_small c.args.self.0)

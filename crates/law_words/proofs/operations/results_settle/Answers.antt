@@ -1,8 +1,14 @@
-use Rattle.law_words.proofs.Away.{address_settles, bounds_settles, exact_settles, mask_settles, seals_settles, unseals_settles, loads_settles, clears_settles, opens_settles, links_settles, integers_settles}
+use Rattle.law_words.proofs.Away.{address_settles, raise_settles, derives_settle, bounds_settles, exact_settles, mask_settles, seals_settles, unseals_settles, loads_settles, clears_settles, opens_settles, links_settles, integers_settles}
 use Rattle.law_words.proofs.operations.results_settle.Goals as goal
 
 pub returns-clause-address : goal.returns-clause-address
 returns-clause-address c = address_settles
+
+pub returns-clause-raise : goal.returns-clause-raise
+returns-clause-raise c = raise_settles
+
+pub returns-clause-derives : goal.returns-clause-derives
+returns-clause-derives c = derives_settle
 
 pub returns-clause-bounds : goal.returns-clause-bounds
 returns-clause-bounds c = bounds_settles

@@ -1,20 +1,18 @@
 use Rattle.std.proofs.Common.{refl}
 use Rattle.law_words.proofs.Making.{root_base, root_top}
+use Rattle.law_words.proofs.Rights.{executable_is_root, memory_is_root, sealing_is_root}
 use Rattle.def_words.specs.Derive.{memory_root, executable_root, sealing_root}
 use Rattle.def_words.specs.Permissions.{cap_perms, unpacked, set_where, bit}
 use Rattle.law_words.proofs.rows.roots_hold_all.Goals as goal
 
 pub returns-clause-memory : goal.returns-clause-memory
-unfolding memory_root
-returns-clause-memory c = record { low = refl; unsealed = refl }
+returns-clause-memory c = memory_is_root
 
 pub returns-clause-executable : goal.returns-clause-executable
-unfolding executable_root
-returns-clause-executable c = record { low = refl; unsealed = refl }
+returns-clause-executable c = executable_is_root
 
 pub returns-clause-sealing : goal.returns-clause-sealing
-unfolding sealing_root
-returns-clause-sealing c = record { low = refl; unsealed = refl }
+returns-clause-sealing c = sealing_is_root
 
 pub returns-clause-lowest : goal.returns-clause-lowest
 returns-clause-lowest c = root_base

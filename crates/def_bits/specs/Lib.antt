@@ -1,0 +1,2 @@
+-- Fields, signed numbers and least multiples.
+pub mod Bits
