@@ -1,7 +1,8 @@
 //! Words of texts and of the rows of exports.
 
 ghost use Rattle.std.specs.Prelude.{◌≡◌, ◌<◌, ◌+◌, ◌*◌, ◌^◌, ◌-◌};
-ghost use Rattle.def_step.specs.Boot.{text_byte, text_word, export_second, posture_byte, compartment_of};
+ghost use Rattle.def_reach.specs.Roots.{compartment_of};
+ghost use Rattle.def_step.specs.Boot.{text_byte, text_word, export_second, posture_byte};
 
 use ct_entry::{Gate, Mode, Owner};
 

@@ -90,7 +90,10 @@ pub(crate) fn jump_offset(f: Fields) -> u32
     ensures low { result / 2 ^ 11 % 2 * 2 ^ 20 + result / 2 % 2 ^ 10 * 2 ^ 21 + result / 2 ^ 20 % 2 * 2 ^ 31 ≡ f.rs2 * 2 ^ 20 + f.funct7 * 2 ^ 25 }
 {
     let low = f.rs2 / 2 * 2 + ((f.funct7 % (1 << 6)) << 5) + ((f.rs2 % 2) << 11);
-    extended(21, low + (f.funct3 << 12) + (f.rs1 << 15) + ((f.funct7 >> 6) << 20))
+    extended(
+        21,
+        low + (f.funct3 << 12) + (f.rs1 << 15) + ((f.funct7 >> 6) << 20),
+    )
 }
 
 /// The twenty bits of format U.

@@ -44,38 +44,38 @@ executed_is b s t = fetched_is b s t (first_failed (fetch_checks (thread s t).pc
 abbrev pub board_by : Image → Bank → Board
 board_by im k = record { image = im; bases = k.bases }
 
-abbrev pub after_by : Image → ℕ → List Granule → Bank → Thread → Bool → ℕ → ℕ → Counts → Option Deed → Ran → State × Option Deed
-after_by im top gs k w pending time picked c d r = (state_by (granules_by r (stack_base im 0) top im.ram gs) (presence_after r) w true pending k.states time picked (with_deed c d), d)
+abbrev pub after_by : Image → ℕ → List Granule → Bank → Thread → Bool → ℕ → Counts → Option Deed → Ran → State × Option Deed
+after_by im top gs k w pending time c d r = (state_by (granules_by r (stack_base im 0) top im.ram gs) (presence_after r) w true pending k.states time (with_deed c d), d)
 
-settled_is : (im : Image) (gs gs' : List Granule) (k k' : Bank) (w w' : Thread) (f : Frame) (pending : Bool) (time picked : ℕ) (c : Counts) (r : Ran) (D : Decision) →
+settled_is : (im : Image) (gs gs' : List Granule) (k k' : Bank) (w w' : Thread) (f : Frame) (pending : Bool) (time : ℕ) (c : Counts) (r : Ran) (D : Decision) →
     Decided D (record w { frames = f ∷ [] }) (space_by im.ram gs k time) w' gs' k' r →
-    noted (settle (board_by im k) (state_by gs Alive (record w { frames = f ∷ [] }) true pending k.states time picked c) 0 D) ≡ after_by im f.top gs' k' w' pending time picked c (deed_by f.actor r) r
-settled_is im gs gs' k k' w w' f pending time picked c r (Goes d entry) h = rw (h.0, h.1, h.2, h.3) refl
-settled_is im gs gs' k k' w w' f pending time picked c r Returns h = rw (h.0, h.1, h.2, h.3) refl
-settled_is im gs gs' k k' w w' f pending time picked c r (Traps why) h = rw (h.0, h.1, h.2, h.3) refl
+    noted (settle (board_by im k) (state_by gs Alive (record w { frames = f ∷ [] }) true pending k.states time c) 0 D) ≡ after_by im f.top gs' k' w' pending time c (deed_by f.actor r) r
+settled_is im gs gs' k k' w w' f pending time c r (Goes d entry) h = rw (h.0, h.1, h.2, h.3) refl
+settled_is im gs gs' k k' w w' f pending time c r Returns h = rw (h.0, h.1, h.2, h.3) refl
+settled_is im gs gs' k k' w w' f pending time c r (Traps why) h = rw (h.0, h.1, h.2, h.3) refl
 
-pub ran_is : (im : Image) (gs gs' : List Granule) (k k' : Bank) (w w' : Thread) (f : Frame) (pending : Bool) (time picked : ℕ) (c : Counts) (r : Ran) →
+pub ran_is : (im : Image) (gs gs' : List Granule) (k k' : Bank) (w w' : Thread) (f : Frame) (pending : Bool) (time : ℕ) (c : Counts) (r : Ran) →
     Decided (decide (record w { frames = f ∷ [] }) (space_by im.ram gs k time)) (record w { frames = f ∷ [] }) (space_by im.ram gs k time) w' gs' k' r →
-    run_on (board_by im k) (state_by gs Alive (record w { frames = f ∷ [] }) true pending k.states time picked c) ≡ after_by im f.top gs' k' w' pending time picked c (deed_by f.actor r) r
-ran_is im gs gs' k k' w w' f pending time picked c r h =
-    ap noted (executed_is (board_by im k) (state_by gs Alive (record w { frames = f ∷ [] }) true pending k.states time picked c) 0)
-    ∙ settled_is im gs gs' k k' w w' f pending time picked c r (decide (record w { frames = f ∷ [] }) (space_by im.ram gs k time)) h
+    run_on (board_by im k) (state_by gs Alive (record w { frames = f ∷ [] }) true pending k.states time c) ≡ after_by im f.top gs' k' w' pending time c (deed_by f.actor r) r
+ran_is im gs gs' k k' w w' f pending time c r h =
+    ap noted (executed_is (board_by im k) (state_by gs Alive (record w { frames = f ∷ [] }) true pending k.states time c) 0)
+    ∙ settled_is im gs gs' k k' w w' f pending time c r (decide (record w { frames = f ∷ [] }) (space_by im.ram gs k time)) h
 
 -- of a thread that has one frame
-ran_on : (im : Image) (gs gs' : List Granule) (k k' : Bank) (w w' : Thread) (f : Frame) (pending : Bool) (time picked : ℕ) (c : Counts) (r : Ran) →
+ran_on : (im : Image) (gs gs' : List Granule) (k k' : Bank) (w w' : Thread) (f : Frame) (pending : Bool) (time : ℕ) (c : Counts) (r : Ran) →
     w.frames ≡ f ∷ [] → Decided (decide w (space_by im.ram gs k time)) w (space_by im.ram gs k time) w' gs' k' r →
-    run_on (board_by im k) (state_by gs Alive w true pending k.states time picked c) ≡ after_by im f.top gs' k' w' pending time picked c (deed_by f.actor r) r
-ran_on im gs gs' k k' w w' f pending time picked c r e h =
+    run_on (board_by im k) (state_by gs Alive w true pending k.states time c) ≡ after_by im f.top gs' k' w' pending time c (deed_by f.actor r) r
+ran_on im gs gs' k k' w w' f pending time c r e h =
     subst (λ (fs : List Frame). Decided (decide (record w { frames = fs }) (space_by im.ram gs k time)) (record w { frames = fs }) (space_by im.ram gs k time) w' gs' k' r →
-    run_on (board_by im k) (state_by gs Alive (record w { frames = fs }) true pending k.states time picked c) ≡ after_by im f.top gs' k' w' pending time picked c (deed_by f.actor r) r)
-    (sym e) (ran_is im gs gs' k k' w w' f pending time picked c r) h
+    run_on (board_by im k) (state_by gs Alive (record w { frames = fs }) true pending k.states time c) ≡ after_by im f.top gs' k' w' pending time c (deed_by f.actor r) r)
+    (sym e) (ran_is im gs gs' k k' w w' f pending time c r) h
 
 -- the same with what the code knows under its own names
-pub carried_is : (im : Image) (gs gs' gs'' : List Granule) (k k' : Bank) (w w' : Thread) (f : Frame) (presence presence' : Presence) (running pending : Bool) (time picked ram base : ℕ) (c c' : Counts) (r : Ran) (d : Option Deed) →
+pub carried_is : (im : Image) (gs gs' gs'' : List Granule) (k k' : Bank) (w w' : Thread) (f : Frame) (presence presence' : Presence) (running pending : Bool) (time ram base : ℕ) (c c' : Counts) (r : Ran) (d : Option Deed) →
     ram ≡ im.ram → base ≡ stack_base im 0 → presence ≡ Alive → running ≡ true → w.frames ≡ f ∷ [] →
     Decided (decide w (space_by ram gs k time)) w (space_by ram gs k time) w' gs' k' r →
     gs'' ≡ granules_by r base f.top ram gs' → presence' ≡ presence_after r → d ≡ deed_by f.actor r → c' ≡ with_deed c d →
-    (state_by gs'' presence' w' running pending k'.states time picked c', d) ≡ run_on (board_by im k) (state_by gs presence w running pending k.states time picked c)
-carried_is im gs gs' gs'' k k' w w' f presence presence' running pending time picked ram base c c' r d ram_is base_is alive runs frames h gs_is presence_is deed_is counts_is =
+    (state_by gs'' presence' w' running pending k'.states time c', d) ≡ run_on (board_by im k) (state_by gs presence w running pending k.states time c)
+carried_is im gs gs' gs'' k k' w w' f presence presence' running pending time ram base c c' r d ram_is base_is alive runs frames h gs_is presence_is deed_is counts_is =
     let there : Decided (decide w (space_by im.ram gs k time)) w (space_by im.ram gs k time) w' gs' k' r = subst (λ (x : ℕ). Decided (decide w (space_by x gs k time)) w (space_by x gs k time) w' gs' k' r) ram_is h in
-    rw (gs_is, presence_is, counts_is, deed_is, alive, runs, base_is, ram_is) (sym (ran_on im gs gs' k k' w w' f pending time picked c r frames there))
+    rw (gs_is, presence_is, counts_is, deed_is, alive, runs, base_is, ram_is) (sym (ran_on im gs gs' k k' w w' f pending time c r frames there))

@@ -14,12 +14,12 @@ zeroed_size from to place [] = refl
 zeroed_size from to place (g ∷ gs) = ap (λ n. suc n) (zeroed_size from to (place + 8) gs)
 
 act_counts : (c : Counts) (a : Act) (time : ℕ) → IsCounted c time → deeds_of c + 1 ≤ c.steps → IsCounted (with_act c a) time
-act_counts c (Call export) time h room = record { steps = h.steps; ticks = h.ticks; inputs = h.inputs; deeds = omega (arith, room); clock = h.clock }
-act_counts c (Load address width value) time h room = record { steps = h.steps; ticks = h.ticks; inputs = h.inputs; deeds = omega (arith, room); clock = h.clock }
-act_counts c (Store address width value) time h room = record { steps = h.steps; ticks = h.ticks; inputs = h.inputs; deeds = omega (arith, room); clock = h.clock }
+act_counts c (Call export) time h room = record { steps = h.steps; ticks = h.ticks; sweeps = h.sweeps; inputs = h.inputs; deeds = omega (arith, room); clock = h.clock }
+act_counts c (Load address width value) time h room = record { steps = h.steps; ticks = h.ticks; sweeps = h.sweeps; inputs = h.inputs; deeds = omega (arith, room); clock = h.clock }
+act_counts c (Store address width value) time h room = record { steps = h.steps; ticks = h.ticks; sweeps = h.sweeps; inputs = h.inputs; deeds = omega (arith, room); clock = h.clock }
 act_counts c (Allocate number base size live) time h room = h
-act_counts c (Free number base size live) time h room = record { steps = h.steps; ticks = h.ticks; inputs = h.inputs; deeds = omega (arith, room); clock = h.clock }
-act_counts c (Trap cause code register) time h room = record { steps = h.steps; ticks = h.ticks; inputs = h.inputs; deeds = omega (arith, room); clock = h.clock }
+act_counts c (Free number base size live) time h room = record { steps = h.steps; ticks = h.ticks; sweeps = h.sweeps; inputs = h.inputs; deeds = omega (arith, room); clock = h.clock }
+act_counts c (Trap cause code register) time h room = record { steps = h.steps; ticks = h.ticks; sweeps = h.sweeps; inputs = h.inputs; deeds = omega (arith, room); clock = h.clock }
 
 pub deed_counts : (c : Counts) (d : Option Deed) (time : ℕ) → IsCounted c time → deeds_of c + 1 ≤ c.steps → IsCounted (with_deed c d) time
 deed_counts c None time h room = h

@@ -17,7 +17,7 @@ use Rattle.ct_machine.specs.Launching.{Launched, bank_of}
 abbrev pub row_of : FirmwareRow → List Granule → Bank → Presence → Thread → MachineRow
 row_of f gs k presence active = record {
   board = record { image = image_of f; bases = k.bases };
-  state = state_by gs presence active false false k.states 0 0 no_counts;
+  state = state_by gs presence active false false k.states 0 no_counts;
 }
 
 pub started_is : (f : FirmwareRow) (gs : List Granule) (k : Bank) (presence : Presence) (active : Thread) (base : ℕ) → gs ≡ boot_granules f → k ≡ bank_of f → Launched f presence active base → row_of f gs k presence active ≡ booted_machine f
@@ -63,5 +63,5 @@ kept f gs presence active base h granules launched =
 pub started_kept : (f : FirmwareRow) (gs : List Granule) (presence : Presence) (active : Thread) (base ram : ℕ) → IsLawfulFirmware f → gs ≡ boot_granules f → Launched f presence active base → ram ≡ f.ram → IsKept (image_of f) ram base (top_of active) (length gs) presence × IsCounted no_counts 0
 started_kept f gs presence active base ram h granules launched same = (
   subst (λ (x : ℕ). IsKept (image_of f) x base (top_of active) (length gs) presence) (sym same) (kept f gs presence active base h granules launched),
-  record { steps = omega arith; ticks = omega arith; inputs = omega arith; deeds = omega arith; clock = omega arith },
+  record { steps = omega arith; ticks = omega arith; sweeps = omega arith; inputs = omega arith; deeds = omega arith; clock = omega arith },
 )

@@ -1,11 +1,12 @@
 -- What the machine's state is, from what the code keeps of it.
-use Rattle.std.specs.Prelude.{ℕ, ◌+◌, ◌*◌, ◌%◌, ◌≡◌, ◌≤◌, Bool, List, [], ◌∷◌, Option, Some, None, if◌then◌else◌}
+use Rattle.std.specs.Prelude.{ℕ, ◌+◌, ◌*◌, ◌%◌, ◌≡◌, ◌≤◌, Bool, false, List, [], ◌∷◌, Option, Some, None, if◌then◌else◌}
 use Rattle.def_words.specs.declared.Cap.{Cap}
 use Rattle.def_words.specs.declared.Posture.{Posture}
 use Rattle.def_memory.specs.declared.Granule.{Granule}
 use Rattle.def_memory.specs.Granules.{plain}
 use Rattle.def_machine.specs.Image.{Image, stack_base}
-use Rattle.def_machine.specs.State.{State, Thread, Frame, DeviceState, Counts, Ready, nobody}
+use Rattle.def_machine.specs.State.{State, Thread, Frame, DeviceState, Counts, nobody}
+use Rattle.def_sched.specs.declared.Status.TheVariants.{Ready}
 use Rattle.def_instr.specs.Table.{InRange}
 use Rattle.def_step.specs.declared.Next.{Next}
 use Rattle.def_step.specs.declared.Next.TheVariants.{Returning, Instruction, Nothing}
@@ -18,7 +19,7 @@ use Rattle.ct_machine.specs.declared.presence.Presence.TheVariants.{Absent, Gone
 
 -- the outermost frame, which has no caller
 abbrev pub outermost : ℕ → ℕ → ℕ → Frame
-outermost actor export top = record { actor = actor; export = export; top = top; c1 = plain 0; c2 = plain 0; c3 = plain 0; c8 = plain 0; c9 = plain 0 }
+outermost actor export top = record { actor = actor; export = export; top = top; handling = false; c1 = plain 0; c2 = plain 0; c3 = plain 0; c8 = plain 0; c9 = plain 0 }
 
 abbrev pub thread_of : Cap → List Cap → Posture → ℕ → ℕ → ℕ → Thread
 thread_of pcc registers posture actor export top = record { pcc = pcc; registers = registers; frames = outermost actor export top ∷ []; status = Ready; posture = posture }
@@ -33,22 +34,25 @@ running_by Absent r = None
 running_by Gone r = None
 running_by Alive r = if r then Some 0 else None
 
-abbrev pub picks_by : Presence → ℕ → List ℕ
-picks_by Absent n = []
-picks_by Gone n = n ∷ []
-picks_by Alive n = n ∷ []
+-- the one thread is first in the order of last picks, and last
+abbrev pub picks_by : Presence → List ℕ
+picks_by Absent = []
+picks_by Gone = 0 ∷ []
+picks_by Alive = 0 ∷ []
 
-abbrev pub state_by : List Granule → Presence → Thread → Bool → Bool → List DeviceState → ℕ → ℕ → Counts → State
-state_by granules presence t runs pending devices time picked counts = record {
+abbrev pub state_by : List Granule → Presence → Thread → Bool → Bool → List DeviceState → ℕ → Counts → State
+state_by granules presence t runs pending devices time counts = record {
   granules = granules;
   threads = threads_by presence t;
   running = running_by presence runs;
   pending = pending;
   objects = [];
   next = 1;
+  tokens = [];
+  front = None;
   devices = devices;
   time = time;
-  picks = picks_by presence picked;
+  picks = picks_by presence;
   counts = counts;
 }
 
@@ -59,6 +63,7 @@ deeds_of c = c.calls + c.loads + c.stores + c.frees + c.traps
 pub record IsCounted (c : Counts) (time : ℕ) : Type 0 where
   pub steps : c.steps ≤ MOST_STEPS
   pub ticks : c.ticks ≤ MOST_STEPS
+  pub sweeps : c.sweeps ≤ MOST_STEPS
   pub inputs : c.inputs ≤ MOST_STEPS
   pub deeds : deeds_of c ≤ c.steps
   pub clock : time ≤ c.ticks

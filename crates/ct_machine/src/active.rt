@@ -21,7 +21,8 @@ pub(crate) struct Active {
 }
 
 impl Model for Active {
-    ghost use Rattle.def_machine.specs.State.{Thread, Ready};
+    ghost use Rattle.def_machine.specs.State.{Thread};
+    ghost use Rattle.def_sched.specs.declared.Status.TheVariants.{Ready};
     ghost use Rattle.ct_machine.specs.Parts.{thread_of};
 
     ghost Value = { Thread };

@@ -30,7 +30,6 @@ pub(crate) struct Engine<M: Memory + Drop> {
     pub(crate) running: bool,
     pub(crate) pending: bool,
     pub(crate) time: u64,
-    pub(crate) picked: u32,
     pub(crate) counts: Tally,
 }
 
@@ -44,7 +43,7 @@ impl<M: Memory + Drop> Model for Engine<M> {
 
     ghost view = { λ m. record {
       board = record { image = image_of m.firmware; bases = m.works.bus.bases };
-      state = state_by (M.granules m.works.mem) m.presence m.works.active m.running m.pending m.works.bus.states m.time m.picked m.counts;
+      state = state_by (M.granules m.works.mem) m.presence m.works.active m.running m.pending m.works.bus.states m.time m.counts;
     } };
 
     ghost invariant = { λ m. IsKept (image_of m.firmware) m.ram m.stack (top_of m.works.active) (length (M.granules m.works.mem)) m.presence × IsCounted m.counts m.time };
@@ -59,6 +58,7 @@ impl<M: Memory + Drop> Engine<M> {
         match event {
             Event::Step => self.counts.steps < MOST_STEPS,
             Event::Tick => self.counts.ticks < MOST_STEPS,
+            Event::Sweep => self.counts.sweeps < MOST_STEPS,
             Event::Input { device, .. } => self.counts.inputs < MOST_STEPS
                 && (device as usize) < self.works.bus.count(),
         }
@@ -169,7 +169,6 @@ impl<M: Memory + Drop> Engine<M> {
         let _top = self.works.active.top;
         pass_works(&mut self.works, ram);
         self.running = true;
-        self.picked = self.counts.steps;
     }
 
     /// Where the heap begins.
@@ -226,6 +225,8 @@ impl<M: Memory + Drop> Engine<M> {
         ensures is { (self.new.state, result) ≡ happens self.old.board self.old.state event.Tick }
         ensures board { self.new.board ≡ self.old.board }
     {
+        // Opened, a thread that goes on is seen to be ready, so that none sleeps.
+        let _top = self.works.active.top;
         let before = self.holder();
         self.time += 1;
         self.counts.ticks += 1;
@@ -254,6 +255,18 @@ impl<M: Memory + Drop> Engine<M> {
         }
     }
 
+    /// One slice of the revoker. With no object in the heap nothing is quarantined, so no sweep begins.
+    fn sweep(&mut self) -> Happened
+        requires { IsTrue (is_lawful self.old.state event.Sweep) }
+        ensures is { (self.new.state, result) ≡ happens self.old.board self.old.state event.Sweep }
+        ensures board { self.new.board ≡ self.old.board }
+    {
+        let before = self.holder();
+        self.counts.sweeps += 1;
+        let off = self.begun(before);
+        Happened { deed: None, off }
+    }
+
     /// One byte comes at a device.
     fn input(&mut self, device: u32, byte: u8) -> Happened
         requires { IsTrue (is_lawful self.old.state (event.Input device byte)) }
@@ -277,6 +290,7 @@ impl<M: Memory + Drop> Engine<M> {
         match event {
             Event::Step => self.step(),
             Event::Tick => self.tick(),
+            Event::Sweep => self.sweep(),
             Event::Input { device, byte } => self.input(device, byte),
         }
     }

@@ -40,10 +40,10 @@ fn put_together<M: Memory + Drop>(firmware: Firmware, bus: Bus, mem: M, launch: 
         running: false,
         pending: false,
         time: 0,
-        picked: 0,
         counts: Tally {
             steps: 0,
             ticks: 0,
+            sweeps: 0,
             inputs: 0,
             calls: 0,
             loads: 0,

@@ -12,6 +12,7 @@ use std::marker::Model;
 pub(crate) struct Tally {
     pub(crate) steps: u32,
     pub(crate) ticks: u32,
+    pub(crate) sweeps: u32,
     pub(crate) inputs: u32,
     pub(crate) calls: u32,
     pub(crate) loads: u32,
@@ -25,7 +26,7 @@ impl Model for Tally {
 
     ghost Value = { Counts };
 
-    ghost view = { λ t. record { steps = t.steps; ticks = t.ticks; inputs = t.inputs; calls = t.calls; loads = t.loads; stores = t.stores; frees = t.frees; traps = t.traps } };
+    ghost view = { λ t. record { steps = t.steps; ticks = t.ticks; sweeps = t.sweeps; inputs = t.inputs; calls = t.calls; loads = t.loads; stores = t.stores; frees = t.frees; traps = t.traps } };
 }
 
 impl Tally {

@@ -16,7 +16,9 @@ use Rattle.def_step.specs.declared.Event.TheVariants.{Step}
 use Rattle.def_step.specs.Checks.{first_failed}
 use Rattle.def_step.specs.Operands.{operands_of, class_of}
 use Rattle.def_step.specs.Instructions.{Board, Done, executed, after_fetch, goes_on, ends, fetch_checks, next_at, space_of, operand, carried_out, around}
-use Rattle.def_step.specs.Events.{happens, stepped, continued, with_deed, with_act, scheduled, picked_from, preempted, preempted_from, one_more_step, is_ready}
+use Rattle.def_step.specs.Events.{happens, stepped, continued, with_deed, with_act, scheduled, picked_as, picked_from, preempted, preempted_from, one_more_step}
+use Rattle.def_sched.specs.Picks.{pick}
+use Rattle.def_machine.specs.Threads.{statuses_of}
 use Rattle.def_step.specs.Boot.{boot_state}
 use Rattle.law_lists.proofs.Tests.{chosen}
 
@@ -73,7 +75,11 @@ continued_steps b s (Some t) = deed_steps (executed b s t).0.counts (executed b 
 
 picked_steps : (b : Board) (s : State) (o : Option ℕ) → (picked_from b s o).counts.steps ≡ s.counts.steps
 picked_steps b s (Some t) = refl
-picked_steps b s None = chosen (λ (r : State). r.counts.steps ≡ s.counts.steps) (is_ready (thread s 0).status) _ _ (λ _. refl) (λ _. refl)
+picked_steps b s None = as_steps (pick b.image.priorities (statuses_of s.threads) s.picks)
+  where
+    as_steps : (p : Option ℕ) → (picked_as b s p).counts.steps ≡ s.counts.steps
+    as_steps None = refl
+    as_steps (Some t) = refl
 
 preempted_steps : (s : State) (o : Option ℕ) → (preempted_from s o).counts.steps ≡ s.counts.steps
 preempted_steps s None = refl

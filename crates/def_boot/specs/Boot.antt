@@ -1,5 +1,5 @@
 -- *Boot state*: the image of the machine, its board, and its state at boot.
-use Rattle.std.specs.Prelude.{ℕ, zero, suc, ◌+◌, Bool, true, false, List, [], ◌∷◌, length, map, replicate, slice_get, Option, Some, None, unwrap_or, option_map, if◌then◌else◌}
+use Rattle.std.specs.Prelude.{ℕ, zero, suc, ◌+◌, Bool, true, false, List, [], ◌∷◌, length, map, slice_get, Option, Some, None, unwrap_or, option_map, if◌then◌else◌}
 use Rattle.ct_entry.specs.Listed.{DeviceRow}
 use Rattle.ct_entry.specs.declared.hardware.DeviceKind.{DeviceKind}
 use Rattle.ct_entry.specs.declared.hardware.DeviceKind.TheVariants.{Uart, Timer, Gpio}
@@ -10,11 +10,14 @@ use Rattle.def_memory.specs.Granules.{plain}
 use Rattle.def_reach.specs.Roots.{is_disabled}
 use Rattle.def_machine.specs.Image.{Image}
 use Rattle.def_machine.specs.State as st
-use Rattle.def_machine.specs.State.{State, Frame, DeviceState, Serial, Clock, Pins, Counts, Ready, interrupts_on}
+use Rattle.def_machine.specs.State.{State, Frame, DeviceState, Serial, Clock, Pins, Counts, interrupts_on}
+use Rattle.def_profile.specs.declared.layout.TheConstants.{TRUSTED_HEAD}
+use Rattle.def_sched.specs.declared.Status.TheVariants.{Ready}
+use Rattle.def_sched.specs.Picks.{first_order}
 use Rattle.def_step.specs.Instructions.{Board}
 use Rattle.def_step.specs.Events.{MachineRow}
 use Rattle.def_image.specs.Parts.{GateRow, ThreadRow, PartsRow}
-use Rattle.def_image.specs.Members.{compartment, text_base, code_number, globals_number, stack_number, gate_number}
+use Rattle.def_image.specs.Members.{compartment, text_base, code_number, globals_number, stack_number, gate_number, handler_number}
 use Rattle.def_boot.specs.Gates.{entries_of}
 use Rattle.def_boot.specs.Made.{made_caps, made_for, return_sentry}
 use Rattle.def_boot.specs.Contents.{granules_in, boot_granules, parts_from}
@@ -35,8 +38,12 @@ image_of p = record {
   boot = boot_granules p;
   codes = numbered_from (code_number p) 0 (length p.compartments);
   globals = numbered_from (globals_number p) 0 (length p.compartments);
+  handlers = numbered_from (handler_number p) 0 (length p.compartments);
   stacks = numbered_from (stack_number p) 0 (length p.threads);
   frames = map (λ (t : ThreadRow). t.frames) p.threads;
+  priorities = map (λ (t : ThreadRow). t.priority) p.threads;
+  trusted = p.trusted + TRUSTED_HEAD;
+  sweep = p.sweep;
   heap_base = p.heap;
   heap_end = p.ram + p.size;
 }
@@ -75,6 +82,7 @@ first_frame p t = record {
   actor = t.compartment;
   export = entry_number p t;
   top = t.stack + t.stack_length;
+  handling = false;
   c1 = plain 0;
   c2 = plain 0;
   c3 = plain 0;
@@ -113,7 +121,7 @@ fresh_device Timer = Clock
 fresh_device Gpio = Pins 0 0
 
 abbrev pub no_counts : Counts
-no_counts = record { steps = 0; ticks = 0; inputs = 0; calls = 0; loads = 0; stores = 0; frees = 0; traps = 0 }
+no_counts = record { steps = 0; ticks = 0; sweeps = 0; inputs = 0; calls = 0; loads = 0; stores = 0; frees = 0; traps = 0 }
 
 unfoldable pub boot_state : PartsRow → State
 boot_state p = record {
@@ -123,9 +131,11 @@ boot_state p = record {
   pending = false;
   objects = [];
   next = 1;
+  tokens = [];
+  front = None;
   devices = map (λ (d : DeviceRow). fresh_device d.kind) p.devices;
   time = 0;
-  picks = replicate (length p.threads) 0;
+  picks = first_order (length p.threads);
   counts = no_counts;
 }
 

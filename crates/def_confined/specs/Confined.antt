@@ -80,6 +80,7 @@ pub record ObjectFits (i : Image) (next : ℕ) (r : Object) : Type 0 where
   pub high : r.base + r.length ≤ i.heap_end
   pub whole : (r.base % 8 ≡ 0) × (r.length % 8 ≡ 0)
   pub charge : r.charge ≡ r.length + 8
+  pub unpainted : r.live ≡ true → r.painted ≡ false
 
 -- a granule of a quarantined chunk
 abbrev pub MarksAt : ℕ → Object → Type 0

@@ -1,9 +1,11 @@
 pub mod Capabilities
 pub mod Places
 pub mod Confined
+pub mod Swept
 pub mod Partitioned
 pub mod Made
 pub mod Changes
 pub mod Licensed
 pub mod Holding
+pub mod Keeps
 pub mod Telling

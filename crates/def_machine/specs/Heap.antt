@@ -1,16 +1,18 @@
 -- *Heap*: places, allocation, free and the sweep.
-use Rattle.std.specs.Prelude.{ℕ, ◌+◌, ◌-◌, ◌*◌, ◌/◌, ◌%◌, ◌≡◌, ◌≤◌, ◌<◌, ◌&&◌, Bool, true, false, cond, nat_le, List, [], ◌∷◌, map, Option, Some, None}
+use Rattle.std.specs.Prelude.{ℕ, ◌+◌, ◌-◌, ◌*◌, ◌/◌, ◌%◌, ◌≡◌, ◌≤◌, ◌<◌, ◌==◌, ◌&&◌, ◌||◌, Bool, true, false, cond, nat_le, List, [], ◌∷◌, map, length, min, nat_lt, find, Option, Some, None}
+use Rattle.std.specs.List.{range_with_len, list_all}
 use Rattle.def_profile.specs.declared.layout.TheConstants.{CHUNK_HEAD}
 use Rattle.def_profile.specs.declared.rights.TheConstants.{HEAP_RIGHTS}
 use Rattle.def_words.specs.declared.Cap.{Cap}
 use Rattle.def_words.specs.LeastBounds.{round_length_of, alignment_of}
 use Rattle.def_words.specs.Derive.{derive, memory_root}
 use Rattle.def_memory.specs.Ranges.{zeroed_from, marked_from}
-use Rattle.def_machine.specs.Image.{Image}
+use Rattle.def_memory.specs.declared.Granule.{Granule}
+use Rattle.def_machine.specs.Image.{Image, area_of}
 use Rattle.def_machine.specs.State.{State, Thread, Frame, Object, thread}
 use Rattle.def_machine.specs.Memory.{filtered}
 use Rattle.def_machine.specs.Registers.{with_registers}
-use Rattle.def_machine.specs.Objects.{Each, ApartFrom, quarantine, only_live}
+use Rattle.def_machine.specs.Objects.{Each, ApartFrom, quarantine, placed_among, has_quarantined, painted, unpainted, is_painted_at}
 
 -- the length of an object of this size, and what it takes from its quota
 abbrev pub length_for : ℕ → ℕ
@@ -25,23 +27,34 @@ pub record Fits (i : Image) (objects : List Object) (length base : ℕ) : Type 0
   pub aligned : base % alignment_of length ≡ 0
   pub low : i.heap_base + CHUNK_HEAD ≤ base
   pub high : base + length ≤ i.heap_end
-  pub apart : Each (λ q. ApartFrom (record { number = 0; quota = 0; base = base; length = length; charge = 0; live = true }) q) objects
+  pub apart : Each (λ q. ApartFrom (record { number = 0; quota = 0; base = base; length = length; charge = 0; live = true; painted = false }) q) objects
 
 -- the least lawful place
 pub record IsPlaceFor (i : Image) (objects : List Object) (length base : ℕ) : Type 0 where
   pub fits : Fits i objects length base
   pub least : (b : ℕ) → b < base → Fits i objects length b → ⊥
 
+-- the same as tests: the chunk of an object of this length at this base meets none of these
+abbrev pub is_apart : ℕ → ℕ → Object → Bool
+is_apart length base q = nat_le (base + length + CHUNK_HEAD) q.base || nat_le (q.base + q.length + CHUNK_HEAD) base
+
+abbrev pub is_place : Image → List Object → ℕ → ℕ → Bool
+is_place i objects length base =
+    (base % 8 == 0) && (base % alignment_of length == 0) && nat_le (i.heap_base + CHUNK_HEAD) base && nat_le (base + length) i.heap_end && list_all (is_apart length base) objects
+
+abbrev pub place_of : Image → List Object → ℕ → Option ℕ
+place_of i objects length = find (is_place i objects length) (range_with_len i.heap_base (i.heap_end - i.heap_base))
+
 -- a new object of this size at this place, charged to this quota
 abbrev pub new_object : State → ℕ → ℕ → ℕ → Object
-new_object s quota size base = record { number = s.next; quota = quota; base = base; length = length_for size; charge = charge_for size; live = true }
+new_object s quota size base = record { number = s.next; quota = quota; base = base; length = length_for size; charge = charge_for size; live = true; painted = false }
 
 -- the capability of an object: its quota's root, its number as source
 abbrev pub object_cap : Object → Cap
 object_cap r = derive memory_root r.base r.length HEAP_RIGHTS r.base 0 (record { root = r.quota; source = r.number })
 
 abbrev pub with_object : State → Object → State
-with_object s r = record s { objects = r ∷ s.objects; next = s.next + 1 }
+with_object s r = record s { objects = placed_among r s.objects; next = s.next + 1 }
 
 -- ---- free
 
@@ -56,32 +69,87 @@ quarantined i s r = record s {
 abbrev pub freed : Image → State → ℕ → Object → State
 freed i s t r = with_registers (quarantined i s r) t (map (filtered i (quarantined i s r)) (thread s t).registers)
 
--- ---- the sweep
-
-abbrev pub swept_frame : Image → State → Frame → Frame
-swept_frame i s f = record f { c1 = filtered i s f.c1; c2 = filtered i s f.c2; c3 = filtered i s f.c3; c8 = filtered i s f.c8; c9 = filtered i s f.c9 }
-
--- registers and program counter of a thread that isn't running, saved capabilities of each
-abbrev pub swept_thread : Image → State → Bool → Thread → Thread
-swept_thread i s runs t = record t {
-  pcc = cond runs t.pcc (filtered i s t.pcc);
-  registers = cond runs t.registers (map (filtered i s) t.registers);
-  frames = map (swept_frame i s) t.frames;
-}
+-- ---- the sweep, a slice at a time
 
 abbrev pub is_number : Option ℕ → ℕ → Bool
 is_number None t = false
 is_number (Some u) t = nat_le u t && nat_le t u
 
-abbrev pub swept_threads : Image → State → ℕ → List Thread → List Thread
-swept_threads i s t [] = []
-swept_threads i s t (x ∷ xs) = swept_thread i s (is_number s.running t) x ∷ swept_threads i s (t + 1) xs
+-- what stands at an offset, where the slice from one offset to another has it
+abbrev pub sliced : Image → State → ℕ → ℕ → ℕ → Cap → Cap
+sliced i s low high offset c = cond (nat_le low offset && nat_lt offset high) (filtered i s c) c
 
--- every tagged place whose capability's base lies in a marked granule loses its tag; then all quarantined
--- objects leave, and their marks are cleared
-abbrev pub swept : Image → State → State
-swept i s = record s {
-  granules = map (λ g. record { cap = filtered i s g.cap; mark = false }) s.granules;
-  threads = swept_threads i s 0 s.threads;
-  objects = only_live s.objects;
+abbrev pub sliced_granules : Image → State → ℕ → ℕ → ℕ → List Granule → List Granule
+sliced_granules i s low high offset [] = []
+sliced_granules i s low high offset (g ∷ gs) = record g { cap = sliced i s low high offset g.cap } ∷ sliced_granules i s low high (offset + 8) gs
+
+-- the capabilities that a frame saved, which begins at an offset
+abbrev pub sliced_frame : Image → State → ℕ → ℕ → ℕ → Frame → Frame
+sliced_frame i s low high at f = record f {
+  c1 = sliced i s low high at f.c1;
+  c2 = sliced i s low high (at + 8) f.c2;
+  c3 = sliced i s low high (at + 16) f.c3;
+  c8 = sliced i s low high (at + 24) f.c8;
+  c9 = sliced i s low high (at + 32) f.c9;
 }
+
+-- a frame stands over those that it was pushed on
+abbrev pub sliced_frames : Image → State → ℕ → ℕ → ℕ → List Frame → List Frame
+sliced_frames i s low high area [] = []
+sliced_frames i s low high area (f ∷ fs) = sliced_frame i s low high (area + 160 + 64 * length fs) f ∷ sliced_frames i s low high area fs
+
+abbrev pub sliced_registers : Image → State → ℕ → ℕ → ℕ → List Cap → List Cap
+sliced_registers i s low high at [] = []
+sliced_registers i s low high at (c ∷ cs) = sliced i s low high at c ∷ sliced_registers i s low high (at + 8) cs
+
+-- registers and program counter of the running thread have no place: its area begins with where they would stand
+abbrev pub sliced_thread : Image → State → ℕ → ℕ → ℕ → Bool → Thread → Thread
+sliced_thread i s low high area runs t = record t {
+  pcc = cond runs t.pcc (sliced i s low high area t.pcc);
+  registers = cond runs t.registers (sliced_registers i s low high area t.registers);
+  frames = sliced_frames i s low high area t.frames;
+}
+
+abbrev pub sliced_threads : Image → State → ℕ → ℕ → ℕ → List Thread → List Thread
+sliced_threads i s low high t [] = []
+sliced_threads i s low high t (x ∷ xs) = sliced_thread i s low high (area_of i t - i.ram) (is_number s.running t) x ∷ sliced_threads i s low high (t + 1) xs
+
+abbrev pub with_slice : Image → State → ℕ → ℕ → State
+with_slice i s low high = record s {
+  granules = sliced_granules i s low high 0 s.granules;
+  threads = sliced_threads i s low high 0 s.threads;
+  front = Some high;
+}
+
+-- where none runs and something is quarantined, a sweep begins
+abbrev pub begun_sweep : State → State
+begun_sweep s = cond (has_quarantined s.objects) (record s { objects = painted s.objects; front = Some 0 }) s
+
+abbrev pub sweep_began : State → Option ℕ → State
+sweep_began s None = begun_sweep s
+sweep_began s (Some front) = s
+
+-- the painted leave, and their marks are cleared
+abbrev pub unmarked : Image → List Object → ℕ → List Granule → List Granule
+unmarked i rs x [] = []
+unmarked i rs x (g ∷ gs) = record g { mark = cond (is_painted_at rs x) false g.mark } ∷ unmarked i rs (x + 8) gs
+
+abbrev pub sweep_over : Image → State → State
+sweep_over i s = record s { granules = unmarked i s.objects i.ram s.granules; objects = unpainted s.objects; front = None }
+
+abbrev pub ram_size : State → ℕ
+ram_size s = 8 * length s.granules
+
+abbrev pub ended_sweep : Image → State → ℕ → State
+ended_sweep i s front = cond (nat_le (ram_size s) front) (sweep_over i s) s
+
+abbrev pub slice_end : Image → State → ℕ → ℕ
+slice_end i s front = min (front + 8 * i.sweep) (ram_size s)
+
+abbrev pub sweep_on : Image → State → Option ℕ → State
+sweep_on i s None = s
+sweep_on i s (Some front) = ended_sweep i (with_slice i s front (slice_end i s front)) (slice_end i s front)
+
+-- one Sweep event
+abbrev pub swept : Image → State → State
+swept i s = sweep_on i (sweep_began s s.front) (sweep_began s s.front).front

@@ -1,5 +1,5 @@
 -- The part of a running firmware that never changes.
-use Rattle.std.specs.Prelude.{ℕ, ◌+◌, ◌-◌, ◌*◌, ◌/◌, List, slice_index_or}
+use Rattle.std.specs.Prelude.{ℕ, ◌+◌, ◌-◌, ◌*◌, ◌/◌, List, [], ◌∷◌, take, slice_index_or}
 use Rattle.def_words.specs.declared.Cap.{Cap}
 use Rattle.def_memory.specs.declared.Granule.{Granule}
 use Rattle.def_memory.specs.Granules.{plain, nothing}
@@ -19,8 +19,9 @@ pub data Region : Type 0 where
 
 -- `made` has for each entry's number the capability that boot makes for it, and at 0 the return sentry;
 -- `regions` and `boot` go by granule; `codes` and `globals` have by compartment the number of the entry of
--- its code and of its globals, `stacks` by thread that of its stack; `frames` says by thread how many it
--- may have. Addresses count bytes.
+-- its code and of its globals, and `handlers` that of its error handler's export, 0 where it has none; `stacks`
+-- has by thread that of its stack; `frames` says by thread how many it may have, and `priorities` its priority, greater
+-- first; `trusted` is where the threads' areas begin; `sweep` is how many granules a slice passes. Addresses count bytes.
 pub record Image : Type 0 where
   pub entries : Listed
   pub made : List Cap
@@ -29,8 +30,12 @@ pub record Image : Type 0 where
   pub boot : List Granule
   pub codes : List ℕ
   pub globals : List ℕ
+  pub handlers : List ℕ
   pub stacks : List ℕ
   pub frames : List ℕ
+  pub priorities : List ℕ
+  pub trusted : ℕ
+  pub sweep : ℕ
   pub heap_base : ℕ
   pub heap_end : ℕ
 
@@ -68,3 +73,19 @@ granule_of i x = (x - i.ram) / 8
 
 abbrev pub address_of : Image → ℕ → ℕ
 address_of i k = i.ram + 8 * k
+
+-- ---- the threads' areas: 160 bytes, and 64 for each frame that a thread may have
+
+abbrev pub areas_size : List ℕ → ℕ
+areas_size [] = 0
+areas_size (n ∷ ns) = 160 + 64 * n + areas_size ns
+
+abbrev pub frames_most : Image → ℕ → ℕ
+frames_most i t = slice_index_or i.frames t 0
+
+-- where a thread's area begins, and where all of them end
+abbrev pub area_of : Image → ℕ → ℕ
+area_of i t = i.trusted + areas_size (take t i.frames)
+
+abbrev pub trusted_end : Image → ℕ
+trusted_end i = i.trusted + areas_size i.frames

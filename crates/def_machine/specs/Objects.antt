@@ -1,5 +1,5 @@
 -- Objects of the heap as rows: what is live, what is quarantined, what a quota is charged with.
-use Rattle.std.specs.Prelude.{ℕ, ◌+◌, ◌≤◌, ◌<◌, ◌⊎◌, ◌&&◌, false, List, [], ◌∷◌, cond, nat_eq}
+use Rattle.std.specs.Prelude.{ℕ, ◌+◌, ◌≤◌, ◌<◌, ◌⊎◌, ◌&&◌, ◌||◌, Bool, false, not, List, [], ◌∷◌, cond, map, nat_eq, nat_le, nat_lt}
 use Rattle.def_profile.specs.declared.layout.TheConstants.{CHUNK_HEAD}
 use Rattle.def_machine.specs.State.{Object}
 
@@ -31,7 +31,26 @@ abbrev pub quarantine : ℕ → List Object → List Object
 quarantine n [] = []
 quarantine n (r ∷ rs) = cond (nat_eq r.number n) (record r { live = false }) r ∷ quarantine n rs
 
--- the quarantined leave
-abbrev pub only_live : List Object → List Object
-only_live [] = []
-only_live (r ∷ rs) = cond r.live (r ∷ only_live rs) (only_live rs)
+-- an object among those that stand by their bases
+abbrev pub placed_among : Object → List Object → List Object
+placed_among r [] = r ∷ []
+placed_among r (q ∷ qs) = cond (nat_lt r.base q.base) (r ∷ q ∷ qs) (q ∷ placed_among r qs)
+
+-- one is quarantined
+abbrev pub has_quarantined : List Object → Bool
+has_quarantined [] = false
+has_quarantined (r ∷ rs) = not r.live || has_quarantined rs
+
+-- the quarantined are painted
+abbrev pub painted : List Object → List Object
+painted rs = map (λ (r : Object). record r { painted = not r.live }) rs
+
+-- the painted leave
+abbrev pub unpainted : List Object → List Object
+unpainted [] = []
+unpainted (r ∷ rs) = cond r.painted (unpainted rs) (r ∷ unpainted rs)
+
+-- an address of a painted chunk
+abbrev pub is_painted_at : List Object → ℕ → Bool
+is_painted_at [] x = false
+is_painted_at (r ∷ rs) x = (r.painted && nat_le r.base (x + 8) && nat_lt x (r.base + r.length)) || is_painted_at rs x

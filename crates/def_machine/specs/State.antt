@@ -6,13 +6,16 @@ pub use Rattle.def_sched.specs.declared.Status.{Status}
 pub use Rattle.def_sched.specs.declared.Status.TheVariants.{Ready, Sleeping, Waiting, Ended}
 use Rattle.def_memory.specs.declared.Granule.{Granule}
 use Rattle.def_memory.specs.Granules.{plain, granule_at}
+use Rattle.def_sched.specs.declared.Status.{Status}
+use Rattle.def_sched.specs.declared.Status.TheVariants.{Ended}
 
--- A frame: its compartment, its export's entry number, its top, and the caller's saved registers. Of a
--- thread's outermost frame, which has no caller, the saved registers are plain.
+-- A frame: its compartment, its export's entry number, its top, whether its error handler was entered, and the caller's
+-- saved registers. Of a thread's outermost frame, which has no caller, the saved registers are plain.
 pub record Frame : Type 0 where
   pub actor : ℕ
   pub export : ℕ
   pub top : ℕ
+  pub handling : Bool
   pub c1 : Cap
   pub c2 : Cap
   pub c3 : Cap
@@ -28,7 +31,8 @@ pub record Thread : Type 0 where
   pub posture : Posture
 
 -- An object of the heap: its allocation number, its quota's entry number, where it begins and how long it
--- is, what it takes from the quota, and whether it is live; a freed one is quarantined until a sweep ends.
+-- is, what it takes from the quota, and whether it is live; a freed one is quarantined until a sweep ends that
+-- began after its free: those that the running sweep will let go are painted.
 pub record Object : Type 0 where
   pub number : ℕ
   pub quota : ℕ
@@ -36,6 +40,7 @@ pub record Object : Type 0 where
   pub length : ℕ
   pub charge : ℕ
   pub live : Bool
+  pub painted : Bool
 
 -- the queue of a serial port, oldest first; a timer reads the time; a gpio's output and its last input
 pub data DeviceState : Type 0 where
@@ -47,6 +52,7 @@ pub data DeviceState : Type 0 where
 pub record Counts : Type 0 where
   pub steps : ℕ
   pub ticks : ℕ
+  pub sweeps : ℕ
   pub inputs : ℕ
   pub calls : ℕ
   pub loads : ℕ
@@ -54,8 +60,14 @@ pub record Counts : Type 0 where
   pub frees : ℕ
   pub traps : ℕ
 
--- `next` is the number of the next allocation, one more than there were; `picks` has for each thread when
--- it was picked last
+-- an object that is a key, or a token of the key with this object's number
+pub record Token : Type 0 where
+  pub number : ℕ
+  pub key : Option ℕ
+
+-- `objects` stand by their bases; `next` is the number of the next allocation, one more than there were;
+-- `picks` are the threads in the order of their last picks, those never picked first; `front` is how far the
+-- running sweep has come, an offset in RAM
 pub record State : Type 0 where
   pub granules : List Granule
   pub threads : List Thread
@@ -63,6 +75,8 @@ pub record State : Type 0 where
   pub pending : Bool
   pub objects : List Object
   pub next : ℕ
+  pub tokens : List Token
+  pub front : Option ℕ
   pub devices : List DeviceState
   pub time : ℕ
   pub picks : List ℕ

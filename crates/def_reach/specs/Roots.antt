@@ -3,7 +3,7 @@ use Rattle.std.specs.Prelude.{ℕ, zero, suc, ◌+◌, ◌==◌, Bool, true, fal
 use Rattle.def_profile.specs.declared.native.TheConstants.{NATIVE_LENGTH, RETURN_ENTRY}
 use Rattle.def_profile.specs.declared.rights.TheConstants.{SERVICE_RIGHTS}
 use Rattle.ct_entry.specs.declared.rows.Owner.{Owner}
-use Rattle.ct_entry.specs.declared.rows.Owner.TheVariants.{Trusted}
+use Rattle.ct_entry.specs.declared.rows.Owner.TheVariants.{Trusted, Compartment, Library, Thread}
 use Rattle.ct_entry.specs.declared.rows.Kind.{Kind}
 use Rattle.ct_entry.specs.declared.rows.Kind.TheVariants.{Code, Stack, Library, Service, Quota, Export}
 use Rattle.ct_entry.specs.declared.rows.Mode.{Mode}
@@ -71,6 +71,13 @@ listed_root (Some r) g = record {
 unfoldable pub root_of : Listed → ℕ → Root
 root_of e zero = trusted_root
 root_of e (suc n) = listed_root (slice_get e.rows n) (gate_for e.gates (suc n))
+
+-- the index of an owner, among those of its sort
+abbrev pub compartment_of : Owner → ℕ
+compartment_of Trusted = 0
+compartment_of (Compartment b) = b
+compartment_of (Library l) = l
+compartment_of (Thread t) = t
 
 -- ---- tests of the kind
 

@@ -19,15 +19,17 @@ use Rattle.def_words.specs.Capability.{with_address}
 use Rattle.def_words.specs.Derive.{derive, memory_root, executable_root}
 use Rattle.def_memory.specs.declared.Granule.{Granule}
 use Rattle.def_memory.specs.Granules.{plain}
-use Rattle.def_reach.specs.Roots.{gate_for, root_of}
+use Rattle.def_reach.specs.Roots.{gate_for, root_of, compartment_of}
 use Rattle.def_machine.specs.Image.{Image, Region, Fixed, Globals, HeapRam, Stack, Bare}
 use Rattle.def_machine.specs.State as st
-use Rattle.def_machine.specs.State.{State, Frame, DeviceState, Serial, Clock, Pins, Counts, Ready, interrupts_on}
+use Rattle.def_machine.specs.State.{State, Frame, DeviceState, Serial, Clock, Pins, Counts, interrupts_on}
+use Rattle.def_sched.specs.declared.Status.TheVariants.{Ready}
+use Rattle.def_step.specs.Instructions.{Board}
+use Rattle.def_sched.specs.Picks.{first_order}
 use Rattle.def_profile.specs.declared.layout.TheConstants.{SLOT_SIZE, TABLE_HEAD, TABLE_ROW}
 use Rattle.def_profile.specs.declared.native.TheConstants.{NATIVE_LENGTH, RETURN_ENTRY}
 use Rattle.def_profile.specs.declared.rights.TheConstants.{SERVICE_RIGHTS}
 use Rattle.def_profile.specs.declared.seals.TheConstants.{SENTRY_INHERIT, RETURN_ENABLE}
-use Rattle.def_step.specs.Instructions.{Board}
 use Rattle.def_step.specs.Events.{MachineRow}
 
 -- ---- rows of the report by what they are
@@ -153,12 +155,6 @@ posture_byte mode.Inherit = 1
 posture_byte mode.Disabled = 2
 posture_byte mode.Enabled = 3
 
-abbrev pub compartment_of : Owner → ℕ
-compartment_of Trusted = 0
-compartment_of (Compartment b) = b
-compartment_of (Library l) = l
-compartment_of (Thread t) = t
-
 abbrev pub export_first : FirmwareRow → Gate → Owner → ℕ
 export_first f g o = g.code - text_base f (compartment_of o) + g.stack * 2 ^ 32
 
@@ -260,8 +256,12 @@ image_of f = record {
   boot = boot_granules f;
   codes = numbered_from (code_number f) 0 (length f.tables);
   globals = numbered_from (globals_number f) 0 (length f.tables);
+  handlers = map (λ t. 0) f.tables;
   stacks = numbered_from (stack_number f) 0 (length f.threads);
   frames = map (λ t. t.frames) f.threads;
+  priorities = map (λ t. t.priority) f.threads;
+  trusted = f.trusted + 16;
+  sweep = 64;
   heap_base = f.heap;
   heap_end = f.ram + f.size;
 }
@@ -292,7 +292,7 @@ stack_top_of f t = (root_of f.entries (stack_number f t)).top
 -- A thread starts at its export, with the return sentry in c1, its stack at the top in c2 and the globals in
 -- c3, and one frame.
 abbrev pub first_frame : FirmwareRow → ℕ → ℕ → Frame
-first_frame f t export = record { actor = home_of f export; export = export; top = stack_top_of f t; c1 = plain 0; c2 = plain 0; c3 = plain 0; c8 = plain 0; c9 = plain 0 }
+first_frame f t export = record { actor = home_of f export; export = export; top = stack_top_of f t; handling = false; c1 = plain 0; c2 = plain 0; c3 = plain 0; c8 = plain 0; c9 = plain 0 }
 
 abbrev pub first_pcc : FirmwareRow → ℕ → Cap
 first_pcc f export = with_address (made_for f (code_number f (home_of f export))) (gate_for f.entries.gates export).code
@@ -316,7 +316,7 @@ first_threads f t [] = []
 first_threads f t (s ∷ ss) = first_thread f t s ∷ first_threads f (t + 1) ss
 
 abbrev pub no_counts : Counts
-no_counts = record { steps = 0; ticks = 0; inputs = 0; calls = 0; loads = 0; stores = 0; frees = 0; traps = 0 }
+no_counts = record { steps = 0; ticks = 0; sweeps = 0; inputs = 0; calls = 0; loads = 0; stores = 0; frees = 0; traps = 0 }
 
 unfoldable pub boot_state : FirmwareRow → State
 boot_state f = record {
@@ -326,9 +326,11 @@ boot_state f = record {
   pending = false;
   objects = [];
   next = 1;
+  tokens = [];
+  front = None;
   devices = map (λ d. fresh_device d.kind) f.devices;
   time = 0;
-  picks = replicate (length f.threads) 0;
+  picks = first_order (length f.threads);
   counts = no_counts;
 }
 

@@ -1,5 +1,5 @@
 -- *Run*: what an event does, and what a list of events does.
-use Rattle.std.specs.Prelude.{ℕ, ◌+◌, ◌-◌, ◌==◌, ◌≡◌, ◌&&◌, ◌||◌, Bool, true, false, not, nat_lt, List, [], ◌∷◌, length, Option, Some, None, slice_set, if◌then◌else◌}
+use Rattle.std.specs.Prelude.{ℕ, ◌+◌, ◌-◌, ◌==◌, ◌≡◌, ◌&&◌, ◌||◌, Bool, true, false, not, nat_lt, List, [], ◌∷◌, length, map, Option, Some, None, slice_set, if◌then◌else◌}
 use Rattle.def_profile.specs.declared.limits.TheConstants.{MOST_STEPS}
 use Rattle.ct_entry.specs.declared.acts.Act.{Act}
 use Rattle.ct_entry.specs.declared.acts.Act.TheVariants.{Call, Load, Store, Allocate, Free, Trap}
@@ -9,11 +9,13 @@ use Rattle.ct_entry.specs.declared.acts.Happened.{Happened}
 use Rattle.ct_entry.specs.declared.acts.End.{End}
 use Rattle.ct_entry.specs.declared.acts.End.TheVariants.{Finished, Idle}
 use Rattle.ct_entry.specs.declared.acts.Totals.{Totals}
-pub use Rattle.def_sched.specs.Statuses.{is_ready, is_ended, is_waiting}
+use Rattle.def_sched.specs.Picks.{pick, moved_last}
+use Rattle.def_sched.specs.Statuses.{is_ended, is_waiting}
 use Rattle.def_machine.specs.State.{State, Thread, Counts, thread}
-use Rattle.def_machine.specs.Threads.{picked}
+use Rattle.def_machine.specs.Threads.{picked, timed, statuses_of}
 use Rattle.def_step.specs.declared.Event.{Event}
-use Rattle.def_step.specs.declared.Event.TheVariants.{Step, Tick, Input}
+use Rattle.def_step.specs.declared.Event.TheVariants.{Step, Tick, Sweep, Input}
+use Rattle.def_machine.specs.Heap.{swept}
 use Rattle.def_step.specs.Devices.{device, after_input}
 use Rattle.def_step.specs.Instructions.{Board, executed, actor_of}
 
@@ -49,14 +51,15 @@ preempted_from s (Some t) = if s.pending && not (thread s t).posture.off then re
 abbrev pub preempted : State → State
 preempted s = preempted_from s s.running
 
--- Where none runs, the scheduler picks. There is one thread at most: thread 0, where it is ready. Its
--- registers and pcc pass the load filter, and the number of this Step is noted.
+-- Where none runs, the scheduler picks: a ready thread of greatest priority, of those the one picked least
+-- recently. Its registers and pcc pass the load filter, and in the order of last picks it stands last.
+abbrev pub picked_as : Board → State → Option ℕ → State
+picked_as b s None = s
+picked_as b s (Some t) = record s { running = Some t; threads = slice_set s.threads t (picked b.image s (thread s t)); picks = moved_last t s.picks }
+
 abbrev pub picked_from : Board → State → Option ℕ → State
 picked_from b s (Some t) = s
-picked_from b s None =
-    if is_ready (thread s 0).status
-    then record s { running = Some 0; threads = slice_set s.threads 0 (picked b.image s (thread s 0)); picks = slice_set s.picks 0 s.counts.steps }
-    else s
+picked_from b s None = picked_as b s (pick b.image.priorities (statuses_of s.threads) s.picks)
 
 abbrev pub scheduled : Board → State → State
 scheduled b s = picked_from b s s.running
@@ -77,13 +80,19 @@ stepped b s = run_on b (scheduled b (preempted (one_more_step s)))
 
 -- ---- Tick
 
--- No thread runs on with interrupts on; where the running one holds them off, the tick is pending.
+-- No thread runs on with interrupts on; where the running one holds them off, the tick is pending. A thread whose
+-- sleep ends is ready.
 abbrev pub interrupted : State → Option ℕ → State
 interrupted s None = s
 interrupted s (Some t) = if (thread s t).posture.off then record s { pending = true } else record s { running = None }
 
 abbrev pub ticked : State → State
-ticked s = interrupted (record s { time = s.time + 1; counts = record s.counts { ticks = s.counts.ticks + 1 } }) s.running
+ticked s = interrupted (record s { threads = map timed s.threads; time = s.time + 1; counts = record s.counts { ticks = s.counts.ticks + 1 } }) s.running
+
+-- ---- Sweep
+
+abbrev pub swept_on : Board → State → State
+swept_on b s = swept b.image (record s { counts = record s.counts { sweeps = s.counts.sweeps + 1 } })
 
 -- ---- Input
 
@@ -122,6 +131,7 @@ told_of before r = (r.0, record { deed = r.1; off = begun before r.0 })
 abbrev pub happens : Board → State → Event → State × Happened
 happens b s Step = told_of s (stepped b s)
 happens b s Tick = told_of s (ticked s, None)
+happens b s Sweep = told_of s (swept_on b s, None)
 happens b s (Input n byte) = told_of s (received s n byte, None)
 
 -- ---- runs
@@ -138,6 +148,7 @@ told b s (e ∷ es) = (happens b s e).1 ∷ told b (happens b s e).0 es
 abbrev pub is_lawful : State → Event → Bool
 is_lawful s Step = nat_lt s.counts.steps MOST_STEPS
 is_lawful s Tick = nat_lt s.counts.ticks MOST_STEPS
+is_lawful s Sweep = nat_lt s.counts.sweeps MOST_STEPS
 is_lawful s (Input n byte) = nat_lt s.counts.inputs MOST_STEPS && nat_lt n (length s.devices)
 
 -- each event of the list may come when it comes

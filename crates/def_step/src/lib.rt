@@ -12,6 +12,8 @@ pub enum Event {
     Step,
     /// One tick of the timer.
     Tick,
+    /// One slice of the revoker.
+    Sweep,
     /// One byte comes at the device with this index.
     Input { device: u32, byte: u8 },
 }

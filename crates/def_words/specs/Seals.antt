@@ -30,8 +30,8 @@ abbrev pub is_jump_taken : ℕ → ℕ → ℕ → Bool
 is_jump_taken to at kind =
     (kind == 0)
     || (if (to == 0) && (at == 1) then is_between RETURN_DISABLE RETURN_ENABLE kind
-        else if to == 1 then is_between SENTRY_INHERIT SENTRY_ENABLE kind
-        else (kind == SENTRY_INHERIT))
+    else if to == 1 then is_between SENTRY_INHERIT SENTRY_ENABLE kind
+    else (kind == SENTRY_INHERIT))
 
 -- Which posture a jump through a type leaves: `named` is the export that the target's root entry names,
 -- `kept` the target's own source.

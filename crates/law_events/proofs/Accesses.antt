@@ -7,11 +7,11 @@ use Rattle.def_words.specs.declared.Cap.{Cap}
 use Rattle.def_words.specs.declared.Trap.{Trap}
 use Rattle.def_words.specs.Authority.{cap_address, cap_base, cap_top}
 use Rattle.def_words.specs.Capability.{integer, raised, is_range_inside}
-use Rattle.def_words.specs.Loaded.{attenuated}
+use Rattle.def_words.specs.Loaded.{attenuated, stored_through}
 use Rattle.def_words.specs.Permissions.{has, load_data, store_data, memory_capability}
 use Rattle.def_memory.specs.declared.Granule.{Granule}
 use Rattle.def_memory.specs.Granules.{plain}
-use Rattle.def_memory.specs.Accesses.{loaded, loaded_cap}
+use Rattle.def_memory.specs.Accesses.{loaded, loaded_cap, with_part}
 use Rattle.ct_entry.specs.declared.acts.Act.{Act}
 use Rattle.ct_entry.specs.declared.acts.Act.TheVariants as acts
 use Rattle.ct_entry.specs.declared.rows.Kind.TheVariants as kinds
@@ -37,7 +37,10 @@ use Rattle.def_confined.specs.Confined.{Confined}
 use Rattle.def_confined.specs.Licensed.{Licensed}
 use Rattle.law_places.proofs.Turns.{clock_of}
 use Rattle.law_memory.proofs.Loading.{load_stands}
-use Rattle.law_memory.proofs.Stores.{store_cap_confined, store_bytes_confined}
+use Rattle.law_memory.proofs.Stores.{through_case, store_cap_confined, store_bytes_confined}
+use Rattle.law_sweeps.proofs.Slices.{live_unpainted}
+use Rattle.law_sweeps.proofs.Moves.{RamLeft, ram_same, set_left}
+use Rattle.def_confined.specs.Swept.{HasUnpainted}
 use Rattle.law_jumps.proofs.Moves.{jumps_confined}
 use Rattle.law_made.proofs.Results.{attenuated_derived, attenuated_carries}
 use Rattle.law_events.proofs.Checking.{AllPass}
@@ -195,6 +198,48 @@ store_confined b s t n m to a at w stores inside =
     (λ whole. store_cap_confined b.image s t n m at w.f.parts w.f.held w.runs inside says.tagged says.stores (λ tagged. says.may_carry (let both : (a.whole && (register (thread s t) m).tag) ≡ true = cc in both)) says.low high (aligned_eight a at w.wide whole says.aligned))
     (λ part. store_bytes_confined b.image s t n at a.width (cap_address (register (thread s t) m)) w.f.parts w.f.held inside says.tagged says.stores says.low high))
 
+-- ---- what an access leaves of RAM
+
+-- a value of a register of the running thread is of a live object, with its tag or without
+register_unpainted : (b : Board) (s : State) (t n : ℕ) → Fetching b.image s t → s.running ≡ Some t → HasUnpainted b.image s.objects (register (thread s t) n)
+register_unpainted b s t n f runs tagged heap some = live_unpainted b.image s.next s.objects (register (thread s t) n) f.held.fits (f.held.live t runs n tagged heap some)
+
+stored_left : (b : Board) (s : State) (t n m : ℕ) (a : Access) (at : ℕ) → Accessing b s t n m a at → RamLeft b.image s (ram_stored a (register (thread s t) n) (register (thread s t) m) at b.image.ram s.granules)
+stored_left b s t n m a at w =
+    let x : Cap = register (thread s t) n in
+    let y : Cap = register (thread s t) m in
+    chosen (RamLeft b.image s) a.whole (cap_stored b.image s at (register (thread s t) n) (register (thread s t) m)).granules (bytes_stored b.image s at a.width (cap_address (register (thread s t) m))).granules
+    (λ whole. set_left b.image s (granule_of b.image at) (stored_through (register (thread s t) n) (register (thread s t) m))
+    (through_case (HasUnpainted b.image s.objects) (register (thread s t) n) (register (thread s t) m) (λ tagged. absurd (let clash : false ≡ true = tagged in cc)) (λ local. register_unpainted b s t m w.f w.runs)))
+    (λ part. set_left b.image s (granule_of b.image at) (plain (with_part (granule s (granule_of b.image at)).cap.word ((at - b.image.ram) % 8) a.width (cap_address (register (thread s t) m)))) (λ tagged. absurd (let clash : false ≡ true = tagged in cc)))
+
+abbrev LeavesRam : Board → State → Accessed → Type 0
+LeavesRam b s m = RamLeft b.image s m.granules
+
+pub accessed_ram : (b : Board) (s : State) (t n m : ℕ) (a : Access) (at : ℕ) → Accessing b s t n m a at → LeavesRam b s (accessed a (register (thread s t) n) (register (thread s t) m) at (space_of b s))
+accessed_ram b s t n m a at w =
+    chosen (LeavesRam b s) (is_ram (space_of b s) at a.width) (in_ram a (register (thread s t) n) (register (thread s t) m) at (space_of b s)) (on_device a (register (thread s t) n) (register (thread s t) m) at (space_of b s))
+    (λ ram. chosen (LeavesRam b s) a.loads
+    (record { value = Some (ram_value a (register (thread s t) n) at b.image.ram s.granules); act = None; granules = s.granules; bank = bank_of b s })
+    (record { value = None; act = None; granules = ram_stored a (register (thread s t) n) (register (thread s t) m) at b.image.ram s.granules; bank = bank_of b s })
+    (λ loads. ram_same b.image s)
+    (λ stores. stored_left b s t n m a at w))
+    (λ other. chosen (LeavesRam b s) a.loads
+    (record {
+      value = Some (device_value a (register (thread s t) n) (bank_value (bank_of b s) at a.width s.time));
+      act = deed_at (space_of b s) at (acts.Load at a.width (bank_value (bank_of b s) at a.width s.time));
+      granules = s.granules;
+      bank = bank_read (bank_of b s) at a.width;
+    })
+    (record {
+      value = None;
+      act = deed_at (space_of b s) at (acts.Store at a.width (stored_value a (register (thread s t) m)));
+      granules = s.granules;
+      bank = bank_written (bank_of b s) at a.width (stored_value a (register (thread s t) m));
+    })
+    (λ loads. ram_same b.image s)
+    (λ stores. ram_same b.image s))
+
 -- ---- whole
 
 abbrev Leaves : Board → State → ℕ → ℕ → Accessed → Type 0
@@ -318,6 +363,7 @@ accessed_licensed b s t n m a at w =
 -- of a load or a store that is carried out
 pub record AccessLaws (b : Board) (s : State) (t : ℕ) (k : Instr) : Type 0 where
   pub confined : (d : Done) → carried_out class.Access k (operands_of k).to (operand s t (operands_of k).first) (operand s t (operands_of k).second) (around b s t) ≡ Ok d → Confined b.image (put_done s t d)
+  pub ram : (d : Done) → carried_out class.Access k (operands_of k).to (operand s t (operands_of k).first) (operand s t (operands_of k).second) (around b s t) ≡ Ok d → RamLeft b.image s d.granules
   pub licensed : (d : Done) (a : Act) → carried_out class.Access k (operands_of k).to (operand s t (operands_of k).first) (operand s t (operands_of k).second) (around b s t) ≡ Ok d → d.act ≡ Some a
       → Licensed b.image.entries (deed s t (operand s t (operands_of k).first).shadow.root a)
 
@@ -331,6 +377,12 @@ access_laws b s t k wired f runs =
           (accessed (access_of k) (operand s t (operands_of k).first) (operand s t (operands_of k).second) (access_address (access_of k) (operand s t (operands_of k).first)) (space_of b s)) d e in
           subst (λ (z : Done). Confined b.image (put_done s t z)) (sym c.is)
           (accessed_confined b s t (operands_of k).first (operands_of k).second (operands_of k).to (access_of k) (access_address (access_of k) (operand s t (operands_of k).first))
+          (record { f = f; wired = wired; runs = runs; wide = width_of k; passed = all_pass _ c.passed }));
+      ram = λ d e.
+          let c = carried (around b s t) (operands_of k).to (first_failed (access_checks (access_of k) (operand s t (operands_of k).first) (operand s t (operands_of k).second) (access_address (access_of k) (operand s t (operands_of k).first))))
+          (accessed (access_of k) (operand s t (operands_of k).first) (operand s t (operands_of k).second) (access_address (access_of k) (operand s t (operands_of k).first)) (space_of b s)) d e in
+          subst (λ (z : Done). RamLeft b.image s z.granules) (sym c.is)
+          (accessed_ram b s t (operands_of k).first (operands_of k).second (access_of k) (access_address (access_of k) (operand s t (operands_of k).first))
           (record { f = f; wired = wired; runs = runs; wide = width_of k; passed = all_pass _ c.passed }));
       licensed = λ d act e is.
           let c = carried (around b s t) (operands_of k).to (first_failed (access_checks (access_of k) (operand s t (operands_of k).first) (operand s t (operands_of k).second) (access_address (access_of k) (operand s t (operands_of k).first))))

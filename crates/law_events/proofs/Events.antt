@@ -1,17 +1,19 @@
 -- Ticks, inputs and steps, whole.
-use Rattle.std.proofs.Common.{ℕ, ◌≡◌, ◌+◌, ◌&&◌, true, false, not, List, [], ◌∷◌, Option, Some, None, refl, sym, ◌∙◌, slice_set}
-use Rattle.law_lists.proofs.Sets.{after_set}
+use Rattle.std.proofs.Common.{ℕ, ◌≡◌, ◌+◌, ◌&&◌, ◌≤◌, true, false, not, List, [], ◌∷◌, length, Option, Some, None, refl, sym, ◌∙◌, slice_set, map, arith}
+use Rattle.std.proofs.lemmas.List.{length-map}
 use Rattle.law_lists.proofs.Tests.{chosen}
 use Rattle.ct_entry.specs.declared.acts.Deed.{Deed}
 use Rattle.ct_entry.specs.declared.acts.Owned.{Owned}
 use Rattle.def_machine.specs.Image.{Image}
-use Rattle.def_machine.specs.State.{State, Frame, thread, nobody}
-use Rattle.def_machine.specs.Threads.{Clockwork, picked}
+use Rattle.def_machine.specs.State.{State, Frame, thread}
+use Rattle.def_machine.specs.Memory.{filtered}
+use Rattle.def_sched.specs.Picks.{pick, moved_last}
+use Rattle.def_machine.specs.Threads.{Clockwork, picked, timed, statuses_of}
 use Rattle.def_step.specs.declared.Event.{Event}
-use Rattle.def_step.specs.declared.Event.TheVariants.{Step, Tick, Input}
+use Rattle.def_step.specs.declared.Event.TheVariants.{Step, Tick, Sweep, Input}
 use Rattle.def_step.specs.Instructions.{Board, executed, actor_of}
 use Rattle.def_step.specs.Devices.{device, after_input}
-use Rattle.def_step.specs.Events.{noted, with_deed, preempted_from, preempted, is_ready, picked_from, scheduled, continued, one_more_step, stepped, interrupted, ticked, received, holder_by, holder, is_holder, begun_since, begun, happens}
+use Rattle.def_step.specs.Events.{noted, with_deed, preempted_from, preempted, picked_as, picked_from, scheduled, continued, one_more_step, stepped, interrupted, ticked, swept_on, received, holder_by, holder, is_holder, begun_since, begun, happens}
 use Rattle.def_board.specs.Wired.{Wired}
 use Rattle.def_confined.specs.Confined.{Confined}
 use Rattle.def_confined.specs.Partitioned.{Partitioned}
@@ -19,8 +21,12 @@ use Rattle.def_confined.specs.Licensed.{Licensed, OffLicensed}
 use Rattle.law_places.proofs.Turns.{clock_of}
 use Rattle.law_turns.proofs.Moves.{pick_confined, clock_confined}
 use Rattle.law_licensed.proofs.Deeds.{off_licensed}
-use Rattle.def_confined.specs.Holding.{EndedOn}
-use Rattle.law_events.proofs.Fairness.{Fair, IsOn, some_same, none_licensed}
+use Rattle.def_confined.specs.Holding.{EndedOn, EndsFit}
+use Rattle.def_confined.specs.Keeps.{Beside, Keeps}
+use Rattle.law_sweeps.proofs.Ends.{swept_keeps}
+use Rattle.law_sweeps.proofs.Ticks.{timed_keeps}
+use Rattle.law_sweeps.proofs.Moves.{ThreadLeft, ram_same, moved_beside, clock_beside, stopped_beside}
+use Rattle.law_events.proofs.Fairness.{Fair, some_same, none_licensed}
 use Rattle.law_events.proofs.Steps.{executed_fair}
 
 -- ---- who runs, and the clockwork
@@ -48,22 +54,19 @@ stops_confined i s run w stays h = record {
 none_runs : (s : State) (u : ℕ) → None ≡ Some u → s.running ≡ Some u
 none_runs s u e = absurd (let clash : None ≡ Some u = e in cc)
 
--- what an event leaves of a state
+-- what a change leaves of a state
 pub record Kept (b : Board) (s new : State) : Type 0 where
   pub confined : Confined b.image new
-  pub ended : EndedOn s → EndedOn new
+  pub beside : Beside b.image s → Beside b.image new
 
 clock_kept : (b : Board) (s : State) (w : Clockwork) → Confined b.image s → Kept b s (record s { pending = w.pending; devices = w.devices; time = w.time; picks = w.picks; counts = w.counts })
-clock_kept b s w h = record { confined = clock_confined b.image s w h; ended = λ e. e }
+clock_kept b s w h = record { confined = clock_confined b.image s w h; beside = clock_beside b.image s w }
 
 stops_kept : (b : Board) (s : State) (w : Clockwork) → Confined b.image s → Kept b s (record s { running = None; pending = w.pending; devices = w.devices; time = w.time; picks = w.picks; counts = w.counts })
-stops_kept b s w h = record { confined = stops_confined b.image s None w (none_runs s) h; ended = λ e. e }
+stops_kept b s w h = record { confined = stops_confined b.image s None w (none_runs s) h; beside = stopped_beside b.image s w h }
 
 same_kept : (b : Board) (s : State) → Confined b.image s → Kept b s s
-same_kept b s h = record { confined = h; ended = λ e. e }
-
-then_kept : (b : Board) (s mid new : State) → Kept b s mid → Kept b mid new → Kept b s new
-then_kept b s mid new first second = record { confined = second.confined; ended = λ e. second.ended (first.ended e) }
+same_kept b s h = record { confined = h; beside = λ e. e }
 
 -- ---- before a step
 
@@ -73,16 +76,29 @@ preempted_kept b s (Some t) h = chosen (Kept b s) (s.pending && not (thread s t)
     (λ is. stops_kept b s (record (clock_of s) { pending = false }) h)
     (λ none. same_kept b s h)
 
-picked_kept : (b : Board) (s : State) (o : Option ℕ) → Partitioned b.image → Confined b.image s → Kept b s (picked_from b s o)
-picked_kept b s (Some t) parts h = same_kept b s h
-picked_kept b s None parts h = chosen (Kept b s) (is_ready (thread s 0).status)
-    (record s { running = Some 0; threads = slice_set s.threads 0 (picked b.image s (thread s 0)); picks = slice_set s.picks 0 s.counts.steps })
-    s
-    (λ is. record {
-      confined = pick_confined b.image s 0 (record (clock_of s) { picks = slice_set s.picks 0 s.counts.steps }) parts h;
-      ended = λ e u. after_set IsOn s.threads 0 u (picked b.image s (thread s 0)) nobody (e 0) (e u);
-    })
-    (λ none. same_kept b s h)
+-- where none ran, a thread may be picked
+picked_left : (i : Image) (s : State) (t : ℕ) → s.running ≡ None → Beside i s → ThreadLeft i s t (picked i s (thread s t)) (Some t)
+picked_left i s t idle h = record {
+  sweeps = λ w. record {
+    frames = w.frames t;
+    registers = λ stops. absurd (stops refl);
+    others = λ u other stops is. let clash : None ≡ Some u = sym idle ∙ is in cc;
+  };
+  deep = h.bounded.deep t;
+  few = omega (arith, h.bounded.few t, length-map (thread s t).registers (filtered i s));
+  ends = λ e. record { over = e.over; none = e.none };
+}
+
+picked_kept : (b : Board) (s : State) (o : Option ℕ) → s.running ≡ o → Partitioned b.image → Confined b.image s → Kept b s (picked_from b s o)
+picked_kept b s (Some t) runs parts h = same_kept b s h
+picked_kept b s None idle parts h = as_kept (pick b.image.priorities (statuses_of s.threads) s.picks)
+  where
+    as_kept : (p : Option ℕ) → Kept b s (picked_as b s p)
+    as_kept None = same_kept b s h
+    as_kept (Some t) = record {
+      confined = pick_confined b.image s t (record (clock_of s) { picks = moved_last t s.picks }) parts h;
+      beside = λ e. moved_beside b.image s t s.granules (picked b.image s (thread s t)) (Some t) (record (clock_of s) { picks = moved_last t s.picks }) (ram_same b.image s) (picked_left b.image s t idle e) e;
+    }
 
 -- ---- a step
 
@@ -90,21 +106,21 @@ noted_fair : (b : Board) (s : State) (r : State × Option Deed) → Fair b s r �
 noted_fair b s r f = record {
   confined = clock_confined b.image r.0 (record (clock_of r.0) { counts = with_deed r.0.counts r.1 }) f.confined;
   licensed = f.licensed;
-  ended = f.ended;
+  beside = λ e. clock_beside b.image r.0 (record (clock_of r.0) { counts = with_deed r.0.counts r.1 }) (f.beside e);
 }
 
 continued_fair : (b : Board) (s : State) (o : Option ℕ) → s.running ≡ o → Partitioned b.image → Wired b → Confined b.image s → Fair b s (continued b s o)
-continued_fair b s None runs parts wired h = record { confined = h; licensed = none_licensed b; ended = λ e. e }
+continued_fair b s None runs parts wired h = record { confined = h; licensed = none_licensed b; beside = λ e. e }
 continued_fair b s (Some t) runs parts wired h = noted_fair b s (executed b s t) (executed_fair b s t parts wired h runs)
 
 stepped_fair : (b : Board) (s : State) → Partitioned b.image → Wired b → Confined b.image s → Fair b s (stepped b s)
 stepped_fair b s parts wired h =
     let counted = clock_kept b s (record (clock_of s) { counts = record s.counts { steps = s.counts.steps + 1 } }) h in
     let before = preempted_kept b (one_more_step s) (one_more_step s).running counted.confined in
-    let chosen_one = picked_kept b (preempted (one_more_step s)) (preempted (one_more_step s)).running parts before.confined in
+    let chosen_one = picked_kept b (preempted (one_more_step s)) (preempted (one_more_step s)).running refl parts before.confined in
     let here = scheduled b (preempted (one_more_step s)) in
     let runs = continued_fair b (scheduled b (preempted (one_more_step s))) (scheduled b (preempted (one_more_step s))).running refl parts wired chosen_one.confined in
-    record { confined = runs.confined; licensed = runs.licensed; ended = λ e. runs.ended (chosen_one.ended (before.ended (counted.ended e))) }
+    record { confined = runs.confined; licensed = runs.licensed; beside = λ e. runs.beside (chosen_one.beside (before.beside (counted.beside e))) }
 
 -- ---- a tick
 
@@ -148,31 +164,48 @@ spans_fit b before after o wired h on = begun_fits b after (holder before) (hold
 
 -- ---- an event
 
-event_fair : (b : Board) (s : State) (e : Event) → Partitioned b.image → Wired b → Confined b.image s → Fair b s ((happens b s e).0, (happens b s e).1.deed)
-event_fair b s Step parts wired h = stepped_fair b s parts wired h
-event_fair b s Tick parts wired h =
-    let counted = clock_kept b s (record (clock_of s) { time = s.time + 1; counts = record s.counts { ticks = s.counts.ticks + 1 } }) h in
-    let after = ticked_kept b (record s { time = s.time + 1; counts = record s.counts { ticks = s.counts.ticks + 1 } }) s.running counted.confined in
-    record { confined = after.confined; licensed = none_licensed b; ended = λ on. after.ended (counted.ended on) }
-event_fair b s (Input n byte) parts wired h =
-    let after = clock_kept b s (record (clock_of s) { devices = slice_set s.devices n (after_input (device s.devices n) byte); counts = record s.counts { inputs = s.counts.inputs + 1 } }) h in
-    record { confined = after.confined; licensed = none_licensed b; ended = after.ended }
+ended_on : (s : State) → EndsFit s → EndedOn s
+ended_on s h = λ t e. ((h t).none e).1
 
-event_span : (b : Board) (s : State) (e : Event) (o : Owned) → Wired b → Confined b.image (happens b s e).0 → EndedOn (happens b s e).0 → (happens b s e).1.off ≡ Some o → OffLicensed b.image.entries o
-event_span b s Step o wired h on is = spans_fit b s (stepped b s).0 o wired h on is
-event_span b s Tick o wired h on is = spans_fit b s (ticked s) o wired h on is
-event_span b s (Input n byte) o wired h on is = spans_fit b s (received s n byte) o wired h on is
+-- what an event leaves of a state, and that what it tells is licensed
+pub record EventFair (b : Board) (r : State × Option Deed) : Type 0 where
+  pub keeps : Keeps b.image r.0
+  pub licensed : (d : Deed) → r.1 ≡ Some d → Licensed b.image.entries d
+
+fair_whole : (b : Board) (s : State) (r : State × Option Deed) → Beside b.image s → Fair b s r → EventFair b r
+fair_whole b s r beside f = record { keeps = record { confined = f.confined; beside = f.beside beside }; licensed = f.licensed }
+
+counted_keeps : (b : Board) (s : State) (w : Clockwork) → Keeps b.image s → Keeps b.image (record s { pending = w.pending; devices = w.devices; time = w.time; picks = w.picks; counts = w.counts })
+counted_keeps b s w k = record { confined = clock_confined b.image s w k.confined; beside = clock_beside b.image s w k.beside }
+
+event_fair : (b : Board) (s : State) (e : Event) → Partitioned b.image → Wired b → Keeps b.image s → EventFair b ((happens b s e).0, (happens b s e).1.deed)
+event_fair b s Step parts wired k = fair_whole b s (stepped b s) k.beside (stepped_fair b s parts wired k.confined)
+event_fair b s Tick parts wired k =
+    let slept = timed_keeps b.image s k in
+    let counted = counted_keeps b (record s { threads = map timed s.threads }) (record (clock_of s) { time = s.time + 1; counts = record s.counts { ticks = s.counts.ticks + 1 } }) slept in
+    let after = ticked_kept b (record s { threads = map timed s.threads; time = s.time + 1; counts = record s.counts { ticks = s.counts.ticks + 1 } }) s.running counted.confined in
+    record { keeps = record { confined = after.confined; beside = after.beside counted.beside }; licensed = none_licensed b }
+event_fair b s Sweep parts wired k =
+    let counted = counted_keeps b s (record (clock_of s) { counts = record s.counts { sweeps = s.counts.sweeps + 1 } }) k in
+    record { keeps = swept_keeps b.image (record s { counts = record s.counts { sweeps = s.counts.sweeps + 1 } }) parts counted; licensed = none_licensed b }
+event_fair b s (Input n byte) parts wired k = record {
+  keeps = counted_keeps b s (record (clock_of s) { devices = slice_set s.devices n (after_input (device s.devices n) byte); counts = record s.counts { inputs = s.counts.inputs + 1 } }) k;
+  licensed = none_licensed b;
+}
+
+event_span : (b : Board) (s : State) (e : Event) (o : Owned) → Wired b → Keeps b.image (happens b s e).0 → (happens b s e).1.off ≡ Some o → OffLicensed b.image.entries o
+event_span b s Step o wired k is = spans_fit b s (stepped b s).0 o wired k.confined (ended_on (stepped b s).0 k.beside.ends) is
+event_span b s Tick o wired k is = spans_fit b s (ticked s) o wired k.confined (ended_on (ticked s) k.beside.ends) is
+event_span b s Sweep o wired k is = spans_fit b s (swept_on b s) o wired k.confined (ended_on (swept_on b s) k.beside.ends) is
+event_span b s (Input n byte) o wired k is = spans_fit b s (received s n byte) o wired k.confined (ended_on (received s n byte) k.beside.ends) is
 
 -- ---- the laws
 
-pub event_confined : (b : Board) (s : State) (e : Event) → Partitioned b.image → Wired b → Confined b.image s → Confined b.image (happens b s e).0
-event_confined b s e parts wired h = (event_fair b s e parts wired h).confined
+pub event_keeps : (b : Board) (s : State) (e : Event) → Partitioned b.image → Wired b → Keeps b.image s → Keeps b.image (happens b s e).0
+event_keeps b s e parts wired k = (event_fair b s e parts wired k).keeps
 
-pub event_ended : (b : Board) (s : State) (e : Event) → Partitioned b.image → Wired b → Confined b.image s → EndedOn s → EndedOn (happens b s e).0
-event_ended b s e parts wired h = (event_fair b s e parts wired h).ended
+pub deed_licensed : (b : Board) (s : State) (e : Event) (d : Deed) → Partitioned b.image → Wired b → Keeps b.image s → (happens b s e).1.deed ≡ Some d → Licensed b.image.entries d
+deed_licensed b s e d parts wired k is = (event_fair b s e parts wired k).licensed d is
 
-pub deed_licensed : (b : Board) (s : State) (e : Event) (d : Deed) → Partitioned b.image → Wired b → Confined b.image s → (happens b s e).1.deed ≡ Some d → Licensed b.image.entries d
-deed_licensed b s e d parts wired h is = (event_fair b s e parts wired h).licensed d is
-
-pub span_licensed : (b : Board) (s : State) (e : Event) (o : Owned) → Partitioned b.image → Wired b → Confined b.image s → EndedOn s → (happens b s e).1.off ≡ Some o → OffLicensed b.image.entries o
-span_licensed b s e o parts wired h on is = event_span b s e o wired (event_confined b s e parts wired h) (event_ended b s e parts wired h on) is
+pub span_licensed : (b : Board) (s : State) (e : Event) (o : Owned) → Partitioned b.image → Wired b → Keeps b.image s → (happens b s e).1.off ≡ Some o → OffLicensed b.image.entries o
+span_licensed b s e o parts wired k is = event_span b s e o wired (event_keeps b s e parts wired k) is

@@ -1,16 +1,18 @@
 -- What one step of a thread owes, and how it ends: a trap, a return, a register with a new program counter.
-use Rattle.std.proofs.Common.{ℕ, ◌≡◌, true, false, List, [], ◌∷◌, Option, Some, None, refl, sym, ◌∙◌, subst}
-use Rattle.law_lists.proofs.Sets.{after_set}
+use Rattle.std.proofs.Common.{ℕ, zero, suc, ◌≡◌, ◌-◌, ◌≤◌, true, false, List, [], ◌∷◌, length, Option, Some, None, refl, sym, ◌∙◌, subst, arith}
+use Rattle.std.proofs.lemmas.List.{length-set}
 use Rattle.def_words.specs.declared.Cap.{Cap}
 use Rattle.def_words.specs.declared.Trap.{Trap}
 use Rattle.def_words.specs.declared.Posture.{Posture}
 use Rattle.ct_entry.specs.declared.acts.Act.TheVariants as acts
 use Rattle.ct_entry.specs.declared.acts.Deed.{Deed}
-use Rattle.def_machine.specs.Image.{Image}
+use Rattle.def_machine.specs.Image.{Image, area_of, frames_most, stack_base}
 use Rattle.def_machine.specs.State.{State, Thread, Frame, Object, thread, nobody}
 use Rattle.def_machine.specs.Frames.{returned, unwound, left_by, answer}
+use Rattle.def_machine.specs.Registers.{written}
 use Rattle.def_machine.specs.Threads.{jumped}
 use Rattle.def_memory.specs.Granules.{plain}
+use Rattle.def_memory.specs.Ranges.{zeroed_from}
 use Rattle.def_step.specs.Instructions.{Board, Done, bank_of, deed, trapped, put_done}
 use Rattle.def_confined.specs.Places.{InFrames}
 use Rattle.def_confined.specs.Confined.{Confined}
@@ -19,31 +21,73 @@ use Rattle.def_confined.specs.Licensed.{Licensed}
 use Rattle.law_places.proofs.Turns.{clock_of}
 use Rattle.law_calls.proofs.Pops.{returned_confined, unwound_confined}
 use Rattle.law_jumps.proofs.Moves.{Jumps, jumps_confined}
-use Rattle.def_confined.specs.Holding.{EndedOn}
+use Rattle.def_confined.specs.Keeps.{Beside}
+use Rattle.def_confined.specs.Swept.{HasUnpainted, FramesSwept, Swept, Bounded}
+use Rattle.law_granules.proofs.Lists.{zeroed_at, zeroed_length}
+use Rattle.law_sweeps.proofs.Moves.{RamLeft, ThreadLeft, ram_same, moved_beside, clock_beside}
 use Rattle.law_events.proofs.Checking.{MayTell}
 
--- the state after stays confined, the deed is licensed, and no thread without frames holds interrupts off
+-- the state after stays confined, the deed is licensed, and what stands beside stays
 pub record Fair (b : Board) (s : State) (r : State × Option Deed) : Type 0 where
   pub confined : Confined b.image r.0
   pub licensed : (d : Deed) → r.1 ≡ Some d → Licensed b.image.entries d
-  pub ended : EndedOn s → EndedOn r.0
-
-abbrev pub IsOn : Thread → Type 0
-IsOn t = t.frames ≡ [] → t.posture.off ≡ false
+  pub beside : Beside b.image s → Beside b.image r.0
 
 -- ---- returns and unwinds
 
-pub returned_ended : (i : Image) (s : State) (t : ℕ) (fs : List Frame) → EndedOn s → EndedOn (returned i s t fs)
-returned_ended i s t [] h = h
-returned_ended i s t (f ∷ []) h = λ u. after_set IsOn s.threads t u nobody nobody (λ e. refl) (h u)
-returned_ended i s t (f ∷ g ∷ gs) h = λ u. after_set IsOn s.threads t u (left_by i s (thread s t) f (g ∷ gs) (answer i (thread s t) f 10) (answer i (thread s t) f 11)) nobody
-    (λ e. absurd (let clash : (g ∷ gs) ≡ [] = e in cc)) (h u)
+zeroed_left : (i : Image) (s : State) (t high : ℕ) → RamLeft i s (zeroed_from (stack_base i t) high i.ram s.granules)
+zeroed_left i s t high = record {
+  size = zeroed_length (stack_base i t) high i.ram s.granules;
+  swept = λ h k passed. zeroed_at (stack_base i t) high i.ram s.granules k (λ g. HasUnpainted i s.objects g.cap) (λ low below tagged. absurd (let clash : false ≡ true = tagged in cc)) (λ outside. h.granules k passed);
+}
 
-pub unwound_ended : (i : Image) (s : State) (t : ℕ) (fs : List Frame) → EndedOn s → EndedOn (unwound i s t fs)
-unwound_ended i s t [] h = h
-unwound_ended i s t (f ∷ []) h = λ u. after_set IsOn s.threads t u nobody nobody (λ e. refl) (h u)
-unwound_ended i s t (f ∷ g ∷ gs) h = λ u. after_set IsOn s.threads t u (left_by i s (thread s t) f (g ∷ gs) (plain 4294967295) (plain 0)) nobody
-    (λ e. absurd (let clash : (g ∷ gs) ≡ [] = e in cc)) (h u)
+-- the last frame ends, and none runs
+over_left : (i : Image) (s : State) (t : ℕ) → s.running ≡ Some t → ThreadLeft i s t nobody None
+over_left i s t runs = record {
+  sweeps = λ h. record {
+    frames = tt;
+    registers = λ idle n tagged. absurd (let clash : false ≡ true = tagged in cc);
+    others = λ u other idle is. other (let same : Some t ≡ Some u = sym runs ∙ is in cc);
+  };
+  deep = omega arith;
+  few = omega arith;
+  ends = λ h. record { over = λ e. refl; none = λ e. (refl, refl) };
+}
+
+-- a frame ends, and its caller goes on
+back_left : (i : Image) (s : State) (t : ℕ) (f g : Frame) (gs : List Frame) (first second : Cap) → s.running ≡ Some t → (thread s t).frames ≡ f ∷ g ∷ gs → Bounded i s
+    → ThreadLeft i s t (left_by i s (thread s t) f (g ∷ gs) first second) s.running
+back_left i s t f g gs first second runs frames bound = record {
+  sweeps = λ h. record {
+    frames = (subst (λ (fs : List Frame). FramesSwept i s.objects s.front (area_of i t - i.ram) fs) frames (h.frames t)).1;
+    registers = λ idle. absurd (idle runs);
+    others = λ u other idle is. idle is;
+  };
+  deep = let deep : length (f ∷ g ∷ gs) ≤ frames_most i t = subst (λ (fs : List Frame). length fs ≤ frames_most i t) frames (bound.deep t) in omega (arith, deep);
+  few = omega arith;
+  ends = λ h. record {
+    over = λ e. absurd (let clash : (f ∷ g ∷ gs) ≡ [] = sym frames ∙ h.over e in cc);
+    none = λ e. absurd (let clash : (g ∷ gs) ≡ [] = e in cc);
+  };
+}
+
+pub returned_beside : (i : Image) (s : State) (t : ℕ) (fs : List Frame) → (thread s t).frames ≡ fs → s.running ≡ Some t → Beside i s → Beside i (returned i s t fs)
+returned_beside i s t [] e runs b = b
+returned_beside i s t (f ∷ []) e runs b = moved_beside i s t (zeroed_from (stack_base i t) f.top i.ram s.granules) nobody None (clock_of s) (zeroed_left i s t f.top) (over_left i s t runs) b
+returned_beside i s t (f ∷ g ∷ gs) e runs b =
+    moved_beside i s t (zeroed_from (stack_base i t) f.top i.ram s.granules) (left_by i s (thread s t) f (g ∷ gs) (answer i (thread s t) f 10) (answer i (thread s t) f 11)) s.running (clock_of s)
+    (zeroed_left i s t f.top)
+    (back_left i s t f g gs (answer i (thread s t) f 10) (answer i (thread s t) f 11) runs e b.bounded)
+    b
+
+pub unwound_beside : (i : Image) (s : State) (t : ℕ) (fs : List Frame) → (thread s t).frames ≡ fs → s.running ≡ Some t → Beside i s → Beside i (unwound i s t fs)
+unwound_beside i s t [] e runs b = b
+unwound_beside i s t (f ∷ []) e runs b = moved_beside i s t (zeroed_from (stack_base i t) f.top i.ram s.granules) nobody None (clock_of s) (zeroed_left i s t f.top) (over_left i s t runs) b
+unwound_beside i s t (f ∷ g ∷ gs) e runs b =
+    moved_beside i s t (zeroed_from (stack_base i t) f.top i.ram s.granules) (left_by i s (thread s t) f (g ∷ gs) (plain 4294967295) (plain 0)) s.running (clock_of s)
+    (zeroed_left i s t f.top)
+    (back_left i s t f g gs (plain 4294967295) (plain 0) runs e b.bounded)
+    b
 
 -- what is some is told; what isn't, isn't
 pub some_same : {A : Type 0} (P : A → Type 0) (x y : A) → Some x ≡ Some y → P x → P y
@@ -52,18 +96,18 @@ some_same P x y e h = let same : x ≡ y = cc in subst P same h
 pub none_licensed : (b : Board) (d : Deed) → None ≡ Some d → Licensed b.image.entries d
 none_licensed b d e = absurd (let clash : None ≡ Some d = e in cc)
 
-pub trapped_fair : (b : Board) (s : State) (t : ℕ) (why : Trap) → Partitioned b.image → Confined b.image s → MayTell why → Fair b s (trapped b s t why)
-trapped_fair b s t why parts h tells = record {
+pub trapped_fair : (b : Board) (s : State) (t : ℕ) (why : Trap) → s.running ≡ Some t → Partitioned b.image → Confined b.image s → MayTell why → Fair b s (trapped b s t why)
+trapped_fair b s t why runs parts h tells = record {
   confined = unwound_confined b.image s t (thread s t).frames parts h refl;
   licensed = λ d e. some_same (Licensed b.image.entries) (deed s t 0 (acts.Trap why.cause why.code why.register)) d e (refl, tells);
-  ended = unwound_ended b.image s t (thread s t).frames;
+  beside = unwound_beside b.image s t (thread s t).frames refl runs;
 }
 
-pub returned_fair : (b : Board) (s : State) (t : ℕ) → Partitioned b.image → Confined b.image s → Fair b s (returned b.image s t (thread s t).frames, None)
-returned_fair b s t parts h = record {
+pub returned_fair : (b : Board) (s : State) (t : ℕ) → s.running ≡ Some t → Partitioned b.image → Confined b.image s → Fair b s (returned b.image s t (thread s t).frames, None)
+returned_fair b s t runs parts h = record {
   confined = returned_confined b.image s t (thread s t).frames parts h refl;
   licensed = none_licensed b;
-  ended = returned_ended b.image s t (thread s t).frames;
+  beside = returned_beside b.image s t (thread s t).frames refl runs;
 }
 
 -- ---- a register and the program counter change
@@ -73,15 +117,31 @@ pub has_frames : (i : Image) (objects : List Object) (t : ℕ) (fs : List Frame)
 has_frames i objects t [] c h tagged e = let clash : true ≡ false = sym tagged ∙ h in cc
 has_frames i objects t (f ∷ fs) c h tagged e = let clash : (f ∷ fs) ≡ [] = e in cc
 
-pub put_ended : (s : State) (t : ℕ) (d : Done) → ((thread s t).frames ≡ [] → ⊥) → EndedOn s → EndedOn (put_done s t d)
-put_ended s t d some h = λ u. after_set IsOn s.threads t u (jumped (thread s t) d.pcc d.posture d.to d.value) nobody (λ e. absurd (some e)) (h u)
+-- a register and the program counter of the running thread change, and RAM
+written_length : (rs : List Cap) (n : ℕ) (c : Cap) → length (written rs n c) ≡ length rs
+written_length rs zero c = refl
+written_length rs (suc n) c = length-set rs (suc n) c
+
+pub put_beside : (b : Board) (s : State) (t : ℕ) (d : Done) → s.running ≡ Some t → ((thread s t).frames ≡ [] → ⊥) → RamLeft b.image s d.granules → Beside b.image s → Beside b.image (put_done s t d)
+put_beside b s t d runs some ram h = moved_beside b.image s t d.granules (jumped (thread s t) d.pcc d.posture d.to d.value) s.running (record (clock_of s) { devices = d.bank.states }) ram
+    (record {
+      sweeps = λ w. record {
+        frames = w.frames t;
+        registers = λ idle. absurd (idle runs);
+        others = λ u other idle is. idle is;
+      };
+      deep = h.bounded.deep t;
+      few = omega (arith, h.bounded.few t, written_length (thread s t).registers d.to d.value);
+      ends = λ e. record { over = e.over; none = λ none. absurd (some none) };
+    })
+    h
 
 abbrev pub moved_on : Board → State → ℕ → Cap → Cap → Posture → Done
 moved_on b s to value pcc posture = record { to = to; value = value; pcc = pcc; posture = posture; granules = s.granules; bank = bank_of b s; act = None }
 
-pub jumps_fair : (b : Board) (s : State) (t to : ℕ) (value pcc : Cap) (posture : Posture) → (thread s t).pcc.tag ≡ true → Jumps b.image s t pcc posture value → Fair b s (put_done s t (moved_on b s to value pcc posture), None)
-jumps_fair b s t to value pcc posture tagged j = record {
+pub jumps_fair : (b : Board) (s : State) (t to : ℕ) (value pcc : Cap) (posture : Posture) → s.running ≡ Some t → (thread s t).pcc.tag ≡ true → Jumps b.image s t pcc posture value → Fair b s (put_done s t (moved_on b s to value pcc posture), None)
+jumps_fair b s t to value pcc posture runs tagged j = record {
   confined = jumps_confined b.image s t to pcc posture value (clock_of s) j;
   licensed = none_licensed b;
-  ended = put_ended s t (moved_on b s to value pcc posture) (has_frames b.image s.objects t (thread s t).frames (thread s t).pcc (j.held.pcc t) tagged);
+  beside = put_beside b s t (moved_on b s to value pcc posture) runs (has_frames b.image s.objects t (thread s t).frames (thread s t).pcc (j.held.pcc t) tagged) (ram_same b.image s);
 }

@@ -7,5 +7,4 @@ pub mod Flows
 pub mod Fairness
 pub mod Steps
 pub mod Events
-pub mod Booting
 pub mod Accesses

@@ -17,7 +17,6 @@ use Rattle.def_machine.specs.Image.{Image, root, made_cap}
 use Rattle.def_machine.specs.State.{State, Frame, Object, thread, register}
 use Rattle.def_step.specs.declared.Class.TheVariants as class
 use Rattle.def_profile.specs.declared.traps.TheConstants.{TAG_CODE, SEAL_CODE, EXECUTE_CODE, MISALIGNED_FETCH}
-
 use Rattle.def_step.specs.Accesses.{unless}
 use Rattle.def_step.specs.Jumps.{register_target, register_jump_checks, register_jumped}
 use Rattle.def_step.specs.Operands.{class_of}

@@ -21,7 +21,6 @@ use Rattle.def_step.specs.declared.Class.TheVariants as class
 use Rattle.def_step.specs.declared.Next.{Next}
 use Rattle.def_step.specs.declared.Next.TheVariants.{Returning, Instruction, Nothing}
 use Rattle.def_profile.specs.declared.traps.TheConstants.{SYSTEM_REGISTER_CODE, ILLEGAL_INSTRUCTION, BREAKPOINT, ENVIRONMENT_CALL}
-
 use Rattle.def_step.specs.Accesses.{Space, Accessed, access_of, access_checks, access_address, access_result, accessed, unless}
 use Rattle.def_step.specs.Jumps.{Flowed, flow_result}
 use Rattle.def_step.specs.Operands.{operands_of, class_of}
@@ -39,16 +38,16 @@ use Rattle.law_events.proofs.Smalls.{IsSmall, read_small}
 use Rattle.law_events.proofs.Goings.{FlowFits, Fetching}
 use Rattle.law_events.proofs.Goings as going
 use Rattle.law_events.proofs.Flows.{flow_fits}
-use Rattle.law_events.proofs.Fairness.{Fair, some_same, none_licensed, trapped_fair, returned_fair, has_frames, put_ended, moved_on, jumps_fair}
+use Rattle.law_events.proofs.Fairness.{Fair, some_same, none_licensed, trapped_fair, returned_fair, has_frames, put_beside, moved_on, jumps_fair}
 
 -- ---- by the kind of work
 
-gives_fair : (b : Board) (s : State) (t to : ℕ) (value : Cap) → Fetching b.image s t → Puts b.image s t value → Fair b s (put_done s t (moved_on b s to value (raised (thread s t).pcc 4) (thread s t).posture), None)
-gives_fair b s t to value f puts = jumps_fair b s t to value (raised (thread s t).pcc 4) (thread s t).posture f.fetched.tagged (going.goes_on b.image s t value f puts)
+gives_fair : (b : Board) (s : State) (t to : ℕ) (value : Cap) → s.running ≡ Some t → Fetching b.image s t → Puts b.image s t value → Fair b s (put_done s t (moved_on b s to value (raised (thread s t).pcc 4) (thread s t).posture), None)
+gives_fair b s t to value runs f puts = jumps_fair b s t to value (raised (thread s t).pcc 4) (thread s t).posture runs f.fetched.tagged (going.goes_on b.image s t value f puts)
 
-flow_fair : (b : Board) (s : State) (t to : ℕ) (x : Cap) (r : Result Flowed Trap) → Fetching b.image s t → FlowFits b.image s t r → Fair b s (ends b s t x (flows (around b s t) to r))
-flow_fair b s t to x (Err w) f fits = trapped_fair b s t w f.parts f.held fits
-flow_fair b s t to x (Ok j) f fits = jumps_fair b s t to (unwrap_or j.link (plain 0)) j.pcc j.posture f.fetched.tagged fits
+flow_fair : (b : Board) (s : State) (t to : ℕ) (x : Cap) (r : Result Flowed Trap) → s.running ≡ Some t → Fetching b.image s t → FlowFits b.image s t r → Fair b s (ends b s t x (flows (around b s t) to r))
+flow_fair b s t to x (Err w) runs f fits = trapped_fair b s t w runs f.parts f.held fits
+flow_fair b s t to x (Ok j) runs f fits = jumps_fair b s t to (unwrap_or j.link (plain 0)) j.pcc j.posture runs f.fetched.tagged fits
 
 -- ---- accesses
 
@@ -74,13 +73,13 @@ act_licensed b s t entry (Some a) h d e = some_same (Licensed b.image.entries) (
 
 access_fair : (b : Board) (s : State) (t : ℕ) (k : Instr) (r : Result Done Trap) → Fetching b.image s t → Wired b → s.running ≡ Some t
     → carried_out class.Access k (operands_of k).to (operand s t (operands_of k).first) (operand s t (operands_of k).second) (around b s t) ≡ r → ErrTells r → Fair b s (ends b s t (operand s t (operands_of k).first) r)
-access_fair b s t k (Err w) f wired runs e tells = trapped_fair b s t w f.parts f.held tells
+access_fair b s t k (Err w) f wired runs e tells = trapped_fair b s t w runs f.parts f.held tells
 access_fair b s t k (Ok d) f wired runs e tells =
     let laws = access_laws b s t k wired f runs in
     record {
       confined = laws.confined d e;
       licensed = act_licensed b s t (operand s t (operands_of k).first).shadow.root d.act (λ a acts. laws.licensed d a e acts);
-      ended = put_ended s t d (has_frames b.image s.objects t (thread s t).frames (thread s t).pcc (f.held.pcc t) f.fetched.tagged);
+      beside = put_beside b s t d runs (has_frames b.image s.objects t (thread s t).frames (thread s t).pcc (f.held.pcc t) f.fetched.tagged) (laws.ram d e);
     }
 
 -- ---- an instruction
@@ -88,22 +87,22 @@ access_fair b s t k (Ok d) f wired runs e tells =
 class_fair : (b : Board) (s : State) (t : ℕ) (k : Instr) (c : Class) → class_of k ≡ c → Wired b → s.running ≡ Some t → Fetching b.image s t → (access_of k).by < 16
     → Fair b s (ends b s t (operand s t (operands_of k).first) (carried_out c k (operands_of k).to (operand s t (operands_of k).first) (operand s t (operands_of k).second) (around b s t)))
 class_fair b s t k class.Integer e wired runs f small =
-    gives_fair b s t (operands_of k).to (integer (integer_result k (cap_address (operand s t (operands_of k).first)) (cap_address (operand s t (operands_of k).second)))) f (untagged_puts b.image s t _ refl)
+    gives_fair b s t (operands_of k).to (integer (integer_result k (cap_address (operand s t (operands_of k).first)) (cap_address (operand s t (operands_of k).second)))) runs f (untagged_puts b.image s t _ refl)
 class_fair b s t k class.Capability e wired runs f small =
-    gives_fair b s t (operands_of k).to (capability_result k (operand s t (operands_of k).first) (operand s t (operands_of k).second) (thread s t).pcc) f
+    gives_fair b s t (operands_of k).to (capability_result k (operand s t (operands_of k).first) (operand s t (operands_of k).second) (thread s t).pcc) runs f
     (result_puts b.image s t (operands_of k).first (operands_of k).second k f.parts f.held runs f.other)
-class_fair b s t k class.System e wired runs f small = trapped_fair b s t _ f.parts f.held (counter_tells SYSTEM_REGISTER_CODE (inr (inr (inr (inr refl)))))
+class_fair b s t k class.System e wired runs f small = trapped_fair b s t _ runs f.parts f.held (counter_tells SYSTEM_REGISTER_CODE (inr (inr (inr (inr refl)))))
 class_fair b s t k class.Jump e wired runs f small =
-    flow_fair b s t (operands_of k).to (operand s t (operands_of k).first) (flow_result k (operand s t (operands_of k).first) (operand s t (operands_of k).second) (thread s t).pcc (thread s t).posture 0) f
+    flow_fair b s t (operands_of k).to (operand s t (operands_of k).first) (flow_result k (operand s t (operands_of k).first) (operand s t (operands_of k).second) (thread s t).pcc (thread s t).posture 0) runs f
     (flow_fits b s t (operands_of k).first (operands_of k).second k wired f e refl)
 class_fair b s t k class.Access e wired runs f small =
     access_fair b s t k _ f wired runs refl
     (accesses_tell (around b s t) (operands_of k).to (access_result k (operand s t (operands_of k).first) (operand s t (operands_of k).second) (space_of b s))
     (result_tells k (operand s t (operands_of k).first) (operand s t (operands_of k).second) (space_of b s) small))
-class_fair b s t k class.Fence e wired runs f small = gives_fair b s t 0 (plain 0) f (untagged_puts b.image s t (plain 0) refl)
-class_fair b s t k class.Call e wired runs f small = trapped_fair b s t _ f.parts f.held (plain_tells ENVIRONMENT_CALL (inr (inr (inr (inr (inr refl))))))
-class_fair b s t k class.Break e wired runs f small = trapped_fair b s t _ f.parts f.held (plain_tells BREAKPOINT (inr (inr (inl refl))))
-class_fair b s t k class.Absent e wired runs f small = trapped_fair b s t _ f.parts f.held (plain_tells ILLEGAL_INSTRUCTION (inr (inl refl)))
+class_fair b s t k class.Fence e wired runs f small = gives_fair b s t 0 (plain 0) runs f (untagged_puts b.image s t (plain 0) refl)
+class_fair b s t k class.Call e wired runs f small = trapped_fair b s t _ runs f.parts f.held (plain_tells ENVIRONMENT_CALL (inr (inr (inr (inr (inr refl))))))
+class_fair b s t k class.Break e wired runs f small = trapped_fair b s t _ runs f.parts f.held (plain_tells BREAKPOINT (inr (inr (inl refl))))
+class_fair b s t k class.Absent e wired runs f small = trapped_fair b s t _ runs f.parts f.held (plain_tells ILLEGAL_INSTRUCTION (inr (inl refl)))
 
 -- ---- what stands at the program counter
 
@@ -131,8 +130,8 @@ not_native b s t wired h tagged away = elim (bool_tells (is_native (root b.image
 ]
 
 next_fair : (b : Board) (s : State) (t : ℕ) (n : Next) → next_at (space_of b s) (cap_address (thread s t).pcc) ≡ n → Partitioned b.image → Wired b → Confined b.image s → s.running ≡ Some t → Fetched (thread s t).pcc → Fair b s (goes_on b s t n)
-next_fair b s t Returning e parts wired h runs f = returned_fair b s t parts h
-next_fair b s t Nothing e parts wired h runs f = trapped_fair b s t _ parts h (plain_tells ILLEGAL_INSTRUCTION (inr (inl refl)))
+next_fair b s t Returning e parts wired h runs f = returned_fair b s t runs parts h
+next_fair b s t Nothing e parts wired h runs f = trapped_fair b s t _ runs parts h (plain_tells ILLEGAL_INSTRUCTION (inr (inl refl)))
 next_fair b s t (Instruction k) e parts wired h runs f =
     let stands = stands_at (space_of b s) (cap_address (thread s t).pcc) k e in
     let other = not_native b s t wired h f.tagged stands.away in
@@ -144,5 +143,5 @@ unfolding executed
 executed_fair b s t parts wired h runs = by_checks (λ o. Fair b s (after_fetch b s t o))
     (fetch_checks (thread s t).pcc)
     (fetch_tells (thread s t).pcc)
-    (λ w tells. trapped_fair b s t w parts h tells)
+    (λ w tells. trapped_fair b s t w runs parts h tells)
     (λ passes. next_fair b s t (next_at (space_of b s) (cap_address (thread s t).pcc)) refl parts wired h runs (fetch_passes (thread s t).pcc passes))

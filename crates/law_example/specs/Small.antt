@@ -106,8 +106,12 @@ small = record {
   boot = held made_3 ∷ held made_4 ∷ held made_5 ∷ held made_6 ∷ held made_7 ∷ held made_8 ∷ held made_9 ∷ held (plain 0) ∷ held made_1 ∷ held made_2 ∷ held (plain 0) ∷ held (plain 0) ∷ held (plain 0) ∷ held (plain 0) ∷ held made_13 ∷ held made_14 ∷ held (plain 0) ∷ held (plain 0) ∷ held made_11 ∷ held made_12 ∷ held (plain 0) ∷ held (plain 0) ∷ held (plain 0) ∷ held (plain 0) ∷ held (plain 0) ∷ held (plain 0) ∷ held (plain 0) ∷ held (plain 0) ∷ held (plain 0) ∷ held (plain 0) ∷ held (plain 0) ∷ held (plain 0) ∷ held made_0 ∷ [];
   codes = 1 ∷ 11 ∷ [];
   globals = 2 ∷ 12 ∷ [];
+  handlers = [];
   stacks = 18 ∷ [];
   frames = 4 ∷ [];
+  priorities = 1 ∷ [];
+  trusted = 0;
+  sweep = 64;
   heap_base = 2147483920;
   heap_end = 2147483984;
 }

@@ -8,15 +8,15 @@ use Rattle.def_reach.specs.Roots.{Listing, TrustedPart, is_owned, is_stack}
 use Rattle.def_reach.specs.Sharing.{Reaches}
 use Rattle.def_machine.specs.Image.{Image, Region, HeapRam, root, region, granule_of, address_of}
 use Rattle.def_machine.specs.State.{State, Frame, Object, thread, register, granule}
-use Rattle.def_machine.specs.Objects.{Any, charges}
+use Rattle.def_machine.specs.Objects.{Any, charges, placed_among}
 use Rattle.def_machine.specs.Heap.{with_object}
 use Rattle.def_machine.specs.Registers.{put_register}
-use Rattle.def_confined.specs.Places.{Placed, InFrames, InRegion, OwnStack, HasObject, Covers, LiveAt, HeapDomain}
-use Rattle.def_confined.specs.Confined.{Confined, Apart, ObjectFits}
+use Rattle.def_confined.specs.Places.{Placed, InFrames, InRegion, OwnStack, HasObject, Covers, LiveAt, LiveCovers, HeapDomain}
+use Rattle.def_confined.specs.Confined.{Confined, Apart, ObjectFits, MarksAt}
 use Rattle.def_confined.specs.Partitioned.{Partitioned}
 use Rattle.def_confined.specs.Made.{IsObjectCap}
 use Rattle.def_confined.specs.Changes.{Fades, FramesFade, NewObject}
-use Rattle.law_places.proofs.Rows.{each_take, each_map}
+use Rattle.law_places.proofs.Rows.{each_take, each_map, among_any, any_among, among_each, among_apart, among_charges}
 use Rattle.law_places.proofs.Turns.{put_register_confined}
 use Rattle.law_places.proofs.Fades.{faded_confined}
 
@@ -54,13 +54,13 @@ taken_there i s k p h low high tagged =
 
 pub add_object_confined : (i : Image) (s : State) (r : Object) → Partitioned i → Confined i s → NewObject i s r → Confined i (with_object s r)
 add_object_confined i s r p h n =
-    let grow : (d : Cap) → HasObject i s.objects d → HasObject i (r ∷ s.objects) d = λ d has heap some. inr (has heap some) in
+    let grow : (d : Cap) → HasObject i s.objects d → HasObject i (placed_among r s.objects) d = λ d has heap some. among_any (Covers d) r s.objects (inr (has heap some)) in
     faded_confined i s (with_object s r) h (record {
-      caps = λ k. stays_there i s.objects (r ∷ s.objects) (granule s k).cap grow;
+      caps = λ k. stays_there i s.objects (placed_among r s.objects) (granule s k).cap grow;
       fixed = λ k is same. refl;
       domains = λ k tagged d. (
-        (λ there. inr there),
-        (λ there. elim there [
+        (λ there. among_any (LiveAt i (address_of i k) d) r s.objects (inr there)),
+        (λ there. elim (any_among (LiveAt i (address_of i k) d) r s.objects there) [
           | inl here ↦
               let taken = taken_there i s k p h (omega (arith, here.1, n.fits.low)) (omega (arith, here.2, n.fits.high)) tagged in
               absurd (each_take (Apart r) (LiveAt i (address_of i k) taken.0) ⊥ s.objects
@@ -70,28 +70,28 @@ add_object_confined i s r p h n =
         ]),
       );
       threads = λ t. record {
-        pcc = stays_there i s.objects (r ∷ s.objects) (thread s t).pcc grow;
-        registers = λ m. stays_there i s.objects (r ∷ s.objects) (register (thread s t) m) grow;
-        frames = frames_stay i s.objects (r ∷ s.objects) (thread s t).frames grow;
+        pcc = stays_there i s.objects (placed_among r s.objects) (thread s t).pcc grow;
+        registers = λ m. stays_there i s.objects (placed_among r s.objects) (register (thread s t) m) grow;
+        frames = frames_stay i s.objects (placed_among r s.objects) (thread s t).frames grow;
         posture = refl;
       };
-      live = λ t runs m tagged heap some. inr (h.live t runs m tagged heap some);
-      apart = (n.apart, h.apart);
+      live = λ t runs m tagged heap some. among_any (LiveCovers (register (thread s t) m)) r s.objects (inr (h.live t runs m tagged heap some));
+      apart = among_apart r s.objects n.apart h.apart;
       numbered = omega (arith, h.numbered);
-      fits = (n.fits, each_map (ObjectFits i s.next) (ObjectFits i (s.next + 1)) s.objects (λ q f. record { number = omega (arith, f.number); low = f.low; high = f.high; whole = f.whole; charge = f.charge }) h.fits);
+      fits = among_each (ObjectFits i (s.next + 1)) r s.objects n.fits (each_map (ObjectFits i s.next) (ObjectFits i (s.next + 1)) s.objects (λ q f. record { number = omega (arith, f.number); low = f.low; high = f.high; whole = f.whole; charge = f.charge; unpainted = f.unpainted }) h.fits);
       marks = λ k. record {
-        why = λ mark. inr ((h.marks k).why mark);
-        all = λ there. elim there [
+        why = λ mark. among_any (MarksAt (address_of i k)) r s.objects (inr ((h.marks k).why mark));
+        all = λ there. elim (any_among (MarksAt (address_of i k)) r s.objects there) [
           | inl here ↦ absurd (let clash : true ≡ false = sym n.live ∙ here.0 in cc)
           | inr more ↦ (h.marks k).all more
         ];
       };
-      limits = λ q. chosen (λ z. z + charges q s.objects ≤ (root i q).limit) (r.live && nat_eq r.quota q) r.charge 0
+      limits = λ q. rw (among_charges q r s.objects) (chosen (λ z. z + charges q s.objects ≤ (root i q).limit) (r.live && nat_eq r.quota q) r.charge 0
           (λ is.
           let same : r.quota ≡ q = eqb-true r.quota q (both_right r.live (nat_eq r.quota q) is) in
           let P : ℕ → Type 0 = λ m. r.charge + charges m s.objects ≤ (root i m).limit in
           subst P same n.limit)
-          (λ not. omega (arith, h.limits q));
+          (λ not. omega (arith, h.limits q)));
       size = refl;
     })
 
@@ -124,11 +124,11 @@ allocate_confined i s t n r c p h new tagged same kind_is is =
     put_register_confined i (with_object s r) t n c after
     (placed (thread s t).frames (after.registers t 10))
     (λ there. ((λ service. absurd (let clash : Listing kind.Quota ≡ Listing kind.Service = sym (root_is there) ∙ service in cc)), (λ trusted. absurd (let clash : Listing kind.Quota ≡ TrustedPart = sym (root_is there) ∙ trusted in cc))))
-    (λ runs there heap some. inl (new.live, record { number = sym (is there).source; quota = sym (is there).from; low = omega (arith, (is there).low); high = omega (arith, (is there).high) }))
+    (λ runs there heap some. among_any (LiveCovers c) r s.objects (inl (new.live, record { number = sym (is there).source; quota = sym (is there).from; low = omega (arith, (is there).low); high = omega (arith, (is there).high) })))
   where
     root_is : c.tag ≡ true → (root i c.shadow.root).origin ≡ Listing kind.Quota
     root_is there = let P : ℕ → Type 0 = λ m. (root i m).origin ≡ Listing kind.Quota in subst P (sym (is there).from) kind_is
 
-    placed : (fs : List Frame) → InFrames i (r ∷ s.objects) t fs (register (thread s t) 10) → InFrames i (r ∷ s.objects) t fs c
+    placed : (fs : List Frame) → InFrames i (placed_among r s.objects) t fs (register (thread s t) 10) → InFrames i (placed_among r s.objects) t fs c
     placed [] none = absurd (let clash : true ≡ false = sym tagged ∙ none in cc)
-    placed (f ∷ fs) q = λ there. object_placed i (r ∷ s.objects) t f fs r c (register (thread s t) 10) kind_is same (q tagged) (inl refl) (is there)
+    placed (f ∷ fs) q = λ there. object_placed i (placed_among r s.objects) t f fs r c (register (thread s t) 10) kind_is same (q tagged) (among_any (λ q. q ≡ r) r s.objects (inl refl)) (is there)

@@ -1,5 +1,4 @@
 pub mod Quarantines
 pub mod Allocates
 pub mod Frees
-pub mod Sweeps
 pub mod Holding

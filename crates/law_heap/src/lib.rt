@@ -1,4 +1,4 @@
-//! Laws of the heap: an allocation, a free and a sweep, each whole, keep a state confined; of a confined
+//! Laws of the heap: an allocation and a free, each whole, keep a state confined; of a confined
 //! state, that every heap capability is of an object that is there, and that quotas hold.
 #![tactic(auto)]
 
@@ -11,7 +11,7 @@ ghost use Rattle.def_machine.specs.Image.{Image, root};
 ghost use Rattle.def_machine.specs.State.{State, Object, register, thread, granule};
 ghost use Rattle.def_machine.specs.Objects.{Each, charges};
 ghost use Rattle.def_machine.specs.Registers.{put_register};
-ghost use Rattle.def_machine.specs.Heap.{with_object, freed, swept};
+ghost use Rattle.def_machine.specs.Heap.{with_object, freed};
 ghost use Rattle.def_confined.specs.Places.{HasObject, HasLive};
 ghost use Rattle.def_confined.specs.Confined.{Confined};
 ghost use Rattle.def_confined.specs.Partitioned.{Partitioned};
@@ -20,11 +20,10 @@ ghost use Rattle.def_confined.specs.Changes.{NewObject, Frees};
 ghost use Rattle.law_heap.specs.Saved.{SavedHave};
 
 /// An object that may be put beside the others, and its capability in a register of the thread whose c10
-/// holds the quota; a live object freed; a sweep.
+/// holds the quota; a live object freed.
 pub fn heap_moves()
     ensures allocate { (i : Image) (s : State) (t n : ℕ) (r : Object) (c : Cap) → Partitioned i → Confined i s → NewObject i s r → (register (thread s t) 10).tag ≡ true → (register (thread s t) 10).shadow.root ≡ r.quota → (root i r.quota).origin ≡ Listing Quota → (c.tag ≡ true → IsObjectCap i r c) → Confined i (put_register (with_object s r) t n c) }
     ensures free { (i : Image) (s : State) (t : ℕ) (r : Object) → Partitioned i → Confined i s → Frees s t r → Confined i (freed i s t r) }
-    ensures sweep { (i : Image) (s : State) → Partitioned i → Confined i s → Confined i (swept i s) }
 {}
 
 /// No non-empty heap capability, anywhere, is of an object that is neither live nor quarantined, and

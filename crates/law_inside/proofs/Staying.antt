@@ -13,14 +13,14 @@ use Rattle.def_confined.specs.Capabilities.{Rooted, heap_cap}
 use Rattle.def_confined.specs.Confined.{Confined}
 use Rattle.law_boot.proofs.Whole.{image_partitioned}
 use Rattle.law_entries.proofs.Wiring.{wired}
-use Rattle.law_regions.proofs.Confining.{confined}
-use Rattle.law_run.proofs.Running.{run_confined}
+use Rattle.law_boot.proofs.Besides.{boot_keeps}
+use Rattle.law_run.proofs.Running.{run_keeps}
 use Rattle.law_jumps.proofs.Moves.{in_rooted}
 use Rattle.law_inside.specs.Inside.{IsInside}
 use Rattle.law_inside.proofs.Roots.{root_inside, heap_inside}
 
 stays : (f : FirmwareRow) (es : List Event) → IsLawfulFirmware f → Confined (image_of f) (run (board_of f) (boot_state f) es)
-stays f es l = run_confined (board_of f) (boot_state f) es (image_partitioned f l) (wired f l) (confined f l)
+stays f es l = (run_keeps (board_of f) (boot_state f) es (image_partitioned f l) (wired f l) (boot_keeps f l)).confined
 
 cap_inside : (f : FirmwareRow) (c : Cap) (x : ℕ) → IsLawfulFirmware f → Rooted (image_of f) c → cap_base c ≤ x → x < cap_top c → IsInside f x
 cap_inside f c x l r low high = elim (bool_tells (heap_cap (image_of f) c)) [

@@ -113,7 +113,7 @@ open_there i objects D S by x p a inside stores low high fixed = elim (bool_tell
 ]
 
 -- a local value stays tagged only through a stack's capability
-through_case : (P : Cap → Type 0) (by v : Cap) → P (untagged v) → ((v.tag ≡ true → has v global ≡ false → has by store_local ≡ true) → P v) → P (stored_through by v)
+pub through_case : (P : Cap → Type 0) (by v : Cap) → P (untagged v) → ((v.tag ≡ true → has v global ≡ false → has by store_local ≡ true) → P v) → P (stored_through by v)
 through_case P by v gone stays = chosen P (v.tag && not (has v global) && not (has by store_local)) (untagged v) v
     (λ is. gone)
     (λ other. stays (λ tagged lacks. elim (bool_tells (has by store_local)) [

@@ -1,6 +1,6 @@
 -- Two compartments that import nothing from each other. The second's export passes capabilities; a thread is in
 -- it, called from the first by nobody's leave, and holds the second's globals in c10.
-use Rattle.std.specs.Prelude.{[], ◌∷◌, Some, true, false, replicate}
+use Rattle.std.specs.Prelude.{[], ◌∷◌, Some, true, false, replicate, None}
 use Rattle.def_words.specs.declared.Cap.{Cap}
 use Rattle.def_words.specs.Derive.{memory_root, executable_root}
 use Rattle.def_memory.specs.Granules.{plain, nothing}
@@ -8,7 +8,8 @@ use Rattle.ct_entry.specs.declared.rows.Owner.TheVariants.{Compartment, Thread}
 use Rattle.ct_entry.specs.declared.rows.Kind.TheVariants as kinds
 use Rattle.ct_entry.specs.Listed.{Listed}
 use Rattle.def_machine.specs.Image.{Image, Fixed, Globals, Stack}
-use Rattle.def_machine.specs.State.{State, Frame, Ready, interrupts_on}
+use Rattle.def_machine.specs.State.{State, Frame, interrupts_on}
+use Rattle.def_sched.specs.declared.Status.TheVariants.{Ready}
 use Rattle.def_machine.specs.State as state
 use Rattle.law_example.specs.Small.{row, gate, made}
 
@@ -34,17 +35,21 @@ two = record {
   boot = [];
   codes = 1 ∷ 3 ∷ [];
   globals = 2 ∷ 4 ∷ [];
+  handlers = [];
   stacks = 6 ∷ [];
   frames = 4 ∷ [];
+  priorities = 1 ∷ [];
+  trusted = 0;
+  sweep = 64;
   heap_base = 2147483776;
   heap_end = 2147483776;
 }
 
 abbrev pub inner : Frame
-inner = record { actor = 1; export = 5; top = 2147483744; c1 = sentry; c2 = plain 0; c3 = plain 0; c8 = plain 0; c9 = plain 0 }
+inner = record { actor = 1; export = 5; top = 2147483744; handling = false; c1 = sentry; c2 = plain 0; c3 = plain 0; c8 = plain 0; c9 = plain 0 }
 
 abbrev pub outermost : Frame
-outermost = record { actor = 0; export = 0; top = 2147483776; c1 = plain 0; c2 = plain 0; c3 = plain 0; c8 = plain 0; c9 = plain 0 }
+outermost = record { actor = 0; export = 0; top = 2147483776; handling = false; c1 = plain 0; c2 = plain 0; c3 = plain 0; c8 = plain 0; c9 = plain 0 }
 
 abbrev pub runner : state.Thread
 runner = record {
@@ -63,8 +68,10 @@ before = record {
   pending = false;
   objects = [];
   next = 1;
+  tokens = [];
+  front = None;
   devices = [];
   time = 0;
   picks = 0 ∷ [];
-  counts = record { steps = 0; ticks = 0; inputs = 0; calls = 0; loads = 0; stores = 0; frees = 0; traps = 0 };
+  counts = record { steps = 0; ticks = 0; sweeps = 0; inputs = 0; calls = 0; loads = 0; stores = 0; frees = 0; traps = 0 };
 }

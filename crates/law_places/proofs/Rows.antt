@@ -1,8 +1,8 @@
 -- Objects as rows: one of them, each of them, what stays when some leave.
-use Rattle.std.proofs.Common.{ℕ, ◌≡◌, ◌+◌, ◌≤◌, ◌<◌, ◌⊎◌, inl, inr, ◌&&◌, Bool, true, false, cond, nat_eq, List, [], ◌∷◌, refl, sym, ap, ◌∙◌, arith}
-use Rattle.law_lists.proofs.Tests.{chosen}
+use Rattle.std.proofs.Common.{ℕ, ◌≡◌, ◌+◌, ◌≤◌, ◌<◌, ◌⊎◌, inl, inr, ◌&&◌, Bool, true, false, cond, nat_eq, nat_lt, List, [], ◌∷◌, refl, sym, ap, ◌∙◌, arith}
+use Rattle.law_lists.proofs.Tests.{chosen, bool_tells}
 use Rattle.def_machine.specs.State.{Object}
-use Rattle.def_machine.specs.Objects.{Any, Each, charges, only_live}
+use Rattle.def_machine.specs.Objects.{Any, Each, charges, unpainted, placed_among}
 use Rattle.def_confined.specs.Confined.{Apart, AllApart}
 
 pub any_map : {A : Type 0} (P Q : A → Type 0) (xs : List A) → ((x : A) → P x → Q x) → Any P xs → Any Q xs
@@ -64,32 +64,66 @@ pub taken : {A : Type 0} (P : A → Type 0) (G : Type 0) (b : Bool) (x y : A) �
 taken P G true x y f g h = f refl h
 taken P G false x y f g h = g refl h
 
--- ---- the live ones stay
+-- ---- the painted leave
 
-pub live_any : (P : Object → Type 0) (rows : List Object) → Any (λ r. (r.live ≡ true) × P r) rows → Any P (only_live rows)
-live_any P [] h = h
-live_any P (r ∷ rs) (inl h) = chosen (Any P) r.live (r ∷ only_live rs) (only_live rs) (λ is. inl h.1) (λ not. absurd (let clash : true ≡ false = sym h.0 ∙ not in cc))
-live_any P (r ∷ rs) (inr h) = chosen (Any P) r.live (r ∷ only_live rs) (only_live rs) (λ is. inr (live_any P rs h)) (λ not. live_any P rs h)
+pub left_any : (P : Object → Type 0) (rows : List Object) → Any (λ r. (r.painted ≡ false) × P r) rows → Any P (unpainted rows)
+left_any P [] h = h
+left_any P (r ∷ rs) (inl h) = chosen (Any P) r.painted (unpainted rs) (r ∷ unpainted rs) (λ is. absurd (let clash : true ≡ false = sym is ∙ h.0 in cc)) (λ not. inl h.1)
+left_any P (r ∷ rs) (inr h) = chosen (Any P) r.painted (unpainted rs) (r ∷ unpainted rs) (λ is. left_any P rs h) (λ not. inr (left_any P rs h))
 
-pub any_live : (P : Object → Type 0) (rows : List Object) → Any P (only_live rows) → Any (λ r. (r.live ≡ true) × P r) rows
-any_live P [] h = h
-any_live P (r ∷ rs) h = taken (Any P) (((r.live ≡ true) × P r) ⊎ Any (λ q. (q.live ≡ true) × P q) rs) r.live (r ∷ only_live rs) (only_live rs)
-    (λ is k. elim k [ inl p ↦ inl (is, p) | inr more ↦ inr (any_live P rs more) ])
-    (λ not k. inr (any_live P rs k))
+pub any_left : (P : Object → Type 0) (rows : List Object) → Any P (unpainted rows) → Any (λ r. (r.painted ≡ false) × P r) rows
+any_left P [] h = h
+any_left P (r ∷ rs) h = taken (Any P) (((r.painted ≡ false) × P r) ⊎ Any (λ q. (q.painted ≡ false) × P q) rs) r.painted (unpainted rs) (r ∷ unpainted rs)
+    (λ is k. inr (any_left P rs k))
+    (λ not k. elim k [ inl p ↦ inl (not, p) | inr more ↦ inr (any_left P rs more) ])
     h
 
-pub live_each : (P : Object → Type 0) (rows : List Object) → Each P rows → Each P (only_live rows)
-live_each P [] h = tt
-live_each P (r ∷ rs) h = chosen (Each P) r.live (r ∷ only_live rs) (only_live rs) (λ is. (h.0, live_each P rs h.1)) (λ not. live_each P rs h.1)
+pub left_each : (P : Object → Type 0) (rows : List Object) → Each P rows → Each P (unpainted rows)
+left_each P [] h = tt
+left_each P (r ∷ rs) h = chosen (Each P) r.painted (unpainted rs) (r ∷ unpainted rs) (λ is. left_each P rs h.1) (λ not. (h.0, left_each P rs h.1))
 
-pub live_apart : (rows : List Object) → AllApart rows → AllApart (only_live rows)
-live_apart [] h = tt
-live_apart (r ∷ rs) h = chosen AllApart r.live (r ∷ only_live rs) (only_live rs) (λ is. (live_each (Apart r) rs h.0, live_apart rs h.1)) (λ not. live_apart rs h.1)
+pub left_apart : (rows : List Object) → AllApart rows → AllApart (unpainted rows)
+left_apart [] h = tt
+left_apart (r ∷ rs) h = chosen AllApart r.painted (unpainted rs) (r ∷ unpainted rs) (λ is. left_apart rs h.1) (λ not. (left_each (Apart r) rs h.0, left_apart rs h.1))
 
-pub live_charges : (q : ℕ) (rows : List Object) → charges q (only_live rows) ≡ charges q rows
-live_charges q [] = refl
-live_charges q (r ∷ rs) = chosen (λ z. charges q z ≡ cond (r.live && nat_eq r.quota q) r.charge 0 + charges q rs) r.live (r ∷ only_live rs) (only_live rs)
-    (λ is. ap (λ n. cond (r.live && nat_eq r.quota q) r.charge 0 + n) (live_charges q rs))
-    (λ not.
-    let none : cond (r.live && nat_eq r.quota q) r.charge 0 ≡ 0 = ap (λ b. cond (b && nat_eq r.quota q) r.charge 0) not in
-    live_charges q rs ∙ (omega (arith, none)))
+pub left_charges : (q : ℕ) (rows : List Object) → Each (λ r. r.live ≡ true → r.painted ≡ false) rows → charges q (unpainted rows) ≡ charges q rows
+left_charges q [] h = refl
+left_charges q (r ∷ rs) h = chosen (λ z. charges q z ≡ cond (r.live && nat_eq r.quota q) r.charge 0 + charges q rs) r.painted (unpainted rs) (r ∷ unpainted rs)
+    (λ is.
+    let dead : r.live ≡ false = elim (bool_tells r.live) [ inl yes_ ↦ absurd (let clash : true ≡ false = sym is ∙ h.0 yes_ in cc) | inr no_ ↦ no_ ] in
+    let none : cond (r.live && nat_eq r.quota q) r.charge 0 ≡ 0 = ap (λ b. cond (b && nat_eq r.quota q) r.charge 0) dead in
+    left_charges q rs h.1 ∙ (omega (arith, none)))
+    (λ not. ap (λ n. cond (r.live && nat_eq r.quota q) r.charge 0 + n) (left_charges q rs h.1))
+
+-- ---- one among them
+
+pub among_any : (P : Object → Type 0) (r : Object) (rows : List Object) → P r ⊎ Any P rows → Any P (placed_among r rows)
+among_any P r [] (inl h) = inl h
+among_any P r [] (inr h) = absurd h
+among_any P r (q ∷ qs) h = chosen (Any P) (nat_lt r.base q.base) (r ∷ q ∷ qs) (q ∷ placed_among r qs)
+    (λ is. elim h [ inl a ↦ inl a | inr b ↦ inr b ])
+    (λ not. elim h [ inl a ↦ inr (among_any P r qs (inl a)) | inr b ↦ elim b [ inl c ↦ inl c | inr d ↦ inr (among_any P r qs (inr d)) ] ])
+
+pub any_among : (P : Object → Type 0) (r : Object) (rows : List Object) → Any P (placed_among r rows) → P r ⊎ Any P rows
+any_among P r [] h = h
+any_among P r (q ∷ qs) h = taken (Any P) (P r ⊎ Any P (q ∷ qs)) (nat_lt r.base q.base) (r ∷ q ∷ qs) (q ∷ placed_among r qs)
+    (λ is k. k)
+    (λ not k. elim k [ inl a ↦ inr (inl a) | inr b ↦ elim (any_among P r qs b) [ inl c ↦ inl c | inr d ↦ inr (inr d) ] ])
+    h
+
+pub among_each : (P : Object → Type 0) (r : Object) (rows : List Object) → P r → Each P rows → Each P (placed_among r rows)
+among_each P r [] a b = (a, tt)
+among_each P r (q ∷ qs) a b = chosen (Each P) (nat_lt r.base q.base) (r ∷ q ∷ qs) (q ∷ placed_among r qs) (λ is. (a, b)) (λ not. (b.0, among_each P r qs a b.1))
+
+apart_back : (r q : Object) → Apart r q → Apart q r
+apart_back r q h = ((λ e. h.0 (sym e)), elim h.1 [ inl a ↦ inr a | inr b ↦ inl b ])
+
+pub among_apart : (r : Object) (rows : List Object) → Each (Apart r) rows → AllApart rows → AllApart (placed_among r rows)
+among_apart r [] a b = (tt, tt)
+among_apart r (q ∷ qs) a b = chosen AllApart (nat_lt r.base q.base) (r ∷ q ∷ qs) (q ∷ placed_among r qs) (λ is. (a, b)) (λ not. (among_each (Apart q) r qs (apart_back r q a.0) b.0, among_apart r qs a.1 b.1))
+
+pub among_charges : (q : ℕ) (r : Object) (rows : List Object) → charges q (placed_among r rows) ≡ cond (r.live && nat_eq r.quota q) r.charge 0 + charges q rows
+among_charges q r [] = refl
+among_charges q r (x ∷ xs) = chosen (λ z. charges q z ≡ cond (r.live && nat_eq r.quota q) r.charge 0 + (cond (x.live && nat_eq x.quota q) x.charge 0 + charges q xs)) (nat_lt r.base x.base) (r ∷ x ∷ xs) (x ∷ placed_among r xs)
+    (λ is. refl)
+    (λ not. let rest = among_charges q r xs in omega (arith, rest))

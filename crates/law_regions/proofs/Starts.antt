@@ -10,7 +10,7 @@ use Rattle.ct_entry.specs.declared.rows.Owner.{Owner}
 use Rattle.ct_entry.specs.declared.rows.Owner.TheVariants.{Compartment}
 use Rattle.ct_entry.specs.declared.rows.Kind.TheVariants as kind
 use Rattle.ct_entry.specs.declared.starting.Starter.{Starter}
-use Rattle.def_reach.specs.Roots.{Root, Listing, TrustedPart, root_of, gate_for, is_root, is_owned, is_stack, is_code}
+use Rattle.def_reach.specs.Roots.{Root, Listing, TrustedPart, root_of, gate_for, compartment_of, is_root, is_owned, is_stack, is_code}
 use Rattle.def_reach.specs.Sharing.{Reaches}
 use Rattle.def_machine.specs.State as st
 use Rattle.def_machine.specs.State.{Frame, nobody, thread, register}
@@ -24,7 +24,7 @@ use Rattle.law_registers.proofs.Derives.{Bound, kept_bound, derived_in}
 use Rattle.law_made.proofs.Results.{address_derived, address_runs}
 use Rattle.law_places.proofs.Places.{all_of}
 use Rattle.def_step.specs.Firmware.{IsLawfulFirmware, IsStarter, StackRange}
-use Rattle.def_step.specs.Boot.{image_of, boot_state, made_for, home_of, compartment_of, stack_top_of, stack_number, code_number, globals_number, first_frame, first_pcc, first_registers, first_posture, first_thread, first_threads}
+use Rattle.def_step.specs.Boot.{image_of, boot_state, made_for, home_of, stack_top_of, stack_number, code_number, globals_number, first_frame, first_pcc, first_registers, first_posture, first_thread, first_threads}
 use Rattle.law_entries.specs.Rows.{IsExportOf, HasStack}
 use Rattle.law_entries.proofs.Standing.{each_at, present}
 use Rattle.law_entries.proofs.Classes.{export_of, stack_of}

@@ -1,5 +1,5 @@
-//! Laws of runs: after any list of events a confined state is confined, and all that was told of them is
-//! licensed. They speak of the written machine alone.
+//! Laws of runs: after any list of events a confined state is confined, with what stands beside, and all that was
+//! told of them is licensed. They speak of the written machine alone.
 #![tactic(auto)]
 
 ghost use Rattle.std.specs.Prelude.{List};
@@ -8,22 +8,20 @@ ghost use Rattle.def_step.specs.declared.Event.{Event};
 ghost use Rattle.def_step.specs.Instructions.{Board};
 ghost use Rattle.def_step.specs.Events.{run, told};
 ghost use Rattle.def_board.specs.Wired.{Wired};
-ghost use Rattle.def_confined.specs.Confined.{Confined};
+ghost use Rattle.def_confined.specs.Keeps.{Keeps};
 ghost use Rattle.def_confined.specs.Partitioned.{Partitioned};
-ghost use Rattle.def_confined.specs.Holding.{EndedOn};
 ghost use Rattle.def_confined.specs.Telling.{AllLicensed};
 
-/// Any list of events, lawful or not, keeps a state confined.
+/// Any list of events, lawful or not, keeps a state confined, and what stands beside.
 pub fn runs_confined()
-    ensures { (b : Board) (s : State) (es : List Event) → Partitioned b.image → Wired b → Confined b.image s → Confined b.image (run b s es) }
-{}
-
-/// No list of events leaves a thread that has no frames with interrupts off.
-pub fn runs_end_on()
-    ensures { (b : Board) (s : State) (es : List Event) → Partitioned b.image → Wired b → Confined b.image s → EndedOn s → EndedOn (run b s es) }
+    ensures { (b : Board) (s : State) (es : List Event)
+        → Partitioned b.image → Wired b → Keeps b.image s
+        → Keeps b.image (run b s es) }
 {}
 
 /// Each deed, and each span with interrupts off, that a list of events tells is licensed.
 pub fn runs_licensed()
-    ensures { (b : Board) (s : State) (es : List Event) → Partitioned b.image → Wired b → Confined b.image s → EndedOn s → AllLicensed b.image.entries (told b s es) }
+    ensures { (b : Board) (s : State) (es : List Event)
+        → Partitioned b.image → Wired b → Keeps b.image s
+        → AllLicensed b.image.entries (told b s es) }
 {}

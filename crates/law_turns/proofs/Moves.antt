@@ -4,7 +4,8 @@ use Rattle.std.proofs.Math.ListN.{get_or}
 use Rattle.def_words.specs.declared.Cap.{Cap}
 use Rattle.def_memory.specs.Granules.{plain}
 use Rattle.def_machine.specs.Image.{Image}
-use Rattle.def_machine.specs.State.{State, Status, thread, register}
+use Rattle.def_machine.specs.State.{State, thread, register}
+use Rattle.def_sched.specs.declared.Status.{Status}
 use Rattle.def_machine.specs.Memory.{filtered}
 use Rattle.def_machine.specs.Threads.{Clockwork, changed, picked, with_status}
 use Rattle.def_confined.specs.Capabilities.{Kept}
@@ -15,7 +16,6 @@ use Rattle.law_places.proofs.Places.{plain_in}
 use Rattle.law_places.proofs.Puts.{plain_kept}
 use Rattle.law_places.proofs.Turns.{changed_confined, fits_as}
 use Rattle.law_registers.proofs.Filters.{filter_case, filter_in, filter_kept, filter_live, in_object}
-
 use Rattle.law_lists.proofs.Maps.{at_map}
 
 pub pick_confined : (i : Image) (s : State) (t : ℕ) (w : Clockwork) → Partitioned i → Confined i s → Confined i (changed s t (picked i s (thread s t)) (Some t) w)

@@ -4,7 +4,8 @@
 
 ghost use Rattle.std.specs.Prelude.{◌≡◌, ℕ, Option, Some};
 ghost use Rattle.def_machine.specs.Image.{Image};
-ghost use Rattle.def_machine.specs.State.{State, Status, thread};
+ghost use Rattle.def_machine.specs.State.{State, thread};
+ghost use Rattle.def_sched.specs.declared.Status.{Status};
 ghost use Rattle.def_machine.specs.Threads.{Clockwork, changed, picked, with_status};
 ghost use Rattle.def_confined.specs.Confined.{Confined};
 ghost use Rattle.def_confined.specs.Partitioned.{Partitioned};

@@ -14,7 +14,7 @@ pub use operations::{
 };
 pub use rounding::{bounds_are_blocks, exact_where_short, least_exponent, rounding_holds};
 pub use rows::{
-    bits_are_permissions, least_bounds_rows, removing_load_data, rights_are_spelled, roots_hold_all,
-    sealing_rows,
+    bits_are_permissions, least_bounds_rows, removing_load_data, rights_are_spelled,
+    roots_hold_all, sealing_rows,
 };
 pub use sets::{normal_holds, spelling_holds, within_holds};

@@ -1,5 +1,5 @@
-use Rattle.law_events.proofs.Events.{event_confined}
+use Rattle.law_events.proofs.Events.{event_keeps}
 use Rattle.law_events.proofs.events_confined.Goals as goal
 
 pub returns : goal.returns
-returns c = event_confined
+returns c = event_keeps
