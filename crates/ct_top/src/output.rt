@@ -15,8 +15,10 @@ fn write_both<S: Sink>(first: &[u8], second: &[u8], sink: &mut S) -> Result<(), 
     ensures { WriteAnswers (S.bytes sink.old) (S.bytes sink.new)
         (S.faults sink.old) (S.faults sink.new) (first.now ++ second.now) result }
 {
-    sink.write(first)?;
-    sink.write(second)
+    match sink.write(first) {
+        Ok(()) => sink.write(second),
+        Err(failed) => Err(failed),
+    }
 }
 
 /// Writes a text, a name and a line feed.
@@ -25,8 +27,10 @@ fn write_named<S: Sink>(text: &[u8], name: &str, sink: &mut S) -> Result<(), Wri
     ensures { WriteAnswers (S.bytes sink.old) (S.bytes sink.new)
         (S.faults sink.old) (S.faults sink.new) (text.now ++ (name.now ++ 10 ∷ [])) result }
 {
-    sink.write(text)?;
-    write_both(name.as_bytes(), b"\n", sink)
+    match sink.write(text) {
+        Ok(()) => write_both(name.as_bytes(), b"\n", sink),
+        Err(failed) => Err(failed),
+    }
 }
 
 /// Writes a text, a name and a line feed, and ends with a status.
