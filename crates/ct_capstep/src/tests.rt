@@ -46,7 +46,7 @@ fn result(i: Instr, x: Live, y: Live) -> Cap
 #[test]
 fn capabilities_from_capabilities(rt: HostRuntime) {
     let g = globals();
-    let four = integer(4);
+    let four = Live::integer(4);
     let moved = result(
         Instr::CIncAddr {
             rd: 5,
@@ -77,7 +77,7 @@ fn capabilities_from_capabilities(rt: HostRuntime) {
                 rs2: 10
             },
             g,
-            integer(0x80000284)
+            Live::integer(0x80000284)
         ),
         moved
     );
@@ -173,7 +173,7 @@ fn capabilities_from_capabilities(rt: HostRuntime) {
             rs2: 10,
         },
         g,
-        integer(0x7E3C0100),
+        Live::integer(0x7E3C0100),
     );
     assert_eq!(rt;
         forged,
@@ -229,7 +229,7 @@ fn capabilities_from_capabilities(rt: HostRuntime) {
             rs2: 11,
         },
         code(),
-        integer(0xFDF),
+        Live::integer(0xFDF),
     );
     assert_eq!(rt;
         result(Instr::CGetPerm { rd: 5, rs1: 5 }, expand(bare), four).word,
@@ -370,15 +370,15 @@ fn numbers_from_capabilities(rt: HostRuntime) {
     );
     // 1022 bytes from an odd place need an exponent of 2; of themselves they need 1.
     assert_eq!(rt;
-        result(Instr::Crrl { rd: 5, rs1: 10 }, integer(1021), g).word,
+        result(Instr::Crrl { rd: 5, rs1: 10 }, Live::integer(1021), g).word,
         1022
     );
     assert_eq!(rt;
-        result(Instr::Cram { rd: 5, rs1: 10 }, integer(1021), g).word,
+        result(Instr::Cram { rd: 5, rs1: 10 }, Live::integer(1021), g).word,
         0xFFFFFFFE
     );
     assert_eq!(rt;
-        result(Instr::Crrl { rd: 5, rs1: 10 }, integer(0xFFFFFFFF), g).word,
+        result(Instr::Crrl { rd: 5, rs1: 10 }, Live::integer(0xFFFFFFFF), g).word,
         0
     );
 }

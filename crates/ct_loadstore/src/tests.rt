@@ -2,7 +2,8 @@
 //! high word is 0x76000020, and through one of a serial port. Words are put together by hand from
 //! the fields of docs/use/capabilities.md.
 
-ghost use Rattle.std.specs.Prelude.{◌≡◌};
+ghost use Rattle.std.specs.Prelude.{◌*◌, length};
+ghost use Rattle.ct_loadstore.specs.Maps.{IsMap};
 
 use crate::{Map, filter, loadstore};
 use ct_bus::Bus;
@@ -33,14 +34,14 @@ fn serial(alloc: Global) -> Result<Bus, Fail> {
     Ok(Bus::new(alloc, &Devices { rows })?)
 }
 
-/// RAM of 32 bytes.
-fn map() -> Map
-    ensures { result.ram ≡ 2147483648 }
+/// RAM from 0x80000000, without a heap.
+fn map<M: Memory>(mem: &M) -> Map
+    ensures { IsMap result (8 * length (M.granules mem.now)) }
 {
     Map {
         ram: 0x8000_0000,
-        size: 32,
-        heap: 0x8000_0020,
+        size: mem.size(),
+        heap: 0x8000_0000,
         length: 0,
     }
 }
@@ -58,7 +59,8 @@ fn a_local_capability_loses_its_tag(rt: HostRuntime) -> Result<(), Fail> {
         rs2: 2,
         immediate: 8,
     };
-    match loadstore(store, globals, stack, &mut mem, &map(), &mut bus, 0) {
+    let place = map(&mem);
+    match loadstore(store, globals, stack, &mut mem, &place, &mut bus, 0) {
         Ok(moved) => assert_eq!(rt; moved.device, None),
         Err(_) => assert!(rt; false),
     }
@@ -67,7 +69,8 @@ fn a_local_capability_loses_its_tag(rt: HostRuntime) -> Result<(), Fail> {
         rs1: 3,
         immediate: 8,
     };
-    match loadstore(load, globals, globals, &mut mem, &map(), &mut bus, 0) {
+    let place = map(&mem);
+    match loadstore(load, globals, globals, &mut mem, &place, &mut bus, 0) {
         Ok(moved) => match moved.value {
             Some(value) => {
                 assert_eq!(rt; value.cap.tag, false);
@@ -82,7 +85,8 @@ fn a_local_capability_loses_its_tag(rt: HostRuntime) -> Result<(), Fail> {
         rs1: 3,
         immediate: 11,
     };
-    match loadstore(byte, globals, globals, &mut mem, &map(), &mut bus, 0) {
+    let place = map(&mem);
+    match loadstore(byte, globals, globals, &mut mem, &place, &mut bus, 0) {
         Ok(moved) => match moved.value {
             Some(value) => assert_eq!(rt; value.cap.word, 0xFFFF_FF80),
             None => assert!(rt; false),
@@ -104,7 +108,8 @@ fn a_serial_port_takes_a_letter(rt: HostRuntime) -> Result<(), Fail> {
         rs2: 10,
         immediate: 0,
     };
-    match loadstore(store, port, letter, &mut mem, &map(), &mut bus, 0) {
+    let place = map(&mem);
+    match loadstore(store, port, letter, &mut mem, &place, &mut bus, 0) {
         Ok(moved) => assert_eq!(rt;
             moved.device,
             Some(Act::Store {
@@ -120,7 +125,8 @@ fn a_serial_port_takes_a_letter(rt: HostRuntime) -> Result<(), Fail> {
         rs2: 10,
         immediate: 16,
     };
-    match loadstore(past, port, letter, &mut mem, &map(), &mut bus, 0) {
+    let place = map(&mem);
+    match loadstore(past, port, letter, &mut mem, &place, &mut bus, 0) {
         Ok(_) => assert!(rt; false),
         Err(trap) => assert_eq!(rt;
             trap,
@@ -136,7 +142,8 @@ fn a_serial_port_takes_a_letter(rt: HostRuntime) -> Result<(), Fail> {
         rs1: 5,
         immediate: 0,
     };
-    match loadstore(load, port, letter, &mut mem, &map(), &mut bus, 0) {
+    let place = map(&mem);
+    match loadstore(load, port, letter, &mut mem, &place, &mut bus, 0) {
         Ok(_) => assert!(rt; false),
         Err(trap) => assert_eq!(rt;
             trap,
