@@ -1,6 +1,9 @@
 //! Jumps from a code capability of 48 bytes at 0x80000000, whose high word is 0x56000030. Words are
 //! put together by hand from the fields of docs/use/capabilities.md.
 
+ghost use Rattle.std.specs.Prelude.{IsTrue};
+ghost use Rattle.def_instr.specs.Shapes.{is_jump};
+
 use crate::{Flow, flow};
 use ct_cap::{Cap, Live, Posture, Shadow, Trap, expand};
 use def_instr::Instr;
@@ -24,7 +27,9 @@ fn number(word: u64) -> Live {
 }
 
 /// What a jump from 0x80000010 gives, with interrupts on.
-fn jump(instruction: Instr, x: Live, y: Live) -> Result<Flow, Trap> {
+fn jump(instruction: Instr, x: Live, y: Live) -> Result<Flow, Trap>
+    requires { IsTrue (is_jump instruction) }
+{
     let on = Posture {
         off: false,
         source: 0,

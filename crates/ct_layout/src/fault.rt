@@ -1,6 +1,6 @@
 //! Why regions have no place.
 
-use std::alloc::{AllocError, AllocFailed};
+use std::alloc::AllocError;
 use thiserror::Error;
 
 /// The regions don't fit RAM, or memory was wanted. Both numbers count bytes.
@@ -21,12 +21,6 @@ impl From<AllocError> for LayoutFault {
     ghost from_gives = { λ _ e. e ≡ NoMemory };
 
     fn from(_error: AllocError) -> LayoutFault {
-        LayoutFault::NoMemory
-    }
-}
-
-impl<T: Drop> From<AllocFailed<T>> for LayoutFault {
-    fn from(_error: AllocFailed<T>) -> LayoutFault {
         LayoutFault::NoMemory
     }
 }
