@@ -2,7 +2,7 @@
 
 ghost use Rattle.std.specs.Prelude.{◌≡◌, [], ◌∷◌, codes, None, Some};
 ghost use Rattle.serde_json.specs.Data.{string};
-ghost use Rattle.law_description.specs.Samples.{at, empty, tiny, tiny_of, tiny_importing, tiny_on, tiny_in, tiny_run_by, altered, with, all, num, app, words, export, import, uart, ram, thread, text, service_of};
+ghost use Rattle.law_description.specs.Samples.{at, empty, tiny, tiny_of, tiny_importing, tiny_on, tiny_in, tiny_run_by, altered, with, all, num, app, words, export, import, uart, ram, thread, text, service_of, board};
 ghost use Rattle.def_description.specs.declared.faults.PartWord.TheVariants as part;
 ghost use Rattle.def_description.specs.WellFormed.{IsFaulty, fault_of};
 
@@ -43,4 +43,10 @@ pub fn faults_of_meaning()
     ensures two_devices { fault_of (tiny_on (uart ∷ altered uart (codes "name") (text (codes "uart1")) ∷ [])) ≡ Some (at 10 part.Device 1 0) }
     ensures ram_over_native { fault_of (tiny_in (altered ram (codes "base") (num 65536))) ≡ Some (at 10 part.Ram 0 0) }
     ensures lesser_number { fault_of (with (tiny_run_by (with thread (codes "colour") (num 1))) (codes "sweep") (num 32)) ≡ Some (at 3 part.Thread 0 0) }
+{}
+
+/// The sample with an application, a driver, a library, two threads, a quota and code in files is
+/// well-formed.
+pub fn board_is_well_formed()
+    ensures { fault_of board ≡ None }
 {}
