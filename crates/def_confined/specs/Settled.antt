@@ -1,4 +1,5 @@
--- Settled states: what is untagged, wherever it stands, has no root and no source.
+-- Settled states: what is untagged, wherever it stands, has no root and no source. It stands beside *Confined*, which
+-- speaks of tagged values.
 use Rattle.std.specs.Prelude.{ℕ}
 use Rattle.def_words.specs.Capability.{IsSettled}
 use Rattle.def_machine.specs.State.{State, Thread, Frame, thread, register, granule}
