@@ -60,13 +60,14 @@ quarantine_live r (q ∷ qs) x one out h = elim (or_tells (covers x q) (is_live_
       (λ not. or_right (covers x q) (is_live_at (quarantine r.number qs) x) (quarantine_live r qs x one.1 out there))
 ]
   where
+    apart : r.base ≤ x → x < r.base + r.length → ⊥
+    apart low high = elim out [ inl below ↦ omega (arith, below, low) | inr above ↦ omega (arith, above, high) ]
+
     outside : (q : Object) → q ≡ r → covers x q ≡ true → ⊥
     outside q same h =
         let at : covers x r ≡ true = subst (λ (z : Object). covers x z ≡ true) same h in
         let parts = and_parts (r.live && nat_le r.base x) (nat_lt x (r.base + r.length)) at in
-        let low = leb-true r.base x (and_parts r.live (nat_le r.base x) parts.0).1 in
-        let high = ltb-true x (r.base + r.length) parts.1 in
-        elim out [ inl below ↦ omega (arith, below, low) | inr above ↦ omega (arith, above, high) ]
+        apart (leb-true r.base x (and_parts r.live (nat_le r.base x) parts.0).1) (ltb-true x (r.base + r.length) parts.1)
 
 -- ---- a sweep
 

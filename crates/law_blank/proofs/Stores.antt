@@ -45,7 +45,7 @@ set_blank : (b : Board) (s : State) (t n at : ℕ) (g : Granule) → Reaching b 
 set_blank b s t n at g r inside tagged stores low high k hidden = after_set_split (λ (z : Granule). z.cap ≡ plain 0) s.granules (granule_of b.image at) k g nothing
     (λ same. absurd (let seen : is_hidden b.image s.objects (granule_of b.image at) ≡ false = register_sees b.image s t n at r.shut r.held r.runs inside tagged (inr stores) low high in
     let clash : true ≡ false = sym hidden ∙ ap (λ j. is_hidden b.image s.objects j) (sym same) ∙ seen in cc))
-    (λ same none. ap (λ (z : Granule). z.cap) (sym none))
+    (λ same none. refl)
     (λ other. r.blank k hidden)
 
 abbrev pub IfBlank : Board → State → Result Accessed Trap → Type 0

@@ -6,7 +6,7 @@ use Rattle.def_machine.specs.Objects.{Any, Each, has_quarantined, painted, quara
 use Rattle.def_machine.specs.Heap.{with_slice, slice_end, sweep_over, sweep_began, swept, with_object, quarantined}
 use Rattle.def_step.specs.declared.Event.{Event}
 use Rattle.def_step.specs.declared.Event.TheVariants.{Step, Tick, Sweep, Input}
-use Rattle.def_step.specs.Events.{happens, run}
+use Rattle.def_step.specs.Events.{stepped, ticked, happens, run}
 use Rattle.def_step.specs.Instructions.{Board}
 use Rattle.def_confined.specs.Confined.{Apart}
 use Rattle.def_confined.specs.Changes.{NewObject}
@@ -51,10 +51,10 @@ running : (b : Board) (s : State) (r : Object) (x : ℕ) (es : List Event) → s
 unfolding run
 running b s r x [] on h = inl h
 running b s r x (Step ∷ es) on h =
-    let same = stepped_same b s in
+    let same : Same s (stepped b s).0 = stepped_same b s in
     elim (running b (happens b s Step).0 r x es (same.front ∙ on) (subst (Any (IsRow r)) (sym same.objects) h)) [ inl there ↦ inl there | inr ends ↦ inr (inr ends) ]
 running b s r x (Tick ∷ es) on h =
-    let same = ticked_same s in
+    let same : Same s (ticked s) = ticked_same s in
     elim (running b (happens b s Tick).0 r x es (same.front ∙ on) (subst (Any (IsRow r)) (sym same.objects) h)) [ inl there ↦ inl there | inr ends ↦ inr (inr ends) ]
 running b s r x (Input n byte ∷ es) on h = elim (running b (happens b s (Input n byte)).0 r x es on h) [ inl there ↦ inl there | inr ends ↦ inr (inr ends) ]
 running b s r x (Sweep ∷ es) on h = elim (next_sweep b s x on) [
@@ -66,10 +66,10 @@ pub waiting : (b : Board) (s : State) (r : Object) (es : List Event) → Any (Wa
 unfolding run
 waiting b s r [] h = inl (waits_row r s.objects h)
 waiting b s r (Step ∷ es) h =
-    let same = stepped_same b s in
+    let same : Same s (stepped b s).0 = stepped_same b s in
     elim (waiting b (happens b s Step).0 r es (subst (Any (Waits r)) (sym same.objects) h)) [ inl there ↦ inl there | inr whole ↦ inr (inr whole) ]
 waiting b s r (Tick ∷ es) h =
-    let same = ticked_same s in
+    let same : Same s (ticked s) = ticked_same s in
     elim (waiting b (happens b s Tick).0 r es (subst (Any (Waits r)) (sym same.objects) h)) [ inl there ↦ inl there | inr whole ↦ inr (inr whole) ]
 waiting b s r (Input n byte ∷ es) h = elim (waiting b (happens b s (Input n byte)).0 r es h) [ inl there ↦ inl there | inr whole ↦ inr (inr whole) ]
 waiting b s r (Sweep ∷ es) h = elim (one_sweep b s r h) [
