@@ -1,18 +1,38 @@
-//! Laws of native routines, as they are written: *Clean calls* of the switch, of returns and of unwinds; a call that the
-//! switch tells is licensed.
+//! Laws of native routines, as they are written: *Clean calls* of the switch and of returns, *Fresh objects* of an
+//! allocation, and that the routines of switcher and heap keep a state confined, with all that stands beside.
 #![tactic(auto)]
 
-ghost use Rattle.std.specs.Prelude.{◌≡◌, ℕ, List, ◌∷◌, Some, false};
-ghost use Rattle.ct_entry.specs.declared.acts.Act.TheVariants.{Call};
+ghost use Rattle.std.specs.Prelude.{◌≡◌, ℕ, List, ◌∷◌, Option, Some, false};
+ghost use Rattle.ct_entry.specs.declared.acts.Act.{Act};
+ghost use Rattle.ct_entry.specs.declared.acts.Act.TheVariants.{Call, Allocate};
 ghost use Rattle.def_confined.specs.Keeps.{Keeps};
 ghost use Rattle.def_confined.specs.Licensed.{Licensed};
 ghost use Rattle.def_confined.specs.Partitioned.{Partitioned};
+ghost use Rattle.def_hidden.specs.Hidden.{Blank};
 ghost use Rattle.def_machine.specs.Frames.{returned, unwound};
 ghost use Rattle.def_machine.specs.Image.{Image, root};
 ghost use Rattle.def_machine.specs.State.{State, Frame, thread};
-ghost use Rattle.def_step.specs.Routines.{Leaves, switch};
+ghost use Rattle.def_step.specs.Quotas.{allocate, free, remaining};
+ghost use Rattle.def_step.specs.Routines.{Leaves, switch, sleep, yield};
+ghost use Rattle.law_fresh.specs.Fresh.{RootsAway};
 ghost use Rattle.law_natives.specs.Callable.{Callable};
 ghost use Rattle.law_natives.specs.Clean.{CleanEntry, CleanReturn};
+ghost use Rattle.law_natives.specs.Fresh.{HandsOut};
+ghost use Rattle.law_natives.specs.Stands.{Stands};
+
+/// What the switch, yield, sleep, allocate, free and remaining leave is confined, with all that stands beside.
+pub fn routines_stand()
+    ensures switch { (i : Image) (s : State) (t : ℕ)
+        → Partitioned i → Callable i → Keeps i s → s.running ≡ Some t → Stands i (switch i s t) }
+    ensures rests { (i : Image) (s : State) (t : ℕ)
+        → Partitioned i → Keeps i s → s.running ≡ Some t → Stands i (yield s t) × Stands i (sleep s t) }
+    ensures allocate { (i : Image) (s : State) (t : ℕ)
+        → Partitioned i → Callable i → Keeps i s → s.running ≡ Some t → Stands i (allocate i s t) }
+    ensures free { (i : Image) (s : State) (t : ℕ)
+        → Partitioned i → Keeps i s → s.running ≡ Some t → Stands i (free i s t) }
+    ensures remaining { (i : Image) (s : State) (t : ℕ)
+        → Partitioned i → Keeps i s → s.running ≡ Some t → Stands i (remaining i s t) }
+{}
 
 /// A call through an export that passes plain values enters its callee clean.
 pub fn entries_clean()
@@ -38,4 +58,12 @@ pub fn returns_clean()
     ensures unwind { (i : Image) (s : State) (t : ℕ) (f g : Frame) (gs : List Frame)
         → (thread s t).frames ≡ f ∷ g ∷ gs
         → CleanReturn i s t f (unwound i s t (f ∷ g ∷ gs)) }
+{}
+
+/// An allocation that tells its deed hands out a fresh object, at the least lawful place.
+pub fn objects_fresh()
+    ensures { (i : Image) (s after : State) (t entry number base long live : ℕ)
+        → Partitioned i → RootsAway i → Keeps i s → Blank i s
+        → allocate i s t ≡ Leaves after (Some (entry, Allocate number base long live))
+        → HandsOut i s t number base long after }
 {}
