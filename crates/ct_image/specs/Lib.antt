@@ -1,0 +1,7 @@
+pub mod Handed
+pub mod Answers
+pub mod Places
+pub mod Spans
+pub mod Lain
+pub mod Named
+pub mod Packed
