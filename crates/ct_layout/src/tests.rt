@@ -56,3 +56,35 @@ fn ram_of_tiny(rt: HostRuntime) {
         Err(fault) => assert_eq!(rt; fault, refused),
     }
 }
+
+/// A region of 16 bytes, and two of just above 8,176, from where a word spells lengths in units of 32.
+fn wide(alloc: Global) -> Result<Sizes, AllocError>
+    ensures { IfOk result (λ sizes. IsPlaceable sizes) }
+{
+    let regions = vec![in alloc; 16u32, 8177, 8193]?;
+    Ok(Sizes {
+        base: 0x8000_0000,
+        size: 32_768,
+        regions,
+    })
+}
+
+#[test]
+fn regions_in_units_of_32(rt: HostRuntime) {
+    let sizes = wide(rt.alloc()).expect(&rt, "memory");
+    let places = place(rt.alloc(), &sizes).expect(&rt, "room");
+    let wanted = [
+        (0x8000_0000u32, 16u32),
+        (0x8000_0020, 8192),
+        (0x8000_2020, 8224),
+    ];
+    for (index, (base, length)) in wanted.iter().enumerate() {
+        let region = places.regions.get(index).expect(&rt, "a region");
+        assert_eq!(rt; (region.base, region.length), (*base, *length));
+    }
+    let heap = Region {
+        base: 0x8000_4040,
+        length: 16_320,
+    };
+    assert_eq!(rt; places.heap, heap);
+}

@@ -6,7 +6,7 @@ ghost use Rattle.std.specs.Prelude.{◌≡◌, ℕ, List};
 ghost use Rattle.ct_entry.specs.Listed.{DeviceRow};
 ghost use Rattle.def_script.specs.Script.{Due, Reads, IsFault};
 
-/// A text has one reading or one fault, and never both.
+/// A text has one reading at most and one fault at most, and never both.
 pub fn script_is_determined()
     ensures one_reading { (devices : List DeviceRow) (text : List ℕ) (first second : List Due)
         → Reads devices text first → Reads devices text second
