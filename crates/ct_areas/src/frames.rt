@@ -14,6 +14,7 @@ use ct_mem::Memory;
 use def_profile::layout::FRAME_SIZE;
 
 /// What a frame keeps of its caller, and the entry number of its own export.
+#[derive(Debug, Drop)]
 pub struct Saved {
     pub export: u32,
     pub c1: Live,
