@@ -1,0 +1,6 @@
+-- Chunks in memory, the table of used ones, and the rows of objects that they stand for.
+pub mod Chunks
+pub mod Tiles
+pub mod Changes
+pub mod Gaps
+pub mod Heaps
