@@ -19,6 +19,7 @@ use std::process::ExitCode;
 
 /// Bytes of the heap that is compared, and the limit of each of its quotas.
 const SMALL: u32 = 8192;
+
 const SMALL_LIMIT: u32 = 3000;
 /// Bytes of the heap that is measured.
 const LARGE: u32 = 0x0400_0000;
@@ -31,7 +32,12 @@ fn next(seed: u64) -> u64 {
 }
 
 /// One random call of both; whether they answered the same.
-fn same_call(alloc: Global, heap: &mut Laden, rows: &mut Rows, seed: u64) -> Result<bool, NoMemory> {
+fn same_call(
+    alloc: Global,
+    heap: &mut Laden,
+    rows: &mut Rows,
+    seed: u64,
+) -> Result<bool, NoMemory> {
     let kind = seed % 16;
     let quota = (seed.wrapping_shr(8) % 3) as u32;
     let more = seed.wrapping_shr(16);
@@ -56,7 +62,12 @@ fn same_call(alloc: Global, heap: &mut Laden, rows: &mut Rows, seed: u64) -> Res
 fn compare(alloc: Global, count: u32, first: u32) -> Result<u32, NoMemory> {
     let mut heap = Laden::new(alloc, SMALL, SMALL_LIMIT)?;
     let low = RAM as u64;
-    let mut rows = Rows::new(alloc, low, low.saturating_add(SMALL as u64), SMALL_LIMIT as u64);
+    let mut rows = Rows::new(
+        alloc,
+        low,
+        low.saturating_add(SMALL as u64),
+        SMALL_LIMIT as u64,
+    );
     let mut seed = (first as u64).wrapping_add(0x9E37_79B9_7F4A_7C15);
     let mut same = 0u32;
     for _ in 0..count {

@@ -22,7 +22,8 @@ impl Row {
 
     /// Whether its chunk meets that of an object of a length at a base.
     fn meets(&self, base: u64, length: u64) -> bool {
-        base < self.base.saturating_add(self.charge()) && self.base < base.saturating_add(length).saturating_add(8)
+        base < self.base.saturating_add(self.charge())
+            && self.base < base.saturating_add(length).saturating_add(8)
     }
 }
 
@@ -100,7 +101,11 @@ impl Rows {
         None
     }
 
-    pub fn allocate(&mut self, quota: u32, size: u32) -> Result<Result<Object, HeapRefusal>, NoMemory> {
+    pub fn allocate(
+        &mut self,
+        quota: u32,
+        size: u32,
+    ) -> Result<Result<Object, HeapRefusal>, NoMemory> {
         if size == 0 || size as u64 > self.high.saturating_sub(self.low) {
             return Ok(Err(HeapRefusal::Size));
         }
@@ -137,7 +142,11 @@ impl Rows {
     pub fn free(&mut self, quota: u32, base: u32, top: u64) -> Result<Object, NotWhole> {
         let mut found = None;
         for row in self.rows.iter_mut() {
-            if row.live && row.quota == quota && row.base == base as u64 && row.base.saturating_add(row.length) == top {
+            if row.live
+                && row.quota == quota
+                && row.base == base as u64
+                && row.base.saturating_add(row.length) == top
+            {
                 row.live = false;
                 found = Some((row.number, row.length));
             }

@@ -227,10 +227,13 @@ stays r gs q hs last left h w n staying =
       first = w.first ∙ ap (λ k. first_free r.base r.base w.xs k) (sym alone) ∙ sym (free_both r.base r.base w.xs (c ∷ []) NO_CHUNK);
       range = w.range;
       last_free = last_used w.xs c last.offset last.size w.last_free used;
-      touch = inl (refl, elim (eq_tells last.offset NO_CHUNK) [
-        | inl e ↦ inl e.1
-        | inr e ↦ (let fits = (behind r gs w.xs last h w.are w.last_free e.1).fits in inr (omega (arith, fits, more, wide)))
-      ]);
+      touch = inl (
+        refl,
+        elim (eq_tells last.offset NO_CHUNK) [
+          | inl e ↦ inl e.1
+          | inr e ↦ (let fits = (behind r gs w.xs last h w.are w.last_free e.1).fits in inr (omega (arith, fits, more, wide)))
+        ],
+      );
       start = w.start;
       keeps = w.keeps;
     }
@@ -297,14 +300,17 @@ grows r gs q hs ks last left h w n going offset_is size_is some is =
       xs_is = ap (λ (l : List Chunk). w.front ++ l) (sym new_gap);
       target = ap (λ (l : List Chunk). w.front ++ l) (sym open_) ∙ old_target;
       size = omega (arith, old_total, new_total, above_more, size);
-      are = are_join w.front (free_chunk (w.pending + c.size) ∷ []) kinds.0 ((record {
-        whole = omega (arith, pending_whole, whole_c);
-        some = omega (arith, some);
-        used = λ u. absurd (let clash : true ≡ false = u in cc);
-        states = omega arith;
-        number = omega arith;
-        blank = λ f. refl;
-      }, tt));
+      are = are_join w.front (free_chunk (w.pending + c.size) ∷ []) kinds.0 ((
+        record {
+          whole = omega (arith, pending_whole, whole_c);
+          some = omega (arith, some);
+          used = λ u. absurd (let clash : true ≡ false = u in cc);
+          states = omega arith;
+          number = omega arith;
+          blank = λ f. refl;
+        },
+        tt,
+      ));
       lays = lays_join ks r.ram r.base r.base w.front (free_chunk (w.pending + c.size) ∷ []) NO_CHUNK front_lays (head, tt);
       rest_lays = rw (← there) rest_lays;
       first = w.first ∙ ap (λ (l : List Chunk). first_free r.base r.base l NO_CHUNK) xs_is ∙ free_both r.base r.base w.front (free_chunk w.pending ∷ []) NO_CHUNK ∙ sym (free_both r.base r.base w.front (free_chunk (w.pending + c.size) ∷ []) NO_CHUNK);
@@ -366,12 +372,12 @@ begins r gs q p_ hs ks last left h w n going zero_ is range_is =
           let none : NoFree w.xs = elim w.last_free [ inl l ↦ l.1 | inr l ↦ absurd (let link = l.link in let lw = ap total l.whole ∙ total_both l.above (l.chunk ∷ l.used) in let is_none = e.1 in omega (arith, link, lw, is_none, sum, short)) ] in
           record {
             lays = rw is_ms (lays_same hs ms r.ram r.base r.base w.xs (total w.xs)
-              (λ p s. let hi = starts_high p r.base w.xs w.are s in same p (starts_low p r.base w.xs s) (starts_even p r.base w.xs w.are (omega (arith, base_even)) s) (λ x. omega (arith, x, hi)))
-              (unlinked hs r.ram r.base r.base w.xs NO_CHUNK (total w.xs) none w.lays));
+                (λ p s. let hi = starts_high p r.base w.xs w.are s in same p (starts_low p r.base w.xs s) (starts_even p r.base w.xs w.are (omega (arith, base_even)) s) (λ x. omega (arith, x, hi)))
+                (unlinked hs r.ram r.base r.base w.xs NO_CHUNK (total w.xs) none w.lays));
             head = rw is_ms wrote;
             rest = rw is_ms (lays_same hs ms r.ram r.base (at + c.size) n.others NO_CHUNK
-              (λ p s. let lo = starts_low p (at + c.size) n.others s in same p (omega (arith, lo)) (starts_even p (at + c.size) n.others n.others_are (omega (arith, base_even, xs_even, c_whole)) s) (λ x. omega (arith, x, lo, wide)))
-              n.lays.1);
+                (λ p s. let lo = starts_low p (at + c.size) n.others s in same p (omega (arith, lo)) (starts_even p (at + c.size) n.others n.others_are (omega (arith, base_even, xs_even, c_whole)) s) (λ x. omega (arith, x, lo, wide)))
+                n.lays.1);
             first = ap (λ (x : Range). x.first) range_is ∙ rw e.0 (sym (none_first r.base r.base w.xs (total w.xs) none));
             keeps = rw is_ms keeps_one;
           }
@@ -424,14 +430,17 @@ begins r gs q p_ hs ks last left h w n going zero_ is range_is =
       xs_is = ap (λ (l : List Chunk). w.xs ++ l) (sym new_gap);
       target = ap (λ (l : List Chunk). l ++ joined c.size n.others) front_is ∙ ap (λ (l : List Chunk). w.front ++ l) (sym open_) ∙ old_target;
       size = omega (arith, new_total, above_more, size);
-      are = are_join w.xs (free_chunk c.size ∷ []) w.are ((record {
-        whole = c_whole;
-        some = wide;
-        used = λ u. absurd (let clash : true ≡ false = u in cc);
-        states = omega arith;
-        number = omega arith;
-        blank = λ f. refl;
-      }, tt));
+      are = are_join w.xs (free_chunk c.size ∷ []) w.are ((
+        record {
+          whole = c_whole;
+          some = wide;
+          used = λ u. absurd (let clash : true ≡ false = u in cc);
+          states = omega arith;
+          number = omega arith;
+          blank = λ f. refl;
+        },
+        tt,
+      ));
       lays = lays_join ks r.ram r.base r.base w.xs (free_chunk c.size ∷ []) NO_CHUNK (rw mine written.lays) (written.head ∙ ap plain sum_word, tt);
       rest_lays = rw (← there) written.rest;
       first = written.first ∙ ap (λ k. first_free r.base r.base w.xs k) (sym mine) ∙ sym (free_both r.base r.base w.xs (free_chunk c.size ∷ []) NO_CHUNK);
@@ -448,8 +457,8 @@ carried : (r : Range) (gs : List Granule) (q p_ : Range) (hs ks : List Granule) 
 carried r gs q p_ hs ks last new left size other a b c d j =
     subst (λ (n : ℕ). Joining r gs p_ ks new (left - n)) (sym d)
     (subst (λ (x : Last). Joining r gs p_ ks x (left - other)) (sym c)
-      (subst (λ (l : List Granule). Joining r gs p_ l last (left - other)) (sym b)
-        (subst (λ (x : Range). Joining r gs x hs last (left - other)) (sym a) j)))
+    (subst (λ (l : List Granule). Joining r gs p_ l last (left - other)) (sym b)
+    (subst (λ (x : Range). Joining r gs x hs last (left - other)) (sym a) j)))
 
 pub step : (r : Range) (gs : List Granule) (q p_ : Range) (hs ks : List Granule) (last new : Last) (left size : ℕ) → Tiled r gs → (w : Joining r gs q hs last left) → (left ≡ 0 → ⊥)
     → size ≡ (head_in (head_at hs q.ram (q.base + (q.length - left)))).size
@@ -508,7 +517,7 @@ step r gs q p_ hs ks last new left size h w some size_given v =
                 (last_c ∙ ap (λ b. cond b (let x : Last = record { offset = last.offset; size = last.size + c.size } in x) (record { offset = r.base + total w.xs - r.base; size = c.size })) touching)
                 size_is
                 (grows r gs q hs ks last left h w n going offset_is last_size wide
-                  (memory_r ∙ ap (λ b. cond b (stored_cap hs (r.base + last.offset - r.ram) (plain (last.size + c.size + NO_CHUNK * 2 ^ 32))) (linked (stored_cap hs (r.base + total w.xs - r.ram) (plain (c.size + NO_CHUNK * 2 ^ 32))) r.ram r.base last.offset last.size (r.base + total w.xs - r.base))) touching))
+                (memory_r ∙ ap (λ b. cond b (stored_cap hs (r.base + last.offset - r.ram) (plain (last.size + c.size + NO_CHUNK * 2 ^ 32))) (linked (stored_cap hs (r.base + total w.xs - r.ram) (plain (c.size + NO_CHUNK * 2 ^ 32))) r.ram r.base last.offset last.size (r.base + total w.xs - r.base))) touching))
             | inl t ↦
                 let touching : touches (record r { first = q.first }) last (r.base + total w.xs) ≡ false = elim t.1 [
                   | inl none ↦ (let is : nat_eq last.offset NO_CHUNK ≡ true = elim (eq_tells last.offset NO_CHUNK) [ inl e ↦ e.0 | inr e ↦ absurd (e.1 none) ] in rw is refl)
@@ -521,10 +530,10 @@ step r gs q p_ hs ks last new left size h w some size_given v =
                 (last_c ∙ ap (λ b. cond b (let x : Last = record { offset = last.offset; size = last.size + c.size } in x) (record { offset = r.base + total w.xs - r.base; size = c.size })) touching ∙ ap (λ o. let x : Last = record { offset = o; size = c.size } in x) offset)
                 size_is
                 (begins r gs q p_ hs ks last left h w n going t.0
-                  (memory_r ∙ ap (λ b. cond b (stored_cap hs (r.base + last.offset - r.ram) (plain (last.size + c.size + NO_CHUNK * 2 ^ 32))) (linked (stored_cap hs (r.base + total w.xs - r.ram) (plain (c.size + NO_CHUNK * 2 ^ 32))) r.ram r.base last.offset last.size (r.base + total w.xs - r.base))) touching
-                    ∙ ap (λ o. linked (stored_cap hs (r.base + total w.xs - r.ram) (plain (c.size + NO_CHUNK * 2 ^ 32))) r.ram r.base last.offset last.size o) offset)
-                  (range_c ∙ ap (λ b. let x : Range = record r { first = cond b q.first (cond (nat_eq last.offset NO_CHUNK) (r.base + total w.xs - r.base) q.first) } in x) touching
-                    ∙ ap (λ o. let x : Range = record r { first = cond (nat_eq last.offset NO_CHUNK) o q.first } in x) offset))
+                (memory_r ∙ ap (λ b. cond b (stored_cap hs (r.base + last.offset - r.ram) (plain (last.size + c.size + NO_CHUNK * 2 ^ 32))) (linked (stored_cap hs (r.base + total w.xs - r.ram) (plain (c.size + NO_CHUNK * 2 ^ 32))) r.ram r.base last.offset last.size (r.base + total w.xs - r.base))) touching
+                ∙ ap (λ o. linked (stored_cap hs (r.base + total w.xs - r.ram) (plain (c.size + NO_CHUNK * 2 ^ 32))) r.ram r.base last.offset last.size o) offset)
+                (range_c ∙ ap (λ b. let x : Range = record r { first = cond b q.first (cond (nat_eq last.offset NO_CHUNK) (r.base + total w.xs - r.base) q.first) } in x) touching
+                ∙ ap (λ o. let x : Range = record r { first = cond (nat_eq last.offset NO_CHUNK) o q.first } in x) offset))
           ]
     ]
 

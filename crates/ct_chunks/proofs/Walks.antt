@@ -135,8 +135,8 @@ pub record Known (r : Range) (granules link : ℕ) : Type 0 where
   pub even : (r.base + link - r.ram) % 8 ≡ 0
   pub inside : r.base + link - r.ram + 8 ≤ 8 * granules
 
-pub known : (r : Range) (gs : List Granule) (unit length before size link : ℕ) → Tiled r gs → Comes r gs unit length before size link → Known r (length gs) link
-known r gs unit length before size link h w =
+pub known : (r : Range) (gs : List Granule) (unit extent before size link : ℕ) → Tiled r gs → Comes r gs unit extent before size link → Known r (length gs) link
+known r gs unit extent before size link h w =
     let k = sits r gs (r.base + link) h w.stands in
     let place = w.stands.place in
     let sum = k.sum in
@@ -200,6 +200,7 @@ found r gs unit length before size link head g some w room is = subst (IsGap r g
             | inr m ↦ (let low = holds_low b length (r.base + total s.above + s.chunk.size) s.below m in omega (arith, low, place, size_is, lt, room))
           ]
         ]
+
     gap : IsGap r gs unit length (record { at = r.base + link; size = head.size; base = up unit (r.base + link + 8); before = before; before_size = size; next = head.rest })
     gap = record {
       linked = w.linked;

@@ -31,7 +31,16 @@ fn split<M: Memory>(range: &Range, mem: &mut M, at: u32, size: u32, first: u32, 
 }
 
 /// A free chunk becomes that of a live object.
-fn take<M: Memory>(range: &mut Range, mem: &mut M, at: u32, size: u32, number: u32, before: u32, before_size: u32, next: u32)
+fn take<M: Memory>(
+    range: &mut Range,
+    mem: &mut M,
+    at: u32,
+    size: u32,
+    number: u32,
+    before: u32,
+    before_size: u32,
+    next: u32,
+)
     requires tiled { Tiled range.old (M.granules mem.old) }
     requires stands { FreeLinked range.old (M.granules mem.old) at size next before before_size }
     requires wide { 16 ≤ size }
@@ -66,7 +75,14 @@ fn cut_back<M: Memory>(range: &Range, mem: &mut M, gap: &Gap, back: u32) -> u32
 
 /// So many bytes at the begin of a free chunk become a free chunk of their own; the last free chunk before
 /// the rest, as an offset, and its size.
-fn cut_front<M: Memory>(range: &Range, mem: &mut M, gap: &Gap, size: u32, next: u32, front: u32) -> (u32, u32)
+fn cut_front<M: Memory>(
+    range: &Range,
+    mem: &mut M,
+    gap: &Gap,
+    size: u32,
+    next: u32,
+    front: u32,
+) -> (u32, u32)
     requires tiled { Tiled range.now (M.granules mem.old) }
     requires stands { FreeLinked range.now (M.granules mem.old) gap.now.at size next gap.now.before gap.now.before_size }
     requires whole { front % 8 ≡ 0 }
@@ -96,5 +112,14 @@ pub fn carve<M: Memory>(range: &mut Range, mem: &mut M, gap: &Gap, length: u32, 
     let back = gap.size - front - used;
     let next = cut_back(range, mem, gap, back);
     let (before, before_size) = cut_front(range, mem, gap, gap.size - back, next, front);
-    take(range, mem, gap.at + front, used, number, before, before_size, next);
+    take(
+        range,
+        mem,
+        gap.at + front,
+        used,
+        number,
+        before,
+        before_size,
+        next,
+    );
 }

@@ -37,16 +37,25 @@ pub fn write_head<M: Memory>(mem: &mut M, ram: u32, at: u32, low: u32, high: u32
     ensures is { M.granules mem.new ≡ stored_cap (M.granules mem.old) (at - ram) (plain (low + high * 2 ^ 32)) }
     ensures size { length (M.granules mem.new) ≡ length (M.granules mem.old) }
 {
-    mem.store_cap(at - ram, Cap {
-        tag: false,
-        word: low as u64 + high as u64 * (1 << 32),
-        shadow: Shadow { root: 0, source: 0 },
-    });
+    mem.store_cap(
+        at - ram,
+        Cap {
+            tag: false,
+            word: low as u64 + high as u64 * (1 << 32),
+            shadow: Shadow { root: 0, source: 0 },
+        },
+    );
 }
 
 /// The free chunk at an offset gets another link, or, where there is none, the list another first one,
 /// which is the answer.
-pub(crate) fn relink<M: Memory>(range: Range, mem: &mut M, before: u32, before_size: u32, next: u32) -> u32
+pub(crate) fn relink<M: Memory>(
+    range: Range,
+    mem: &mut M,
+    before: u32,
+    before_size: u32,
+    next: u32,
+) -> u32
     requires place { Linkable range (length (M.granules mem.old)) before }
     ensures is { M.granules mem.new ≡ linked (M.granules mem.old) range.ram range.base before before_size next }
     ensures size { length (M.granules mem.new) ≡ length (M.granules mem.old) }

@@ -8,8 +8,8 @@ ghost use Rattle.ct_chunks.specs.Joins.{goes, absorbed, last_after, first_after,
 
 use crate::heads::{read_head, relink, write_head};
 use ct_mem::Memory;
-use def_chunks::heads::{FREE, NO_CHUNK, PAINTED};
 use def_chunks::Range;
+use def_chunks::heads::{FREE, NO_CHUNK, PAINTED};
 
 /// The last free chunk so far, by its offset, with its size; `NO_CHUNK` where there is none.
 #[derive(Clone, Copy, Debug, Drop)]
@@ -26,7 +26,13 @@ fn absorb<M: Memory>(range: &mut Range, mem: &mut M, at: u32, size: u32, last: L
     ensures range { range.new ≡ record range.old { first = first_after range.old last at } }
 {
     if last.offset != NO_CHUNK && last.offset + last.size == at - range.base {
-        write_head(mem, range.ram, range.base + last.offset, last.size + size, NO_CHUNK);
+        write_head(
+            mem,
+            range.ram,
+            range.base + last.offset,
+            last.size + size,
+            NO_CHUNK,
+        );
         return Last {
             offset: last.offset,
             size: last.size + size,

@@ -59,7 +59,7 @@ carved_are : (front length number back : ℕ) (above below : List Chunk) → Are
 carved_are front length number back above below a b f e w some small =
     are_join above (gap front ++ new_chunk length number ∷ (gap back ++ below)) a
     (are_join (gap front) (new_chunk length number ∷ (gap back ++ below)) (gap_are front f)
-      ((record { whole = omega (arith, w); some = omega (arith, some); used = λ u. omega (arith, some); states = omega arith; number = small; blank = λ x. absurd (let clash : true ≡ false = sym x in cc) }, are_join (gap back) below (gap_are back e) b)))
+    ((record { whole = omega (arith, w); some = omega (arith, some); used = λ u. omega (arith, some); states = omega arith; number = small; blank = λ x. absurd (let clash : true ≡ false = sym x in cc) }, are_join (gap back) below (gap_are back e) b)))
 
 -- one used chunk more
 carved_more : (base front back length number : ℕ) (above : List Chunk) (c : Chunk) (below : List Chunk) → base % 16 ≡ 0 → AreChunks (above ++ c ∷ below) → is_free c ≡ true → c.size ≡ front + (length + 8) + back → AreChunks (carved_list above front (new_chunk length number) back below)
@@ -81,8 +81,8 @@ carved_more base front back length number above c below even old_are free_ size 
         | inr b ↦ elim b [
           | inl z ↦ absurd (let used = z.0 in let clash : true ≡ false = sym free_ ∙ used in cc)
           | inr z ↦ subst (UsedStarts p base) (sym k.list) (used_second p base (above ++ gap front) (d ∷ (gap back ++ below))
-            (inr (used_second p (base + total (above ++ gap front) + d.size) (gap back) below
-                (let there_ : base + total (above ++ gap front) + d.size + total (gap back) ≡ base + total above + c.size = omega (arith, first, after) in rw there_ z))))
+              (inr (used_second p (base + total (above ++ gap front) + d.size) (gap back) below
+              (let there_ : base + total (above ++ gap front) + d.size + total (gap back) ≡ base + total above + c.size = omega (arith, first, after) in rw there_ z))))
         ]
       ];
       back = λ p other u. elim (used_split p base (above ++ gap front) (d ∷ (gap back ++ below)) (subst (UsedStarts p base) k.list u)) [
@@ -127,17 +127,18 @@ carved_rows names base front back extent number quota above c below m size insid
     let after : place + d.size + total (gap back) ≡ base + total above + c.size = (let b = gap_total back in omega (arith, b, size)) in
     let two : objects_in more base (base + total above + c.size) below ≡ objects_in names base (base + total above + c.size) below = names_same names more base (base + total above + c.size) below
     (λ p u. same p (subst (UsedStarts p base) (sym k.list) (used_second p base (above ++ gap front) (d ∷ (gap back ++ below))
-      (inr (used_second p (base + total (above ++ gap front) + d.size) (gap back) below
-          (let there_ : base + total (above ++ gap front) + d.size + total (gap back) ≡ base + total above + c.size = omega (arith, first, after) in rw there_ u)))))
-      (λ is. (let lo = used_low p (base + total above + c.size) below u in omega (arith, lo, is, size)))) in
+    (inr (used_second p (base + total (above ++ gap front) + d.size) (gap back) below
+    (let there_ : base + total (above ++ gap front) + d.size + total (gap back) ≡ base + total above + c.size = omega (arith, first, after) in rw there_ u)))))
+    (λ is. (let lo = used_low p (base + total above + c.size) below u in omega (arith, lo, is, size)))) in
     let new_quota : quota_named more (place - base) ≡ quota = ap (λ o. quota_named more o) offset ∙ set_quota names quota (total above + front) inside in
-    let mid : objects_in more base place (d ∷ (gap back ++ below)) ≡ object_at (quota_named more (place - base)) place d ∷ objects_in more base (place + d.size) (gap back ++ below) = refl in
     let behind : objects_in more base (place + d.size) (gap back ++ below) ≡ objects_in more base (base + total above + c.size) below = objects_both more base (place + d.size) (gap back) below ∙ rw (gap_rows more base (place + d.size) back) (ap (λ a. objects_in more base a below) after) in
     let row : object_at quota place d ≡ record { number = number; quota = quota; base = base + total above + front + 8; length = extent; charge = extent + 8; live = true; painted = false } = ap (λ n. let r : Object = record { number = number; quota = quota; base = base + total above + front + 8; length = n; charge = extent + 8; live = true; painted = false } in r) (omega arith) in
     let begin : base + total (above ++ gap front) ≡ place = omega (arith, first) in
+    let front_none : objects_in more base base (above ++ gap front) ≡ objects_in more base base above =
+    objects_both more base base above (gap front) ∙ ap (λ l. objects_in more base base above ++ l) (gap_rows more base (base + total above) front) ∙ nil_right (objects_in more base base above) in
     ap (λ l. objects_in more base base l) k.list
     ∙ objects_both more base base (above ++ gap front) (d ∷ (gap back ++ below))
-    ∙ ap (λ l. l ++ objects_in more base (base + total (above ++ gap front)) (d ∷ (gap back ++ below))) (objects_both more base base above (gap front) ∙ rw (gap_rows more base (base + total above) front) (nil_right (objects_in more base base above)) ∙ one)
+    ∙ ap (λ l. l ++ objects_in more base (base + total (above ++ gap front)) (d ∷ (gap back ++ below))) (front_none ∙ one)
     ∙ ap (λ a. objects_in names base base above ++ objects_in more base a (d ∷ (gap back ++ below))) begin
     ∙ ap (λ l. objects_in names base base above ++ object_at (quota_named more (place - base)) place d ∷ l) (behind ∙ two)
     ∙ ap (λ q. objects_in names base base above ++ object_at q place d ∷ objects_in names base (base + total above + c.size) below) new_quota
@@ -225,17 +226,17 @@ place_done h n gs ms hs quota extent g l quota_in few p left =
     subst (InUse q base) (sym kc.list) (in_use_second q base (s.above ++ gap front) (d ∷ (gap back ++ s.below)) (inl (refl, omega (arith, from, first, object_base), omega (arith, to, first, object_base)))) in
     let same : SameChunks n.range ms hs = settled_same n.range ms hs left.settled left.zeroed.size
     (λ q st.
-      let head = head_there n.range ms q left.settled.tiled st in
-      let over = head.over in
-      let q_even = head.even in
-      let st_ds : Starts q base ds = subst (λ b. Starts q b ds) e_base (subst (Starts q n.range.base) list st) in
-      ap (λ (x : Granule). x.cap) (left.zeroed.rest ((q - n.range.ram) / 8) (elim (le_tells g.base q) [
-        | inr a ↦ inl (let lt = a.1 in omega (arith, lt, over, q_even, e_ram, e0, ram_low, low, place))
-        | inl a ↦ elim (lt_tells q (g.base + extent)) [
-          | inl b ↦ absurd (head_unused q base ds ds_are st_ds (used_there q a.1 b.1))
-          | inr b ↦ inr (let ge = b.1 in omega (arith, ge, over, q_even, e_ram, low))
-        ]
-      ]))) in
+    let head = head_there n.range ms q left.settled.tiled st in
+    let over = head.over in
+    let q_even = head.even in
+    let st_ds : Starts q base ds = subst (λ b. Starts q b ds) e_base (subst (Starts q n.range.base) list st) in
+    ap (λ (x : Granule). x.cap) (left.zeroed.rest ((q - n.range.ram) / 8) (elim (le_tells g.base q) [
+      | inr a ↦ inl (let lt = a.1 in omega (arith, lt, over, q_even, e_ram, e0, ram_low, low, place))
+      | inl a ↦ elim (lt_tells q (g.base + extent)) [
+        | inl b ↦ absurd (head_unused q base ds ds_are st_ds (used_there q a.1 b.1))
+        | inr b ↦ inr (let ge = b.1 in omega (arith, ge, over, q_even, e_ram, low))
+      ]
+    ]))) in
     let list_hs : chunks n.range hs ≡ ds = same.chunks_are ∙ list in
     let o : Object = placed_object h quota extent g.base in
     let rs : List Object = objects_in h.names base base s.above in
@@ -248,30 +249,29 @@ place_done h n gs ms hs quota extent g l quota_in few p left =
     let before : Each (λ q. q.base ≤ o.base) rs = each_more (λ q. q.base + q.length ≤ base + total s.above) (λ q. q.base ≤ o.base) rs (λ q hi. omega (arith, hi, place, low)) (rows_high h.names base base s.above k.above_are) in
     let behind : Each (λ q. o.base < q.base) qs = each_more (λ q. base + total s.above + c.size + 8 ≤ q.base) (λ q. o.base < q.base) qs (λ q lo. omega (arith, lo, place, high, size_is)) (rows_low h.names base (base + total s.above + c.size) s.below) in
     let placed : rs ++ o ∷ qs ≡ placed_among o (objects_in h.names base base (chunks r gs)) = sym (placed_between o rs qs before behind) ∙ ap (placed_among o) (sym old_rows) in
-    let split_each : (P : Object → Type 0) → Each P (objects_in h.names base base (chunks r gs)) → Each P rs × Each P qs = λ P e. each_split P rs qs (subst (λ x. Each P x) old_rows e) in
     let accounts_length : length n.accounts ≡ length h.accounts = ap length left.accounts ∙ length-set h.accounts quota (record { limit = (account h quota).limit; charged = (account h quota).charged + (extent + 8) }) in
     let account_is : (q : ℕ) → account n q ≡ cond (nat_eq quota q) (record { limit = (account h quota).limit; charged = (account h quota).charged + (extent + 8) }) (account h q) = λ q.
     ap (λ a. get_or a q no_account) left.accounts ∙ account_set h.accounts quota q (record { limit = (account h quota).limit; charged = (account h quota).charged + (extent + 8) }) quota_in in
-    let quotas_old = split_each (λ x. x.quota < length h.accounts) l.quotas in
-    let numbers_old = split_each (λ x. x.number < h.next) l.numbers in
+    let quotas_old = each_split (λ x. x.quota < length h.accounts) rs qs (subst (λ x. Each (λ y. y.quota < length h.accounts) x) old_rows l.quotas) in
+    let numbers_old = each_split (λ x. x.number < h.next) rs qs (subst (λ x. Each (λ y. y.number < h.next) x) old_rows l.numbers) in
     let wider : (x : Object) → x.quota < length h.accounts → x.quota < length n.accounts = λ x lt. omega (arith, lt, accounts_length) in
     let next = left.next in
     let later : (x : Object) → x.number < h.next → x.number < n.next = λ x lt. omega (arith, lt, next) in
     let charged_now : (q : ℕ) → (account n q).charged ≡ charges q (rs ++ o ∷ qs) = λ q. (
-      let was : (account h q).charged ≡ charges q rs + charges q qs = l.charged q ∙ ap (charges q) old_rows ∙ charges_both q rs qs in
-      let now : charges q (rs ++ o ∷ qs) ≡ charges q rs + (cond (nat_eq quota q) (extent + 8) 0 + charges q qs) = charges_both q rs (o ∷ qs) in
-      elim (eq_tells quota q) [
-        | inl e ↦
-            let mine : (account n q).charged ≡ (account h quota).charged + (extent + 8) = ap (λ (a : Account). a.charged) (account_is q) ∙ rw e.0 refl in
-            let is = e.1 in
-            let was_quota : (account h quota).charged ≡ charges q rs + charges q qs = ap (λ t. (account h t).charged) is ∙ was in
-            let now_ : charges q (rs ++ o ∷ qs) ≡ charges q rs + (extent + 8 + charges q qs) = rw e.0 at now in
-            omega (arith, mine, was_quota, now_)
-        | inr e ↦
-            let mine : (account n q).charged ≡ (account h q).charged = ap (λ (a : Account). a.charged) (account_is q) ∙ rw e.0 refl in
-            let now_ : charges q (rs ++ o ∷ qs) ≡ charges q rs + (0 + charges q qs) = rw e.0 at now in
-            omega (arith, mine, was, now_)
-      ]
+    let was : (account h q).charged ≡ charges q rs + charges q qs = l.charged q ∙ ap (charges q) old_rows ∙ charges_both q rs qs in
+    let now : charges q (rs ++ o ∷ qs) ≡ charges q rs + (cond (nat_eq quota q) (extent + 8) 0 + charges q qs) = charges_both q rs (o ∷ qs) in
+    elim (eq_tells quota q) [
+      | inl e ↦
+          let mine : (account n q).charged ≡ (account h quota).charged + (extent + 8) = ap (λ (a : Account). a.charged) (account_is q) ∙ rw e.0 refl in
+          let is = e.1 in
+          let was_quota : (account h quota).charged ≡ charges q rs + charges q qs = ap (λ t. (account h t).charged) is ∙ was in
+          let now_ : charges q (rs ++ o ∷ qs) ≡ charges q rs + (extent + 8 + charges q qs) = rw e.0 at now in
+          omega (arith, mine, was_quota, now_)
+      | inr e ↦
+          let mine : (account n q).charged ≡ (account h q).charged = ap (λ (a : Account). a.charged) (account_is q) ∙ rw e.0 refl in
+          let now_ : charges q (rs ++ o ∷ qs) ≡ charges q rs + (0 + charges q qs) = rw e.0 at now in
+          omega (arith, mine, was, now_)
+    ]
     ) in
     let within_old = l.within in
     let within_new = p.within in
@@ -305,7 +305,7 @@ place_done h n gs ms hs quota extent g l quota_in few p left =
     let waiting_all : n.waiting ≡ waiting_in (rs ++ o ∷ qs) = omega (arith, waiting_was, waiting_now, waiting_old, waiting_same) in
     let place_unused : (q : ℕ) → g.base ≤ q → q < g.base + extent → Spared r (chunks r gs) q → ⊥ = λ q from to.
     (let fits = k.fits in loose r (chunks r gs) q (omega (arith, from, place, low)) (omega (arith, to, high, size_is, fits))
-      (λ used. free_unused q base s.above c s.below free_ (omega (arith, from, place, low)) (omega (arith, to, place, high, size_is)) (subst (InUse q base) s.whole used))) in
+    (λ used. free_unused q base s.above c s.below free_ (omega (arith, from, place, low)) (omega (arith, to, place, high, size_is)) (subst (InUse q base) s.whole used))) in
     record {
       laid = record {
         settled = same.settled;

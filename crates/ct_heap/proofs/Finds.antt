@@ -114,8 +114,7 @@ may h base e =
     let first : (base % 8 == 0) ≡ true = both_left a b two in
     let second : nat_le 8 base ≡ true = both_right a b two in
     let third : nat_le h.range.base (base - 8) ≡ true = both_right (a && b) c three in
-    let fourth : nat_lt (base - 8 - h.range.base) h.range.length ≡ true = both_right (a && b && c) d e in
-    (
+    let fourth : nat_lt (base - 8 - h.range.base) h.range.length ≡ true = both_right (a && b && c) d e in (
       elim (eq_tells (base % 8) 0) [ inl x ↦ x.1 | inr x ↦ absurd (let clash : true ≡ false = sym first ∙ x.0 in cc) ],
       elim (le_tells 8 base) [ inl x ↦ x.1 | inr x ↦ absurd (let clash : true ≡ false = sym second ∙ x.0 in cc) ],
       elim (le_tells h.range.base (base - 8)) [ inl x ↦ x.1 | inr x ↦ absurd (let clash : true ≡ false = sym third ∙ x.0 in cc) ],
@@ -163,23 +162,23 @@ pub unowned : (h : HeapRow) (gs : List Granule) (base : ℕ) → Laid h gs → o
 unfolding objects_of
 unowned h gs base l e = rows_not_at h.names h.range.base base h.range.base (chunks h.range gs)
     (λ p s is.
-      let are = l.settled.tiled.are in
-      let low = used_low p h.range.base (chunks h.range gs) s in
-      let high = used_high p h.range.base (chunks h.range gs) are s in
-      let e1 = l.settled.tiled.even.1 in
-      let even = used_even p h.range.base (chunks h.range gs) are (omega (arith, e1)) s in
-      let size = l.settled.tiled.size in
-      let offset : base - 8 - h.range.base ≡ p - h.range.base = omega (arith, is) in
-      let there : h.range.base + (p - h.range.base) ≡ p = omega (arith, low) in
-      let begins = may_is h base (omega (arith, is, even)) (omega (arith, is)) (omega (arith, is, low)) (omega (arith, is, low, high, size)) in
-      let used : is_used_at (h.range.base + (p - h.range.base)) h.range.base (chunks h.range gs) ≡ true = rw there (used_test p h.range.base (chunks h.range gs) are s) in
-      let named : is_named h.names (p - h.range.base) ≡ true = l.named (p - h.range.base) (omega (arith, low, even, e1)) ∙ used in
-      let clash : Some (quota_named h.names (p - h.range.base)) ≡ None = sym (rw (begins, offset, named) refl) ∙ e in
-      absurd (cc))
+    let are = l.settled.tiled.are in
+    let low = used_low p h.range.base (chunks h.range gs) s in
+    let high = used_high p h.range.base (chunks h.range gs) are s in
+    let e1 = l.settled.tiled.even.1 in
+    let even = used_even p h.range.base (chunks h.range gs) are (omega (arith, e1)) s in
+    let size = l.settled.tiled.size in
+    let offset : base - 8 - h.range.base ≡ p - h.range.base = omega (arith, is) in
+    let there : h.range.base + (p - h.range.base) ≡ p = omega (arith, low) in
+    let begins = may_is h base (omega (arith, is, even)) (omega (arith, is)) (omega (arith, is, low)) (omega (arith, is, low, high, size)) in
+    let used : is_used_at (h.range.base + (p - h.range.base)) h.range.base (chunks h.range gs) ≡ true = rw there (used_test p h.range.base (chunks h.range gs) are s) in
+    let named : is_named h.names (p - h.range.base) ≡ true = l.named (p - h.range.base) (omega (arith, low, even, e1)) ∙ used in
+    let clash : Some (quota_named h.names (p - h.range.base)) ≡ None = sym (rw (begins, offset, named) refl) ∙ e in
+    absurd (cc))
 
 -- ---- find
 
-record FoundRow (h : HeapRow) (gs : List Granule) (base top quota : ℕ) (o : Owned h gs base quota) : Type 0 where
+pub record FoundRow (h : HeapRow) (gs : List Granule) (base top quota : ℕ) (o : Owned h gs base quota) : Type 0 where
   pub is : whole_at base top (objects_of h gs) ≡ cond (spans base top (object_at quota (base - 8) o.stands.chunk)) (Some (object_at quota (base - 8) o.stands.chunk)) None
   pub of : (q : ℕ) → whole_of q base top (objects_of h gs) ≡ cond (spans_of q base top (object_at quota (base - 8) o.stands.chunk)) (Some (object_at quota (base - 8) o.stands.chunk)) None
 

@@ -1,7 +1,7 @@
 -- Painting and flushing: what becomes of table, rows and marks.
 use Rattle.std.proofs.Common.{ℕ, zero, suc, ◌≡◌, ◌+◌, ◌-◌, ◌*◌, ◌/◌, ◌%◌, ◌^◌, ◌<◌, ◌≤◌, ◌⊎◌, inl, inr, ◌&&◌, ◌||◌, Bool, true, false, not, cond, nat_eq, nat_le, nat_lt, List, [], ◌∷◌, ◌++◌, map, length, refl, sym, ap, ◌∙◌, arith, subst}
 use Rattle.std.proofs.Math.ListN.{get_or}
-use Rattle.law_lists.proofs.Tests.{bool_tells, eq_tells, le_tells, lt_tells}
+use Rattle.law_lists.proofs.Tests.{bool_tells, eq_tells, le_tells, lt_tells, chosen}
 use Rattle.def_memory.specs.declared.Granule.{Granule}
 use Rattle.def_memory.specs.Granules.{granule_at}
 use Rattle.def_machine.specs.State.{Object}
@@ -197,6 +197,7 @@ joined_used p at before (c ∷ cs) are even =
     later : (at before p : ℕ) → at ≡ p → (before ≡ 0 → ⊥) → p < at + before
     later at zero p is other = absurd (other refl)
     later at (suc n) p is other = omega (arith, is)
+
     low_unused : (p at : ℕ) (ds : List Chunk) → AreChunks ds → p < at → is_used_at p at ds ≡ false
     low_unused p at [] are lt = refl
     low_unused p at (d ∷ ds) are lt = elim (eq_tells at p) [
@@ -224,11 +225,13 @@ staying_names names more base at (c ∷ cs) same =
 
 unpainted_each : (P : Object → Type 0) (rs : List Object) → Each P rs → Each P (unpainted rs)
 unpainted_each P [] h = tt
-unpainted_each P (r ∷ rs) h = elim (bool_tells r.painted) [ inl e ↦ rw e (unpainted_each P rs h.1) | inr e ↦ rw e ((h.0, unpainted_each P rs h.1)) ]
+unpainted_each P (r ∷ rs) h = chosen (Each P) r.painted (unpainted rs) (r ∷ unpainted rs) (λ e. unpainted_each P rs h.1) (λ e. (h.0, unpainted_each P rs h.1))
 
 unpainted_distinct : (rs : List Object) → Distinct rs → Distinct (unpainted rs)
 unpainted_distinct [] h = tt
-unpainted_distinct (r ∷ rs) h = elim (bool_tells r.painted) [ inl e ↦ rw e (unpainted_distinct rs h.1) | inr e ↦ rw e ((unpainted_each (λ q. q.number ≡ r.number → ⊥) rs h.0, unpainted_distinct rs h.1)) ]
+unpainted_distinct (r ∷ rs) h =
+    chosen Distinct r.painted (unpainted rs) (r ∷ unpainted rs) (λ e. unpainted_distinct rs h.1)
+    (λ e. (unpainted_each (λ q. q.number ≡ r.number → ⊥) rs h.0, unpainted_distinct rs h.1))
 
 -- painted objects aren't live
 unpainted_charges : (q : ℕ) (names : List ℕ) (base at : ℕ) (cs : List Chunk) → charges q (unpainted (objects_in names base at cs)) ≡ charges q (objects_in names base at cs)
@@ -260,8 +263,8 @@ painted_at names base p at (c ∷ cs) are =
           ] in
           let end : at + c.size ≡ at + 8 + (c.size - 8) = omega (arith, some) in
           rw e (ap (λ b. (nat_eq c.state 3 && b && nat_lt p (at + c.size)) || is_painted_in p (at + c.size) cs) low
-            ∙ ap (λ n. (nat_eq c.state 3 && nat_le (at + 8) (p + 8) && nat_lt p n) || is_painted_in p (at + c.size) cs) end
-            ∙ ap (λ b. (nat_eq c.state 3 && nat_le (at + 8) (p + 8) && nat_lt p (at + 8 + (c.size - 8))) || b) rest)
+          ∙ ap (λ n. (nat_eq c.state 3 && nat_le (at + 8) (p + 8) && nat_lt p n) || is_painted_in p (at + c.size) cs) end
+          ∙ ap (λ b. (nat_eq c.state 3 && nat_le (at + 8) (p + 8) && nat_lt p (at + 8 + (c.size - 8))) || b) rest)
     ]
 
 -- ---- the whole
@@ -300,11 +303,11 @@ flush_done h n gs ms hs l left =
     let gone : objects_in n.names base base (released (chunks r gs)) ≡ unpainted (objects_in n.names base base (chunks r gs)) = joined_rows n.names base base 0 (chunks r gs) ∙ ap (λ a. unpainted (objects_in n.names base a (chunks r gs))) none in
     let names_ : unpainted (objects_in n.names base base (chunks r gs)) ≡ unpainted (objects_in h.names base base (chunks r gs)) = staying_names h.names n.names base base (chunks r gs)
     (λ p s.
-      let low = used_low p base (map let_go (chunks r gs)) s in
-      let even = used_even p base (map let_go (chunks r gs)) (let_go_are (chunks r gs) are) (omega (arith, base_even)) s in
-      let there : base + (p - base) ≡ p = omega (arith, low) in
-      let used : is_used_at (base + (p - base)) base (map let_go (chunks r gs)) ≡ true = rw there (used_test p base (map let_go (chunks r gs)) (let_go_are (chunks r gs) are) s) in
-      u.quotas (p - base) (u.named (p - base) (omega (arith, even, base_even, low)) ∙ used)) in
+    let low = used_low p base (map let_go (chunks r gs)) s in
+    let even = used_even p base (map let_go (chunks r gs)) (let_go_are (chunks r gs) are) (omega (arith, base_even)) s in
+    let there : base + (p - base) ≡ p = omega (arith, low) in
+    let used : is_used_at (base + (p - base)) base (map let_go (chunks r gs)) ≡ true = rw there (used_test p base (map let_go (chunks r gs)) (let_go_are (chunks r gs) are) s) in
+    u.quotas (p - base) (u.named (p - base) (omega (arith, even, base_even, low)) ∙ used)) in
     let rows : objects_in n.names n.range.base n.range.base (chunks n.range hs) ≡ unpainted (objects_in h.names base base (chunks r gs)) =
     ap (λ b. objects_in n.names b b (chunks n.range hs)) e_base ∙ ap (λ x. objects_in n.names base base x) list ∙ gone ∙ names_ in
     let named_now : (x : ℕ) → x % 8 ≡ 0 → is_named n.names x ≡ is_used_at (n.range.base + x) n.range.base (chunks n.range hs) = λ x x_even.

@@ -167,17 +167,17 @@ free_done h n gs ms ns hs number base extent quota l f left =
     let in_use : (q : ℕ) → base ≤ q → q < base + extent → InUse q lo ds = λ q from to. in_use_second q lo s.above (d ∷ s.below) (inl (refl, omega (arith, from, place), omega (arith, to, place, size_is, low))) in
     let first : SameChunks r ms ns = settled_same r ms ns settled left.zeroed.size
     (λ q st.
-      let head = head_there r ms q settled.tiled st in
-      let q_over = head.over in
-      let q_even = head.even in
-      let st_ds : Starts q lo ds = subst (Starts q lo) list st in
-      ap (λ (x : Granule). x.cap) (left.zeroed.rest ((q - r.ram) / 8) (elim (le_tells base q) [
-        | inr a ↦ inl (let lt = a.1 in omega (arith, lt, q_over, q_even, over, even))
-        | inl a ↦ elim (lt_tells q (base + extent)) [
-          | inl b ↦ absurd (head_unused q lo ds ds_are st_ds (in_use q a.1 b.1))
-          | inr b ↦ inr (let ge = b.1 in omega (arith, ge, q_over, q_even, over))
-        ]
-      ]))) in
+    let head = head_there r ms q settled.tiled st in
+    let q_over = head.over in
+    let q_even = head.even in
+    let st_ds : Starts q lo ds = subst (Starts q lo) list st in
+    ap (λ (x : Granule). x.cap) (left.zeroed.rest ((q - r.ram) / 8) (elim (le_tells base q) [
+      | inr a ↦ inl (let lt = a.1 in omega (arith, lt, q_over, q_even, over, even))
+      | inl a ↦ elim (lt_tells q (base + extent)) [
+        | inl b ↦ absurd (head_unused q lo ds ds_are st_ds (in_use q a.1 b.1))
+        | inr b ↦ inr (let ge = b.1 in omega (arith, ge, q_over, q_even, over))
+      ]
+    ]))) in
     let second : SameChunks r ns hs = settled_same r ns hs first.settled left.marked.size
     (λ q st. let head = head_there r ns q first.settled.tiled st in mark_caps ns hs (base - 8 - r.ram) (base - 8 - r.ram + (extent + 8)) true ((q - r.ram) / 8) left.marked head.inside) in
     let list_hs : chunks r hs ≡ ds = second.chunks_are ∙ first.chunks_are ∙ list in
@@ -207,19 +207,19 @@ free_done h n gs ms ns hs number base extent quota l f left =
     let account_is : (q : ℕ) → account n q ≡ cond (nat_eq quota q) (record { limit = (account h quota).limit; charged = (account h quota).charged - (extent + 8) }) (account h q) = λ q.
     ap (λ a. get_or a q no_account) left.accounts ∙ account_set h.accounts quota q new_account w.quota_in in
     let charged_now : (q : ℕ) → (account n q).charged ≡ charges q (rs ++ gone ∷ qs) = λ q. (
-      let was : (account h q).charged ≡ charges q rs + (cond (nat_eq quota q) (extent + 8) 0 + charges q qs) = l.charged q ∙ ap (charges q) old_rows ∙ charges_both q rs (o ∷ qs) in
-      let now : charges q (rs ++ gone ∷ qs) ≡ charges q rs + (0 + charges q qs) = charges_both q rs (gone ∷ qs) in
-      elim (eq_tells quota q) [
-        | inl e ↦
-            let mine : (account n q).charged ≡ (account h quota).charged - (extent + 8) = ap (λ (a : Account). a.charged) (account_is q) ∙ rw e.0 refl in
-            let was_ : (account h q).charged ≡ charges q rs + (extent + 8 + charges q qs) = rw e.0 at was in
-            let was_quota : (account h quota).charged ≡ charges q rs + (extent + 8 + charges q qs) = ap (λ t. (account h t).charged) e.1 ∙ was_ in
-            omega (arith, mine, was_quota, now)
-        | inr e ↦
-            let mine : (account n q).charged ≡ (account h q).charged = ap (λ (a : Account). a.charged) (account_is q) ∙ rw e.0 refl in
-            let was_ : (account h q).charged ≡ charges q rs + (0 + charges q qs) = rw e.0 at was in
-            omega (arith, mine, was_, now)
-      ]
+    let was : (account h q).charged ≡ charges q rs + (cond (nat_eq quota q) (extent + 8) 0 + charges q qs) = l.charged q ∙ ap (charges q) old_rows ∙ charges_both q rs (o ∷ qs) in
+    let now : charges q (rs ++ gone ∷ qs) ≡ charges q rs + (0 + charges q qs) = charges_both q rs (gone ∷ qs) in
+    elim (eq_tells quota q) [
+      | inl e ↦
+          let mine : (account n q).charged ≡ (account h quota).charged - (extent + 8) = ap (λ (a : Account). a.charged) (account_is q) ∙ rw e.0 refl in
+          let was_ : (account h q).charged ≡ charges q rs + (extent + 8 + charges q qs) = rw e.0 at was in
+          let was_quota : (account h quota).charged ≡ charges q rs + (extent + 8 + charges q qs) = ap (λ t. (account h t).charged) e.1 ∙ was_ in
+          omega (arith, mine, was_quota, now)
+      | inr e ↦
+          let mine : (account n q).charged ≡ (account h q).charged = ap (λ (a : Account). a.charged) (account_is q) ∙ rw e.0 refl in
+          let was_ : (account h q).charged ≡ charges q rs + (0 + charges q qs) = rw e.0 at was in
+          omega (arith, mine, was_, now)
+    ]
     ) in
     let within_old = l.within in
     let stays_limit : (q : ℕ) → (account n q).limit ≡ (account h q).limit = λ q. elim (eq_tells quota q) [

@@ -47,7 +47,8 @@ low_powers zero b lt even = omega (arith, even)
 low_powers (suc zero) b lt even = omega (arith, even)
 low_powers (suc (suc zero)) b lt even = omega (arith, even)
 low_powers (suc (suc (suc k))) b lt even =
-    let most : 2 ^ 3 ≤ 2 ^ suc (suc (suc k)) = pow-le-pow_right (lit< tt) (omega arith) in
+    let later : 3 ≤ suc (suc (suc k)) = omega arith in
+    let most : 2 ^ 3 ≤ 2 ^ suc (suc (suc k)) = pow-le-pow_right (lit< tt) later in
     absurd (omega (arith, most, lt))
 
 high_powers : (e : ℕ) → 8 ≤ 2 ^ e → 2 ^ e % 8 ≡ 0
@@ -64,10 +65,10 @@ unit_alignment n le = record {
   some = omega (arith, le);
   both = λ b even aligned. aligned;
   each = λ b aligned. (
-    let power = high_powers (exponent_for 0 n) le in
-    let whole : b / alignment_of n * alignment_of n + b % alignment_of n ≡ b = div-add-mod' b (alignment_of n) in
-    let product : (b / alignment_of n * (alignment_of n % 8)) % 8 ≡ (b / alignment_of n * alignment_of n) % 8 = mul-mod_second (b / alignment_of n) (alignment_of n) 8 in
-    let none : (b / alignment_of n * 0) % 8 ≡ (b / alignment_of n * alignment_of n) % 8 = rw power at product in
-    (omega (arith, whole, aligned, none), aligned)
-  );
+      let power = high_powers (exponent_for 0 n) le in
+      let whole : b / alignment_of n * alignment_of n + b % alignment_of n ≡ b = div-add-mod' b (alignment_of n) in
+      let product : (b / alignment_of n * (alignment_of n % 8)) % 8 ≡ (b / alignment_of n * alignment_of n) % 8 = mul-mod_second (b / alignment_of n) (alignment_of n) 8 in
+      let none : (b / alignment_of n * 0) % 8 ≡ (b / alignment_of n * alignment_of n) % 8 = rw power at product in
+      (omega (arith, whole, aligned, none), aligned)
+      );
 }

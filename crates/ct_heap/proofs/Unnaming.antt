@@ -28,10 +28,13 @@ let_go_size c = elim (bool_tells (nat_eq c.state 3)) [ inl e ↦ rw e refl | inr
 
 pub let_go_are : (cs : List Chunk) → AreChunks cs → AreChunks (map let_go cs)
 let_go_are [] are = tt
-let_go_are (c ∷ cs) are = (elim (bool_tells (nat_eq c.state 3)) [
-  | inl e ↦ rw e (record { whole = are.0.whole; some = are.0.some; used = λ u. absurd (let clash : true ≡ false = u in cc); states = omega arith; number = omega arith; blank = λ f. refl })
-  | inr e ↦ rw e are.0
-], let_go_are cs are.1)
+let_go_are (c ∷ cs) are = (
+  elim (bool_tells (nat_eq c.state 3)) [
+    | inl e ↦ rw e (record { whole = are.0.whole; some = are.0.some; used = λ u. absurd (let clash : true ≡ false = u in cc); states = omega arith; number = omega arith; blank = λ f. refl })
+    | inr e ↦ rw e are.0
+  ],
+  let_go_are cs are.1,
+)
 
 pub let_go_total : (cs : List Chunk) → total (map let_go cs) ≡ total cs
 let_go_total [] = refl
@@ -172,6 +175,9 @@ not_painted c p at e = rw e refl
 one_more : (p at : ℕ) (xs : List Chunk) (c : Chunk) (b : Bool) → (nat_eq c.state 3 && nat_le (at + total xs) p && nat_lt p (at + total xs + c.size)) ≡ b → is_painted_in p at (xs ++ c ∷ []) ≡ (is_painted_in p at xs || b)
 one_more p at xs c b e = painted_both p at xs (c ∷ []) ∙ (let none : (b || false) ≡ b = elim (bool_tells b) [ inl x ↦ rw x refl | inr x ↦ rw x refl ] in rw e (ap (λ x. is_painted_in p at xs || x) none))
 
+abbrev one_unless : Bool → ℕ
+one_unless b = cond b 0 1
+
 or_false : (b : Bool) → (b || false) ≡ b
 or_false true = refl
 or_false false = refl
@@ -182,6 +188,24 @@ pub unnaming_step : (r : Range) (gs hs ks : List Granule) (names more last : Lis
     → Unnamed r gs ks names last now left size one
 unnaming_step r gs hs ks names more last now left size one slots w some size_is u = step w.rest w.whole w.left_is w.now_is w.named
   where
+    marks_now : (c : Chunk) (j at : ℕ) → at ≡ r.base + total w.above → nat_eq c.state 3 ≡ true → r.ram ≤ at → (at - r.ram) % 8 ≡ 0 → (hs ks : List Granule) (b : Bool) → IsMarked (at - r.ram) (at - r.ram + c.size) false hs ks → (granule_at hs j).mark ≡ cond b false (granule_at gs j).mark → at + c.size ≤ r.ram + 8 * length hs → length hs ≡ length gs
+        → (granule_at ks j).mark ≡ cond (b || is_painted_in (r.ram + 8 * j) (r.base + total w.above) (c ∷ [])) false (granule_at gs j).mark
+    marks_now c j at place e over even hs ks b marked old inside size = elim (le_tells (at - r.ram) (8 * j)) [
+      | inr a ↦
+          let out : is_painted_in (r.ram + 8 * j) (r.base + total w.above) (c ∷ []) ≡ false = (let lt = a.1 in ap (λ x. x || false) (not_here c (r.ram + 8 * j) (r.base + total w.above) (inl (omega (arith, lt, place, over))))) in
+          ap (λ (g : Granule). g.mark) (marked.rest j (inl a.1)) ∙ old ∙ rw out (ap (λ x. cond x false (granule_at gs j).mark) (sym (or_false b)))
+      | inl a ↦ elim (lt_tells (8 * j) (at - r.ram + c.size)) [
+        | inr z ↦
+            let out : is_painted_in (r.ram + 8 * j) (r.base + total w.above) (c ∷ []) ≡ false = (let ge = z.1 in ap (λ x. x || false) (not_here c (r.ram + 8 * j) (r.base + total w.above) (inr (omega (arith, ge, place, over))))) in
+            ap (λ (g : Granule). g.mark) (marked.rest j (inr z.1)) ∙ old ∙ rw out (ap (λ x. cond x false (granule_at gs j).mark) (sym (or_false b)))
+        | inl z ↦
+            let le = a.1 in
+            let lt = z.1 in
+            let is_in : is_painted_in (r.ram + 8 * j) (r.base + total w.above) (c ∷ []) ≡ true = ap (λ x. x || false) (here_painted c (r.ram + 8 * j) (r.base + total w.above) e (omega (arith, le, place, over)) (omega (arith, lt, place, over))) in
+            ap (λ (g : Granule). g.mark) (marked.marks j (omega (arith, lt, inside, over)) (le, lt)) ∙ rw is_in (elim (bool_tells b) [ inl x ↦ rw x refl | inr x ↦ rw x refl ])
+      ]
+    ]
+
     step : (rest : List Chunk) → chunks r gs ≡ w.above ++ rest → left ≡ total rest → now ≡ staying_chunks w.above + waiting_chunks rest → ((o : ℕ) → o % 8 ≡ 0 → is_named more o ≡ is_used_at (r.base + o) r.base (map let_go w.above ++ rest)) → Unnamed r gs ks names last now left size one
     step [] whole left_is now_is named = absurd (some left_is)
     step (c ∷ cs) whole left_is now_is named =
@@ -202,7 +226,7 @@ unnaming_step r gs hs ks names more last now left size one slots w some size_is 
               let o = u.others (painted_is ∙ e) in
               let kept : let_go c ≡ c = rw e refl in
               let list : map let_go (w.above ++ c ∷ []) ++ cs ≡ map let_go w.above ++ c ∷ cs = ap (λ (l : List Chunk). l ++ cs) (map_both w.above (c ∷ [])) ∙ append_assoc (map let_go w.above) (let_go c ∷ []) cs ∙ ap (λ (x : Chunk). map let_go w.above ++ x ∷ cs) kept in
-              let count : cond (is_free c || nat_eq c.state 1 || nat_eq c.state 3) 0 1 ≡ cond (is_free c || nat_eq c.state 1) 0 1 = rw e (ap (λ b. cond b 0 1) (or_false (is_free c || nat_eq c.state 1))) in
+              let count : one_unless (is_free c || nat_eq c.state 1 || nat_eq c.state 3) ≡ one_unless (is_free c || nat_eq c.state 1) = rw e (ap one_unless (or_false (is_free c || nat_eq c.state 1))) in
               let one_is = o.2 in
               record {
                 most = omega (arith, size_c, left_is);
@@ -234,8 +258,8 @@ unnaming_step r gs hs ks names more last now left size one slots w some size_is 
               let gone : let_go c ≡ record c { state = 0; number = 0 } = rw e refl in
               let d : Chunk = record c { state = 0; number = 0 } in
               let list : map let_go (w.above ++ c ∷ []) ++ cs ≡ map let_go w.above ++ d ∷ cs = ap (λ (l : List Chunk). l ++ cs) (map_both w.above (c ∷ [])) ∙ append_assoc (map let_go w.above) (let_go c ∷ []) cs ∙ ap (λ (x : Chunk). map let_go w.above ++ x ∷ cs) gone in
-              let count : cond (is_free c || nat_eq c.state 1) 0 1 ≡ 1 = rw (used, live) refl in
-              let count_staying : cond (is_free c || nat_eq c.state 1 || nat_eq c.state 3) 0 1 ≡ 0 = rw (used, live, e) refl in
+              let count : one_unless (is_free c || nat_eq c.state 1) ≡ 1 = rw (used, live) refl in
+              let count_staying : one_unless (is_free c || nat_eq c.state 1 || nat_eq c.state 3) ≡ 0 = rw (used, live, e) refl in
               let one_is = o.2 in
               let low = k.low in
               let over = k.over in
@@ -320,24 +344,6 @@ unnaming_step r gs hs ks names more last now left size one slots w some size_is 
                   now_is = omega (arith, now_is, staying, count, count_staying, one_is);
                 };
               }
-        ]
-      where
-        marks_now : (c : Chunk) (j at : ℕ) → at ≡ r.base + total w.above → nat_eq c.state 3 ≡ true → r.ram ≤ at → (at - r.ram) % 8 ≡ 0 → (hs ks : List Granule) (b : Bool) → IsMarked (at - r.ram) (at - r.ram + c.size) false hs ks → (granule_at hs j).mark ≡ cond b false (granule_at gs j).mark → at + c.size ≤ r.ram + 8 * length hs → length hs ≡ length gs
-            → (granule_at ks j).mark ≡ cond (b || is_painted_in (r.ram + 8 * j) (r.base + total w.above) (c ∷ [])) false (granule_at gs j).mark
-        marks_now c j at place e over even hs ks b marked old inside size = elim (le_tells (at - r.ram) (8 * j)) [
-          | inr a ↦
-              let out : is_painted_in (r.ram + 8 * j) (r.base + total w.above) (c ∷ []) ≡ false = (let lt = a.1 in ap (λ x. x || false) (not_here c (r.ram + 8 * j) (r.base + total w.above) (inl (omega (arith, lt, place, over))))) in
-              ap (λ (g : Granule). g.mark) (marked.rest j (inl a.1)) ∙ old ∙ rw out (ap (λ x. cond x false (granule_at gs j).mark) (sym (or_false b)))
-          | inl a ↦ elim (lt_tells (8 * j) (at - r.ram + c.size)) [
-            | inr z ↦
-                let out : is_painted_in (r.ram + 8 * j) (r.base + total w.above) (c ∷ []) ≡ false = (let ge = z.1 in ap (λ x. x || false) (not_here c (r.ram + 8 * j) (r.base + total w.above) (inr (omega (arith, ge, place, over))))) in
-                ap (λ (g : Granule). g.mark) (marked.rest j (inr z.1)) ∙ old ∙ rw out (ap (λ x. cond x false (granule_at gs j).mark) (sym (or_false b)))
-            | inl z ↦
-                let le = a.1 in
-                let lt = z.1 in
-                let is_in : is_painted_in (r.ram + 8 * j) (r.base + total w.above) (c ∷ []) ≡ true = ap (λ x. x || false) (here_painted c (r.ram + 8 * j) (r.base + total w.above) e (omega (arith, le, place, over)) (omega (arith, lt, place, over))) in
-                ap (λ (g : Granule). g.mark) (marked.marks j (omega (arith, lt, inside, over)) (le, lt)) ∙ rw is_in (elim (bool_tells b) [ inl x ↦ rw x refl | inr x ↦ rw x refl ])
-          ]
         ]
 
 pub unnaming_ends : (r : Range) (gs hs : List Granule) (names more : List ℕ) (now left : ℕ) → Settled r gs → Unnaming r gs hs names more now left → left ≡ 0 → Unnames r gs hs names more now

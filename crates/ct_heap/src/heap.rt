@@ -12,7 +12,7 @@ ghost use Rattle.ct_heap.specs.Steps.{Placing, Placed, Freeing, Freed};
 use crate::lengths::{length_for, unit_for};
 use crate::rows::{Found, HeapRefusal, NotWhole, Object};
 use crate::table::{name_of, owner, unname};
-use ct_chunks::{carve, find, join, paint, read_head, set_state, write_head, Gap};
+use ct_chunks::{Gap, carve, find, join, paint, read_head, set_state, write_head};
 use ct_mem::Memory;
 use def_chunks::heads::{LIVE, NO_CHUNK, QUARANTINED, SLOT};
 use def_chunks::{Account, Range};
@@ -57,7 +57,13 @@ fn accounts_of(alloc: Global, limits: &[u32]) -> Result<Vec<Account>, NoMemory>
 impl Heap {
     /// A heap of `length` bytes from `base` on in RAM from `ram` on, with one quota for each limit. No object
     /// is in it, and nothing lies in memory yet. The one error is `NoMemory`.
-    pub fn new(alloc: Global, ram: u32, base: u32, length: u32, limits: &[u32]) -> Result<Heap, NoMemory>
+    pub fn new(
+        alloc: Global,
+        ram: u32,
+        base: u32,
+        length: u32,
+        limits: &[u32],
+    ) -> Result<Heap, NoMemory>
         requires ram { ram % 16 ≡ 0 }
         requires base { base % 16 ≡ 0 }
         requires length { length % 16 ≡ 0 }
@@ -96,7 +102,13 @@ impl Heap {
     {
         let _size = mem.size();
         if self.range.length != 0 {
-            write_head(mem, self.range.ram, self.range.base, self.range.length, NO_CHUNK);
+            write_head(
+                mem,
+                self.range.ram,
+                self.range.base,
+                self.range.length,
+                NO_CHUNK,
+            );
             self.range.first = 0;
         }
     }
@@ -162,7 +174,12 @@ impl Heap {
     /// untagged. `Size` comes exactly where the size is zero or above the heap's length; else `Quota`
     /// exactly where the quota's limit would be passed; else `NoGap` exactly where no place is lawful. A
     /// refusal changes nothing. It looks along the free chunks that lie before the place.
-    pub fn allocate<M: Memory>(&mut self, mem: &mut M, quota: u32, size: u32) -> Result<Object, HeapRefusal>
+    pub fn allocate<M: Memory>(
+        &mut self,
+        mem: &mut M,
+        quota: u32,
+        size: u32,
+    ) -> Result<Object, HeapRefusal>
         requires laid { Laid self.old (M.granules mem.old) }
         requires quota { quota < length self.old.accounts }
         requires few { self.old.next ≤ 4000000000 }
@@ -214,7 +231,13 @@ impl Heap {
 
     /// The live object of a quota with exactly these bounds is freed: it is quarantined and zeroed, its chunk
     /// marked, and its charge taken off. `NotWhole` comes exactly where there is none; then nothing changes.
-    pub fn free<M: Memory>(&mut self, mem: &mut M, quota: u32, base: u32, top: u64) -> Result<Object, NotWhole>
+    pub fn free<M: Memory>(
+        &mut self,
+        mem: &mut M,
+        quota: u32,
+        base: u32,
+        top: u64,
+    ) -> Result<Object, NotWhole>
         requires laid { Laid self.old (M.granules mem.old) }
         requires quota { quota < length self.old.accounts }
         ensures laid { Laid self.new (M.granules mem.new) }

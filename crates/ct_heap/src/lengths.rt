@@ -29,5 +29,9 @@ pub(crate) fn unit_for(length: u32) -> u32
 {
     let mask = align_mask(length);
     let alignment = ((1u64 << 32) - mask as u64) as u32;
-    if alignment < GRANULE { GRANULE } else { alignment }
+    if alignment < GRANULE {
+        GRANULE
+    } else {
+        alignment
+    }
 }

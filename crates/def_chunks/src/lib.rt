@@ -5,7 +5,6 @@
 #![tactic(auto)]
 
 pub mod heads;
-
 mod rows;
 
 pub use rows::{Account, Gap, Head, Range};

@@ -178,9 +178,9 @@ take_tiles r q gs hs xs c ys at before bsize number h place free_ wide small whe
           let above_even = total_even l.above ks.0 in
           record {
             lays = subst (λ (k : List Chunk). Lays hs r.ram r.base r.base k next) (sym l.whole) (relinked gs hs r.ram r.base r.base l.above l.chunk l.used (first_free r.base at (c ∷ ys) NO_CHUNK) next l.is l.others (subst (λ (k : List Chunk). Lays gs r.ram r.base r.base k (first_free r.base at (c ∷ ys) NO_CHUNK)) l.whole old_xs) wrote
-            (λ p s. let hi = starts_high p r.base l.above ks.0 s in links.rest p (starts_low p r.base l.above s) (starts_even p r.base l.above ks.0 (omega (arith, base_even)) s) (λ e. omega (arith, e, hi, lw, place)) (λ some_ e. omega (arith, e, hi, la)))
-            (λ p s. let lo = starts_low p (r.base + total l.above + l.chunk.size) l.used s in let hi = starts_high p (r.base + total l.above + l.chunk.size) l.used ks.1.1 s in
-            links.rest p (omega (arith, lo)) (starts_even p (r.base + total l.above + l.chunk.size) l.used ks.1.1 (omega (arith, base_even, above_even, b_whole)) s) (λ e. omega (arith, e, hi, lw, place)) (λ some_ e. omega (arith, e, lo, la, b_some))));
+                (λ p s. let hi = starts_high p r.base l.above ks.0 s in links.rest p (starts_low p r.base l.above s) (starts_even p r.base l.above ks.0 (omega (arith, base_even)) s) (λ e. omega (arith, e, hi, lw, place)) (λ some_ e. omega (arith, e, hi, la)))
+                (λ p s. let lo = starts_low p (r.base + total l.above + l.chunk.size) l.used s in let hi = starts_high p (r.base + total l.above + l.chunk.size) l.used ks.1.1 s in
+                links.rest p (omega (arith, lo)) (starts_even p (r.base + total l.above + l.chunk.size) l.used ks.1.1 (omega (arith, base_even, above_even, b_whole)) s) (λ e. omega (arith, e, hi, lw, place)) (λ some_ e. omega (arith, e, lo, la, b_some))));
             head = links.kept some ∙ h.first ∙ free_both r.base r.base xs (c ∷ ys) NO_CHUNK ∙ ap (λ (k : List Chunk). first_free r.base r.base k (first_free r.base (r.base + total xs) (c ∷ ys) NO_CHUNK)) l.whole ∙ first_stays r.base r.base l.above l.chunk l.used (first_free r.base (r.base + total xs) (c ∷ ys) NO_CHUNK) next l.is ∙ ap (λ (k : List Chunk). first_free r.base r.base k next) (sym l.whole);
           }
     ] in

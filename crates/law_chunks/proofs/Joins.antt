@@ -13,19 +13,23 @@ gap_total n = elim (eq_tells n 0) [ inl e ↦ rw e.0 (sym e.1) | inr e ↦ rw e.
 pub gap_are : (n : ℕ) → n % 8 ≡ 0 → AreChunks (gap n)
 gap_are n even = elim (eq_tells n 0) [
   | inl e ↦ rw e.0 tt
-  | inr e ↦ rw e.0 ((record {
-    whole = even;
-    some = some n even e.1;
-    used = λ used. absurd (let clash : true ≡ false = used in cc);
-    states = omega arith;
-    number = omega arith;
-    blank = λ f. refl;
-  }, tt))
+  | inr e ↦ rw e.0 ((
+    record {
+      whole = even;
+      some = some n even e.1;
+      used = λ used. absurd (let clash : true ≡ false = used in cc);
+      states = omega arith;
+      number = omega arith;
+      blank = λ f. refl;
+    },
+    tt,
+  ))
 ]
   where
     one_at_least : (m : ℕ) → (m ≡ 0 → ⊥) → 1 ≤ m
     one_at_least zero other = absurd (other refl)
     one_at_least (suc m) other = omega arith
+
     some : (n : ℕ) → n % 8 ≡ 0 → (n ≡ 0 → ⊥) → 8 ≤ n
     some n even other = elim (eq_tells (n / 8) 0) [
       | inl e ↦ absurd (other (let z = e.1 in omega (arith, z, even)))

@@ -100,27 +100,27 @@ pub store_keeps : (h : HeapRow) (gs : List Granule) (at width value : ℕ) → L
 store_keeps h gs at width value l is misses =
     heads_kept h gs (stored gs at width value) l (length-set gs (at / 8) (record { cap = plain (with_part (granule_at gs (at / 8)).cap.word (at % 8) width value); mark = (granule_at gs (at / 8)).mark }))
     (λ p s. let k = head_there h.range gs p l.settled.tiled s in
-        let over = k.over in
-        let even = k.even in
-        let some : 0 < width = elim is.known [ inl e ↦ omega (arith, e) | inr r ↦ elim r [ inl e ↦ omega (arith, e) | inr e ↦ omega (arith, e) ] ] in
-        ap (λ (g : Granule). g.cap) (store_rest gs at width value ((p - h.range.ram) / 8) (λ e. elim (misses p s) [ inl a ↦ omega (arith, a, e, over, even) | inr b ↦ omega (arith, b, e, over, even, some) ])))
+    let over = k.over in
+    let even = k.even in
+    let some : 0 < width = elim is.known [ inl e ↦ omega (arith, e) | inr r ↦ elim r [ inl e ↦ omega (arith, e) | inr e ↦ omega (arith, e) ] ] in
+    ap (λ (g : Granule). g.cap) (store_rest gs at width value ((p - h.range.ram) / 8) (λ e. elim (misses p s) [ inl a ↦ omega (arith, a, e, over, even) | inr b ↦ omega (arith, b, e, over, even, some) ])))
 
 pub cap_keeps : (h : HeapRow) (gs : List Granule) (at : ℕ) (c : Cap) → Laid h gs → IsPlace (8 * length gs) at → Misses h.range gs at (at + 8) → KeepsHeap h gs (stored_cap gs at c)
 cap_keeps h gs at c l is misses =
     heads_kept h gs (stored_cap gs at c) l (length-set gs (at / 8) (record { cap = c; mark = (granule_at gs (at / 8)).mark }))
     (λ p s. let k = head_there h.range gs p l.settled.tiled s in
-        let over = k.over in
-        let even = k.even in
-        let eight = is.aligned in
-        ap (λ (g : Granule). g.cap) (cap_rest gs at c ((p - h.range.ram) / 8) (λ e. elim (misses p s) [ inl a ↦ omega (arith, a, e, over, even, eight) | inr b ↦ omega (arith, b, e, over, even, eight) ])))
+    let over = k.over in
+    let even = k.even in
+    let eight = is.aligned in
+    ap (λ (g : Granule). g.cap) (cap_rest gs at c ((p - h.range.ram) / 8) (λ e. elim (misses p s) [ inl a ↦ omega (arith, a, e, over, even, eight) | inr b ↦ omega (arith, b, e, over, even, eight) ])))
 
 pub zero_keeps : (h : HeapRow) (gs hs : List Granule) (from to : ℕ) → Laid h gs → IsZeroed from to gs hs → Misses h.range gs from to → KeepsHeap h gs hs
 zero_keeps h gs hs from to l is misses =
     heads_kept h gs hs l is.size
     (λ p s. let k = head_there h.range gs p l.settled.tiled s in
-        let over = k.over in
-        let even = k.even in
-        ap (λ (g : Granule). g.cap) (is.rest ((p - h.range.ram) / 8) (elim (misses p s) [ inl a ↦ inl (omega (arith, a, over, even)) | inr b ↦ inr (omega (arith, b, over, even)) ])))
+    let over = k.over in
+    let even = k.even in
+    ap (λ (g : Granule). g.cap) (is.rest ((p - h.range.ram) / 8) (elim (misses p s) [ inl a ↦ inl (omega (arith, a, over, even)) | inr b ↦ inr (omega (arith, b, over, even)) ])))
 
 pub mark_caps : (gs hs : List Granule) (from to : ℕ) (on : Bool) (k : ℕ) → IsMarked from to on gs hs → k < length gs → (granule_at hs k).cap ≡ (granule_at gs k).cap
 mark_caps gs hs from to on k is inside = elim (le_tells from (8 * k)) [

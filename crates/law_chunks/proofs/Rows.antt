@@ -131,6 +131,7 @@ states_of c shape used = elim (eq_tells c.state 0) [
     last zero le a b = absurd (a refl)
     last (suc zero) le a b = absurd (b refl)
     last (suc (suc n)) le a b = omega (arith, le)
+
     three : (n : ℕ) → n ≤ 3 → (n ≡ 0 → ⊥) → (n ≡ 1 → ⊥) → (n ≡ 2 → ⊥) → n ≡ 3
     three zero le a b c = absurd (a refl)
     three (suc n) le a b c = elim (eq_tells n 0) [

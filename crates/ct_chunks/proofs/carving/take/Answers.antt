@@ -1,0 +1,56 @@
+use Rattle.std.proofs.Common.{◌+◌, ◌-◌, ◌*◌, ◌^◌, arith, length, refl, ap}
+use Rattle.def_chunks.specs.declared.rows.Range.{Range}
+use Rattle.law_chunks.proofs.Carves.{take_done}
+use Rattle.ct_chunks.proofs.Cuts.{sized, take_keeps, linkable}
+use Rattle.ct_chunks.proofs.carving.take.Goals as goal
+
+pub relink-first-requires : goal.relink-first-requires
+relink-first-requires g c = linkable c.args.range.now (g.M.Memory.granules c.args.mem.now) c.args.at c.args.size c.args.next c.args.before c.args.before_size c.requires.tiled c.requires.stands
+
+pub overflow_add-size : goal.overflow_add-size
+overflow_add-size g c =
+    let k = sized c.args.range.now (g.M.Memory.granules c.args.mem.now) c.args.at c.args.size c.args.next c.requires.tiled c.requires.stands.free_stands in
+    let low = k.low in
+    let over = k.over in
+    let even = k.even in
+    let fits = k.fits in
+    let small = k.small in
+    let inside = k.inside in
+    let whole = k.whole in
+    let some = k.some in
+    omega (arith, low, over, even, fits, small, inside, whole, some)
+
+pub write_head-requires-clause-even : goal.write_head-requires-clause-even
+write_head-requires-clause-even g c =
+    let k = sized c.args.range.now (g.M.Memory.granules c.args.mem.now) c.args.at c.args.size c.args.next c.requires.tiled c.requires.stands.free_stands in
+    let low = k.low in
+    let over = k.over in
+    let even = k.even in
+    let fits = k.fits in
+    let small = k.small in
+    let inside = k.inside in
+    let whole = k.whole in
+    let some = k.some in
+    omega (arith, low, over, even, fits, small, inside, whole, some)
+
+pub write_head-requires-clause-inside : goal.write_head-requires-clause-inside
+write_head-requires-clause-inside g c =
+    let k = sized c.args.range.now (g.M.Memory.granules c.args.mem.now) c.args.at c.args.size c.args.next c.requires.tiled c.requires.stands.free_stands in
+    let low = k.low in
+    let over = k.over in
+    let even = k.even in
+    let fits = k.fits in
+    let small = k.small in
+    let inside = k.inside in
+    let whole = k.whole in
+    let some = k.some in
+    omega (arith, low, over, even, fits, small, inside, whole, some)
+
+pub returns-clause-tiled : goal.returns-clause-tiled
+returns-clause-tiled g c = (take_done c.args.range.now (let x : Range = record { ram = c.args.range.now.ram; base = c.args.range.now.base; length = c.args.range.now.length; first = c.relink-first.result } in x) (g.M.Memory.granules c.args.mem.now) (g.M.Memory.granules c.relink-first.new.mem) (g.M.Memory.granules c.write_head.new.mem) c.args.at c.args.size c.args.number c.args.before c.args.before_size c.args.next c.requires.tiled c.requires.stands c.requires.wide (omega arith) c.relink-first.ensures.is c.write_head.ensures.is (ap (λ n. let x : Range = record { ram = c.args.range.now.ram; base = c.args.range.now.base; length = c.args.range.now.length; first = n } in x) c.relink-first.ensures.first)).tiled
+
+pub returns-clause-chunks : goal.returns-clause-chunks
+returns-clause-chunks g c = (take_done c.args.range.now (let x : Range = record { ram = c.args.range.now.ram; base = c.args.range.now.base; length = c.args.range.now.length; first = c.relink-first.result } in x) (g.M.Memory.granules c.args.mem.now) (g.M.Memory.granules c.relink-first.new.mem) (g.M.Memory.granules c.write_head.new.mem) c.args.at c.args.size c.args.number c.args.before c.args.before_size c.args.next c.requires.tiled c.requires.stands c.requires.wide (omega arith) c.relink-first.ensures.is c.write_head.ensures.is (ap (λ n. let x : Range = record { ram = c.args.range.now.ram; base = c.args.range.now.base; length = c.args.range.now.length; first = n } in x) c.relink-first.ensures.first)).chunks_are
+
+pub returns-clause-keeps : goal.returns-clause-keeps
+returns-clause-keeps g c = take_keeps c.args.range.now (g.M.Memory.granules c.args.mem.now) (g.M.Memory.granules c.relink-first.new.mem) (g.M.Memory.granules c.write_head.new.mem) c.args.at c.args.size c.args.next c.args.before c.args.before_size (c.args.size + 1 + c.args.number * 2 ^ 32) c.requires.tiled c.requires.stands c.relink-first.ensures.is c.write_head.ensures.is
