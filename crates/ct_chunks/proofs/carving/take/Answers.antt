@@ -5,7 +5,7 @@ use Rattle.ct_chunks.proofs.Cuts.{sized, take_keeps, linkable}
 use Rattle.ct_chunks.proofs.carving.take.Goals as goal
 
 pub relink-first-requires : goal.relink-first-requires
-relink-first-requires g c = linkable c.args.range.now (g.M.Memory.granules c.args.mem.now) c.args.at c.args.size c.args.next c.args.before c.args.before_size c.requires.tiled c.requires.stands
+relink-first-requires g c = record { place = linkable c.args.range.now (g.M.Memory.granules c.args.mem.now) c.args.at c.args.size c.args.next c.args.before c.args.before_size c.requires.tiled c.requires.stands }
 
 pub overflow_add-size : goal.overflow_add-size
 overflow_add-size g c =
