@@ -13,8 +13,10 @@ use Rattle.def_chunks.specs.Gaps.{Stands, UsedStands}
 use Rattle.def_chunks.specs.Heaps.{HeapRow, object_at, objects_in, objects_of, quota_named, is_named, is_used_at, account, Laid}
 use Rattle.law_chunks.proofs.Lays.{total_both, are_split}
 use Rattle.law_chunks.proofs.Reading.{Sits, sits}
-use Rattle.law_chunks.proofs.Rows.{objects_both, UsedStarts, each_more, rows_low, rows_high}
+use Rattle.law_chunks.proofs.Rows.{objects_both, UsedStarts, each_split, each_more, rows_low, rows_high}
 use Rattle.ct_chunks.proofs.Painting.{Tells, tells}
+use Rattle.ct_heap.specs.declared.rows.Found.{Found}
+use Rattle.ct_heap.specs.Steps.{Freeing}
 use Rattle.ct_heap.specs.Told.{told, found}
 use Rattle.ct_heap.specs.Table.{owner_at}
 use Rattle.ct_heap.specs.Lookups.{spans, whole_at, spans_of, whole_of, found_as, may_begin, owner_of}
@@ -198,3 +200,197 @@ found_row h gs base top quota l o =
       is = ap (λ rs. whole_at base top rs) rows ∙ only_at base top (objects_in h.names h.range.base h.range.base s.above) (object_at (quota_named h.names (base - 8 - h.range.base)) (base - 8) s.chunk) (objects_in h.names h.range.base (base - 8 + s.chunk.size) s.below) before behind ∙ ap (λ q. cond (spans base top (object_at q (base - 8) s.chunk)) (Some (object_at q (base - 8) s.chunk)) None) quota_is;
       of = λ q. ap (λ rs. whole_of q base top rs) rows ∙ only_of q base top (objects_in h.names h.range.base h.range.base s.above) (object_at (quota_named h.names (base - 8 - h.range.base)) (base - 8) s.chunk) (objects_in h.names h.range.base (base - 8 + s.chunk.size) s.below) before behind ∙ ap (λ m. cond (spans_of q base top (object_at m (base - 8) s.chunk)) (Some (object_at m (base - 8) s.chunk)) None) quota_is;
     }
+
+-- ---- what `find` answers
+
+-- what the code has to know of the chunk that the table names
+pub record Known (h : HeapRow) (gs : List Granule) (base quota : ℕ) : Type 0 where
+  pub low : h.range.base + 8 ≤ base
+  pub over : h.range.ram ≤ base - 8
+  pub even : (base - 8 - h.range.ram) % 8 ≡ 0
+  pub inside : base - 8 - h.range.ram + 8 ≤ 8 * length gs
+  pub quota_in : quota < length h.accounts
+  pub size : 16 ≤ (head_in (head_at gs h.range.ram (base - 8))).size
+  pub number : (head_in (head_at gs h.range.ram (base - 8))).rest < 2 ^ 32
+
+quota_of : (h : HeapRow) (gs : List Granule) (base quota : ℕ) → Laid h gs → Owned h gs base quota → quota < length h.accounts
+unfolding objects_of
+quota_of h gs base quota l o =
+    let s = o.stands in
+    let k = sits h.range gs (base - 8) l.settled.tiled s in
+    let a = around h.names h.range.base (base - 8) s.above s.chunk s.below k.above_are k.shape s.place o.used in
+    let rows = ap (λ cs. objects_in h.names h.range.base h.range.base cs) s.whole ∙ a.rows in
+    let each = each_split (λ r. r.quota < length h.accounts) (objects_in h.names h.range.base h.range.base s.above) (object_at (quota_named h.names (base - 8 - h.range.base)) (base - 8) s.chunk ∷ objects_in h.names h.range.base (base - 8 + s.chunk.size) s.below) (subst (λ x. Each (λ r. r.quota < length h.accounts) x) rows l.quotas) in
+    let here = each.1.0 in
+    let is = o.quota_is in
+    omega (arith, here, is)
+
+pub known : (h : HeapRow) (gs : List Granule) (base quota : ℕ) → Laid h gs → owner_of h base ≡ Some quota → Known h gs base quota
+known h gs base quota l e =
+    let o = owned h gs base quota l e in
+    let s = o.stands in
+    let k = sits h.range gs (base - 8) l.settled.tiled s in
+    let t = tells h.range gs (base - 8) s l.settled.tiled in
+    let over = k.over in
+    let inside = k.inside in
+    let some = k.shape.some in
+    let wide = k.shape.used o.used in
+    let size = t.size in
+    let number_is = t.number o.used in
+    let number = k.shape.number in
+    record {
+      low = o.low;
+      over = over;
+      even = k.even;
+      inside = omega (arith, inside, over, some);
+      quota_in = quota_of h gs base quota l o;
+      size = omega (arith, size, wide);
+      number = omega (arith, number_is, number);
+    }
+
+pub find_none : (h : HeapRow) (gs : List Granule) (base top : ℕ) → Laid h gs → owner_of h base ≡ None → found_as (objects_of h gs) (whole_at base top (objects_of h gs)) ≡ None
+find_none h gs base top l e = ap (found_as (objects_of h gs)) (none_at base top (objects_of h gs) (unowned h gs base l e))
+
+-- the test of the row, by what the head says
+spans_is : (base top quota : ℕ) (c : Chunk) → 8 ≤ base → 8 ≤ c.size → spans base top (object_at quota (base - 8) c) ≡ (nat_eq c.state 1 && nat_eq (base - 8 + c.size) top)
+spans_is base top quota c low some =
+    let here : nat_eq (base - 8 + 8) base ≡ true = elim (eq_tells (base - 8 + 8) base) [ inl e ↦ e.0 | inr e ↦ absurd (e.1 (omega (arith, low))) ] in
+    let end : base - 8 + 8 + (c.size - 8) ≡ base - 8 + c.size = omega (arith, some) in
+    elim (bool_tells (nat_eq c.state 1)) [
+      | inl e ↦ rw (e, here) (ap (λ n. nat_eq n top) end)
+      | inr e ↦ rw e refl
+    ]
+
+pub record Spans (h : HeapRow) (gs : List Granule) (base top quota : ℕ) (head : Head) (o : Owned h gs base quota) : Type 0 where
+  pub is : spans base top (object_at quota (base - 8) o.stands.chunk) ≡ (nat_eq head.state 1 && nat_eq (base - 8 + head.size) top)
+  pub size : head.size ≡ o.stands.chunk.size
+  pub state : head.state ≡ o.stands.chunk.state
+  pub number : head.rest ≡ o.stands.chunk.number
+
+pub spans_by : (h : HeapRow) (gs : List Granule) (base top quota : ℕ) (head : Head) → Laid h gs → (o : Owned h gs base quota) → head ≡ head_in (head_at gs h.range.ram (base - 8)) → Spans h gs base top quota head o
+spans_by h gs base top quota head l o is =
+    let s = o.stands in
+    let k = sits h.range gs (base - 8) l.settled.tiled s in
+    let t = tells h.range gs (base - 8) s l.settled.tiled in
+    let low = o.low in
+    let size : head.size ≡ s.chunk.size = ap (λ (x : Head). x.size) is ∙ t.size in
+    let state : head.state ≡ s.chunk.state = ap (λ (x : Head). x.state) is ∙ t.state in
+    record {
+      is = spans_is base top quota s.chunk (omega (arith, low)) k.shape.some ∙ ap (λ x. nat_eq x 1 && nat_eq (base - 8 + s.chunk.size) top) (sym state) ∙ ap (λ x. nat_eq head.state 1 && nat_eq (base - 8 + x) top) (sym size);
+      size = size;
+      state = state;
+      number = ap (λ (x : Head). x.rest) is ∙ t.number o.used;
+    }
+
+-- another state, or another end
+pub find_other : (h : HeapRow) (gs : List Granule) (base top quota : ℕ) (head : Head) → Laid h gs → owner_of h base ≡ Some quota → head ≡ head_in (head_at gs h.range.ram (base - 8))
+    → (nat_eq head.state 1 && nat_eq (base - 8 + head.size) top) ≡ false → found_as (objects_of h gs) (whole_at base top (objects_of h gs)) ≡ None
+find_other h gs base top quota head l e is no_ =
+    let o = owned h gs base quota l e in
+    let f = found_row h gs base top quota l o in
+    let p = spans_by h gs base top quota head l o is in
+    ap (found_as (objects_of h gs)) (f.is ∙ ap (λ b. cond b (Some (object_at quota (base - 8) o.stands.chunk)) None) (p.is ∙ no_))
+
+pub find_some : (h : HeapRow) (gs : List Granule) (base top quota : ℕ) (head : Head) → Laid h gs → owner_of h base ≡ Some quota → head ≡ head_in (head_at gs h.range.ram (base - 8))
+    → (nat_eq head.state 1 && nat_eq (base - 8 + head.size) top) ≡ true → found_as (objects_of h gs) (whole_at base top (objects_of h gs)) ≡ Some (found (told head.rest base (head.size - 8) (account h quota).charged) quota)
+find_some h gs base top quota head l e is yes_ =
+    let o = owned h gs base quota l e in
+    let f = found_row h gs base top quota l o in
+    let p = spans_by h gs base top quota head l o is in
+    let low = o.low in
+    let c : Chunk = o.stands.chunk in
+    let row : whole_at base top (objects_of h gs) ≡ Some (object_at quota (base - 8) c) = f.is ∙ ap (λ b. cond b (Some (object_at quota (base - 8) c)) None) (p.is ∙ yes_) in
+    ap (found_as (objects_of h gs)) row
+    ∙ ap (λ n. Some (found (told n (base - 8 + 8) (c.size - 8) (charges quota (objects_of h gs))) quota)) (sym p.number)
+    ∙ ap (λ b. Some (found (told head.rest b (c.size - 8) (charges quota (objects_of h gs))) quota)) (omega (arith, low))
+    ∙ ap (λ n. Some (found (told head.rest base (n - 8) (charges quota (objects_of h gs))) quota)) (sym p.size)
+    ∙ ap (λ n. Some (found (told head.rest base (head.size - 8) n) quota)) (sym (l.charged quota))
+
+-- ---- what `free` knows of what was found
+
+pub record FoundTells (h : HeapRow) (gs : List Granule) (base top : ℕ) (f : Found) : Type 0 where
+  pub row : Object
+  pub freeing : Freeing h gs f.object.number f.object.base f.object.length f.quota
+  pub of : whole_of f.quota base top (objects_of h gs) ≡ Some row
+  pub others : (q : ℕ) → (f.quota ≡ q → ⊥) → whole_of q base top (objects_of h gs) ≡ None
+  pub number_is : f.object.number ≡ row.number
+  pub base_row : f.object.base ≡ row.base
+  pub length_is : f.object.length ≡ row.length
+  pub base_is : f.object.base ≡ base
+  pub top_is : f.object.base + f.object.length ≡ top
+
+-- of the row of a chunk
+row_tells : (h : HeapRow) (gs : List Granule) (base top quota : ℕ) → Laid h gs → owner_of h base ≡ Some quota → (o : Owned h gs base quota) → spans base top (object_at quota (base - 8) o.stands.chunk) ≡ true
+    → FoundTells h gs base top (found (told o.stands.chunk.number (base - 8 + 8) (o.stands.chunk.size - 8) (charges quota (objects_of h gs))) quota)
+row_tells h gs base top quota l e o yes_ =
+    let c : Chunk = o.stands.chunk in
+    let row : Object = object_at quota (base - 8) c in
+    let fr = found_row h gs base top quota l o in
+    let k = sits h.range gs (base - 8) l.settled.tiled o.stands in
+    let low = o.low in
+    let some = k.shape.some in
+    let live : Bool = nat_eq c.state 1 in
+    let starts : Bool = base - 8 + 8 == base in
+    let ends : Bool = base - 8 + 8 + (c.size - 8) == top in
+    let two : (live && starts) ≡ true = both_left (live && starts) ends yes_ in
+    let is_live : nat_eq c.state 1 ≡ true = both_left live starts two in
+    let is_end : (base - 8 + 8 + (c.size - 8) == top) ≡ true = both_right (live && starts) ends yes_ in
+    let state : c.state ≡ 1 = elim (eq_tells c.state 1) [ inl x ↦ x.1 | inr x ↦ absurd (let clash : true ≡ false = sym is_live ∙ x.0 in cc) ] in
+    let top_is : base - 8 + 8 + (c.size - 8) ≡ top = elim (eq_tells (base - 8 + 8 + (c.size - 8)) top) [ inl x ↦ x.1 | inr x ↦ absurd (let clash : true ≡ false = sym is_end ∙ x.0 in cc) ] in
+    let back : base - 8 + 8 ≡ base = omega (arith, low) in
+    let at : base - 8 + 8 - 8 ≡ base - 8 = omega arith in
+    let size : c.size ≡ c.size - 8 + 8 = omega (arith, some) in
+    let mine : spans_of quota base top row ≡ true = spans_both quota base top row ∙ rw yes_ (elim (eq_tells quota quota) [ inl x ↦ x.0 | inr x ↦ absurd (x.1 refl) ]) in
+    let used : UsedStands h.range gs (base - 8) (c.size - 8 + 8) c.number = record { stands = o.stands; is = o.used; size_is = size; number_is = refl } in
+    let at_base : Freeing h gs c.number base (c.size - 8) quota = record { stands = used; live = state; quota_is = o.quota_is; low = low } in
+    record {
+      row = row;
+      freeing = subst (λ b. Freeing h gs c.number b (c.size - 8) quota) (sym back) at_base;
+      of = fr.of quota ∙ ap (λ b. cond b (Some row) None) mine;
+      others = λ q other. fr.of q ∙ (
+          let not_mine : spans_of q base top row ≡ false = spans_both q base top row ∙ rw yes_ (elim (eq_tells quota q) [ inl x ↦ absurd (other x.1) | inr x ↦ x.0 ]) in
+          ap (λ b. cond b (Some row) None) not_mine
+          );
+      number_is = refl;
+      base_row = refl;
+      length_is = refl;
+      base_is = back;
+      top_is = top_is;
+    }
+
+pub found_tells : (h : HeapRow) (gs : List Granule) (base top : ℕ) (f : Found) → Laid h gs → Some f ≡ found_as (objects_of h gs) (whole_at base top (objects_of h gs)) → FoundTells h gs base top f
+found_tells h gs base top f l is = by_owner (owner_of h base) refl
+  where
+    by_owner : (w : Option ℕ) → owner_of h base ≡ w → FoundTells h gs base top f
+    by_owner None e = absurd (let clash : Some f ≡ None = is ∙ find_none h gs base top l e in cc)
+    by_owner (Some quota) e =
+        let o = owned h gs base quota l e in
+        let c : Chunk = o.stands.chunk in
+        let row : Object = object_at quota (base - 8) c in
+        let fr = found_row h gs base top quota l o in
+        elim (bool_tells (spans base top row)) [
+          | inr no_ ↦ absurd (let clash : Some f ≡ None = is ∙ ap (found_as (objects_of h gs)) (fr.is ∙ ap (λ b. cond b (Some row) None) no_) in cc)
+          | inl yes_ ↦
+              let made : Found = found (told c.number (base - 8 + 8) (c.size - 8) (charges quota (objects_of h gs))) quota in
+              let all : Some f ≡ Some made = is ∙ ap (found_as (objects_of h gs)) (fr.is ∙ ap (λ b. cond b (Some row) None) yes_) in
+              let same : made ≡ f = cc in
+              subst (FoundTells h gs base top) same (row_tells h gs base top quota l e o yes_)
+        ]
+
+-- where nothing was found there is nothing of any quota
+pub found_nothing : (h : HeapRow) (gs : List Granule) (base top quota : ℕ) → Laid h gs → None ≡ found_as (objects_of h gs) (whole_at base top (objects_of h gs)) → whole_of quota base top (objects_of h gs) ≡ None
+found_nothing h gs base top quota l is = by_owner (owner_of h base) refl
+  where
+    by_owner : (w : Option ℕ) → owner_of h base ≡ w → whole_of quota base top (objects_of h gs) ≡ None
+    by_owner None e = none_of quota base top (objects_of h gs) (unowned h gs base l e)
+    by_owner (Some q) e =
+        let o = owned h gs base q l e in
+        let c : Chunk = o.stands.chunk in
+        let row : Object = object_at q (base - 8) c in
+        let fr = found_row h gs base top q l o in
+        elim (bool_tells (spans base top row)) [
+          | inl yes_ ↦ absurd (
+              let made : Found = found (told c.number (base - 8 + 8) (c.size - 8) (charges q (objects_of h gs))) q in
+              let clash : None ≡ Some made = is ∙ ap (found_as (objects_of h gs)) (fr.is ∙ ap (λ b. cond b (Some row) None) yes_) in cc)
+          | inr no_ ↦ fr.of quota ∙ ap (λ b. cond b (Some row) None) (spans_both quota base top row ∙ ap (λ b. b && (q == quota)) no_)
+        ]

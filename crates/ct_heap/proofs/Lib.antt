@@ -6,3 +6,4 @@ pub mod Allocating
 pub mod Freeing
 pub mod Unnaming
 pub mod Flushing
+pub mod Laying

@@ -36,11 +36,16 @@ empty range limits = record {
 abbrev pub range_of : ℕ → ℕ → ℕ → Range
 range_of ram base length = record { ram = ram; base = base; length = length; first = NO_CHUNK }
 
+-- so many limits that each quota can be named in the table
+abbrev pub AreFew : List ℕ → Type 0
+AreFew limits = length limits ≤ 32767
+
 -- nothing was allocated, and nothing lies in memory yet
 pub record Empty (h : HeapRow) : Type 0 where
   pub limits : List ℕ
   pub is : h ≡ empty h.range limits
-  pub few : length limits ≤ 32767
+  pub few : AreFew limits
+  pub first : h.range.first ≡ NO_CHUNK
   pub even : (h.range.ram % 16 ≡ 0) × (h.range.base % 16 ≡ 0) × (h.range.length % 16 ≡ 0)
   pub above : h.range.ram ≤ h.range.base
   pub short : h.range.length < 2 ^ 32

@@ -6,12 +6,13 @@ ghost use Rattle.def_memory.specs.Granules.{plain, granule_at};
 ghost use Rattle.def_machine.specs.Objects.{charges, has_quarantined};
 ghost use Rattle.def_chunks.specs.Heaps.{objects_of, account, Laid};
 ghost use Rattle.ct_heap.specs.Lookups.{whole_at, whole_of, found_as, owner_of};
-ghost use Rattle.ct_heap.specs.Effects.{Empty, Allocates, Refuses, Frees, Paints, NoneStale, Flushes, Stays, Same, accounts_for, empty, range_of};
+ghost use Rattle.ct_heap.specs.Effects.{Empty, Allocates, Refuses, Frees, Paints, NoneStale, Flushes, Stays, Same, AreFew, empty, range_of};
 ghost use Rattle.ct_heap.specs.Steps.{Placing, Placed, Freeing, Freed};
 
+use crate::accounts::{accounts_of, charge, discharge};
 use crate::lengths::{length_for, unit_for};
 use crate::rows::{Found, HeapRefusal, NotWhole, Object};
-use crate::table::{name_of, owner, unname};
+use crate::table::{name_chunk, owner, unname};
 use ct_chunks::{Gap, carve, find, join, paint, read_head, set_state, write_head};
 use ct_mem::Memory;
 use def_chunks::heads::{LIVE, NO_CHUNK, QUARANTINED, SLOT};
@@ -40,20 +41,6 @@ impl Model for Heap {
     ghost view = { λ h. record { range = h.range; accounts = h.accounts.items; next = h.next; waiting = h.waiting; names = h.names.items } };
 }
 
-/// One account for each limit, with nothing charged.
-fn accounts_of(alloc: Global, limits: &[u32]) -> Result<Vec<Account>, NoMemory>
-    ensures { IfOk result (λ v. v.items ≡ accounts_for limits.now) }
-{
-    let mut accounts = Vec::with_capacity(alloc, limits.len())?;
-    for limit in limits {
-        accounts.push(Account {
-            limit: *limit,
-            charged: 0,
-        })?;
-    }
-    Ok(accounts)
-}
-
 impl Heap {
     /// A heap of `length` bytes from `base` on in RAM from `ram` on, with one quota for each limit. No object
     /// is in it, and nothing lies in memory yet. The one error is `NoMemory`.
@@ -66,10 +53,10 @@ impl Heap {
     ) -> Result<Heap, NoMemory>
         requires ram { ram % 16 ≡ 0 }
         requires base { base % 16 ≡ 0 }
-        requires length { length % 16 ≡ 0 }
+        requires whole { length % 16 ≡ 0 }
         requires above { ram ≤ base }
         requires small { base + length ≤ 2 ^ 32 }
-        requires few { length limits.now ≤ 32767 }
+        requires few { AreFew limits.now }
         ensures is { IfOk result (λ h. h ≡ empty (range_of ram base length) limits.now) }
         ensures empty { IfOk result (λ h. Empty h) }
     {
@@ -133,7 +120,7 @@ impl Heap {
     /// The quota of the object that may begin at an address, by the table.
     fn owner_of(&self, base: u32) -> Option<u32>
         requires slots { length self.now.names ≡ self.now.range.length / 16 }
-        requires length { self.now.range.length % 16 ≡ 0 }
+        requires even { self.now.range.length % 16 ≡ 0 }
         ensures { result ≡ owner_of self.now base }
     {
         let low = self.range.base;
@@ -188,6 +175,8 @@ impl Heap {
             (λ o. Allocates self.old self.new (M.granules mem.old) (M.granules mem.new) quota size o.number o.base o.length o.live)
             (λ e. Refuses self.old (M.granules mem.old) quota size e) }
         ensures refused { OnErr result ((self.new ≡ self.old) × (M.granules mem.new ≡ M.granules mem.old)) }
+        ensures quotas { length self.new.accounts ≡ length self.old.accounts }
+        ensures next { self.new.next ≤ self.old.next + 1 }
     {
         if size == 0 || size > self.range.length {
             return Err(HeapRefusal::Size);
@@ -204,28 +193,31 @@ impl Heap {
         }
     }
 
-    /// Puts an object of a length into a gap.
-    fn place<M: Memory>(&mut self, mem: &mut M, quota: u32, length: u32, gap: Gap) -> Object
+    /// Puts an object of so many bytes into a gap.
+    fn place<M: Memory>(&mut self, mem: &mut M, quota: u32, bytes: u32, gap: Gap) -> Object
         requires laid { Laid self.old (M.granules mem.old) }
         requires quota { quota < length self.old.accounts }
         requires few { self.old.next ≤ 4000000000 }
-        requires fits { Placing self.old (M.granules mem.old) quota length gap }
+        requires fits { Placing self.old (M.granules mem.old) quota bytes gap }
         ensures laid { Laid self.new (M.granules mem.new) }
-        ensures placed { Placed self.old self.new (M.granules mem.old) (M.granules mem.new) quota length gap.base result.number result.base result.length result.live }
+        ensures placed { Placed self.old self.new (M.granules mem.old) (M.granules mem.new) quota bytes gap.base result.number result.base result.length result.live }
     {
         let number = self.next;
-        carve(&mut self.range, mem, &gap, length, number);
+        carve(&mut self.range, mem, &gap, bytes, number);
         let ram = self.range.ram;
-        mem.zero(gap.base - ram, gap.base - ram + length);
-        let offset = gap.base - CHUNK_HEAD - self.range.base;
-        self.names[(offset / SLOT) as usize] = name_of(quota, offset);
-        self.accounts[quota as usize].charged += length + CHUNK_HEAD;
+        mem.zero(gap.base - ram, gap.base - ram + bytes);
+        name_chunk(
+            &mut self.names,
+            quota,
+            gap.base - CHUNK_HEAD - self.range.base,
+        );
+        let live = charge(&mut self.accounts, quota, bytes + CHUNK_HEAD);
         self.next += 1;
         Object {
             number,
             base: gap.base,
-            length,
-            live: self.accounts[quota as usize].charged,
+            length: bytes,
+            live,
         }
     }
 
@@ -245,6 +237,8 @@ impl Heap {
             (λ o. Frees self.old self.new (M.granules mem.old) (M.granules mem.new) quota base top o.number o.base o.length o.live)
             (λ e. whole_of quota base top (objects_of self.old (M.granules mem.old)) ≡ None) }
         ensures refused { OnErr result ((self.new ≡ self.old) × (M.granules mem.new ≡ M.granules mem.old)) }
+        ensures quotas { length self.new.accounts ≡ length self.old.accounts }
+        ensures next { self.new.next ≡ self.old.next }
     {
         match self.find(mem, base, top) {
             Some(found) if found.quota == quota => Ok(self.quarantine(mem, found)),
@@ -262,15 +256,17 @@ impl Heap {
         let object = found.object;
         let ram = self.range.ram;
         let at = object.base - CHUNK_HEAD;
-        let charge = object.length + CHUNK_HEAD;
-        set_state(&self.range, mem, at, charge, object.number, QUARANTINED);
+        let size = object.length + CHUNK_HEAD;
+        set_state(&self.range, mem, at, size, object.number, QUARANTINED);
         mem.zero(object.base - ram, object.base - ram + object.length);
-        mem.mark(at - ram, at - ram + charge, true);
-        self.accounts[found.quota as usize].charged -= charge;
+        mem.mark(at - ram, at - ram + size, true);
+        let live = discharge(&mut self.accounts, found.quota, size);
         self.waiting += 1;
         Object {
-            live: self.accounts[found.quota as usize].charged,
-            ..object
+            number: object.number,
+            base: object.base,
+            length: object.length,
+            live,
         }
     }
 

@@ -8,6 +8,7 @@
 //! `new` takes memory. docs/use/machine.md tells how a heap lies in memory.
 #![tactic(auto)]
 
+mod accounts;
 mod heap;
 mod lengths;
 mod rows;

@@ -15,11 +15,20 @@ use def_chunks::heads::{PAINTED, SLOT};
 
 /// The entry of a used chunk of a quota that begins at an offset: never zero, and it tells which of the two
 /// granules the chunk begins at.
-pub(crate) fn name_of(quota: u32, offset: u32) -> u16
+fn name_of(quota: u32, offset: u32) -> u16
     requires { quota < 32767 }
     ensures { result ≡ name_of quota offset }
 {
     (1 + 2 * quota + offset / 8 % 2) as u16
+}
+
+/// The used chunk that begins at an offset gets its entry.
+pub(crate) fn name_chunk(names: &mut Vec<u16>, quota: u32, offset: u32)
+    requires quota { quota < 32767 }
+    requires inside { offset / 16 < length names.old.items }
+    ensures { names.new.items ≡ slice_set names.old.items (offset / 16) (name_of quota offset) }
+{
+    names[(offset / SLOT) as usize] = name_of(quota, offset);
 }
 
 /// The quota of the used chunk that begins at an offset, `None` exactly where none begins there.
@@ -36,12 +45,17 @@ pub(crate) fn owner(names: &[u16], offset: u32) -> Option<u32>
 
 /// Takes every painted chunk out of the table and clears the marks of its granules; how many of so many
 /// quarantined objects are left.
-pub(crate) fn unname<M: Memory>(range: &Range, mem: &mut M, names: &mut [u16], waiting: u32) -> u32
+pub(crate) fn unname<M: Memory>(
+    range: &Range,
+    mem: &mut M,
+    names: &mut Vec<u16>,
+    waiting: u32,
+) -> u32
     requires settled { Settled range.now (M.granules mem.old) }
-    requires slots { length names.old ≡ range.now.length / 16 }
-    requires named { (o : ℕ) → o % 8 ≡ 0 → is_named names.old o ≡ is_used_at (range.now.base + o) range.now.base (chunks range.now (M.granules mem.old)) }
+    requires slots { length names.old.items ≡ range.now.length / 16 }
+    requires named { (o : ℕ) → o % 8 ≡ 0 → is_named names.old.items o ≡ is_used_at (range.now.base + o) range.now.base (chunks range.now (M.granules mem.old)) }
     requires waiting { waiting ≡ waiting_chunks (chunks range.now (M.granules mem.old)) }
-    ensures { Unnames range.now (M.granules mem.old) (M.granules mem.new) names.old names.new result }
+    ensures { Unnames range.now (M.granules mem.old) (M.granules mem.new) names.old.items names.new.items result }
 {
     let _size = mem.size();
     let mut left = range.length;
@@ -56,12 +70,12 @@ pub(crate) fn unname<M: Memory>(range: &Range, mem: &mut M, names: &mut [u16], w
 }
 
 /// The same of the chunk at an address: its size, and 1 where it was painted.
-fn unname_chunk<M: Memory>(range: &Range, mem: &mut M, names: &mut [u16], at: u32) -> (u32, u32)
+fn unname_chunk<M: Memory>(range: &Range, mem: &mut M, names: &mut Vec<u16>, at: u32) -> (u32, u32)
     requires tiled { Tiled range.now (M.granules mem.old) }
-    requires slots { length names.old ≡ range.now.length / 16 }
+    requires slots { length names.old.items ≡ range.now.length / 16 }
     requires stands { Stands range.now (M.granules mem.old) at }
     ensures size { result.0 ≡ (head_in (head_at (M.granules mem.old) range.now.ram at)).size }
-    ensures unnames { UnnamesChunk range.now (M.granules mem.old) (M.granules mem.new) names.old names.new at result.1 (head_in (head_at (M.granules mem.old) range.now.ram at)) }
+    ensures unnames { UnnamesChunk range.now (M.granules mem.old) (M.granules mem.new) names.old.items names.new.items at result.1 (head_in (head_at (M.granules mem.old) range.now.ram at)) }
 {
     let _size = mem.size();
     let head = read_head(mem, range.ram, at);
