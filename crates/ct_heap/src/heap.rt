@@ -199,6 +199,7 @@ impl Heap {
         requires quota { quota < length self.old.accounts }
         requires few { self.old.next ≤ 4000000000 }
         requires fits { Placing self.old (M.granules mem.old) quota bytes gap }
+        requires limit { (account self.old quota).limit < 2 ^ 32 }
         ensures laid { Laid self.new (M.granules mem.new) }
         ensures placed { Placed self.old self.new (M.granules mem.old) (M.granules mem.new) quota bytes gap.base result.number result.base result.length result.live }
     {
