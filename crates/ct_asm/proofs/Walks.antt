@@ -1,5 +1,6 @@
 -- One statement further along a source.
 use Rattle.std.proofs.Common.{◌≡◌, ℕ, ◌+◌, ◌*◌, ◌<◌, List, ◌∷◌, ◌++◌, length, drop, get_or, Option, Some, None, Bool, true, false, ◌&&◌, cond, nat_le, refl, sym, ap, ◌∙◌, drop-cons, add-one, arith, append_assoc}
+use Rattle.std.proofs.lemmas.Bool.{and_parts}
 use denote.Ref.{Bor}
 use Rattle.def_source.specs.declared.parts.Statement.{Statement}
 use Rattle.def_source.specs.declared.parts.Part.{Part}
@@ -16,19 +17,15 @@ use Rattle.ct_asm.specs.Emitting.{IsFound}
 pub from_here : (ss : List (Statement (Bor Name))) (k : ℕ) (d : Statement (Bor Name)) → k < length ss → statements_view (drop k ss) ≡ statement_view (get_or ss k d) ∷ statements_view (drop (k + 1) ss)
 from_here ss k d h = rw (add-one, drop-cons ss k d) refl
 
-both : (a b : Bool) → (a && b) ≡ true → (a ≡ true) × (b ≡ true)
-both true b e = (refl, e)
-both false b e = cc e
-
 parts_of : (s : Section) (p : Part Name) → is_lawful s p ≡ true → (in_section s p ≡ true) × (numbers_fit p ≡ true) × (registers_exist p ≡ true)
 parts_of s p e =
-    let one = both (in_section s p && numbers_fit p) (registers_exist p) e in
-    let two = both (in_section s p) (numbers_fit p) one.0 in
+    let one = and_parts (in_section s p && numbers_fit p) (registers_exist p) e in
+    let two = and_parts (in_section s p) (numbers_fit p) one.0 in
     (two.0, two.1, one.1)
 
 -- a lawful statement at the front
 pub first_lawful : (s : Section) (x : Statement Name) (xs all : Statements) → all ≡ x ∷ xs → lawful_from s all ≡ true → (in_section s x.part ≡ true) × (numbers_fit x.part ≡ true) × (registers_exist x.part ≡ true)
-first_lawful s x xs all cut e = parts_of s x.part (both (is_lawful s x.part) (lawful_from (section_after s (Some x.part)) xs) (sym (ap (lawful_from s) cut) ∙ e)).0
+first_lawful s x xs all cut e = parts_of s x.part (and_parts (is_lawful s x.part) (lawful_from (section_after s (Some x.part)) xs) (sym (ap (lawful_from s) cut) ∙ e)).0
 
 grown_section : (p : Place) (n : ℕ) → (grown p n).section ≡ p.section
 grown_section p n = by_test (is_text p.section)
@@ -45,7 +42,7 @@ advanced_section p q = grown_section p (size_at q (offset p))
 -- the statements after a lawful one are lawful in the section after it
 pub rest_lawful : (p p' : Place) (x : Statement Name) (xs all : Statements) → all ≡ x ∷ xs → p' ≡ advanced p x.part → lawful_from p.section all ≡ true → lawful_from p'.section xs ≡ true
 rest_lawful p p' x xs all cut next e =
-    let later = (both (is_lawful p.section x.part) (lawful_from (section_after p.section (Some x.part)) xs) (sym (ap (lawful_from p.section) cut) ∙ e)).1 in
+    let later = (and_parts (is_lawful p.section x.part) (lawful_from (section_after p.section (Some x.part)) xs) (sym (ap (lawful_from p.section) cut) ∙ e)).1 in
     ap (λ q. lawful_from q.section xs) next ∙ ap (λ s. lawful_from s xs) (advanced_section p x.part) ∙ later
 
 least_first : (a b c : Fault) → is_least a b ≡ true → is_least b c ≡ true → is_least a c ≡ true

@@ -58,10 +58,7 @@ fn push_zeros(out: &mut Vec<u8>, count: u128) -> Result<(), AllocError>
     requires { count ≤ 2 ^ 20 }
     ensures { OnOk result (out.new.items ≡ out.old.items ++ replicate count 0) }
 {
-    for _ in 0..count as u32 {
-        out.push(0)?;
-    }
-    Ok(())
+    out.resize(out.len() + count as usize, 0)
 }
 
 /// Adds the bytes of a statement at a place of its section.

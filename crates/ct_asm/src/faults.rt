@@ -9,7 +9,9 @@ ghost use Rattle.ct_asm.specs.Labels.{label_named};
 use crate::labels::Labels;
 use crate::places::{START, advanced, offset, size_at};
 use def_object::{Fault, Label, Place};
+use def_profile::limits::MOST_BYTES;
 use def_source::parts::{Part, Statement, Target};
+use def_source::reaches::{BRANCH_REACH, JUMP_REACH};
 
 /// Whether a label lies within a reach: even, backwards by at most so many bytes and forwards by
 /// two less.
@@ -92,12 +94,12 @@ fn reference_fault(labels: &Labels, k: u64, at: u128, part: Part<&[u8]>) -> Opti
 {
     match part {
         Part::Label { name } => second_fault(k, labels.get(name)),
-        Part::Branch { target, .. } => target_fault(labels, 4096, at, target),
-        Part::IfZero { target, .. } => target_fault(labels, 4096, at, target),
-        Part::IfNotZero { target, .. } => target_fault(labels, 4096, at, target),
-        Part::Jal { target, .. } => target_fault(labels, 1048576, at, target),
-        Part::Jump { target } => target_fault(labels, 1048576, at, target),
-        Part::JumpAndLink { target, .. } => target_fault(labels, 1048576, at, target),
+        Part::Branch { target, .. }
+        | Part::IfZero { target, .. }
+        | Part::IfNotZero { target, .. } => target_fault(labels, BRANCH_REACH, at, target),
+        Part::Jal { target, .. } | Part::Jump { target } | Part::JumpAndLink { target, .. } => {
+            target_fault(labels, JUMP_REACH, at, target)
+        }
         Part::TextAddress { label, .. } => text_fault(labels.get(label)),
         Part::GlobalAddress { label, .. } => data_fault(labels.get(label)),
         Part::Text
@@ -130,7 +132,7 @@ fn size_fault(at: u128, part: Part<&[u8]>) -> Option<u32>
     requires at { at < 2 ^ 101 }
     ensures { result ≡ object.size_fault at (part_view part.entry) }
 {
-    if at + size_at(part, at) > 1048576 {
+    if at + size_at(part, at) > MOST_BYTES as u128 {
         Some(8)
     } else {
         None

@@ -1,8 +1,9 @@
 //! Ways from one place to another, as the pieces that instructions hold.
 
-ghost use Rattle.std.specs.Prelude.{◌≡◌, ◌<◌, ◌^◌, ◌%◌, ◌==◌, ◌&&◌, true, None};
+ghost use Rattle.std.specs.Prelude.{◌≡◌, ◌<◌, ◌-◌, ◌^◌, ◌%◌, ◌==◌, ◌&&◌, true, None};
 ghost use Rattle.def_instr.specs.Table.{IsSigned, IsOffset};
 ghost use Rattle.def_source.specs.Source as source;
+ghost use Rattle.def_source.specs.declared.reaches.TheConstants.{BRANCH_REACH, JUMP_REACH};
 ghost use Rattle.def_object.specs.Object as object;
 ghost use Rattle.ct_source.specs.Views.{target_view};
 ghost use Rattle.ct_asm.specs.Labels.{label_named};
@@ -23,7 +24,7 @@ fn way(at: u128, to: u128) -> u32
 /// A branch's offset as it is written.
 #[tactic(auto, using(crate::proofs::Reach::branch_word))]
 fn branch_number(number: Number) -> u32
-    requires { (source.within 4096 4094 number && (number.magnitude % 2 == 0)) ≡ true }
+    requires { (source.within BRANCH_REACH (BRANCH_REACH - 2) number && (number.magnitude % 2 == 0)) ≡ true }
     ensures value { result ≡ object.number_word number }
     ensures range { IsOffset 13 result }
 {
@@ -33,7 +34,7 @@ fn branch_number(number: Number) -> u32
 /// A jump's offset as it is written.
 #[tactic(auto, using(crate::proofs::Reach::jump_word))]
 fn jump_number(number: Number) -> u32
-    requires { (source.within 1048576 1048574 number && (number.magnitude % 2 == 0)) ≡ true }
+    requires { (source.within JUMP_REACH (JUMP_REACH - 2) number && (number.magnitude % 2 == 0)) ≡ true }
     ensures value { result ≡ object.number_word number }
     ensures range { IsOffset 21 result }
 {
@@ -43,7 +44,7 @@ fn jump_number(number: Number) -> u32
 /// The way of a branch to a label in its reach.
 #[tactic(auto, using(crate::proofs::Reach::near_branch))]
 fn branch_way(at: u128, to: u128) -> u32
-    requires { object.is_near 4096 at to ≡ true }
+    requires { object.is_near BRANCH_REACH at to ≡ true }
     ensures value { result ≡ object.way at to }
     ensures range { IsOffset 13 result }
 {
@@ -53,7 +54,7 @@ fn branch_way(at: u128, to: u128) -> u32
 /// The way of a jump to a label in its reach.
 #[tactic(auto, using(crate::proofs::Reach::near_jump))]
 fn jump_way(at: u128, to: u128) -> u32
-    requires { object.is_near 1048576 at to ≡ true }
+    requires { object.is_near JUMP_REACH at to ≡ true }
     ensures value { result ≡ object.way at to }
     ensures range { IsOffset 21 result }
 {
@@ -112,8 +113,8 @@ pub(crate) fn label_offset(label: Option<Label>) -> u128
 
 /// The way of a branch that has no fault.
 pub(crate) fn branch_target(labels: &Labels, at: u128, target: Target<&[u8]>) -> u32
-    requires fit { source.fits_target 4096 (target_view target) ≡ true }
-    requires found { object.target_fault (λ n. label_named n labels.now) 4096 at (target_view target) ≡ None }
+    requires fit { source.fits_target BRANCH_REACH (target_view target) ≡ true }
+    requires found { object.target_fault (λ n. label_named n labels.now) BRANCH_REACH at (target_view target) ≡ None }
     ensures value { result ≡ object.target_word (λ n. label_named n labels.now) at (target_view target.entry) }
     ensures range { IsOffset 13 result }
 {
@@ -128,8 +129,8 @@ pub(crate) fn branch_target(labels: &Labels, at: u128, target: Target<&[u8]>) ->
 
 /// The way of a jump that has no fault.
 pub(crate) fn jump_target(labels: &Labels, at: u128, target: Target<&[u8]>) -> u32
-    requires fit { source.fits_target 1048576 (target_view target) ≡ true }
-    requires found { object.target_fault (λ n. label_named n labels.now) 1048576 at (target_view target) ≡ None }
+    requires fit { source.fits_target JUMP_REACH (target_view target) ≡ true }
+    requires found { object.target_fault (λ n. label_named n labels.now) JUMP_REACH at (target_view target) ≡ None }
     ensures value { result ≡ object.target_word (λ n. label_named n labels.now) at (target_view target.entry) }
     ensures range { IsOffset 21 result }
 {

@@ -5,15 +5,17 @@ use Rattle.std.proofs.lemmas.Bool.{both_ways, cases_Bool}
 use Rattle.ct_entry.specs.declared.rows.Owner.{Owner}
 use Rattle.ct_entry.specs.declared.rows.Owner.TheVariants.{Trusted, Compartment, Library, Thread}
 use Rattle.ct_entry.specs.Listed.{Listed}
-use Rattle.def_reach.specs.Sharing.{Reaches}
+use Rattle.def_reach.specs.Roots.{root_of}
+use Rattle.def_reach.specs.Sharing.{Edge, Reaches}
 use Rattle.def_graph.specs.Reach.{same_owner, has_entry, Reached}
-use Rattle.def_graph.specs.Route.{IsPath, precedes}
+use Rattle.def_graph.specs.Route.{IsPath, Neighbours, Step, precedes}
 use Rattle.ct_graph.specs.Cells.{cell, far, IsDistance, Walks}
 use Rattle.ct_graph.specs.Links.{links_of, link_of, own, goes}
-use Rattle.ct_graph.specs.Nodes.{is_node, nodes_of, with_node, node, matrix_of, Stands, AllDistances, HasRows, IsGraph, IsNear, IsRoute, NotNear, stands_among, row_of, rows_of}
+use Rattle.ct_graph.specs.Nodes.{is_node, nodes_of, with_node, node, matrix_of, Stands, AllDistances, HasRows, IsGraph, IsNear, IsRoute, HasStep, NoStep, NotNear, stands_among, row_of, rows_of}
 use Rattle.ct_graph.specs.declared.links.Link.{Link}
 use Rattle.ct_graph.proofs.Orders.{nodes_have, stands_at, among}
-use Rattle.ct_graph.proofs.Transfer.{path_is, near_reaches, reaches_near}
+use Rattle.ct_graph.proofs.Steps.{step_found, step_made}
+use Rattle.ct_graph.proofs.Transfer.{cell_is, owner_listed, path_is, near_reaches, reaches_near}
 use Rattle.std.proofs.lemmas.List.{length-map}
 
 pub steps_size : (e : Listed) (ns : List Owner) → length (matrix_of e ns) ≡ length ns
@@ -140,3 +142,32 @@ others_reach_none e (Compartment a) c h n r = both_ways true h refl
 others_reach_none e (Library l) c h n r = both_ways true h refl
 others_reach_none e Trusted c h n r = n refl
 others_reach_none e (Thread t) c h n r = r
+
+-- ---- edges
+
+neighbours_of : (e : Listed) (a b : ℕ) → Step e (Compartment a) (Compartment b) → Neighbours e (Compartment a) (Compartment b)
+neighbours_of e a b (inl brings) = absurd brings.is_library
+neighbours_of e a b (inr n) = n
+
+-- what stands in the matrix at two owners' places
+cell_goes : (e : Listed) (ns : List Owner) (steps : List (List Bool)) (all : List (List ℕ)) (a b : Owner) (i k : ℕ) → IsGraph e ns steps all → Stands ns a i → Stands ns b k → cell steps i k ≡ goes e a b
+cell_goes e ns steps all a b i k g start end =
+    ap (λ m. cell m i k) g.steps_are ∙ cell_is e ns i k start.inside end.inside ∙ ap (λ o. goes e o (node ns k)) (start.here Trusted) ∙ ap (λ o. goes e a o) (end.here Trusted)
+
+pub step_joins : (e : Listed) (ns : List Owner) (steps : List (List Bool)) (all : List (List ℕ)) (a b : ℕ) → IsGraph e ns steps all → HasStep ns steps (Compartment a) (Compartment b) → Neighbours e (Compartment a) (Compartment b)
+step_joins e ns steps all a b g h =
+    neighbours_of e a b (step_found e (Compartment a) (Compartment b) (sym (cell_goes e ns steps all (Compartment a) (Compartment b) h.i h.k g h.start h.end) ∙ h.goes))
+
+-- both ends of an edge have entries
+pub ends_listed : (e : Listed) (a b : ℕ) → Edge e a b → (has_entry e.rows (Compartment a) ≡ true) × (has_entry e.rows (Compartment b) ≡ true)
+ends_listed e a b (inl c) = (owner_listed e c.import (Compartment a) refl c.caller, owner_listed e (root_of e c.import).of (Compartment b) refl c.callee)
+ends_listed e a b (inr (inl c)) = (owner_listed e (root_of e c.import).of (Compartment a) refl c.callee, owner_listed e c.import (Compartment b) refl c.caller)
+ends_listed e a b (inr (inr (object, x, y))) = (owner_listed e x.import (Compartment a) refl x.importer, owner_listed e y.import (Compartment b) refl y.importer)
+
+pub no_step_apart : (e : Listed) (ns : List Owner) (steps : List (List Bool)) (all : List (List ℕ)) (a b : ℕ) → IsGraph e ns steps all → NoStep ns steps (Compartment a) (Compartment b) → Neighbours e (Compartment a) (Compartment b) → ⊥
+no_step_apart e ns steps all a b g (inl none) n =
+    both_ways (stands_among ns (Compartment a)) none (subst (λ l. stands_among l (Compartment a) ≡ true) (sym g.nodes) (nodes_have e (Compartment a) refl ∙ (ends_listed e a b n.1).0))
+no_step_apart e ns steps all a b g (inr (inl none)) n =
+    both_ways (stands_among ns (Compartment b)) none (subst (λ l. stands_among l (Compartment b) ≡ true) (sym g.nodes) (nodes_have e (Compartment b) refl ∙ (ends_listed e a b n.1).1))
+no_step_apart e ns steps all a b g (inr (inr off)) n =
+    both_ways (goes e (Compartment a) (Compartment b)) (sym (cell_goes e ns steps all (Compartment a) (Compartment b) off.i off.k g off.start off.end) ∙ off.stays) (step_made e (Compartment a) (Compartment b) (inr n))

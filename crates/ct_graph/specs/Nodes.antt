@@ -1,5 +1,5 @@
 -- The owners of a graph: compartments and libraries that own a row, each once and in order.
-use Rattle.std.specs.Prelude.{ℕ, ◌≡◌, ◌<◌, ◌≤◌, ◌++◌, ◌||◌, ◌⊎◌, Bool, false, List, [], ◌∷◌, map, length, take, drop, if◌then◌else◌, slice_index_or}
+use Rattle.std.specs.Prelude.{ℕ, ◌≡◌, ◌<◌, ◌≤◌, ◌++◌, ◌||◌, ◌⊎◌, Bool, true, false, List, [], ◌∷◌, map, length, take, drop, if◌then◌else◌, slice_index_or}
 use Rattle.std.specs.List.{list_any}
 use Rattle.ct_entry.specs.declared.rows.Owner.{Owner}
 use Rattle.ct_entry.specs.declared.rows.Owner.TheVariants.{Trusted}
@@ -95,3 +95,23 @@ pub record IsRoute (ns : List Owner) (steps : List (List Bool)) (all : List (Lis
   pub near : IsNear ns all o target i k
   pub walks : Walks (cell steps) (length ns) (slice_index_or all k []) i places k
   pub named : owners ≡ o ∷ map (node ns) places
+
+-- two owners stand at these places, and the first has a step to the second
+pub record HasStep (ns : List Owner) (steps : List (List Bool)) (a b : Owner) : Type 0 where
+  pub i : ℕ
+  pub k : ℕ
+  pub start : Stands ns a i
+  pub end : Stands ns b k
+  pub goes : cell steps i k ≡ true
+
+-- they stand at these places, and the first has no step to the second
+pub record StaysOff (ns : List Owner) (steps : List (List Bool)) (a b : Owner) : Type 0 where
+  pub i : ℕ
+  pub k : ℕ
+  pub start : Stands ns a i
+  pub end : Stands ns b k
+  pub stays : cell steps i k ≡ false
+
+-- one of them doesn't stand among the nodes, or there is no step
+abbrev pub NoStep : List Owner → List (List Bool) → Owner → Owner → Type 0
+NoStep ns steps a b = (stands_among ns a ≡ false) ⊎ (stands_among ns b ≡ false) ⊎ StaysOff ns steps a b

@@ -4,11 +4,11 @@ ghost use Rattle.std.specs.Prelude.{ℕ, ◌≡◌, ◌<◌, ◌≤◌, ◌^◌,
 ghost use Rattle.std.specs.List.{list_any};
 ghost use Rattle.ct_entry.specs.Listed.{Listed};
 ghost use Rattle.ct_entry.specs.declared.rows.Owner.{Owner};
-ghost use Rattle.ct_entry.specs.declared.rows.Owner.TheVariants.{Trusted};
+ghost use Rattle.ct_entry.specs.declared.rows.Owner.TheVariants.{Trusted, Compartment};
 ghost use Rattle.def_graph.specs.Reach.{Reached, same_owner};
-ghost use Rattle.def_graph.specs.Route.{IsPath};
+ghost use Rattle.def_graph.specs.Route.{IsPath, Neighbours};
 ghost use Rattle.ct_graph.specs.Cells.{cell, IsDistance, far};
-ghost use Rattle.ct_graph.specs.Nodes.{AllDistances, HasRows, IsGraph, IsNear, IsRoute, NotNear, node};
+ghost use Rattle.ct_graph.specs.Nodes.{AllDistances, HasRows, HasStep, IsGraph, IsNear, IsRoute, NoStep, NotNear, node};
 ghost use Rattle.ct_graph.specs.declared.sharing.Ends.{Ends};
 ghost use Rattle.std.specs.Bool.{MatchBool};
 
@@ -101,6 +101,18 @@ impl Graph {
             Owner::Trusted => stands(self.nodes.as_slice(), Owner::Compartment(c.0)),
             _ => false,
         }
+    }
+
+    /// Whether an edge of the sharing graph joins two compartments (docs/use/report.md): they are
+    /// different, and one passes capabilities to the other or both share an object with letter C.
+    ///
+    /// No edge leads to a compartment without an entry.
+    pub fn joins(&self, a: Comp, b: Comp) -> bool
+        ensures { IsTrue result ↔ Neighbours self.now (Compartment a.0) (Compartment b.0) }
+    {
+        let from = Owner::Compartment(a.0);
+        let to = Owner::Compartment(b.0);
+        has_step(self.nodes.as_slice(), self.steps.as_slice(), from, to)
     }
 
     /// The path from an owner to a compartment that has the fewest members, and among these the
@@ -200,6 +212,31 @@ fn near(nodes: &[Owner], far: &[Vec<u32>], o: Owner, target: Owner) -> bool
 {
     match find(nodes, far, o, target) {
         Some(_) => true,
+        None => false,
+    }
+}
+
+/// Whether the first of two owners has a step to the second.
+fn has_step(nodes: &[Owner], steps: &[Vec<bool>], a: Owner, b: Owner) -> bool
+    ensures { MatchBool result
+        (HasStep nodes.now (map (λ r. r.items) steps.now) a b)
+        (NoStep nodes.now (map (λ r. r.items) steps.now) a b) }
+{
+    match place_of(nodes, a) {
+        Some(from) => match place_of(nodes, b) {
+            Some(to) => cell_at(steps, from, to),
+            None => false,
+        },
+        None => false,
+    }
+}
+
+/// What stands in a row of steps at a place; no step past the end.
+fn cell_at(steps: &[Vec<bool>], from: usize, to: usize) -> bool
+    ensures { result ≡ cell (map (λ r. r.items) steps.now) from to }
+{
+    match steps.get(from) {
+        Some(row) => to < row.len() && row[to],
         None => false,
     }
 }

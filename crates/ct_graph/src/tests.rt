@@ -110,6 +110,43 @@ fn two_that_share_and_one_that_passes_data(rt: HostRuntime) {
     }
 }
 
+/// Whether an edge joins two compartments, asked from both ends.
+fn check_edge(rt: &(impl Abort + AllocGlobal), graph: &Graph, a: u32, b: u32, joined: bool) {
+    assert_eq!(rt; graph.joins(Comp(a), Comp(b)), joined, "from {a} to {b}");
+    assert_eq!(rt; graph.joins(Comp(b), Comp(a)), joined, "from {b} to {a}");
+}
+
+#[test]
+fn edges_join_two_that_pass_capabilities(rt: HostRuntime) {
+    let (first, second) = (3, 7);
+    let rows = [
+        code(comp(0)),
+        slot(comp(0), Kind::Shared, 0, WITH_C),
+        slot(comp(0), Kind::Export, 0, 0),
+        code(comp(1)),
+        slot(comp(1), Kind::Shared, 0, WITH_C),
+        slot(comp(1), Kind::Shared, 1, WITHOUT_C),
+        slot(comp(1), Kind::Export, 0, 0),
+        code(comp(2)),
+        slot(comp(2), Kind::Shared, 1, WITH_C),
+        slot(comp(2), Kind::Call, second, 0),
+        slot(comp(0), Kind::Call, first, 0),
+        slot(comp(3), Kind::Call, first, 0),
+    ];
+    let graph = graph_of(&rt, rows.as_slice(), &[first]);
+    check_edge(&rt, &graph, 0, 1, true);
+    check_edge(&rt, &graph, 0, 3, true);
+    // the export of 1 passes data, and 1 shares object 1 without C
+    check_edge(&rt, &graph, 1, 2, false);
+    // joined by a list of two edges alone
+    check_edge(&rt, &graph, 1, 3, false);
+    check_edge(&rt, &graph, 0, 2, false);
+    // its own export, its own object
+    check_edge(&rt, &graph, 0, 0, false);
+    check_edge(&rt, &graph, 9, 0, false);
+    check_edge(&rt, &graph, 9, 9, false);
+}
+
 #[test]
 fn chain_ring_and_libraries(rt: HostRuntime) {
     let rows = [

@@ -20,8 +20,10 @@ fn whole_size(size: u32) -> u32
     whole.max(REGION_UNIT)
 }
 
-/// The bytes of a size's region.
-fn region_length(size: u32) -> u64
+/// The bytes of the region of a size.
+///
+/// Condition: a region has at most 2 MiB.
+pub fn region_length(size: u32) -> u64
     requires { size ≤ MOST_REGION }
     ensures value { result ≡ spec.region_length size }
     ensures fits { result ≤ 2 ^ 32 }

@@ -15,6 +15,7 @@ ghost use Rattle.std.specs.Prelude.{◌≡◌, MatchResult};
 ghost use Rattle.ct_layout.specs.Rows.{HasRoom, IsPlaceable, Refuses, places_of};
 
 pub use def_layout::Region;
+pub use ends::region_length;
 pub use fault::LayoutFault;
 pub use sizes::{Places, Sizes};
 use std::alloc::Global;

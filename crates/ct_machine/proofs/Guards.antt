@@ -13,20 +13,27 @@ use Rattle.def_step.specs.Firmware.{IsLawfulFirmware}
 use Rattle.law_boot.proofs.Whole.{image_partitioned}
 use Rattle.law_entries.proofs.Wiring.{wired}
 use Rattle.law_boot.proofs.Besides.{boot_keeps}
+use Rattle.law_shut.proofs.Shutting.{shut}
+use Rattle.law_settled.proofs.Boots.{boot_settles}
+use Rattle.law_settled.proofs.Events.{event_settles}
 use Rattle.law_events.proofs.Events.{event_keeps, deed_licensed, span_licensed}
 
 pub at_boot : (f : FirmwareRow) → IsLawfulFirmware f → Guarded (booted_machine f)
 at_boot f l = record {
   partitioned = image_partitioned f l;
   wired = wired f l;
+  shut = shut f l;
   keeps = boot_keeps f l;
+  settled = boot_settles f;
 }
 
 pub after_event : (m : MachineRow) (e : Event) → Guarded m → Guarded (record { board = m.board; state = (happens m.board m.state e).0 })
 after_event m e g = record {
   partitioned = g.partitioned;
   wired = g.wired;
+  shut = g.shut;
   keeps = event_keeps m.board m.state e g.partitioned g.wired g.keeps;
+  settled = event_settles m.board m.state e g.settled;
 }
 
 pub event_licensed : (m : MachineRow) (e : Event) → Guarded m → IsLicensedEvent m.board.image.entries (happens m.board m.state e).1

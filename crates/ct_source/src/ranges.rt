@@ -3,10 +3,13 @@
 
 ghost use Rattle.std.specs.Prelude.{◌≡◌, ◌-◌, ◌≤◌, ◌%◌, ◌==◌, ◌&&◌, nat_lt};
 ghost use Rattle.def_source.specs.Source as source;
+ghost use Rattle.def_source.specs.declared.reaches.TheConstants.{MOST_ALIGNMENT};
 ghost use Rattle.ct_source.specs.Views.{part_view, target_view};
 
 use def_instr::shapes::ImmediateOperation;
+use def_profile::limits::MOST_BYTES;
 use def_source::parts::{Number, Part, Section, Target};
+use def_source::reaches::{BRANCH_REACH, JUMP_REACH, MOST_ALIGNMENT};
 
 /// Whether the section has such statements: instructions stand in text, bytes, zeros and alignment
 /// among the initial bytes.
@@ -54,11 +57,13 @@ fn fits_target(reach: u128, target: Target<&[u8]>) -> bool
     }
 }
 
-/// Whether a number is 1 or a power of two up to 4096.
+/// Whether a number is 1 or a power of two up to the greatest alignment.
 fn fits_align(number: Number) -> bool
-    ensures { result ≡ (source.within 0 4096 number && nat_lt 0 number.magnitude && 4096 % number.magnitude == 0) }
+    ensures { result ≡ (source.within 0 MOST_ALIGNMENT number && nat_lt 0 number.magnitude && MOST_ALIGNMENT % number.magnitude == 0) }
 {
-    within(0, 4096, number) && 0 < number.magnitude && 4096 % number.magnitude == 0
+    within(0, MOST_ALIGNMENT, number)
+        && 0 < number.magnitude
+        && MOST_ALIGNMENT % number.magnitude == 0
 }
 
 /// Whether each number is in its range.
@@ -70,7 +75,7 @@ pub(crate) fn numbers_fit(part: Part<&[u8]>) -> bool
             within(1 << 31, (1 << 32) - 1, number)
         }
         Part::Byte { number } => within(128, 255, number),
-        Part::Zero { number } => within(0, 1048576, number),
+        Part::Zero { number } => within(0, MOST_BYTES as u128, number),
         Part::Align { number } => fits_align(number),
         Part::Immediate {
             operation,
@@ -83,9 +88,9 @@ pub(crate) fn numbers_fit(part: Part<&[u8]>) -> bool
         | Part::Store { number, .. } => within(2048, 2047, number),
         Part::Branch { target, .. }
         | Part::IfZero { target, .. }
-        | Part::IfNotZero { target, .. } => { fits_target(4096, target) }
+        | Part::IfNotZero { target, .. } => { fits_target(BRANCH_REACH, target) }
         Part::Jal { target, .. } | Part::Jump { target } | Part::JumpAndLink { target, .. } => {
-            fits_target(1048576, target)
+            fits_target(JUMP_REACH, target)
         }
         Part::Label { .. }
         | Part::Text

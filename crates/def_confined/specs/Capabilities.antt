@@ -4,8 +4,10 @@ use Rattle.def_words.specs.declared.Cap.{Cap}
 use Rattle.def_words.specs.Authority.{cap_address, cap_base, cap_top}
 use Rattle.def_words.specs.Permissions.{IsLegal, Within, cap_perms, has, global, store_local, execute}
 use Rattle.def_words.specs.Seals.{cap_seal}
-use Rattle.ct_entry.specs.declared.rows.Kind.TheVariants.{Call, Service}
-use Rattle.def_reach.specs.Roots.{TrustedPart, Listing, is_quota, is_stack, is_native, is_root}
+use Rattle.ct_entry.specs.declared.rows.Owner.{Owner}
+use Rattle.ct_entry.specs.declared.rows.Owner.TheVariants.{Compartment}
+use Rattle.ct_entry.specs.declared.rows.Kind.TheVariants.{Call, Code, Service}
+use Rattle.def_reach.specs.Roots.{Origin, TrustedPart, Listing, is_quota, is_stack, is_native, is_root}
 use Rattle.def_machine.specs.Image.{Image, root, made_cap}
 use Rattle.def_profile.specs.declared.rights.TheConstants.{HEAP_RIGHTS}
 
@@ -15,6 +17,15 @@ heap_cap i c = is_quota (root i c.shadow.root).origin && not (nat_eq c.shadow.so
 
 abbrev pub stack_cap : Image → Cap → Bool
 stack_cap i c = is_stack (root i c.shadow.root).origin
+
+abbrev pub is_compartments : Owner → Bool
+is_compartments (Compartment b) = true
+is_compartments _ = false
+
+-- code is a root where it is a compartment's: a library's is not
+abbrev pub is_home : Origin → Owner → Bool
+is_home (Listing Code) o = is_compartments o
+is_home _ o = true
 
 -- the types that boot alone makes: forward sentries, exports and quotas
 abbrev pub IsBootType : ℕ → Type 0
@@ -36,6 +47,7 @@ pub record AsBoot (i : Image) (c : Cap) : Type 0 where
 pub record Rooted (i : Image) (c : Cap) : Type 0 where
   pub order : cap_base c ≤ cap_top c
   pub from : is_root (root i c.shadow.root).origin ≡ true
+  pub home : is_home (root i c.shadow.root).origin (root i c.shadow.root).owner ≡ true
   pub legal : IsLegal (cap_perms c)
   pub range : heap_cap i c ≡ false → ((root i c.shadow.root).base ≤ cap_base c) × (cap_top c ≤ (root i c.shadow.root).top)
   pub heap : heap_cap i c ≡ true → (i.heap_base ≤ cap_base c) × (cap_top c ≤ i.heap_end)

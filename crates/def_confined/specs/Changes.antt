@@ -2,6 +2,7 @@
 -- and its stack is zeroed; capabilities stay or lose their tag while objects change.
 use Rattle.std.specs.Prelude.{ℕ, ◌≡◌, ◌+◌, ◌%◌, ◌≤◌, ◌<◌, ◌⊎◌, true, false, List, [], ◌∷◌, length, Option, Some}
 use Rattle.def_words.specs.declared.Cap.{Cap}
+use Rattle.def_words.specs.declared.Posture.{Posture}
 use Rattle.def_words.specs.Seals.{cap_seal}
 use Rattle.ct_entry.specs.declared.rows.Owner.TheVariants.{Compartment}
 use Rattle.ct_entry.specs.declared.rows.Kind.TheVariants.{Stack}
@@ -12,8 +13,22 @@ use Rattle.def_machine.specs.Objects.{Any, Each, charges}
 use Rattle.def_machine.specs.Frames.{Given}
 use Rattle.def_confined.specs.Capabilities.{Rooted, Kept, IsReturnType}
 use Rattle.def_confined.specs.Places.{InFrames, HasObject, HasLive, HeapDomain, outer}
-use Rattle.def_confined.specs.Confined.{FramesHold, PostureFits, IsPcc, SavedKept, Apart, AllApart, ObjectFits, MarksFit}
+use Rattle.def_confined.specs.Confined.{Confined, FramesHold, PostureFits, IsPcc, SavedKept, Apart, AllApart, ObjectFits, MarksFit}
 use Rattle.def_confined.specs.Made.{IsOwn, IsReturnSentry, IsStackUpTo}
+
+-- a capability that a register of the running thread may get
+pub record Puts (i : Image) (s : State) (t : ℕ) (c : Cap) : Type 0 where
+  pub there : InFrames i s.objects t (thread s t).frames c
+  pub kept : Kept i c
+  pub live : HasLive i s.objects c
+
+-- what a jump of a thread leaves: its program counter, its posture, and the link in a register
+pub record Jumps (i : Image) (s : State) (t : ℕ) (pcc : Cap) (posture : Posture) (link : Cap) : Type 0 where
+  pub held : Confined i s
+  pub target : InFrames i s.objects t (thread s t).frames pcc
+  pub runs : pcc.tag ≡ true → IsPcc i pcc
+  pub fits : PostureFits i (record (thread s t) { posture = posture }) (thread s t).frames
+  pub gets : Puts i s t link
 
 -- a thread's new self, with its frames as they were
 pub record Changes (i : Image) (s : State) (t : ℕ) (new : Thread) (run : Option ℕ) : Type 0 where

@@ -75,6 +75,7 @@ AllApart [] = Unit {0}
 AllApart (r ∷ rs) = Each (Apart r) rs × AllApart rs
 
 pub record ObjectFits (i : Image) (next : ℕ) (r : Object) : Type 0 where
+  pub first : 0 < r.number
   pub number : r.number < next
   pub low : i.heap_base + 8 ≤ r.base
   pub high : r.base + r.length ≤ i.heap_end

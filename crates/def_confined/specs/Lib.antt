@@ -7,5 +7,6 @@ pub mod Made
 pub mod Changes
 pub mod Licensed
 pub mod Holding
+pub mod Settled
 pub mod Keeps
 pub mod Telling

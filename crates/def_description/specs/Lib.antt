@@ -9,3 +9,5 @@ pub mod References
 pub mod Reading
 pub mod Addresses
 pub mod WellFormed
+pub mod Named
+pub mod Lawful

@@ -1,8 +1,9 @@
 -- What of RAM is hidden from firmware, and what that asks of an image.
 use Rattle.std.specs.Prelude.{ℕ, ◌+◌, ◌%◌, ◌≡◌, ◌≤◌, ◌<◌, ◌⊎◌, ◌&&◌, ◌||◌, Bool, true, false, not, nat_le, nat_lt, List, [], ◌∷◌}
 use Rattle.def_words.specs.Permissions.{bit, load_data, store_data, execute}
+use Rattle.def_memory.specs.Granules.{plain}
 use Rattle.def_machine.specs.Image.{Image, root, address_of, trusted_end}
-use Rattle.def_machine.specs.State.{Object}
+use Rattle.def_machine.specs.State.{State, Object, granule}
 
 -- an address of a live object
 abbrev pub is_live_at : List Object → ℕ → Bool
@@ -17,6 +18,10 @@ is_hidden_at i objects x =
 -- a granule that is hidden
 abbrev pub is_hidden : Image → List Object → ℕ → Bool
 is_hidden i objects k = is_hidden_at i objects (address_of i k)
+
+-- what is hidden is zero
+abbrev pub Blank : Image → State → Type 0
+Blank i s = (k : ℕ) → is_hidden i s.objects k ≡ true → (granule s k).cap ≡ plain 0
 
 -- an entry through which something is loaded, stored or fetched
 abbrev pub MayReach : ℕ → Type 0

@@ -1,5 +1,5 @@
--- What an image may hold, as the machine stands. The numbers that rise as it grows stand in the module `taken`, and
--- are cited here alone; the other limits of each version are the profile's.
+-- What an image may hold. How much of the format is taken stands in the module `taken`; the other limits of each version
+-- are the profile's.
 use Rattle.std.specs.Prelude.{ℕ, ◌&&◌, Bool, nat_le, not, if◌then◌else◌}
 use Rattle.def_profile.specs.Versions as version
 use Rattle.def_image.specs.declared.taken.TheConstants.{VERSIONS_TAKEN, SERVICES_TAKEN, THREADS_TAKEN}

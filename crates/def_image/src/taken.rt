@@ -1,11 +1,12 @@
-//! How much of the format is taken, as the machine stands. These numbers rise as it grows, up to
-//! those of the format; nothing else says them.
+//! How much of the format is taken: all of it. Images and descriptions cite these numbers, and
+//! nothing else says them.
 
-use def_profile::native::SWITCH;
+use def_profile::limits::{LAST_VERSION, MOST_THREADS_2};
+use def_profile::native::LAST_NATIVE;
 
 /// The last version whose images are taken.
-pub const VERSIONS_TAKEN: u32 = 1;
+pub const VERSIONS_TAKEN: u32 = LAST_VERSION;
 /// The last native routine that a slot may name.
-pub const SERVICES_TAKEN: u32 = SWITCH;
+pub const SERVICES_TAKEN: u32 = LAST_NATIVE;
 /// Threads, at most, in any version.
-pub const THREADS_TAKEN: u32 = 1;
+pub const THREADS_TAKEN: u32 = MOST_THREADS_2;

@@ -1,6 +1,6 @@
 -- The compartments and libraries of a description, one after another, each with its text, initial
 -- bytes and labels; or the first fault of one.
-use Rattle.std.specs.Prelude.{ℕ, ◌+◌, ◌%◌, List, [], ◌∷◌, ◌++◌, map, drop, length, Bool, true, false, ◌&&◌, ◌==◌, nat_lt, Option, Some, None, option_and_then, is_none, Result, Ok, Err, if◌then◌else◌, codes}
+use Rattle.std.specs.Prelude.{ℕ, ◌+◌, ◌%◌, List, [], ◌∷◌, ◌++◌, map, drop, length, Bool, true, false, ◌&&◌, ◌==◌, nat_lt, Option, Some, None, option_and_then, is_none, Result, Ok, Err, if◌then◌else◌}
 use Rattle.std.specs.List.{flat_map}
 use Rattle.ct_entry.specs.declared.rows.Owner.{Owner}
 use Rattle.ct_entry.specs.declared.rows.Owner.TheVariants.{Compartment, Library}
@@ -10,8 +10,8 @@ use Rattle.def_source.specs.Source.{Statements, program_of, is_text}
 use Rattle.def_object.specs.declared.Fault.{Fault}
 use Rattle.def_object.specs.declared.Label.{Label}
 use Rattle.def_object.specs.Object.{undeclared_in, fault_in, label_in, text_of, initial_of, word_bytes}
-use Rattle.def_description.specs.Names.{key_name}
-use Rattle.def_description.specs.Rows.{CodeRow, AtRow, ImportRow, QuotaRow, ExportRow, CompartmentRow, LimportRow, LexportRow, LibraryRow, DescRow}
+use Rattle.def_description.specs.Named.{slot_names, library_slot_names}
+use Rattle.def_description.specs.Rows.{CodeRow, AtRow, ExportRow, CompartmentRow, LexportRow, LibraryRow, DescRow}
 use Rattle.def_link.specs.declared.LinkFault.{LinkFault}
 use Rattle.def_link.specs.declared.LinkFault.TheVariants as fault
 
@@ -24,14 +24,6 @@ pub record Unit : Type 0 where
   pub code : CodeRow
   pub exports : List AtRow
 
--- slot 0 `switch`, the imports, the quotas, the keys
-abbrev pub slot_names : CompartmentRow → List (List ℕ)
-slot_names c =
-    codes "switch"
-    ∷ map (λ (x : ImportRow). x.alias) c.imports
-    ++ map (λ (q : QuotaRow). q.name) c.quotas
-    ++ map key_name c.keys
-
 abbrev pub compartment_unit : ℕ → CompartmentRow → Unit
 compartment_unit i c = record {
   owner = Compartment i;
@@ -43,7 +35,7 @@ compartment_unit i c = record {
 abbrev pub library_unit : ℕ → LibraryRow → Unit
 library_unit i l = record {
   owner = Library i;
-  slots = map (λ (x : LimportRow). x.alias) l.imports;
+  slots = library_slot_names l;
   code = l.code;
   exports = map (λ (e : LexportRow). e.at) l.exports;
 }

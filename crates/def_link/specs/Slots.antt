@@ -1,7 +1,6 @@
 -- The rows of import and export tables that a description stands for. What is named is given by its
 -- index; a well-formed description names nothing that isn't there.
 use Rattle.std.specs.Prelude.{ℕ, ◌+◌, List, [], ◌∷◌, ◌++◌, map, length, Bool, true, false, nat_lt, Option, Some, None, unwrap_or, bytes_eq, if◌then◌else◌, codes}
-use Rattle.ct_entry.specs.Listed.{DeviceRow}
 use Rattle.def_profile.specs.declared.native.TheConstants.{SWITCH}
 use Rattle.def_profile.specs.declared.rights.TheConstants.{GL, SD, LG, LM, LD, MC, SERVICE_RIGHTS, SEALED_RIGHTS, EXPORT_RIGHTS, CODE_RIGHTS, QUOTA_RIGHTS, KEY_RIGHTS}
 use Rattle.def_words.specs.Permissions.{packed}
@@ -17,9 +16,10 @@ use Rattle.def_description.specs.declared.tables.Passes.{Passes}
 use Rattle.def_description.specs.declared.tables.Passes.TheVariants.{Capabilities, Data}
 use Rattle.def_description.specs.Tables.{service_of}
 use Rattle.def_description.specs.Names.{key_name}
+use Rattle.def_description.specs.Named.{device_names, shared_names, sealed_names, export_names, library_export_names}
 use Rattle.def_description.specs.Reading.{rights_of}
 use Rattle.def_description.specs.References.{target_of, export_name}
-use Rattle.def_description.specs.Rows.{Target, ImportRow, QuotaRow, ExportRow, CompartmentRow, LimportRow, LexportRow, LibraryRow, SharedRow, SealedRow, DescRow}
+use Rattle.def_description.specs.Rows.{Target, ImportRow, QuotaRow, ExportRow, CompartmentRow, LimportRow, LexportRow, LibraryRow, DescRow}
 use Rattle.def_link.specs.Owners.{Built, begin_of, numbered}
 
 -- ---- where a name stands
@@ -53,10 +53,10 @@ export_from name n (x ∷ xs) =
     if nat_lt i (length x.exports) then exported n i else export_from name (n + 1) xs
 
 abbrev pub compartment_exporters : DescRow → List Exporter
-compartment_exporters d = map (λ (c : CompartmentRow). record { name = c.name; exports = map (λ (e : ExportRow). e.name) c.exports }) d.compartments
+compartment_exporters d = map (λ (c : CompartmentRow). record { name = c.name; exports = export_names c }) d.compartments
 
 abbrev pub library_exporters : DescRow → List Exporter
-library_exporters d = map (λ (l : LibraryRow). record { name = l.name; exports = map (λ (e : LexportRow). e.name) l.exports }) d.libraries
+library_exporters d = map (λ (l : LibraryRow). record { name = l.name; exports = library_export_names l }) d.libraries
 
 abbrev pub called : DescRow → List ℕ → Exported
 called d name = export_from name 0 (compartment_exporters d)
@@ -85,15 +85,6 @@ slot name row = record { row = row; name = name }
 
 abbrev pub exported_row : SlotKind → ℕ → Exported → SlotImport
 exported_row kind rights x = slot_row kind rights x.owner x.export
-
-abbrev pub device_names : DescRow → List (List ℕ)
-device_names d = map (λ (x : DeviceRow). x.name) d.devices
-
-abbrev pub shared_names : DescRow → List (List ℕ)
-shared_names d = map (λ (x : SharedRow). x.name) d.shared
-
-abbrev pub sealed_names : DescRow → List (List ℕ)
-sealed_names d = map (λ (x : SealedRow). x.name) d.sealed
 
 abbrev pub form_row : DescRow → ℕ → Form → List ℕ → SlotImport
 form_row d rights form.Device name = slot_row kind.Device rights (index_of name (device_names d)) 0

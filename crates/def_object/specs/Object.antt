@@ -13,6 +13,8 @@ use Rattle.def_instr.specs.declared.shapes.Shape.TheVariants as shape
 use Rattle.def_instr.specs.Shapes.{shaped}
 use Rattle.def_source.specs.declared.parts.BareOperation.{BareOperation}
 use Rattle.def_source.specs.declared.parts.BareOperation.TheVariants as bare
+use Rattle.def_profile.specs.declared.limits.TheConstants.{MOST_BYTES}
+use Rattle.def_source.specs.declared.reaches.TheConstants.{BRANCH_REACH, JUMP_REACH}
 use Rattle.def_source.specs.Source.{Name, Statements, is_text, is_data, or_else}
 use Rattle.def_source.specs.declared.parts.Number.{Number}
 use Rattle.def_source.specs.declared.parts.Section.{Section}
@@ -117,19 +119,19 @@ second_fault k (Some l) = if l.index == k then None else Some 5
 -- what a statement at a place of its section refers to, or what it defines again; it is number k
 abbrev pub reference_fault : Labels → ℕ → ℕ → Part Name → Option ℕ
 reference_fault labels k at (part.Label name) = second_fault k (labels name)
-reference_fault labels k at (part.Branch operation rs1 rs2 target) = target_fault labels 4096 at target
-reference_fault labels k at (part.IfZero rs target) = target_fault labels 4096 at target
-reference_fault labels k at (part.IfNotZero rs target) = target_fault labels 4096 at target
-reference_fault labels k at (part.Jal rd target) = target_fault labels 1048576 at target
-reference_fault labels k at (part.Jump target) = target_fault labels 1048576 at target
-reference_fault labels k at (part.JumpAndLink rd target) = target_fault labels 1048576 at target
+reference_fault labels k at (part.Branch operation rs1 rs2 target) = target_fault labels BRANCH_REACH at target
+reference_fault labels k at (part.IfZero rs target) = target_fault labels BRANCH_REACH at target
+reference_fault labels k at (part.IfNotZero rs target) = target_fault labels BRANCH_REACH at target
+reference_fault labels k at (part.Jal rd target) = target_fault labels JUMP_REACH at target
+reference_fault labels k at (part.Jump target) = target_fault labels JUMP_REACH at target
+reference_fault labels k at (part.JumpAndLink rd target) = target_fault labels JUMP_REACH at target
 reference_fault labels k at (part.TextAddress rd label) = text_fault (labels label)
 reference_fault labels k at (part.GlobalAddress rd label) = data_fault (labels label)
 reference_fault labels k at _ = None
 
 -- a section has at most so many bytes
 abbrev pub limit : ℕ
-limit = 1048576
+limit = MOST_BYTES
 
 abbrev pub size_fault : ℕ → Part Name → Option ℕ
 size_fault at q = if nat_lt limit (at + size_at q at) then Some 8 else None

@@ -4,6 +4,8 @@
 use Rattle.std.specs.Prelude.{◌≡◌, ℕ, ◌+◌, ◌*◌, ◌-◌, ◌%◌, ◌^◌, Bool, true, false, ◌==◌, ◌&&◌, ◌||◌, not, nat_lt, nat_le, if◌then◌else◌, List, [], ◌∷◌, ◌++◌, length, option_and_then, option_map, Option, Some, None, Result, Ok, Err, IsTrue}
 use Rattle.std.specs.List.{list_all}
 use Rattle.std.specs.Str.{bytes_eq}
+use Rattle.def_profile.specs.declared.limits.TheConstants.{MOST_BYTES}
+use Rattle.def_source.specs.declared.reaches.TheConstants.{BRANCH_REACH, JUMP_REACH, MOST_ALIGNMENT}
 use Rattle.def_source.specs.declared.words.TheConstants.{HEADS, DIRECTIVES, REGISTERS}
 use Rattle.def_source.specs.declared.AsmFault.{AsmFault}
 use Rattle.def_source.specs.declared.AsmFault.TheVariants.{At, NoMemory}
@@ -366,19 +368,19 @@ fits_target reach (target.Offset n) = within reach (reach - 2) n && n.magnitude 
 abbrev pub numbers_fit : Part Name → Bool
 numbers_fit (part.Word number) = within (2 ^ 31) (2 ^ 32 - 1) number
 numbers_fit (part.Byte number) = within 128 255 number
-numbers_fit (part.Zero number) = within 0 1048576 number
-numbers_fit (part.Align number) = within 0 4096 number && nat_lt 0 number.magnitude && 4096 % number.magnitude == 0
+numbers_fit (part.Zero number) = within 0 MOST_BYTES number
+numbers_fit (part.Align number) = within 0 MOST_ALIGNMENT number && nat_lt 0 number.magnitude && MOST_ALIGNMENT % number.magnitude == 0
 numbers_fit (part.Immediate operation rd rs1 number) = fits_immediate operation number
 numbers_fit (part.Upper operation rd number) = within 524288 1048575 number
 numbers_fit (part.Load operation rd number rs1) = within 2048 2047 number
 numbers_fit (part.RegisterJump rd number rs1) = within 2048 2047 number
 numbers_fit (part.Store operation rs2 number rs1) = within 2048 2047 number
-numbers_fit (part.Branch operation rs1 rs2 target) = fits_target 4096 target
-numbers_fit (part.Jal rd target) = fits_target 1048576 target
-numbers_fit (part.Jump target) = fits_target 1048576 target
-numbers_fit (part.JumpAndLink rd target) = fits_target 1048576 target
-numbers_fit (part.IfZero rs target) = fits_target 4096 target
-numbers_fit (part.IfNotZero rs target) = fits_target 4096 target
+numbers_fit (part.Branch operation rs1 rs2 target) = fits_target BRANCH_REACH target
+numbers_fit (part.Jal rd target) = fits_target JUMP_REACH target
+numbers_fit (part.Jump target) = fits_target JUMP_REACH target
+numbers_fit (part.JumpAndLink rd target) = fits_target JUMP_REACH target
+numbers_fit (part.IfZero rs target) = fits_target BRANCH_REACH target
+numbers_fit (part.IfNotZero rs target) = fits_target BRANCH_REACH target
 numbers_fit (part.LoadImmediate rd number) = within (2 ^ 31) (2 ^ 32 - 1) number
 numbers_fit _ = true
 

@@ -4,6 +4,7 @@
 #![tactic(auto)]
 
 pub mod parts;
+pub mod reaches;
 pub mod words;
 
 use thiserror::Error;

@@ -6,6 +6,7 @@ use Rattle.def_instr.specs.declared.shapes.Shape.{Shape}
 use Rattle.def_instr.specs.declared.shapes.ImmediateOperation.{ImmediateOperation}
 use Rattle.def_instr.specs.declared.shapes.ImmediateOperation.TheVariants as immediates
 use Rattle.ct_isa.proofs.Back.{shape_back}
+use Rattle.def_source.specs.declared.reaches.TheConstants.{BRANCH_REACH, JUMP_REACH}
 use Rattle.def_source.specs.declared.parts.BareOperation.{BareOperation}
 use Rattle.def_source.specs.declared.parts.BareOperation.TheVariants as bare
 use Rattle.def_bits.specs.Bits.{extended}
@@ -89,10 +90,10 @@ near_of reach at (Some l) e = by_data (is_data l.section) (is_near reach at l.of
     by_data false true e = refl
     by_data false false e = absurd (cc e)
 
-pub branch_range : (labels : Labels) (at : ℕ) (t : Target Name) → fits_target 4096 t ≡ true → target_fault labels 4096 at t ≡ None → IsOffset 13 (target_word labels at t)
-branch_range labels at (target.Label name) fits found = near_branch at (label_offset (labels name)) (near_of 4096 at (labels name) found)
+pub branch_range : (labels : Labels) (at : ℕ) (t : Target Name) → fits_target BRANCH_REACH t ≡ true → target_fault labels BRANCH_REACH at t ≡ None → IsOffset 13 (target_word labels at t)
+branch_range labels at (target.Label name) fits found = near_branch at (label_offset (labels name)) (near_of BRANCH_REACH at (labels name) found)
 branch_range labels at (target.Offset n) fits found = branch_word n fits
 
-pub jump_range : (labels : Labels) (at : ℕ) (t : Target Name) → fits_target 1048576 t ≡ true → target_fault labels 1048576 at t ≡ None → IsOffset 21 (target_word labels at t)
-jump_range labels at (target.Label name) fits found = near_jump at (label_offset (labels name)) (near_of 1048576 at (labels name) found)
+pub jump_range : (labels : Labels) (at : ℕ) (t : Target Name) → fits_target JUMP_REACH t ≡ true → target_fault labels JUMP_REACH at t ≡ None → IsOffset 21 (target_word labels at t)
+jump_range labels at (target.Label name) fits found = near_jump at (label_offset (labels name)) (near_of JUMP_REACH at (labels name) found)
 jump_range labels at (target.Offset n) fits found = jump_word n fits

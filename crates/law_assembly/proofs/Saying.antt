@@ -1,5 +1,6 @@
 -- Each lawful statement without a fault says what its words decode to.
 use Rattle.std.proofs.Common.{◌≡◌, ℕ, ◌+◌, ◌*◌, ◌<◌, ◌^◌, Bool, true, false, ◌&&◌, cond, List, [], ◌∷◌, length, refl, arith, Option, Some, None}
+use Rattle.std.proofs.lemmas.Bool.{and_parts}
 use Rattle.def_instr.specs.declared.Instr.{Instr}
 use Rattle.def_instr.specs.declared.Instr.TheVariants as instr
 use Rattle.def_instr.specs.declared.shapes.Shape.TheVariants as shape
@@ -33,16 +34,12 @@ zero_signed = (omega arith, omega arith)
 exists_below : (r : ℕ) → exists r ≡ true → r < 16
 exists_below r e = grind (arith, e)
 
-both : (a b : Bool) → (a && b) ≡ true → (a ≡ true) × (b ≡ true)
-both true b e = (refl, e)
-both false b e = cc e
-
 two : (a b : ℕ) → (exists a && exists b) ≡ true → (a < 16) × (b < 16)
-two a b e = let h = both (exists a) (exists b) e in (exists_below a h.0, exists_below b h.1)
+two a b e = let h = and_parts (exists a) (exists b) e in (exists_below a h.0, exists_below b h.1)
 
 three : (a b c : ℕ) → (exists a && exists b && exists c) ≡ true → (a < 16) × (b < 16) × (c < 16)
 three a b c e =
-    let h = both (exists a && exists b) (exists c) e in
+    let h = and_parts (exists a && exists b) (exists c) e in
     let k = two a b h.0 in
     (k.0, k.1, exists_below c h.1)
 
@@ -117,14 +114,14 @@ first_none (Some n) b e = cc e
 
 says : (labels : Labels) (slots : List Name) (k at : ℕ) (s : Section) (q : Part Name) → is_lawful s q ≡ true → reference_fault labels k at q ≡ None → Says labels slots at q
 says labels slots k at s q lawful found e =
-    let one = both (in_section s q && numbers_fit q) (registers_exist q) lawful in
-    let more = both (in_section s q) (numbers_fit q) one.0 in
+    let one = and_parts (in_section s q && numbers_fit q) (registers_exist q) lawful in
+    let more = and_parts (in_section s q) (numbers_fit q) one.0 in
     rw (bytes_are labels slots at q e) (decodes (instructions_at labels slots at q) (ranged labels slots k at q more.1 one.1 found))
 
 all_say : (labels : Labels) (slots : List Name) (k : ℕ) (p : Place) (s : Section) (ss : Statements) → lawful_from s ss ≡ true → fault_from labels p k ss ≡ None → AllSay labels slots p ss
 all_say labels slots k p s [] lawful found = tt
 all_say labels slots k p s (x ∷ xs) lawful found =
-    let l = both (is_lawful s x.part) (lawful_from (section_after s (Some x.part)) xs) lawful in
+    let l = and_parts (is_lawful s x.part) (lawful_from (section_after s (Some x.part)) xs) lawful in
     let f = none_left x.line (statement_fault labels p k x.part) (fault_from labels (advanced p x.part) (k + 1) xs) found in (
       says labels slots k (offset p) s x.part l.0 (first_none (reference_fault labels k (offset p) x.part) (size_fault (offset p) x.part) f.0),
       all_say labels slots (k + 1) (advanced p x.part) (section_after s (Some x.part)) xs l.1 f.1,

@@ -3,26 +3,32 @@
 //! values.
 #![tactic(auto)]
 
-ghost use Rattle.std.specs.Prelude.{◌≡◌, ◌≤◌, ◌<◌, ◌⊎◌, ℕ, List, ◌∷◌, Option, true, false};
-ghost use Rattle.def_words.specs.declared.Cap.{Cap};
-ghost use Rattle.def_memory.specs.Granules.{plain, blank};
+ghost use Rattle.std.specs.Prelude.{◌≡◌, ◌≤◌, ◌<◌, ℕ, List, Option, true, false};
+ghost use Rattle.def_memory.specs.Granules.{blank};
 ghost use Rattle.def_machine.specs.Image.{Image, root, address_of, stack_base};
 ghost use Rattle.def_machine.specs.State.{State, Thread, Frame, register, granule, thread};
-ghost use Rattle.def_machine.specs.Memory.{filtered};
-ghost use Rattle.def_machine.specs.Frames.{switched, Given, entered, answer, left_by, returned, unwound};
+ghost use Rattle.def_machine.specs.Frames.{switched, Given, entered, returned, unwound};
 ghost use Rattle.def_confined.specs.Confined.{Confined};
 ghost use Rattle.def_confined.specs.Partitioned.{Partitioned};
 ghost use Rattle.def_confined.specs.Changes.{Enters};
+ghost use Rattle.law_calls.specs.Cleans.{IsGiven, IsSaved, back_from, unwound_from};
 
 /// A call whose checks passed enters its callee.
 pub fn push_move()
-    ensures { (i : Image) (s : State) (t : ℕ) (g : Frame) (gs : List Frame) (callee export high : ℕ) (w : Given) → Partitioned i → Confined i s → Enters i s t g gs callee export high w → Confined i (switched i s t high (entered i (thread s t) callee export high w) s.running) }
+    ensures { (i : Image) (s : State) (t : ℕ) (g : Frame) (gs : List Frame)
+        (callee export high : ℕ) (w : Given)
+        → Partitioned i → Confined i s → Enters i s t g gs callee export high w
+        → Confined i (switched i s t high (entered i (thread s t) callee export high w) s.running) }
 {}
 
 /// A return and an unwind of a thread with these frames; at its last frame the thread ends.
 pub fn pop_moves()
-    ensures back { (i : Image) (s : State) (t : ℕ) (fs : List Frame) → Partitioned i → Confined i s → (thread s t).frames ≡ fs → Confined i (returned i s t fs) }
-    ensures unwind { (i : Image) (s : State) (t : ℕ) (fs : List Frame) → Partitioned i → Confined i s → (thread s t).frames ≡ fs → Confined i (unwound i s t fs) }
+    ensures back { (i : Image) (s : State) (t : ℕ) (fs : List Frame)
+        → Partitioned i → Confined i s → (thread s t).frames ≡ fs
+        → Confined i (returned i s t fs) }
+    ensures unwind { (i : Image) (s : State) (t : ℕ) (fs : List Frame)
+        → Partitioned i → Confined i s → (thread s t).frames ≡ fs
+        → Confined i (unwound i s t fs) }
 {}
 
 /// On entry through an export that passes plain values no register is tagged but the return sentry, the
@@ -31,8 +37,16 @@ pub fn pop_moves()
 /// any export, whose results are plain. The stack up to the new top, or up to the ending frame's, is
 /// zero and untagged.
 pub fn clean_calls()
-    ensures entry { (i : Image) (old : Thread) (callee export high : ℕ) (w : Given) → (root i export).passes ≡ false → (n : ℕ) → (register (entered i old callee export high w) n).tag ≡ true → ((n ≡ 1) × (register (entered i old callee export high w) n ≡ w.back)) ⊎ ((n ≡ 2) × (register (entered i old callee export high w) n ≡ w.stack)) ⊎ ((n ≡ 3) × (register (entered i old callee export high w) n ≡ w.globals)) }
-    ensures back { (i : Image) (s : State) (old : Thread) (f : Frame) (fs : List Frame) → (root i f.export).passes ≡ false → (n : ℕ) → (register (left_by i s old f fs (answer i old f 10) (answer i old f 11)) n).tag ≡ true → ((n ≡ 2) × (register (left_by i s old f fs (answer i old f 10) (answer i old f 11)) n ≡ filtered i s f.c2)) ⊎ ((n ≡ 3) × (register (left_by i s old f fs (answer i old f 10) (answer i old f 11)) n ≡ filtered i s f.c3)) ⊎ ((n ≡ 8) × (register (left_by i s old f fs (answer i old f 10) (answer i old f 11)) n ≡ filtered i s f.c8)) ⊎ ((n ≡ 9) × (register (left_by i s old f fs (answer i old f 10) (answer i old f 11)) n ≡ filtered i s f.c9)) }
-    ensures unwind { (i : Image) (s : State) (old : Thread) (f : Frame) (fs : List Frame) (n : ℕ) → (register (left_by i s old f fs (plain 4294967295) (plain 0)) n).tag ≡ true → ((n ≡ 2) × (register (left_by i s old f fs (plain 4294967295) (plain 0)) n ≡ filtered i s f.c2)) ⊎ ((n ≡ 3) × (register (left_by i s old f fs (plain 4294967295) (plain 0)) n ≡ filtered i s f.c3)) ⊎ ((n ≡ 8) × (register (left_by i s old f fs (plain 4294967295) (plain 0)) n ≡ filtered i s f.c8)) ⊎ ((n ≡ 9) × (register (left_by i s old f fs (plain 4294967295) (plain 0)) n ≡ filtered i s f.c9)) }
-    ensures stack { (i : Image) (s : State) (t high : ℕ) (new : Thread) (run : Option ℕ) (k : ℕ) → stack_base i t ≤ address_of i k → address_of i k < high → granule (switched i s t high new run) k ≡ blank (granule s k) }
+    ensures entry { (i : Image) (old : Thread) (callee export high : ℕ) (w : Given) → (root i export).passes ≡ false
+        → (n : ℕ) → (register (entered i old callee export high w) n).tag ≡ true
+        → IsGiven w n (register (entered i old callee export high w) n) }
+    ensures back { (i : Image) (s : State) (old : Thread) (f : Frame) (fs : List Frame)
+        → (root i f.export).passes ≡ false → (n : ℕ) → (register (back_from i s old f fs) n).tag ≡ true
+        → IsSaved i s f n (register (back_from i s old f fs) n) }
+    ensures unwind { (i : Image) (s : State) (old : Thread) (f : Frame) (fs : List Frame) (n : ℕ)
+        → (register (unwound_from i s old f fs) n).tag ≡ true
+        → IsSaved i s f n (register (unwound_from i s old f fs) n) }
+    ensures stack { (i : Image) (s : State) (t high : ℕ) (new : Thread) (run : Option ℕ) (k : ℕ)
+        → stack_base i t ≤ address_of i k → address_of i k < high
+        → granule (switched i s t high new run) k ≡ blank (granule s k) }
 {}

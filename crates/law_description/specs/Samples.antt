@@ -68,3 +68,61 @@ tiny = with (with (with (with (with empty (codes "firmware") (string (codes "tin
 -- the same with another compartment
 abbrev pub tiny_of : Data → Data
 tiny_of c = altered tiny (codes "compartments") (all (c ∷ []))
+
+-- ---- parts that something is wrong with
+
+abbrev pub text : List ℕ → Data
+text name = string name
+
+-- the import of a service
+abbrev pub service_of : List ℕ → Data
+service_of name = with (with empty (codes "as") (text (codes "s"))) (codes "service") (text name)
+
+abbrev pub tiny_importing : Data → Data
+tiny_importing x = tiny_of (altered app (codes "imports") (all (x ∷ [])))
+
+abbrev pub tiny_on : List Data → Data
+tiny_on devices = altered tiny (codes "devices") (all devices)
+
+abbrev pub tiny_in : Data → Data
+tiny_in r = altered tiny (codes "ram") r
+
+abbrev pub tiny_run_by : Data → Data
+tiny_run_by t = altered tiny (codes "threads") (all (t ∷ []))
+
+-- ---- an application, a driver, a library and two threads
+
+abbrev pub file : List ℕ → Data
+file name = with empty (codes "file") (text name)
+
+abbrev pub import_of : List ℕ → List ℕ → List ℕ → Data
+import_of alias form name = with (with empty (codes "as") (text alias)) form (text name)
+
+abbrev pub quota : Data
+quota = with (with empty (codes "name") (text (codes "q"))) (codes "limit") (num 64)
+
+abbrev pub export_of : List ℕ → Data
+export_of name = with (with empty (codes "name") (text name)) (codes "at") (text name)
+
+abbrev pub application : Data
+application = with (with (with (with (with empty (codes "name") (text (codes "app"))) (codes "code") (file (codes "app.s")))
+    (codes "imports") (all (import_of (codes "digit") (codes "library") (codes "hex.digit")
+    ∷ import_of (codes "put") (codes "call") (codes "driver.put")
+    ∷ import_of (codes "allocate") (codes "service") (codes "allocate") ∷ [])))
+    (codes "quotas") (all (quota ∷ []))) (codes "exports") (all (export_of (codes "main") ∷ []))
+
+abbrev pub put : Data
+put = with (with (export_of (codes "put")) (codes "args") (num 1)) (codes "passes") (text (codes "data"))
+
+abbrev pub driver : Data
+driver = with (with (with (with empty (codes "name") (text (codes "driver"))) (codes "code") (file (codes "driver.s")))
+    (codes "imports") (all (import ∷ []))) (codes "exports") (all (put ∷ []))
+
+abbrev pub hex : Data
+hex = with (with (with empty (codes "name") (text (codes "hex"))) (codes "code") (file (codes "hex.s")))
+    (codes "exports") (all (export_of (codes "digit") ∷ []))
+
+abbrev pub board : Data
+board = with (with (with (with (with (with (with empty (codes "firmware") (text (codes "board"))) (codes "ram") ram) (codes "quantum") (num 20))
+    (codes "devices") (all (uart ∷ []))) (codes "compartments") (all (application ∷ driver ∷ []))) (codes "libraries") (all (hex ∷ [])))
+    (codes "threads") (all (thread ∷ altered thread (codes "name") (text (codes "u")) ∷ []))

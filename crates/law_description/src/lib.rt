@@ -1,4 +1,5 @@
 //! Laws of descriptions over their definitions alone.
 #![tactic(auto)]
 
+mod answers;
 mod samples;

@@ -8,7 +8,7 @@ use Rattle.def_words.specs.Permissions.{IsLegal, bit, has, execute, global, stor
 use Rattle.def_words.specs.Seals.{cap_seal}
 use Rattle.def_reach.specs.Roots.{Root, is_root, is_quota, is_stack}
 use Rattle.def_machine.specs.Image.{Image, root, made_cap}
-use Rattle.def_confined.specs.Capabilities.{AsBoot}
+use Rattle.def_confined.specs.Capabilities.{AsBoot, is_home}
 use Rattle.def_confined.specs.Partitioned.{BootMade}
 use Rattle.def_step.specs.Boot.{image_of, from_entry}
 use Rattle.def_step.specs.Firmware.{IsLawfulFirmware}
@@ -29,6 +29,7 @@ record Faithful (n : ℕ) (r : Root) (d : Cap) : Type 0 where
   pub held : is_stack r.origin ≡ true → bit r.rights global ≡ false
   pub runs : kind ≡ 5 → bit r.rights execute ≡ true
   pub no_quota : is_quota r.origin ≡ false
+  pub home : is_home r.origin r.owner ≡ true
 
 legal_353 : IsLegal 353
 unfolding normal_set set_where form_of bit
@@ -80,6 +81,7 @@ boot_made i n is f =
       rooted = made_rooted i (made_cap i n) (from_entry n) (root i n).base (root i n).top (root i n).rights f.at f.kind f.made.made f.made.shadow_is (record {
         order = omega (arith, some);
         roots = is;
+        home = f.home;
         legal = f.legal;
         range = λ no. (omega arith, omega arith);
         heap = λ heap. clash_of (is_quota (root i n).origin && not (nat_eq 0 0)) heap no_heap;
@@ -102,14 +104,14 @@ module _ (f : FirmwareRow) (l : IsLawfulFirmware f) where
   unfolding image_of bit
   faithful = by_case f l (λ n r d. is_root r.origin ≡ true → Faithful n r d) (record {
     nothing = λ n no. absurd (let clash : false ≡ true = no in cc);
-    trusted = λ m is. record { kind = 5; at = 65552; made = m; kinds = inr (inr refl); some = lit< tt; legal = legal_353; local = λ no. absurd (let clash : false ≡ true = no in cc); held = λ no. absurd (let clash : false ≡ true = no in cc); runs = λ five. refl; no_quota = refl };
+    trusted = λ m is. record { kind = 5; at = 65552; made = m; kinds = inr (inr refl); some = lit< tt; legal = legal_353; local = λ no. absurd (let clash : false ≡ true = no in cc); held = λ no. absurd (let clash : false ≡ true = no in cc); runs = λ five. refl; no_quota = refl; home = refl };
     code = λ n b c g d on fits m is.
         let some = fits.code_some in
-        record { kind = 0; at = c.code; made = m; kinds = inl refl; some = omega (arith, some); legal = legal_363; local = λ no. absurd (let clash : false ≡ true = no in cc); held = λ no. absurd (let clash : false ≡ true = no in cc); runs = λ five. refl; no_quota = refl };
+        record { kind = 0; at = c.code; made = m; kinds = inl refl; some = omega (arith, some); legal = legal_363; local = λ no. absurd (let clash : false ≡ true = no in cc); held = λ no. absurd (let clash : false ≡ true = no in cc); runs = λ five. refl; no_quota = refl; home = refl };
     globals = λ n b c g d on fits m is.
         let some = fits.globals_some in
-        record { kind = 0; at = c.globals; made = m; kinds = inl refl; some = omega (arith, some); legal = legal_111; local = λ no. absurd (let clash : false ≡ true = no in cc); held = λ no. absurd (let clash : false ≡ true = no in cc); runs = λ five. absurd (let clash : 0 ≡ 5 = five in omega (arith, clash)); no_quota = refl };
-    switch = λ n b g d on m is. record { kind = 1; at = 65536; made = m; kinds = inr (inl refl); some = lit< tt; legal = legal_353; local = λ no. absurd (let clash : false ≡ true = no in cc); held = λ no. absurd (let clash : false ≡ true = no in cc); runs = λ five. refl; no_quota = refl };
+        record { kind = 0; at = c.globals; made = m; kinds = inl refl; some = omega (arith, some); legal = legal_111; local = λ no. absurd (let clash : false ≡ true = no in cc); held = λ no. absurd (let clash : false ≡ true = no in cc); runs = λ five. absurd (let clash : 0 ≡ 5 = five in omega (arith, clash)); no_quota = refl; home = refl };
+    switch = λ n b g d on m is. record { kind = 1; at = 65536; made = m; kinds = inr (inl refl); some = lit< tt; legal = legal_353; local = λ no. absurd (let clash : false ≡ true = no in cc); held = λ no. absurd (let clash : false ≡ true = no in cc); runs = λ five. refl; no_quota = refl; home = refl };
     device = λ n b y g d on fits m is. record {
       kind = 0;
       at = y.base;
@@ -121,11 +123,12 @@ module _ (f : FirmwareRow) (l : IsLawfulFirmware f) where
       held = λ no. absurd (let clash : false ≡ true = no in cc);
       runs = λ five. absurd (let clash : 0 ≡ 5 = five in omega (arith, clash));
       no_quota = refl;
+      home = refl;
     };
     export = λ n b c j g on fits lt no. absurd (let clash : false ≡ true = no in cc);
     stack = λ n t s g d on fits m is.
         let least = fits.least in
-        record { kind = 0; at = s.base + s.size; made = m; kinds = inl refl; some = omega (arith, least); legal = legal_126; local = λ there. refl; held = λ there. refl; runs = λ five. absurd (let clash : 0 ≡ 5 = five in omega (arith, clash)); no_quota = refl };
+        record { kind = 0; at = s.base + s.size; made = m; kinds = inl refl; some = omega (arith, least); legal = legal_126; local = λ there. refl; held = λ there. refl; runs = λ five. absurd (let clash : 0 ≡ 5 = five in omega (arith, clash)); no_quota = refl; home = refl };
   })
 
   pub made_stands : (n : ℕ) → is_root (root (image_of f) n).origin ≡ true → (made_cap (image_of f) n).tag ≡ true → BootMade (image_of f) n (made_cap (image_of f) n)

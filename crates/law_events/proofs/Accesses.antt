@@ -44,7 +44,8 @@ use Rattle.def_confined.specs.Swept.{HasUnpainted}
 use Rattle.law_jumps.proofs.Moves.{jumps_confined}
 use Rattle.law_made.proofs.Results.{attenuated_derived, attenuated_carries}
 use Rattle.law_events.proofs.Checking.{AllPass}
-use Rattle.law_events.proofs.Values.{Puts, untagged_puts}
+use Rattle.def_confined.specs.Changes.{Puts}
+use Rattle.law_registers.proofs.Moves.{untagged_puts}
 use Rattle.law_events.proofs.Goings.{Fetching}
 use Rattle.law_events.proofs.Goings as going
 
@@ -77,12 +78,12 @@ carry_says : (carries may : Bool) → (not carries || may) ≡ true → carries 
 carry_says true may e is = e
 carry_says false may e is = absurd (let clash : false ≡ true = is in cc)
 
-store_passes : (a : Access) (x : Cap) (at : ℕ) (carries : Bool) → AllPass (store_checks a x at carries) → StorePasses a x at carries
+pub store_passes : (a : Access) (x : Cap) (at : ℕ) (carries : Bool) → AllPass (store_checks a x at carries) → StorePasses a x at carries
 store_passes a x at carries h =
     let range = range_says x at (at + a.width) h.1.1.1.1.0 in
     record { tagged = h.0; stores = h.1.1.0; may_carry = carry_says carries (has x memory_capability) h.1.1.1.0; low = range.0; high = range.1; aligned = eqb-true (at % a.width) 0 h.1.1.1.1.1.0 }
 
-all_pass : (cs : List Check) → first_failed cs ≡ None → AllPass cs
+pub all_pass : (cs : List Check) → first_failed cs ≡ None → AllPass cs
 all_pass [] e = tt
 all_pass (c ∷ cs) e = by_test c.0 refl e (λ later. all_pass cs later)
   where
@@ -99,7 +100,7 @@ pub record HasWidth (a : Access) : Type 0 where
 plain_width : (a : Access) → 0 < a.width → a.whole ≡ false → HasWidth a
 plain_width a some part = record { some = some; eight = λ is. absurd (let clash : true ≡ false = sym is ∙ part in cc) }
 
-width_of : (k : Instr) → HasWidth (access_of k)
+pub width_of : (k : Instr) → HasWidth (access_of k)
 width_of (Clc v0 v1 v2) = record { some = omega arith; eight = λ is. refl }
 width_of (Csc v0 v1 v2) = record { some = omega arith; eight = λ is. refl }
 width_of k = plain_width (access_of k) (omega arith) refl
@@ -121,7 +122,7 @@ when_true : {A : Type 0} (P : A → Type 0) (b : Bool) (x y : A) → b ≡ true 
 when_true P true x y e h = h
 when_true P false x y e h = absurd (let clash : false ≡ true = e in cc)
 
-when_false : {A : Type 0} (P : A → Type 0) (b : Bool) (x y : A) → b ≡ false → P (if b then x else y) → P y
+pub when_false : {A : Type 0} (P : A → Type 0) (b : Bool) (x y : A) → b ≡ false → P (if b then x else y) → P y
 when_false P true x y e h = absurd (let clash : true ≡ false = e in cc)
 when_false P false x y e h = h
 
@@ -175,9 +176,8 @@ ram_puts b s t n m a at w loads inside =
     let high : at < cap_top (register (thread s t) n) = omega (arith, says.high, some) in
     chosen (Puts b.image s t) a.whole (filtered_in b.image.ram s.granules (attenuated (register (thread s t) n) (loaded_cap s.granules (at - b.image.ram)))) (integer (widened a (loaded s.granules (at - b.image.ram) a.width)))
     (λ whole.
-    let l = load_stands b.image s t n at (attenuated (register (thread s t) n) (granule s (granule_of b.image at)).cap) w.f.parts w.f.held w.runs inside says.tagged says.loads says.low high (aligned_eight a at w.wide whole says.aligned)
-    (attenuated_derived (register (thread s t) n) (granule s (granule_of b.image at)).cap) (attenuated_carries (register (thread s t) n) (granule s (granule_of b.image at)).cap) in
-    record { there = l.there; kept = l.kept; live = l.live })
+    load_stands b.image s t n at (attenuated (register (thread s t) n) (granule s (granule_of b.image at)).cap) w.f.parts w.f.held w.runs inside says.tagged says.loads says.low high (aligned_eight a at w.wide whole says.aligned)
+    (attenuated_derived (register (thread s t) n) (granule s (granule_of b.image at)).cap) (attenuated_carries (register (thread s t) n) (granule s (granule_of b.image at)).cap))
     (λ part. untagged_puts b.image s t (integer (widened a (loaded s.granules (at - b.image.ram) a.width))) refl)
 
 -- a store into RAM, and then the program counter goes on

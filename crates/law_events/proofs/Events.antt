@@ -113,14 +113,22 @@ continued_fair : (b : Board) (s : State) (o : Option ℕ) → s.running ≡ o �
 continued_fair b s None runs parts wired h = record { confined = h; licensed = none_licensed b; beside = λ e. e }
 continued_fair b s (Some t) runs parts wired h = noted_fair b s (executed b s t) (executed_fair b s t parts wired h runs)
 
-stepped_fair : (b : Board) (s : State) → Partitioned b.image → Wired b → Confined b.image s → Fair b s (stepped b s)
-stepped_fair b s parts wired h =
+-- the state in which a step's thread carries on
+pub ready_kept : (b : Board) (s : State) → Partitioned b.image → Confined b.image s → Kept b s (scheduled b (preempted (one_more_step s)))
+ready_kept b s parts h =
     let counted = clock_kept b s (record (clock_of s) { counts = record s.counts { steps = s.counts.steps + 1 } }) h in
     let before = preempted_kept b (one_more_step s) (one_more_step s).running counted.confined in
     let chosen_one = picked_kept b (preempted (one_more_step s)) (preempted (one_more_step s)).running refl parts before.confined in
-    let here = scheduled b (preempted (one_more_step s)) in
-    let runs = continued_fair b (scheduled b (preempted (one_more_step s))) (scheduled b (preempted (one_more_step s))).running refl parts wired chosen_one.confined in
-    record { confined = runs.confined; licensed = runs.licensed; beside = λ e. runs.beside (chosen_one.beside (before.beside (counted.beside e))) }
+    record { confined = chosen_one.confined; beside = λ e. chosen_one.beside (before.beside (counted.beside e)) }
+
+pub ready_keeps : (b : Board) (s : State) → Partitioned b.image → Keeps b.image s → Keeps b.image (scheduled b (preempted (one_more_step s)))
+ready_keeps b s parts k = let ready = ready_kept b s parts k.confined in record { confined = ready.confined; beside = ready.beside k.beside }
+
+stepped_fair : (b : Board) (s : State) → Partitioned b.image → Wired b → Confined b.image s → Fair b s (stepped b s)
+stepped_fair b s parts wired h =
+    let ready = ready_kept b s parts h in
+    let runs = continued_fair b (scheduled b (preempted (one_more_step s))) (scheduled b (preempted (one_more_step s))).running refl parts wired ready.confined in
+    record { confined = runs.confined; licensed = runs.licensed; beside = λ e. runs.beside (ready.beside e) }
 
 -- ---- a tick
 

@@ -20,7 +20,8 @@ use Rattle.def_confined.specs.Partitioned.{Partitioned}
 use Rattle.def_confined.specs.Licensed.{Licensed}
 use Rattle.law_places.proofs.Turns.{clock_of}
 use Rattle.law_calls.proofs.Pops.{returned_confined, unwound_confined}
-use Rattle.law_jumps.proofs.Moves.{Jumps, jumps_confined}
+use Rattle.def_confined.specs.Changes.{Jumps}
+use Rattle.law_jumps.proofs.Moves.{jumps_confined}
 use Rattle.def_confined.specs.Keeps.{Beside}
 use Rattle.def_confined.specs.Swept.{HasUnpainted, FramesSwept, Swept, Bounded}
 use Rattle.law_granules.proofs.Lists.{zeroed_at, zeroed_length}

@@ -19,9 +19,10 @@ use Rattle.def_step.specs.Operands.{class_of, operands_of}
 use Rattle.def_step.specs.Instructions.{Board}
 use Rattle.def_board.specs.Wired.{Wired}
 use Rattle.law_made.proofs.Results.{address_derived, address_runs}
-use Rattle.law_events.proofs.Values.{Puts, untagged_puts}
+use Rattle.def_confined.specs.Changes.{Puts}
+use Rattle.law_registers.proofs.Moves.{untagged_puts}
 use Rattle.law_events.proofs.Checking.{by_checks, plain_tells}
-use Rattle.law_events.proofs.Goings.{FlowFits, Fetching, goes_to, goes_on, link_puts}
+use Rattle.law_events.proofs.Goings.{FlowFits, Fetching, goes_to, goes_on, leaves_link}
 use Rattle.law_events.proofs.Returns.{jump_fits}
 
 target_fits : (i : Image) (s : State) (t at : ℕ) (link : Option Cap) → at < 2 ^ 32 → Fetching i s t → Puts i s t (unwrap_or link (plain 0)) → FlowFits i s t (jumped_to (thread s t).pcc (thread s t).posture at link)
@@ -43,7 +44,7 @@ branch_fits i s t offset taken x = chosen (FlowFits i s t) taken (jumped_to (thr
 -- the values are of registers m and n, or of register 1 where the return is carried out
 pub flow_fits : (b : Board) (s : State) (t m n : ℕ) (k : Instr) → Wired b → Fetching b.image s t → class_of k ≡ class.Jump → m ≡ (operands_of k).first → FlowFits b.image s t (flow_result k (register (thread s t) m) (register (thread s t) n) (thread s t).pcc (thread s t).posture 0)
 unfolding flow_result
-flow_fits b s t m n (Jal v0 v1) wired x jump first = target_fits b.image s t (target_at (thread s t).pcc v1) (Some (linked (thread s t).pcc (thread s t).posture)) (omega arith) x (link_puts b.image s t x)
+flow_fits b s t m n (Jal v0 v1) wired x jump first = target_fits b.image s t (target_at (thread s t).pcc v1) (Some (linked (thread s t).pcc (thread s t).posture)) (omega arith) x (leaves_link b.image s t x)
 flow_fits b s t m n (CJalr v0 v1 v2) wired x jump first = jump_fits b s t m v0 v1 v2 wired x jump first
 flow_fits b s t m n (Beq v0 v1 v2) wired x jump first = branch_fits b.image s t v2 (is_taken (Beq v0 v1 v2) (cap_address (register (thread s t) m)) (cap_address (register (thread s t) n))) x
 flow_fits b s t m n (Bne v0 v1 v2) wired x jump first = branch_fits b.image s t v2 (is_taken (Bne v0 v1 v2) (cap_address (register (thread s t) m)) (cap_address (register (thread s t) n))) x

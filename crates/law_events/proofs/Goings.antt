@@ -15,13 +15,10 @@ use Rattle.def_step.specs.Jumps.{Flowed}
 use Rattle.def_confined.specs.Confined.{Confined}
 use Rattle.def_confined.specs.Partitioned.{Partitioned}
 use Rattle.def_confined.specs.Made.{Derived}
-use Rattle.law_registers.proofs.Moves.{not_native_bound}
-use Rattle.law_registers.proofs.Derives.{derived_in}
-use Rattle.law_places.proofs.Turns.{fits_as}
-use Rattle.law_jumps.proofs.Moves.{Jumps, derived_runs, runs_no_heap, in_rooted}
-use Rattle.law_jumps.proofs.Linking.{link_in, link_kept, link_live}
+use Rattle.law_jumps.specs.Jumping.{IsRunnable}
+use Rattle.law_jumps.proofs.Moves.{onward_jumps, link_puts}
 use Rattle.law_made.proofs.Results.{raised_derived, raised_runs, linked_links}
-use Rattle.law_events.proofs.Values.{Puts}
+use Rattle.def_confined.specs.Changes.{Puts, Jumps}
 use Rattle.law_events.proofs.Checking.{Fetched, MayTell}
 
 -- what a jump leaves may stand, and a trap may be told
@@ -37,29 +34,12 @@ pub record Fetching (i : Image) (s : State) (t : ℕ) : Type 0 where
   pub other : is_native (root i (thread s t).pcc.shadow.root).origin ≡ false
 
 -- a new program counter derived from the old one, with what a register gets
-pub goes_to : (i : Image) (s : State) (t : ℕ) (p l : Cap) → Fetching i s t → Puts i s t l → Derived (thread s t).pcc p → (p.tag ≡ true → (cap_seal p ≡ 0) × (has p execute ≡ true)) → Jumps i s t p (thread s t).posture l
-goes_to i s t p l x puts derived says =
-    let bound = λ (is : (thread s t).pcc.tag ≡ true). not_native_bound i (thread s t).pcc x.other in
-    let here = in_rooted i s.objects t (thread s t).frames (thread s t).pcc (x.held.pcc t) x.fetched.tagged in
-    record {
-      held = x.held;
-      target = derived_in i s.objects t (thread s t).frames (thread s t).pcc p bound derived (x.held.pcc t);
-      runs = derived_runs i s.objects t (thread s t).frames (thread s t).pcc p x.parts bound derived (x.held.pcc t) says (λ is. runs_no_heap i (thread s t).pcc here x.fetched.executes);
-      fits = fits_as i (thread s t) (record (thread s t) { posture = (thread s t).posture }) (thread s t).frames refl (x.held.postures t);
-      link_there = puts.there;
-      link_kept = puts.kept;
-      link_live = puts.live;
-    }
+pub goes_to : (i : Image) (s : State) (t : ℕ) (p l : Cap) → Fetching i s t → Puts i s t l → Derived (thread s t).pcc p → IsRunnable p → Jumps i s t p (thread s t).posture l
+goes_to i s t p l x puts derived says = onward_jumps i s t p l x.parts x.held x.other derived says puts
 
 -- the program counter goes on after the instruction
 pub goes_on : (i : Image) (s : State) (t : ℕ) (l : Cap) → Fetching i s t → Puts i s t l → Jumps i s t (raised (thread s t).pcc 4) (thread s t).posture l
 goes_on i s t l x puts = goes_to i s t (raised (thread s t).pcc 4) l x puts (raised_derived (thread s t).pcc 4) (raised_runs (thread s t).pcc 4 x.fetched.executes)
 
-pub link_puts : (i : Image) (s : State) (t : ℕ) → Fetching i s t → Puts i s t (linked (thread s t).pcc (thread s t).posture)
-link_puts i s t x =
-    let links = linked_links (thread s t).pcc (thread s t).posture x.fetched.executes in
-    record {
-      there = link_in i s.objects t (thread s t) (thread s t).frames (linked (thread s t).pcc (thread s t).posture) links (x.held.runs t) x.other x.fetched.some (x.held.postures t) (x.held.pcc t);
-      kept = link_kept i (thread s t) (linked (thread s t).pcc (thread s t).posture) links x.other;
-      live = link_live i s.objects (thread s t) (linked (thread s t).pcc (thread s t).posture) links (x.held.runs t);
-    }
+pub leaves_link : (i : Image) (s : State) (t : ℕ) → Fetching i s t → Puts i s t (linked (thread s t).pcc (thread s t).posture)
+leaves_link i s t x = link_puts i s t (linked (thread s t).pcc (thread s t).posture) x.held x.other x.fetched.some (linked_links (thread s t).pcc (thread s t).posture x.fetched.executes)

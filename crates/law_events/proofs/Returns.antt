@@ -29,13 +29,14 @@ use Rattle.def_confined.specs.Confined.{Confined, IsPcc, PostureFits}
 use Rattle.def_confined.specs.Partitioned.{Partitioned}
 use Rattle.def_confined.specs.Made.{Opens}
 use Rattle.law_registers.proofs.Moves.{not_native_bound}
-use Rattle.law_registers.proofs.Derives.{Bound, derived_in}
-use Rattle.law_jumps.proofs.Targets.{opened_in, opened_runs, opened_opens}
+use Rattle.law_registers.proofs.Derives.{Bound}
+use Rattle.law_jumps.specs.Jumping.{MayJump, Lands}
+use Rattle.law_jumps.proofs.Targets.{opened_opens}
 use Rattle.law_places.proofs.Turns.{fits_as}
-use Rattle.law_jumps.proofs.Moves.{return_fits, derived_runs, runs_no_heap, in_rooted}
+use Rattle.law_jumps.proofs.Moves.{return_fits, opened_lands, derived_lands, in_rooted}
 use Rattle.law_made.proofs.Results.{address_derived, address_runs}
 use Rattle.law_events.proofs.Checking.{by_checks, register_tells, plain_tells}
-use Rattle.law_events.proofs.Goings.{FlowFits, Fetching, link_puts}
+use Rattle.law_events.proofs.Goings.{FlowFits, Fetching, leaves_link}
 
 -- ---- native entries
 
@@ -69,46 +70,29 @@ native_opens x a small same = λ tagged.
 
 -- ---- where the jump goes
 
-pub record GoesThere (i : Image) (objects : List Object) (t : ℕ) (fs : List Frame) (p : Cap) : Type 0 where
-  pub there : InFrames i objects t fs p
-  pub runs : p.tag ≡ true → IsPcc i p
-
-native_goes : (i : Image) (objects : List Object) (t : ℕ) (fs : List Frame) (x : Cap) (a : ℕ) → Partitioned i → InFrames i objects t fs x → x.tag ≡ true → has x execute ≡ true → a < 2 ^ 32 → a ≡ cap_address x → GoesThere i objects t fs (with_address (opened x) a)
-native_goes i objects t fs x a parts h tagged runs small same =
-    let here : Rooted i x = in_rooted i objects t fs x h tagged in
-    let none : heap_cap i x ≡ false = runs_no_heap i x (in_rooted i objects t fs x h tagged) runs in
-    let opens = native_opens x a small same in
-    record {
-      there = opened_in i objects t fs x (with_address (opened x) a) opens (λ any. none) h;
-      runs = λ is. opened_runs i x (with_address (opened x) a) parts (opens is) none runs here;
-    }
+native_goes : (i : Image) (objects : List Object) (t : ℕ) (fs : List Frame) (x : Cap) (a : ℕ) → Partitioned i → MayJump i objects t fs x → a < 2 ^ 32 → a ≡ cap_address x → Lands i objects t fs (with_address (opened x) a)
+native_goes i objects t fs x a parts m small same = opened_lands i objects t fs x (with_address (opened x) a) parts m (native_opens x a small same)
 
 opened_executes : (x : Cap) → has x execute ≡ true → (opened x).tag ≡ true → has (opened x) execute ≡ true
 opened_executes x runs is = let Q : ℕ → Type 0 = λ n. bit n execute ≡ true in subst Q (sym (opened_opens x is).opened.same_rights) runs
 
 -- without its seal first, then at another address
-other_goes : (i : Image) (objects : List Object) (t : ℕ) (fs : List Frame) (x : Cap) (a : ℕ) → Partitioned i → InFrames i objects t fs x → x.tag ≡ true → has x execute ≡ true → a < 2 ^ 32 → is_native (root i x.shadow.root).origin ≡ false → GoesThere i objects t fs (with_address (opened x) a)
-other_goes i objects t fs x a parts h tagged runs small other =
-    let none : heap_cap i x ≡ false = runs_no_heap i x (in_rooted i objects t fs x h tagged) runs in
-    let open_there : InFrames i objects t fs (opened x) = opened_in i objects t fs x (opened x) (opened_opens x) (λ any. none) h in
+other_goes : (i : Image) (objects : List Object) (t : ℕ) (fs : List Frame) (x : Cap) (a : ℕ) → Partitioned i → MayJump i objects t fs x → a < 2 ^ 32 → is_native (root i x.shadow.root).origin ≡ false → Lands i objects t fs (with_address (opened x) a)
+other_goes i objects t fs x a parts m small other =
     let bound : (opened x).tag ≡ true → Bound i (opened x) = λ is.
     let P : ℕ → Type 0 = λ n. is_native (root i n).origin ≡ false in
     not_native_bound i (opened x) (subst P (sym (opened_opens x is).opened.root) other) in
-    let derived = address_derived (opened x) a small in
-    record {
-      there = derived_in i objects t fs (opened x) (with_address (opened x) a) bound derived open_there;
-      runs = derived_runs i objects t fs (opened x) (with_address (opened x) a) parts bound derived open_there
-          (λ is. address_runs (opened x) a small (opened_executes x runs (addressed (opened x) a small is).tagged) is)
-          (λ is. runs_no_heap i (opened x) (in_rooted i objects t fs (opened x) open_there is) (opened_executes x runs is));
-    }
+    derived_lands i objects t fs (opened x) (with_address (opened x) a) parts (opened_lands i objects t fs x (opened x) parts m (opened_opens x)).there bound (opened_executes x m.executes)
+    (address_derived (opened x) a small)
+    (λ is. address_runs (opened x) a small (opened_executes x m.executes (addressed (opened x) a small is).tagged) is)
 
-goes_there : (b : Board) (objects : List Object) (t : ℕ) (fs : List Frame) (x : Cap) → Partitioned b.image → Wired b → InFrames b.image objects t fs x → x.tag ≡ true → has x execute ≡ true → GoesThere b.image objects t fs (with_address (opened x) (register_target x 0))
-goes_there b objects t fs x parts wired h tagged runs = elim (bool_tells (is_native (root b.image x.shadow.root).origin)) [
+goes_there : (b : Board) (objects : List Object) (t : ℕ) (fs : List Frame) (x : Cap) → Partitioned b.image → Wired b → MayJump b.image objects t fs x → Lands b.image objects t fs (with_address (opened x) (register_target x 0))
+goes_there b objects t fs x parts wired m = elim (bool_tells (is_native (root b.image x.shadow.root).origin)) [
   | inl native ↦
-      let at : cap_address x ≡ cap_address (made_cap b.image x.shadow.root) = (in_rooted b.image objects t fs x h tagged).native native in
+      let at : cap_address x ≡ cap_address (made_cap b.image x.shadow.root) = (in_rooted b.image objects t fs x m.there m.tagged).native native in
       let entry : is_native_entry (cap_address x) ≡ true = ap is_native_entry at ∙ wired.natives x.shadow.root native in
-      native_goes b.image objects t fs x (register_target x 0) parts h tagged runs (omega arith) (target_stays (cap_address x) (native_even (cap_address x) entry))
-  | inr other ↦ other_goes b.image objects t fs x (register_target x 0) parts h tagged runs (omega arith) other
+      native_goes b.image objects t fs x (register_target x 0) parts m (omega arith) (target_stays (cap_address x) (native_even (cap_address x) entry))
+  | inr other ↦ other_goes b.image objects t fs x (register_target x 0) parts m (omega arith) other
 ]
 
 -- ---- types that a return takes
@@ -146,17 +130,15 @@ back_fits b s t wired f = by_checks
     (register_tells TAG_CODE 1 (omega arith) (inr (inl refl)), (register_tells SEAL_CODE 1 (omega arith) (inr (inr (inl refl))), (register_tells EXECUTE_CODE 1 (omega arith) (inr (inr (inr (inl refl)))), (plain_tells MISALIGNED_FETCH (inl refl), tt))))
     (λ w tells. tells)
     (λ passes.
-    let goes = goes_there b s.objects t (thread s t).frames (register (thread s t) 1) f.parts wired (f.held.registers t 1) passes.0 passes.1.1.0 in
-    let puts = link_puts b.image s t f in
+    let goes = goes_there b s.objects t (thread s t).frames (register (thread s t) 1) f.parts wired (record { there = f.held.registers t 1; tagged = passes.0; executes = passes.1.1.0 }) in
+    let puts = leaves_link b.image s t f in
     let taken = and_parts (is_jump_taken 0 1 (cap_seal (register (thread s t) 1))) (is_unsealed (register (thread s t) 1) || (0 == 0)) passes.1.0 in
     record {
       held = f.held;
       target = goes.there;
       runs = goes.runs;
       fits = posture_fits b.image s t f.held passes.0 (taken_is (cap_seal (register (thread s t) 1)) taken.0);
-      link_there = puts.there;
-      link_kept = puts.kept;
-      link_live = puts.live;
+      gets = puts;
     })
 
 is_return : (c : Bool) → (if c then class.Jump else class.Absent) ≡ class.Jump → c ≡ true

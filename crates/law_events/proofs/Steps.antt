@@ -32,7 +32,9 @@ use Rattle.def_confined.specs.Partitioned.{Partitioned}
 use Rattle.def_confined.specs.Licensed.{Licensed}
 use Rattle.law_jumps.proofs.Moves.{in_rooted}
 use Rattle.law_events.proofs.Accesses.{access_laws}
-use Rattle.law_events.proofs.Values.{Puts, untagged_puts, result_puts}
+use Rattle.def_confined.specs.Changes.{Puts}
+use Rattle.law_registers.proofs.Moves.{untagged_puts}
+use Rattle.law_events.proofs.Values.{result_puts}
 use Rattle.law_events.proofs.Checking.{MayTell, Fetched, by_checks, access_tells, counter_tells, plain_tells, fetch_tells, fetch_passes}
 use Rattle.law_events.proofs.Smalls.{IsSmall, read_small}
 use Rattle.law_events.proofs.Goings.{FlowFits, Fetching}

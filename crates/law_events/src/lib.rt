@@ -8,7 +8,7 @@ ghost use Rattle.ct_entry.specs.declared.acts.Owned.{Owned};
 ghost use Rattle.def_machine.specs.State.{State};
 ghost use Rattle.def_step.specs.declared.Event.{Event};
 ghost use Rattle.def_step.specs.Instructions.{Board};
-ghost use Rattle.def_step.specs.Events.{happens};
+ghost use Rattle.def_step.specs.Events.{happens, one_more_step, preempted, scheduled};
 ghost use Rattle.def_board.specs.Wired.{Wired};
 ghost use Rattle.def_confined.specs.Keeps.{Keeps};
 ghost use Rattle.def_confined.specs.Partitioned.{Partitioned};
@@ -19,6 +19,14 @@ pub fn events_confined()
     ensures { (b : Board) (s : State) (e : Event)
         → Partitioned b.image → Wired b → Keeps b.image s
         → Keeps b.image (happens b s e).0 }
+{}
+
+/// So is the state in which the thread of a step carries on: the running one may have stopped, and another been picked.
+/// What an instruction or a native routine takes of a confined state, it has there.
+pub fn steps_confined()
+    ensures { (b : Board) (s : State)
+        → Partitioned b.image → Keeps b.image s
+        → Keeps b.image (scheduled b (preempted (one_more_step s))) }
 {}
 
 /// The deed of an event, and the span with interrupts off that begins with it, are licensed.

@@ -37,6 +37,7 @@ unfolding root_of gate_for bit
 rooted_0 = made_rooted small made_0 (record { root = 0; source = 0 }) 65552 65560 353 65552 5 is_0.0 is_0.1 (record {
   order = lit≤ tt;
   roots = refl;
+  home = refl;
   legal = legal_353;
   range = λ no. (lit≤ tt, lit≤ tt);
   heap = λ is. absurd (let clash : false ≡ true = is in cc);
@@ -58,6 +59,7 @@ unfolding root_of gate_for bit
 rooted_1 = made_rooted small made_1 (record { root = 1; source = 0 }) 2147483648 2147483712 363 2147483648 0 is_1.0 is_1.1 (record {
   order = lit≤ tt;
   roots = refl;
+  home = refl;
   legal = legal_363;
   range = λ no. (lit≤ tt, lit≤ tt);
   heap = λ is. absurd (let clash : false ≡ true = is in cc);
@@ -79,6 +81,7 @@ unfolding root_of gate_for bit
 rooted_2 = made_rooted small made_2 (record { root = 2; source = 0 }) 2147483744 2147483760 111 2147483744 0 is_2.0 is_2.1 (record {
   order = lit≤ tt;
   roots = refl;
+  home = refl;
   legal = legal_111;
   range = λ no. (lit≤ tt, lit≤ tt);
   heap = λ is. absurd (let clash : false ≡ true = is in cc);
@@ -100,6 +103,7 @@ unfolding root_of gate_for bit
 rooted_3 = made_rooted small made_3 (record { root = 3; source = 0 }) 65536 65544 353 65536 1 is_3.0 is_3.1 (record {
   order = lit≤ tt;
   roots = refl;
+  home = refl;
   legal = legal_353;
   range = λ no. (lit≤ tt, lit≤ tt);
   heap = λ is. absurd (let clash : false ≡ true = is in cc);
@@ -121,6 +125,7 @@ unfolding root_of gate_for bit
 rooted_4 = made_rooted small made_4 (record { root = 4; source = 0 }) 268435456 268435472 37 268435456 0 is_4.0 is_4.1 (record {
   order = lit≤ tt;
   roots = refl;
+  home = refl;
   legal = legal_37;
   range = λ no. (lit≤ tt, lit≤ tt);
   heap = λ is. absurd (let clash : false ≡ true = is in cc);
@@ -142,6 +147,7 @@ unfolding root_of gate_for bit
 rooted_5 = made_rooted small made_5 (record { root = 5; source = 0 }) 2147483856 2147483872 111 2147483856 0 is_5.0 is_5.1 (record {
   order = lit≤ tt;
   roots = refl;
+  home = refl;
   legal = legal_111;
   range = λ no. (lit≤ tt, lit≤ tt);
   heap = λ is. absurd (let clash : false ≡ true = is in cc);
@@ -163,6 +169,7 @@ unfolding root_of gate_for bit
 rooted_6 = made_rooted small made_6 (record { root = 6; source = 0 }) 2147483808 2147483824 33 2147483808 9 is_6.0 is_6.1 (record {
   order = lit≤ tt;
   roots = refl;
+  home = refl;
   legal = legal_33;
   range = λ no. (lit≤ tt, lit≤ tt);
   heap = λ is. absurd (let clash : false ≡ true = is in cc);
@@ -184,6 +191,7 @@ unfolding root_of gate_for bit
 rooted_7 = made_rooted small made_7 (record { root = 7; source = 0 }) 2147483840 2147483856 363 2147483840 2 is_7.0 is_7.1 (record {
   order = lit≤ tt;
   roots = refl;
+  home = refl;
   legal = legal_363;
   range = λ no. (lit≤ tt, lit≤ tt);
   heap = λ is. absurd (let clash : false ≡ true = is in cc);
@@ -205,6 +213,7 @@ unfolding root_of gate_for bit
 rooted_8 = made_rooted small made_8 (record { root = 8; source = 0 }) 2147483688 2147483696 33 2147483688 10 is_8.0 is_8.1 (record {
   order = lit≤ tt;
   roots = refl;
+  home = refl;
   legal = legal_33;
   range = λ no. (lit≤ tt, lit≤ tt);
   heap = λ is. absurd (let clash : false ≡ true = is in cc);
@@ -226,6 +235,7 @@ unfolding root_of gate_for bit
 rooted_9 = made_rooted small made_9 (record { root = 9; source = 0 }) 13 14 1537 13 0 is_9.0 is_9.1 (record {
   order = lit≤ tt;
   roots = refl;
+  home = refl;
   legal = legal_1537;
   range = λ no. (lit≤ tt, lit≤ tt);
   heap = λ is. absurd (let clash : false ≡ true = is in cc);
@@ -247,6 +257,7 @@ unfolding root_of gate_for bit
 rooted_11 = made_rooted small made_11 (record { root = 11; source = 0 }) 2147483760 2147483792 363 2147483760 0 is_11.0 is_11.1 (record {
   order = lit≤ tt;
   roots = refl;
+  home = refl;
   legal = legal_363;
   range = λ no. (lit≤ tt, lit≤ tt);
   heap = λ is. absurd (let clash : false ≡ true = is in cc);
@@ -268,6 +279,7 @@ unfolding root_of gate_for bit
 rooted_12 = made_rooted small made_12 (record { root = 12; source = 0 }) 2147483824 2147483840 111 2147483824 0 is_12.0 is_12.1 (record {
   order = lit≤ tt;
   roots = refl;
+  home = refl;
   legal = legal_111;
   range = λ no. (lit≤ tt, lit≤ tt);
   heap = λ is. absurd (let clash : false ≡ true = is in cc);
@@ -289,6 +301,7 @@ unfolding root_of gate_for bit
 rooted_13 = made_rooted small made_13 (record { root = 13; source = 0 }) 65536 65544 353 65536 1 is_13.0 is_13.1 (record {
   order = lit≤ tt;
   roots = refl;
+  home = refl;
   legal = legal_353;
   range = λ no. (lit≤ tt, lit≤ tt);
   heap = λ is. absurd (let clash : false ≡ true = is in cc);
@@ -310,6 +323,7 @@ unfolding root_of gate_for bit
 rooted_14 = made_rooted small made_14 (record { root = 14; source = 0 }) 2147483856 2147483872 111 2147483856 0 is_14.0 is_14.1 (record {
   order = lit≤ tt;
   roots = refl;
+  home = refl;
   legal = legal_111;
   range = λ no. (lit≤ tt, lit≤ tt);
   heap = λ is. absurd (let clash : false ≡ true = is in cc);
@@ -331,6 +345,7 @@ unfolding root_of gate_for bit
 rooted_18 = made_rooted small made_18 (record { root = 18; source = 0 }) 2147483872 2147483904 126 2147483904 0 is_18.0 is_18.1 (record {
   order = lit≤ tt;
   roots = refl;
+  home = refl;
   legal = legal_126;
   range = λ no. (lit≤ tt, lit≤ tt);
   heap = λ is. absurd (let clash : false ≡ true = is in cc);
@@ -359,6 +374,7 @@ unfolding root_of gate_for bit
 rooted_first = made_rooted small first_pcc (record { root = 1; source = 0 }) 2147483648 2147483712 363 2147483704 0 is_first.0 is_first.1 (record {
   order = lit≤ tt;
   roots = refl;
+  home = refl;
   legal = legal_363;
   range = λ no. (lit≤ tt, lit≤ tt);
   heap = λ is. absurd (let clash : false ≡ true = is in cc);

@@ -15,11 +15,18 @@ ghost use Rattle.law_fresh.specs.Fresh.{RootsAway, Misses, SavedMiss};
 /// A new object is covered by nothing: no granule's capability, no register's, no program counter, nothing
 /// saved. Its granules are untagged.
 pub fn fresh_objects()
-    ensures granules { (i : Image) (s : State) (r : Object) (k : ℕ) → Partitioned i → RootsAway i → Confined i s → NewObject i s r → Misses r (granule s k).cap }
-    ensures registers { (i : Image) (s : State) (r : Object) (t m : ℕ) → RootsAway i → Confined i s → NewObject i s r → Misses r (register (thread s t) m) }
-    ensures pcc { (i : Image) (s : State) (r : Object) (t : ℕ) → RootsAway i → Confined i s → NewObject i s r → Misses r (thread s t).pcc }
-    ensures frames { (i : Image) (s : State) (r : Object) (t : ℕ) → RootsAway i → Confined i s → NewObject i s r → Each (SavedMiss r) (thread s t).frames }
-    ensures untagged { (i : Image) (s : State) (r : Object) (k : ℕ) → Partitioned i → Confined i s → NewObject i s r → r.base ≤ address_of i k → address_of i k < r.base + r.length → (granule s k).cap.tag ≡ false }
+    ensures granules { (i : Image) (s : State) (r : Object) (k : ℕ)
+        → Partitioned i → RootsAway i → Confined i s → NewObject i s r
+        → Misses r (granule s k).cap }
+    ensures registers { (i : Image) (s : State) (r : Object) (t m : ℕ)
+        → RootsAway i → Confined i s → NewObject i s r → Misses r (register (thread s t) m) }
+    ensures pcc { (i : Image) (s : State) (r : Object) (t : ℕ)
+        → RootsAway i → Confined i s → NewObject i s r → Misses r (thread s t).pcc }
+    ensures frames { (i : Image) (s : State) (r : Object) (t : ℕ)
+        → RootsAway i → Confined i s → NewObject i s r → Each (SavedMiss r) (thread s t).frames }
+    ensures untagged { (i : Image) (s : State) (r : Object) (k : ℕ)
+        → Partitioned i → Confined i s → NewObject i s r → r.base ≤ address_of i k
+        → address_of i k < r.base + r.length → (granule s k).cap.tag ≡ false }
 {}
 
 /// The small firmware's roots are away from its heap.

@@ -15,9 +15,9 @@ use Rattle.def_confined.specs.Places.{Placed, InFrames, InRegion, OwnStack, HasO
 use Rattle.def_confined.specs.Confined.{Confined, Apart, ObjectFits, MarksAt}
 use Rattle.def_confined.specs.Partitioned.{Partitioned}
 use Rattle.def_confined.specs.Made.{IsObjectCap}
-use Rattle.def_confined.specs.Changes.{Fades, FramesFade, NewObject}
+use Rattle.def_confined.specs.Changes.{Fades, FramesFade, NewObject, Puts}
 use Rattle.law_places.proofs.Rows.{each_take, each_map, among_any, any_among, among_each, among_apart, among_charges}
-use Rattle.law_places.proofs.Turns.{put_register_confined}
+use Rattle.law_registers.proofs.Moves.{put_confined}
 use Rattle.law_places.proofs.Fades.{faded_confined}
 
 pub stays_there : (i : Image) (old new : List Object) (c : Cap) → ((d : Cap) → HasObject i old d → HasObject i new d) → Fades i old new c c
@@ -78,7 +78,7 @@ add_object_confined i s r p h n =
       live = λ t runs m tagged heap some. among_any (LiveCovers (register (thread s t) m)) r s.objects (inr (h.live t runs m tagged heap some));
       apart = among_apart r s.objects n.apart h.apart;
       numbered = omega (arith, h.numbered);
-      fits = among_each (ObjectFits i (s.next + 1)) r s.objects n.fits (each_map (ObjectFits i s.next) (ObjectFits i (s.next + 1)) s.objects (λ q f. record { number = omega (arith, f.number); low = f.low; high = f.high; whole = f.whole; charge = f.charge; unpainted = f.unpainted }) h.fits);
+      fits = among_each (ObjectFits i (s.next + 1)) r s.objects n.fits (each_map (ObjectFits i s.next) (ObjectFits i (s.next + 1)) s.objects (λ q f. record { first = f.first; number = omega (arith, f.number); low = f.low; high = f.high; whole = f.whole; charge = f.charge; unpainted = f.unpainted }) h.fits);
       marks = λ k. record {
         why = λ mark. among_any (MarksAt (address_of i k)) r s.objects (inr ((h.marks k).why mark));
         all = λ there. elim (any_among (MarksAt (address_of i k)) r s.objects there) [
@@ -117,14 +117,14 @@ object_placed i objects t f fs r c quota kind_is same h there o =
     any_as P Q (x ∷ xs) f (inl p) = inl (f x p)
     any_as P Q (x ∷ xs) f (inr h) = inr (any_as P Q xs f h)
 
-pub allocate_confined : (i : Image) (s : State) (t n : ℕ) (r : Object) (c : Cap) → Partitioned i → Confined i s → NewObject i s r → (register (thread s t) 10).tag ≡ true → (register (thread s t) 10).shadow.root ≡ r.quota → (root i r.quota).origin ≡ Listing kind.Quota
-    → (c.tag ≡ true → IsObjectCap i r c) → Confined i (put_register (with_object s r) t n c)
-allocate_confined i s t n r c p h new tagged same kind_is is =
-    let after : Confined i (with_object s r) = add_object_confined i s r p h new in
-    put_register_confined i (with_object s r) t n c after
-    (placed (thread s t).frames (after.registers t 10))
-    (λ there. ((λ service. absurd (let clash : Listing kind.Quota ≡ Listing kind.Service = sym (root_is there) ∙ service in cc)), (λ trusted. absurd (let clash : Listing kind.Quota ≡ TrustedPart = sym (root_is there) ∙ trusted in cc))))
-    (λ runs there heap some. among_any (LiveCovers c) r s.objects (inl (new.live, record { number = sym (is there).source; quota = sym (is there).from; low = omega (arith, (is there).low); high = omega (arith, (is there).high) })))
+-- the capability of a new object may come into a register of the running thread, whose c10 is the quota
+pub object_puts : (i : Image) (s : State) (t : ℕ) (r : Object) (c : Cap) → Partitioned i → Confined i s → NewObject i s r → (register (thread s t) 10).tag ≡ true → (register (thread s t) 10).shadow.root ≡ r.quota → (root i r.quota).origin ≡ Listing kind.Quota
+    → (c.tag ≡ true → IsObjectCap i r c) → Puts i (with_object s r) t c
+object_puts i s t r c p h new tagged same kind_is is = record {
+  there = placed (thread s t).frames ((add_object_confined i s r p h new).registers t 10);
+  kept = λ there. ((λ service. absurd (let clash : Listing kind.Quota ≡ Listing kind.Service = sym (root_is there) ∙ service in cc)), (λ trusted. absurd (let clash : Listing kind.Quota ≡ TrustedPart = sym (root_is there) ∙ trusted in cc)));
+  live = λ there heap some. among_any (LiveCovers c) r s.objects (inl (new.live, record { number = sym (is there).source; quota = sym (is there).from; low = omega (arith, (is there).low); high = omega (arith, (is there).high) }));
+}
   where
     root_is : c.tag ≡ true → (root i c.shadow.root).origin ≡ Listing kind.Quota
     root_is there = let P : ℕ → Type 0 = λ m. (root i m).origin ≡ Listing kind.Quota in subst P (sym (is there).from) kind_is
@@ -132,3 +132,8 @@ allocate_confined i s t n r c p h new tagged same kind_is is =
     placed : (fs : List Frame) → InFrames i (placed_among r s.objects) t fs (register (thread s t) 10) → InFrames i (placed_among r s.objects) t fs c
     placed [] none = absurd (let clash : true ≡ false = sym tagged ∙ none in cc)
     placed (f ∷ fs) q = λ there. object_placed i (placed_among r s.objects) t f fs r c (register (thread s t) 10) kind_is same (q tagged) (among_any (λ q. q ≡ r) r s.objects (inl refl)) (is there)
+
+pub allocate_confined : (i : Image) (s : State) (t n : ℕ) (r : Object) (c : Cap) → Partitioned i → Confined i s → NewObject i s r → (register (thread s t) 10).tag ≡ true → (register (thread s t) 10).shadow.root ≡ r.quota → (root i r.quota).origin ≡ Listing kind.Quota
+    → (c.tag ≡ true → IsObjectCap i r c) → Confined i (put_register (with_object s r) t n c)
+allocate_confined i s t n r c p h new tagged same kind_is is =
+    put_confined i (with_object s r) t n c (add_object_confined i s r p h new) (object_puts i s t r c p h new tagged same kind_is is)

@@ -117,7 +117,7 @@ marks_fit i s t r k w = record {
 }
 
 fits_gone : (i : Image) (next : ℕ) (q : Object) → ObjectFits i next q → ObjectFits i next (gone q)
-fits_gone i next q f = record { number = f.number; low = f.low; high = f.high; whole = f.whole; charge = f.charge; unpainted = λ live. absurd (let clash : false ≡ true = live in cc) }
+fits_gone i next q f = record { first = f.first; number = f.number; low = f.low; high = f.high; whole = f.whole; charge = f.charge; unpainted = λ live. absurd (let clash : false ≡ true = live in cc) }
 
 -- what stands in the heap isn't as boot made it
 heap_not_fixed : (i : Image) (k : ℕ) → Partitioned i → i.heap_base ≤ address_of i k → address_of i k < i.heap_end → region i k ≡ Fixed → ⊥

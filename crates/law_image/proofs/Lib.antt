@@ -10,3 +10,6 @@ pub mod Sounds
 pub mod Cuts
 pub mod OneCut
 pub mod Backs
+pub mod Walks
+pub mod Places
+pub mod Faults

@@ -1,5 +1,7 @@
-//! Laws of images: an image has one spelling and a spelling one image; and what acceptance says of
-//! one, in the plain facts that the laws of entries, regions and boot take as their premise. Functions with empty bodies whose contracts are the laws.
+//! Laws of images: an image has one spelling and a spelling one image; bytes have one answer, an
+//! image or one fault at one place; and what acceptance says of an image, in the plain facts that the
+//! laws of entries, regions and boot take as their premise. Functions with empty bodies whose
+//! contracts are the laws.
 #![tactic(auto)]
 
 ghost use Rattle.std.specs.Prelude.{◌≡◌, None};
@@ -10,6 +12,7 @@ ghost use Rattle.def_image.specs.Lying.{region_checks};
 ghost use Rattle.def_image.specs.Parts.{PartsRow};
 ghost use Rattle.def_image.specs.Reading.{OneCut, OneReading};
 ghost use Rattle.def_image.specs.Sound.{Sound};
+ghost use Rattle.law_image.specs.Answers.{EndsWhole, ImagesHaveNoFault, OneFault, PlacesAreOffsets};
 
 /// Regions of an image whose checks of regions pass are laid out apart, in RAM below the heap.
 pub fn regions_laid()
@@ -27,4 +30,22 @@ pub fn accepted_is_sound()
 pub fn one_reading()
     ensures cut { OneCut }
     ensures parts { OneReading }
+{}
+
+/// An image's bytes have no fault; and other bytes that have one have it alone, at one place.
+pub fn one_answer()
+    ensures image { ImagesHaveNoFault }
+    ensures fault { OneFault }
+{}
+
+/// The spelling of fields goes on as no other does: an image's bytes that are cut short, or have
+/// bytes appended, are no image's.
+pub fn ends_where_written()
+    ensures { EndsWhole }
+{}
+
+/// Each part's size is the length of its spelling, so that the place of each is its offset in the
+/// bytes: after the last thread stands their end.
+pub fn places_are_offsets()
+    ensures { PlacesAreOffsets }
 {}

@@ -11,7 +11,7 @@ use Rattle.def_reach.specs.Roots.{is_stack, is_native, is_root, is_owned, is_cod
 use Rattle.def_reach.specs.Sharing.{Reaches}
 use Rattle.def_machine.specs.Image.{Image, root}
 use Rattle.def_machine.specs.State.{Thread, Frame, Object}
-use Rattle.def_confined.specs.Capabilities.{Rooted, IsBootType, IsReturnType, Kept, heap_cap}
+use Rattle.def_confined.specs.Capabilities.{Rooted, IsBootType, IsReturnType, Kept, heap_cap, is_home}
 use Rattle.def_confined.specs.Places.{Placed, InFrames, WithinRun, OwnStack, HasLive}
 use Rattle.def_confined.specs.Confined.{IsPcc, PostureFits}
 use Rattle.def_confined.specs.Made.{Links}
@@ -47,6 +47,7 @@ link_placed i objects t th f fs l x runs other some posture h =
       rooted = record {
         order = omega (arith, h.rooted.order, x.same_base, x.same_top);
         from = let P : ℕ → Type 0 = λ n. is_root (root i n).origin ≡ true in subst P (sym x.root) h.rooted.from;
+        home = let P : ℕ → Type 0 = λ n. is_home (root i n).origin (root i n).owner ≡ true in subst P (sym x.root) h.rooted.home;
         legal = let P : ℕ → Type 0 = λ n. IsLegal n in subst P (sym x.same_rights) h.rooted.legal;
         range = λ no.
             let P : ℕ → Type 0 = λ n. ((root i n).base ≤ cap_base l) × (cap_top l ≤ (root i n).top) in

@@ -10,7 +10,7 @@ use Rattle.def_reach.specs.Roots.{is_quota, is_stack, is_native, is_root, is_own
 use Rattle.def_reach.specs.Sharing.{Reaches}
 use Rattle.def_machine.specs.Image.{Image, root, made_cap}
 use Rattle.def_machine.specs.State.{Frame, Object}
-use Rattle.def_confined.specs.Capabilities.{Rooted, IsBootType, heap_cap}
+use Rattle.def_confined.specs.Capabilities.{Rooted, IsBootType, heap_cap, is_home}
 use Rattle.def_confined.specs.Places.{Placed, InFrames, WithinRun, OwnStack}
 use Rattle.def_confined.specs.Confined.{IsPcc}
 use Rattle.def_confined.specs.Partitioned.{Partitioned}
@@ -36,6 +36,7 @@ opened_rooted i c p x none r =
     record {
       order = omega (arith, r.order, x.opened.same_base, x.opened.same_top);
       from = let P : ℕ → Type 0 = λ n. is_root (root i n).origin ≡ true in subst P (sym x.opened.root) r.from;
+      home = let P : ℕ → Type 0 = λ n. is_home (root i n).origin (root i n).owner ≡ true in subst P (sym x.opened.root) r.home;
       legal = let P : ℕ → Type 0 = λ n. IsLegal n in subst P (sym x.opened.same_rights) r.legal;
       range = λ no.
           let P : ℕ → Type 0 = λ n. ((root i n).base ≤ cap_base p) × (cap_top p ≤ (root i n).top) in

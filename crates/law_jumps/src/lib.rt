@@ -1,31 +1,60 @@
-//! Laws of jumps: to a return sentry, through a forward sentry, to an unsealed target, within the running
-//! code, and the program counter's own advance keep a state confined. Posture and link go with them.
+//! Laws of jumps: where a jump may go, what posture it takes and what link it leaves; and that a jump that leaves
+//! such things keeps a state confined.
 #![tactic(auto)]
 
-ghost use Rattle.std.specs.Prelude.{◌≡◌, ◌<◌, ◌⊎◌, ℕ, true, false};
+ghost use Rattle.std.specs.Prelude.{◌≡◌, ◌<◌, ℕ, List, true, false};
 ghost use Rattle.def_words.specs.declared.Cap.{Cap};
+ghost use Rattle.def_words.specs.declared.Posture.{Posture};
 ghost use Rattle.def_words.specs.Authority.{cap_base, cap_top};
-ghost use Rattle.def_words.specs.Permissions.{has, execute};
 ghost use Rattle.def_words.specs.Seals.{cap_seal, posture_through};
 ghost use Rattle.def_reach.specs.Roots.{is_native};
 ghost use Rattle.def_machine.specs.Image.{Image, root};
-ghost use Rattle.def_machine.specs.State.{State, register, thread};
+ghost use Rattle.def_machine.specs.State.{State, Thread, Frame, Object, thread};
 ghost use Rattle.def_machine.specs.Threads.{Clockwork, changed, jumped};
 ghost use Rattle.def_confined.specs.Capabilities.{IsReturnType};
-ghost use Rattle.def_confined.specs.Confined.{Confined};
-ghost use Rattle.def_confined.specs.Partitioned.{Partitioned};
+ghost use Rattle.def_confined.specs.Changes.{Puts, Jumps};
+ghost use Rattle.def_confined.specs.Confined.{Confined, PostureFits};
 ghost use Rattle.def_confined.specs.Made.{Opens, Links, Derived};
+ghost use Rattle.def_confined.specs.Partitioned.{Partitioned};
+ghost use Rattle.def_confined.specs.Places.{InFrames};
+ghost use Rattle.law_jumps.specs.Jumping.{IsForwardType, IsRunnable, MayJump, Lands};
 
-/// Jumps through sentries. A native routine's return to c1 is the first of them; the second leaves a link,
-/// away from native entries, where the fetch found the program counter's bounds not empty.
-pub fn sentry_moves()
-    ensures back { (i : Image) (s : State) (t from named : ℕ) (p l : Cap) (w : Clockwork) → Partitioned i → Confined i s → (register (thread s t) from).tag ≡ true → IsReturnType (cap_seal (register (thread s t) from)) → Opens (register (thread s t) from) p → Confined i (changed s t (jumped (thread s t) p (posture_through (thread s t).posture (cap_seal (register (thread s t) from)) named (register (thread s t) from).shadow.source) 0 l) s.running w) }
-    ensures forward { (i : Image) (s : State) (t from to : ℕ) (p l : Cap) (w : Clockwork) → Partitioned i → Confined i s → (register (thread s t) from).tag ≡ true → (cap_seal (register (thread s t) from) ≡ 1) ⊎ (cap_seal (register (thread s t) from) ≡ 2) ⊎ (cap_seal (register (thread s t) from) ≡ 3) → has (register (thread s t) from) execute ≡ true → Opens (register (thread s t) from) p → is_native (root i (thread s t).pcc.shadow.root).origin ≡ false → cap_base (thread s t).pcc < cap_top (thread s t).pcc → Links (thread s t).pcc (thread s t).posture l → Confined i (changed s t (jumped (thread s t) p (posture_through (thread s t).posture (cap_seal (register (thread s t) from)) (root i (register (thread s t) from).shadow.root).of (register (thread s t) from).shadow.source) to l) s.running w) }
+/// A jump, or the advance of the program counter, with a register that gets a value.
+pub fn jump_move()
+    ensures { (i : Image) (s : State) (t to : ℕ) (pcc : Cap) (posture : Posture) (link : Cap) (w : Clockwork)
+        → Jumps i s t pcc posture link
+        → Confined i (changed s t (jumped (thread s t) pcc posture to link) s.running w) }
 {}
 
-/// Jumps to what is unsealed, and the advance of the program counter, away from native entries.
-pub fn plain_moves()
-    ensures target { (i : Image) (s : State) (t from to : ℕ) (p l : Cap) (w : Clockwork) → Partitioned i → Confined i s → (register (thread s t) from).tag ≡ true → has (register (thread s t) from) execute ≡ true → Derived (register (thread s t) from) p → (p.tag ≡ true → (cap_seal p ≡ 0) × (has p execute ≡ true)) → is_native (root i (thread s t).pcc.shadow.root).origin ≡ false → cap_base (thread s t).pcc < cap_top (thread s t).pcc → Links (thread s t).pcc (thread s t).posture l → Confined i (changed s t (jumped (thread s t) p (thread s t).posture to l) s.running w) }
-    ensures branch { (i : Image) (s : State) (t to : ℕ) (p l : Cap) (w : Clockwork) → Partitioned i → Confined i s → is_native (root i (thread s t).pcc.shadow.root).origin ≡ false → cap_base (thread s t).pcc < cap_top (thread s t).pcc → Derived (thread s t).pcc p → (p.tag ≡ true → (cap_seal p ≡ 0) × (has p execute ≡ true)) → Links (thread s t).pcc (thread s t).posture l → Confined i (changed s t (jumped (thread s t) p (thread s t).posture to l) s.running w) }
-    ensures advance { (i : Image) (s : State) (t : ℕ) (p : Cap) (w : Clockwork) → Partitioned i → Confined i s → is_native (root i (thread s t).pcc.shadow.root).origin ≡ false → Derived (thread s t).pcc p → (p.tag ≡ true → (cap_seal p ≡ 0) × (has p execute ≡ true)) → Confined i (changed s t (record (thread s t) { pcc = p }) s.running w) }
+/// What the running code leaves where it goes on or branches, away from native routines; and the link of a jump,
+/// where the fetch found the program counter's bounds not empty.
+pub fn code_jumps()
+    ensures onward { (i : Image) (s : State) (t : ℕ) (p l : Cap)
+        → Partitioned i → Confined i s → is_native (root i (thread s t).pcc.shadow.root).origin ≡ false
+        → Derived (thread s t).pcc p → IsRunnable p → Puts i s t l → Jumps i s t p (thread s t).posture l }
+    ensures link { (i : Image) (s : State) (t : ℕ) (l : Cap)
+        → Confined i s → is_native (root i (thread s t).pcc.shadow.root).origin ≡ false
+        → cap_base (thread s t).pcc < cap_top (thread s t).pcc
+        → Links (thread s t).pcc (thread s t).posture l → Puts i s t l }
+{}
+
+/// What a sentry or an unsealed capability leads to, at its own address, may be a program counter.
+pub fn targets_land()
+    ensures { (i : Image) (objects : List Object) (t : ℕ) (fs : List Frame) (x p : Cap)
+        → Partitioned i → MayJump i objects t fs x → Opens x p → Lands i objects t fs p }
+{}
+
+/// The posture that a thread takes through a return sentry, which the return and the switch need, and through a
+/// forward sentry, which jumps into libraries need.
+pub fn postures_fit()
+    ensures back { (i : Image) (objects : List Object) (t : ℕ) (th : Thread) (fs : List Frame) (c : Cap) (named : ℕ)
+        → InFrames i objects t fs c → c.tag ≡ true → IsReturnType (cap_seal c)
+        → PostureFits i (record th { posture = posture_through th.posture (cap_seal c) named c.shadow.source }) fs }
+    ensures forward { (i : Image) (objects : List Object) (t : ℕ) (th : Thread) (fs : List Frame) (c : Cap)
+        → Partitioned i → PostureFits i th fs
+        → InFrames i objects t fs c → c.tag ≡ true → IsForwardType (cap_seal c)
+        → PostureFits i (record th {
+          posture =
+              posture_through th.posture (cap_seal c) (root i c.shadow.root).of c.shadow.source;
+        }) fs }
 {}

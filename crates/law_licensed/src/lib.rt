@@ -3,37 +3,54 @@
 //! spans with interrupts off are licensed.
 #![tactic(auto)]
 
-ghost use Rattle.std.specs.Prelude.{◌≡◌, ◌+◌, ◌≤◌, ℕ, List, ◌∷◌, Option, Some, true};
-ghost use Rattle.def_words.specs.Authority.{cap_base, cap_top};
-ghost use Rattle.def_words.specs.Permissions.{has, load_data, store_data};
+ghost use Rattle.std.specs.Prelude.{◌≡◌, ℕ, List, ◌∷◌, Option, Some, true};
+ghost use Rattle.def_words.specs.Permissions.{load_data, store_data};
 ghost use Rattle.def_words.specs.Seals.{cap_seal};
-ghost use Rattle.ct_entry.specs.declared.rows.Kind.TheVariants.{Device, Quota};
 ghost use Rattle.ct_entry.specs.declared.acts.Act.TheVariants.{Call, Load, Store, Allocate, Free};
-ghost use Rattle.def_reach.specs.Roots.{Listing};
 ghost use Rattle.def_machine.specs.Image.{Image, root};
 ghost use Rattle.def_machine.specs.State.{State, Frame, register, thread};
 ghost use Rattle.def_machine.specs.Objects.{charges};
 ghost use Rattle.def_confined.specs.Confined.{Confined, IsPcc};
 ghost use Rattle.def_confined.specs.Licensed.{Licensed, OffLicensed};
-ghost use Rattle.law_licensed.specs.Uses.{IsUse, GatesOfExports};
+ghost use Rattle.law_licensed.specs.Uses.{IsUse, GatesOfExports, Holds, Accesses, Charges, deed_by, span_of};
 
 /// What a tagged register of the running thread, or a thread's tagged program counter, may be used for.
 pub fn uses_reach()
-    ensures registers { (i : Image) (s : State) (t n : ℕ) (f : Frame) (fs : List Frame) → Confined i s → s.running ≡ Some t → (thread s t).frames ≡ f ∷ fs → (register (thread s t) n).tag ≡ true → IsUse i s.objects t f.actor (register (thread s t) n) }
-    ensures pcc { (i : Image) (s : State) (t : ℕ) (f : Frame) (fs : List Frame) → Confined i s → (thread s t).frames ≡ f ∷ fs → (thread s t).pcc.tag ≡ true → IsUse i s.objects t f.actor (thread s t).pcc × IsPcc i (thread s t).pcc }
+    ensures registers { (i : Image) (s : State) (t n : ℕ) (f : Frame) (fs : List Frame)
+        → Confined i s → s.running ≡ Some t → (thread s t).frames ≡ f ∷ fs
+        → (register (thread s t) n).tag ≡ true
+        → IsUse i s.objects t f.actor (register (thread s t) n) }
+    ensures pcc { (i : Image) (s : State) (t : ℕ) (f : Frame) (fs : List Frame)
+        → Confined i s → (thread s t).frames ≡ f ∷ fs → (thread s t).pcc.tag ≡ true
+        → IsUse i s.objects t f.actor (thread s t).pcc × IsPcc i (thread s t).pcc }
 {}
 
 /// Deeds through a register, with its root as entry and the thread's top frame as actor. Live charges are those
 /// of the state after the deed.
 pub fn deeds_licensed()
-    ensures call { (i : Image) (s : State) (t n : ℕ) (f : Frame) (fs : List Frame) → Confined i s → (thread s t).frames ≡ f ∷ fs → (register (thread s t) n).tag ≡ true → cap_seal (register (thread s t) n) ≡ 9 → Licensed i.entries (record { thread = t; actor = f.actor; entry = (register (thread s t) n).shadow.root; act = Call (root i (register (thread s t) n).shadow.root).of }) }
-    ensures load { (i : Image) (s : State) (t n address width value : ℕ) (f : Frame) (fs : List Frame) → Confined i s → (thread s t).frames ≡ f ∷ fs → (register (thread s t) n).tag ≡ true → (root i (register (thread s t) n).shadow.root).origin ≡ Listing Device → has (register (thread s t) n) load_data ≡ true → cap_base (register (thread s t) n) ≤ address → address + width ≤ cap_top (register (thread s t) n) → Licensed i.entries (record { thread = t; actor = f.actor; entry = (register (thread s t) n).shadow.root; act = Load address width value }) }
-    ensures store { (i : Image) (s : State) (t n address width value : ℕ) (f : Frame) (fs : List Frame) → Confined i s → (thread s t).frames ≡ f ∷ fs → (register (thread s t) n).tag ≡ true → (root i (register (thread s t) n).shadow.root).origin ≡ Listing Device → has (register (thread s t) n) store_data ≡ true → cap_base (register (thread s t) n) ≤ address → address + width ≤ cap_top (register (thread s t) n) → Licensed i.entries (record { thread = t; actor = f.actor; entry = (register (thread s t) n).shadow.root; act = Store address width value }) }
-    ensures allocate { (i : Image) (s after : State) (t n number base long : ℕ) (f : Frame) (fs : List Frame) → Confined i s → Confined i after → (thread s t).frames ≡ f ∷ fs → (register (thread s t) n).tag ≡ true → (root i (register (thread s t) n).shadow.root).origin ≡ Listing Quota → Licensed i.entries (record { thread = t; actor = f.actor; entry = (register (thread s t) n).shadow.root; act = Allocate number base long (charges (register (thread s t) n).shadow.root after.objects) }) }
-    ensures free { (i : Image) (s after : State) (t n number base long : ℕ) (f : Frame) (fs : List Frame) → Confined i s → Confined i after → (thread s t).frames ≡ f ∷ fs → (register (thread s t) n).tag ≡ true → (root i (register (thread s t) n).shadow.root).origin ≡ Listing Quota → Licensed i.entries (record { thread = t; actor = f.actor; entry = (register (thread s t) n).shadow.root; act = Free number base long (charges (register (thread s t) n).shadow.root after.objects) }) }
+    ensures call { (i : Image) (s : State) (t n : ℕ) (f : Frame) (fs : List Frame)
+        → Confined i s → Holds s t n f fs → cap_seal (register (thread s t) n) ≡ 9
+        → Licensed i.entries (deed_by s t n f (Call (root i (register (thread s t) n).shadow.root).of)) }
+    ensures load { (i : Image) (s : State) (t n address width value : ℕ) (f : Frame) (fs : List Frame)
+        → Confined i s → Accesses i s t n load_data address width f fs
+        → Licensed i.entries (deed_by s t n f (Load address width value)) }
+    ensures store { (i : Image) (s : State) (t n address width value : ℕ) (f : Frame) (fs : List Frame)
+        → Confined i s → Accesses i s t n store_data address width f fs
+        → Licensed i.entries (deed_by s t n f (Store address width value)) }
+    ensures allocate { (i : Image) (s after : State) (t n number base long : ℕ) (f : Frame) (fs : List Frame)
+        → Confined i s → Confined i after → Charges i s t n f fs
+        → Licensed i.entries (deed_by s t n f (Allocate number base long
+        (charges (register (thread s t) n).shadow.root after.objects))) }
+    ensures free { (i : Image) (s after : State) (t n number base long : ℕ) (f : Frame) (fs : List Frame)
+        → Confined i s → Confined i after → Charges i s t n f fs
+        → Licensed i.entries (deed_by s t n f (Free number base long
+        (charges (register (thread s t) n).shadow.root after.objects))) }
 {}
 
 /// A thread whose interrupts are off holds them by an export that may.
 pub fn off_spans_licensed()
-    ensures { (i : Image) (s : State) (t : ℕ) (f : Frame) (fs : List Frame) → GatesOfExports i → Confined i s → (thread s t).frames ≡ f ∷ fs → (thread s t).posture.off ≡ true → OffLicensed i.entries (record { thread = t; actor = f.actor; export = (thread s t).posture.source }) }
+    ensures { (i : Image) (s : State) (t : ℕ) (f : Frame) (fs : List Frame)
+        → GatesOfExports i → Confined i s → (thread s t).frames ≡ f ∷ fs
+        → (thread s t).posture.off ≡ true
+        → OffLicensed i.entries (span_of s t f) }
 {}

@@ -31,7 +31,7 @@ apart_each s quota size base i (q ∷ qs) f a = (((λ same. let number = f.0.num
 pub place_found : (i : Image) (s : State) (quota size base : ℕ) → Confined i s → Fits i s.objects (length_for size) base → charge_for size + charges quota s.objects ≤ (root i quota).limit → NewObject i s (new_object s quota size base)
 place_found i s quota size base h f limit = record {
   live = refl;
-  fits = record { number = omega arith; low = f.low; high = f.high; whole = (f.eight, length_eights size); charge = refl; unpainted = λ live. refl };
+  fits = record { first = h.numbered; number = omega arith; low = f.low; high = f.high; whole = (f.eight, length_eights size); charge = refl; unpainted = λ live. refl };
   number = refl;
   apart = apart_each s quota size base i s.objects h.fits f.apart;
   limit = limit;

@@ -20,7 +20,7 @@ use Rattle.def_machine.specs.Image.{Image, root, made_cap, stack_entry, stack_ba
 use Rattle.def_machine.specs.State.{Object}
 use Rattle.def_profile.specs.declared.rights.TheConstants.{STACK_RIGHTS, HEAP_RIGHTS}
 use Rattle.def_machine.specs.Heap.{object_cap}
-use Rattle.def_confined.specs.Capabilities.{Rooted, AsBoot, IsBootType, IsReturnType}
+use Rattle.def_confined.specs.Capabilities.{Rooted, AsBoot, IsBootType, IsReturnType, is_home}
 use Rattle.def_confined.specs.Confined.{ObjectFits}
 use Rattle.def_confined.specs.Partitioned.{Partitioned}
 use Rattle.def_confined.specs.Made.{IsStackUpTo, IsObjectCap}
@@ -30,6 +30,7 @@ use Rattle.law_registers.proofs.Derives.{of_heap}
 pub record Allows (i : Image) (from : Shadow) (low high set at kind : ℕ) : Type 0 where
   pub order : low ≤ high
   pub roots : is_root (root i from.root).origin ≡ true
+  pub home : is_home (root i from.root).origin (root i from.root).owner ≡ true
   pub legal : IsLegal set
   pub range : of_heap i from ≡ false → ((root i from.root).base ≤ low) × (high ≤ (root i from.root).top)
   pub heap : of_heap i from ≡ true → (i.heap_base ≤ low) × (high ≤ i.heap_end)
@@ -47,6 +48,7 @@ made_rooted i d from low high set at kind m e a boots =
     record {
       order = omega (arith, a.order, m.base_is, m.top_is);
       from = let P : Shadow → Type 0 = λ s. is_root (root i s.root).origin ≡ true in subst P (sym e) a.roots;
+      home = let P : Shadow → Type 0 = λ s. is_home (root i s.root).origin (root i s.root).owner ≡ true in subst P (sym e) a.home;
       legal = let P : ℕ → Type 0 = λ n. IsLegal n in subst P (sym m.rights_are) a.legal;
       range =
           let P : Shadow → Type 0 = λ s. of_heap i s ≡ false → ((root i s.root).base ≤ cap_base d) × (cap_top d ≤ (root i s.root).top) in
@@ -143,6 +145,7 @@ stack_made i t high from p kind_is roots low ends tagged =
     made_rooted i (derive memory_root (stack_base i t) (high - stack_base i t) STACK_RIGHTS high 0 from) from (stack_base i t) (stack_base i t + (high - stack_base i t)) STACK_RIGHTS high 0 made.0 made.1 (record {
       order = omega (arith, low);
       roots = ap is_root is;
+      home = ap (λ o. is_home o (root i from.root).owner) is;
       legal = stack_legal;
       range = λ no. let P : ℕ → Type 0 = λ n. ((root i n).base ≤ stack_base i t) × (stack_base i t + (high - stack_base i t) ≤ (root i n).top) in subst P (sym roots) (omega arith, omega (arith, low, ends));
       heap = λ heap. absurd (let clash : true ≡ false = sym heap ∙ no_heap in cc);
@@ -164,16 +167,17 @@ stack_made i t high from p kind_is roots low ends tagged =
     }
 
 -- the capability of an object of the heap
-pub object_made : (i : Image) (next : ℕ) (r : Object) → Partitioned i → (root i r.quota).origin ≡ Listing kinds.Quota → ObjectFits i next r → 0 < r.number → 0 < r.length → (object_cap r).tag ≡ true → IsObjectCap i r (object_cap r)
-object_made i next r p kind_is f first some tagged =
+pub object_made : (i : Image) (next : ℕ) (r : Object) → Partitioned i → (root i r.quota).origin ≡ Listing kinds.Quota → ObjectFits i next r → 0 < r.length → (object_cap r).tag ≡ true → IsObjectCap i r (object_cap r)
+object_made i next r p kind_is f some tagged =
     let small = p.heap_small in
     let from : Shadow = record { root = r.quota; source = r.number } in
     let made = memory_made r.base r.length HEAP_RIGHTS r.base (record { root = r.quota; source = r.number }) heap_spelled (omega (arith, f.high, small, some)) (omega (arith, f.high, small)) (omega arith) (omega arith) (omega (arith, f.high, small, some)) tagged in
-    let numbered : not (nat_eq r.number 0) ≡ true = elim (eq_tells r.number 0) [ inl e ↦ absurd (omega (arith, e.1, first)) | inr e ↦ ap not e.0 ] in
+    let numbered : not (nat_eq r.number 0) ≡ true = elim (eq_tells r.number 0) [ inl e ↦ absurd (omega (arith, e.1, f.first)) | inr e ↦ ap not e.0 ] in
     let in_heap : of_heap i (record { root = r.quota; source = r.number }) ≡ true = ap (λ b. b && not (nat_eq r.number 0)) (ap is_quota kind_is) ∙ numbered in
     let rooted : Rooted i (object_cap r) = made_rooted i (object_cap r) (record { root = r.quota; source = r.number }) r.base (r.base + r.length) HEAP_RIGHTS r.base 0 made.0 made.1 (record {
       order = omega arith;
       roots = ap is_root kind_is;
+      home = ap (λ o. is_home o (root i r.quota).owner) kind_is;
       legal = heap_legal;
       range = λ no. absurd (let clash : true ≡ false = sym in_heap ∙ no in cc);
       heap = λ is. (omega (arith, f.low), f.high);

@@ -2,30 +2,28 @@
 //! operations make. So none of these facts is a premise that nobody meets.
 #![tactic(auto)]
 
-ghost use Rattle.std.specs.Prelude.{◌≡◌, ◌≤◌, ◌<◌, ◌-◌, ◌+◌, ◌%◌, ◌^◌, ℕ, List, ◌∷◌, Option, Some, true};
+ghost use Rattle.std.specs.Prelude.{◌≡◌, ◌≤◌, ◌<◌, ◌+◌, ◌^◌, ℕ, List, true};
 ghost use Rattle.def_words.specs.declared.Cap.{Cap};
 ghost use Rattle.def_words.specs.declared.Posture.{Posture};
 ghost use Rattle.def_words.specs.declared.Shadow.{Shadow};
 ghost use Rattle.def_words.specs.Capability.{with_address, raised, with_bounds, with_exact_bounds, masked, sealed_by, unsealed_by, untagged};
-ghost use Rattle.def_words.specs.Derive.{derive, memory_root};
 ghost use Rattle.def_words.specs.Jumped.{opened, linked};
 ghost use Rattle.def_words.specs.Loaded.{attenuated};
-ghost use Rattle.def_words.specs.Permissions.{has, execute, memory_capability, store_local};
+ghost use Rattle.def_words.specs.Permissions.{has, execute, memory_capability};
 ghost use Rattle.def_words.specs.Seals.{cap_seal};
-ghost use Rattle.ct_entry.specs.declared.rows.Owner.TheVariants.{Compartment};
 ghost use Rattle.ct_entry.specs.declared.rows.Kind.TheVariants.{Stack, Quota};
 ghost use Rattle.def_reach.specs.Roots.{Listing};
 ghost use Rattle.def_machine.specs.Image.{Image, root, stack_entry, stack_base, stack_top};
-ghost use Rattle.def_machine.specs.State.{State, Frame, Object, register, thread};
-ghost use Rattle.def_profile.specs.declared.rights.TheConstants.{STACK_RIGHTS};
+ghost use Rattle.def_machine.specs.State.{State, Frame, Object, thread};
 ghost use Rattle.def_machine.specs.Frames.{given};
 ghost use Rattle.def_machine.specs.Objects.{charges};
 ghost use Rattle.def_machine.specs.Heap.{object_cap, Fits, length_for, charge_for, new_object};
-ghost use Rattle.def_confined.specs.Capabilities.{Rooted, IsReturnType};
+ghost use Rattle.def_confined.specs.Capabilities.{Rooted};
 ghost use Rattle.def_confined.specs.Confined.{Confined, ObjectFits};
 ghost use Rattle.def_confined.specs.Partitioned.{Partitioned};
 ghost use Rattle.def_confined.specs.Made.{Derived, Opens, Links, IsStackUpTo, IsObjectCap};
 ghost use Rattle.def_confined.specs.Changes.{Enters, NewObject};
+ghost use Rattle.law_made.specs.Calling.{PassesChecks, stack_up_to};
 
 /// A result of an operation is derived from its first operand: the address and its raise, bounds, exact
 /// bounds, a mask, the tag cleared, a seal and an unseal by a key with a root, and a load's attenuation.
@@ -36,30 +34,48 @@ pub fn results_derived()
     ensures exact { (c : Cap) (n : ℕ) → Derived c (with_exact_bounds c n) }
     ensures mask { (c : Cap) (n : ℕ) → Derived c (masked c n) }
     ensures clear { (c : Cap) → Derived c (untagged c) }
-    ensures seals { (i : Image) (c key : Cap) → Partitioned i → (key.tag ≡ true → Rooted i key) → Derived c (sealed_by c key) }
-    ensures unseals { (i : Image) (c key : Cap) → Partitioned i → (key.tag ≡ true → Rooted i key) → Derived c (unsealed_by c key) }
+    ensures seals { (i : Image) (c key : Cap)
+        → Partitioned i → (key.tag ≡ true → Rooted i key) → Derived c (sealed_by c key) }
+    ensures unseals { (i : Image) (c key : Cap)
+        → Partitioned i → (key.tag ≡ true → Rooted i key) → Derived c (unsealed_by c key) }
     ensures loads { (by c : Cap) → Derived c (attenuated by c) }
-    ensures carries { (by c : Cap) → (attenuated by c).tag ≡ true → has by memory_capability ≡ true }
+    ensures carries { (by c : Cap)
+        → (attenuated by c).tag ≡ true → has by memory_capability ≡ true }
 {}
 
 /// What a jump goes to and what it leaves: a sentry without its seal, an unsealed target at its address or
 /// the program counter further on, and the link.
 pub fn jumps_made()
     ensures opens { (c : Cap) → Opens c (opened c) }
-    ensures target { (c : Cap) (a : ℕ) → a < 2 ^ 32 → has c execute ≡ true → (with_address c a).tag ≡ true → (cap_seal (with_address c a) ≡ 0) × (has (with_address c a) execute ≡ true) }
-    ensures onward { (c : Cap) (n : ℕ) → has c execute ≡ true → (raised c n).tag ≡ true → (cap_seal (raised c n) ≡ 0) × (has (raised c n) execute ≡ true) }
-    ensures links { (pcc : Cap) (before : Posture) → has pcc execute ≡ true → Links pcc before (linked pcc before) }
+    ensures target { (c : Cap) (a : ℕ)
+        → a < 2 ^ 32 → has c execute ≡ true → (with_address c a).tag ≡ true
+        → (cap_seal (with_address c a) ≡ 0) × (has (with_address c a) execute ≡ true) }
+    ensures onward { (c : Cap) (n : ℕ)
+        → has c execute ≡ true → (raised c n).tag ≡ true
+        → (cap_seal (raised c n) ≡ 0) × (has (raised c n) execute ≡ true) }
+    ensures links { (pcc : Cap) (before : Posture)
+        → has pcc execute ≡ true → Links pcc before (linked pcc before) }
 {}
 
 /// What the switcher gives a callee, where the checks of a call passed, is as the law of a call takes it.
 pub fn calls_made()
-    ensures stack { (i : Image) (t high : ℕ) (from : Shadow) → Partitioned i → (root i (stack_entry i t)).origin ≡ Listing Stack → from.root ≡ stack_entry i t → stack_base i t ≤ high → high ≤ stack_top i t → (derive memory_root (stack_base i t) (high - stack_base i t) STACK_RIGHTS high 0 from).tag ≡ true → IsStackUpTo i t high (derive memory_root (stack_base i t) (high - stack_base i t) STACK_RIGHTS high 0 from) }
-    ensures enters { (i : Image) (s : State) (t : ℕ) (g : Frame) (gs : List Frame) (callee export high : ℕ) → Partitioned i → Confined i s → s.running ≡ Some t → (thread s t).frames ≡ g ∷ gs → (register (thread s t) 1).tag ≡ true → IsReturnType (cap_seal (register (thread s t) 1)) → (register (thread s t) 6).tag ≡ true → cap_seal (register (thread s t) 6) ≡ 9 → (root i (register (thread s t) 6).shadow.root).of ≡ export → (root i export).owner ≡ Compartment callee → (register (thread s t) 2).tag ≡ true → has (register (thread s t) 2) store_local ≡ true → high % 16 ≡ 0 → stack_base i t ≤ high → high ≤ g.top → Enters i s t g gs callee export high (given i (thread s t) t callee export high) }
+    ensures stack { (i : Image) (t high : ℕ) (from : Shadow)
+        → Partitioned i → (root i (stack_entry i t)).origin ≡ Listing Stack
+        → from.root ≡ stack_entry i t → stack_base i t ≤ high → high ≤ stack_top i t
+        → (stack_up_to i t high from).tag ≡ true → IsStackUpTo i t high (stack_up_to i t high from) }
+    ensures enters { (i : Image) (s : State) (t : ℕ) (g : Frame) (gs : List Frame) (callee export high : ℕ)
+        → Partitioned i → Confined i s → PassesChecks i s t g gs callee export high
+        → Enters i s t g gs callee export high (given i (thread s t) t callee export high) }
 {}
 
 /// A place that was found, with room in the quota, gives an object that may be put beside the others; and the
 /// capability of an object that fits the heap.
 pub fn objects_made()
-    ensures found { (i : Image) (s : State) (quota size base : ℕ) → Confined i s → Fits i s.objects (length_for size) base → charge_for size + charges quota s.objects ≤ (root i quota).limit → NewObject i s (new_object s quota size base) }
-    ensures capability { (i : Image) (next : ℕ) (r : Object) → Partitioned i → (root i r.quota).origin ≡ Listing Quota → ObjectFits i next r → 0 < r.number → 0 < r.length → (object_cap r).tag ≡ true → IsObjectCap i r (object_cap r) }
+    ensures found { (i : Image) (s : State) (quota size base : ℕ)
+        → Confined i s → Fits i s.objects (length_for size) base
+        → charge_for size + charges quota s.objects ≤ (root i quota).limit
+        → NewObject i s (new_object s quota size base) }
+    ensures capability { (i : Image) (next : ℕ) (r : Object)
+        → Partitioned i → (root i r.quota).origin ≡ Listing Quota → ObjectFits i next r
+        → 0 < r.length → (object_cap r).tag ≡ true → IsObjectCap i r (object_cap r) }
 {}

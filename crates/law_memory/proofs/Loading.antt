@@ -12,15 +12,14 @@ use Rattle.def_machine.specs.Image.{Image, Region, Fixed, Globals, Shared, HeapR
 use Rattle.def_machine.specs.State.{State, Frame, Object, thread, register, granule}
 use Rattle.def_machine.specs.Objects.{Any}
 use Rattle.def_machine.specs.Memory.{filtered}
-use Rattle.def_machine.specs.Registers.{put_register}
-use Rattle.def_confined.specs.Capabilities.{heap_cap, Kept}
-use Rattle.def_confined.specs.Places.{Placed, InFrames, InRegion, OwnStack, NoStack, HeapDomain, HasLive, LiveCovers, outer}
+use Rattle.def_confined.specs.Capabilities.{heap_cap}
+use Rattle.def_confined.specs.Changes.{Puts}
+use Rattle.def_confined.specs.Places.{Placed, InFrames, InRegion, OwnStack, NoStack, HeapDomain, LiveCovers, outer}
 use Rattle.def_confined.specs.Confined.{Confined}
 use Rattle.def_confined.specs.Partitioned.{Partitioned, Loads}
 use Rattle.def_confined.specs.Made.{Derived}
 use Rattle.law_reach.proofs.Joins.{reaches_on}
 use Rattle.law_places.proofs.Places.{carry, tops_back, plain_in}
-use Rattle.law_places.proofs.Turns.{put_register_confined}
 use Rattle.law_registers.proofs.Derives.{kept_bound, derived_in, derived_kept}
 use Rattle.law_registers.proofs.Filters.{filter_in, filter_kept, filter_live, in_object}
 use Rattle.law_memory.proofs.Authorities.{owner_joined, whole_granule, domain_joined, headed}
@@ -107,14 +106,9 @@ load_in i s t f gs by x w = elim (bool_tells (heap_cap i by)) [
 ]
 
 -- what a register of the running thread gets by such a load may stand there
-pub record Loaded (i : Image) (s : State) (t : ℕ) (c : Cap) : Type 0 where
-  pub there : InFrames i s.objects t (thread s t).frames c
-  pub kept : Kept i c
-  pub live : HasLive i s.objects c
-
 pub load_stands : (i : Image) (s : State) (t at x : ℕ) (d : Cap) → Partitioned i → Confined i s → s.running ≡ Some t → i.ram ≤ x → (register (thread s t) at).tag ≡ true → has (register (thread s t) at) load_data ≡ true
     → cap_base (register (thread s t) at) ≤ x → x < cap_top (register (thread s t) at) → x % 8 ≡ 0 → Derived (granule s (granule_of i x)).cap d → (d.tag ≡ true → has (register (thread s t) at) memory_capability ≡ true)
-    → Loaded i s t (filtered i s d)
+    → Puts i s t (filtered i s d)
 load_stands i s t at x d p h runs inside tagged loads low high aligned derived carries = elim (bool_tells d.tag) [
   | inl there ↦
       let head = headed i s.objects t (thread s t).frames (register (thread s t) at) (h.registers t at) tagged in
@@ -150,10 +144,3 @@ load_stands i s t at x d p h runs inside tagged loads low high aligned derived c
         live = filter_live i s d p h (in_object i s.objects t (thread s t).frames d placed);
       }
 ]
-
-pub load_confined : (i : Image) (s : State) (t n at x : ℕ) (d : Cap) → Partitioned i → Confined i s → s.running ≡ Some t → i.ram ≤ x → (register (thread s t) at).tag ≡ true → has (register (thread s t) at) load_data ≡ true
-    → cap_base (register (thread s t) at) ≤ x → x < cap_top (register (thread s t) at) → x % 8 ≡ 0 → Derived (granule s (granule_of i x)).cap d → (d.tag ≡ true → has (register (thread s t) at) memory_capability ≡ true)
-    → Confined i (put_register s t n (filtered i s d))
-load_confined i s t n at x d p h runs inside tagged loads low high aligned derived carries =
-    let l = load_stands i s t at x d p h runs inside tagged loads low high aligned derived carries in
-    put_register_confined i s t n (filtered i s d) h l.there l.kept (λ is. l.live)

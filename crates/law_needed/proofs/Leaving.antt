@@ -125,6 +125,7 @@ unfolding root_of gate_for bit
 sentry_rooted = made_rooted two sentry (record { root = 0; source = 0 }) 65552 65560 353 65552 5 is_sentry.0 is_sentry.1 (record {
   order = lit≤ tt;
   roots = refl;
+  home = refl;
   legal = legal_353;
   range = λ other. (lit≤ tt, lit≤ tt);
   heap = λ is. absurd (let clash : false ≡ true = is in cc);
@@ -143,6 +144,7 @@ unfolding root_of gate_for bit
 globals_rooted = made_rooted two inner_globals (record { root = 4; source = 0 }) 2147483696 2147483712 111 2147483696 0 is_inner.0 is_inner.1 (record {
   order = lit≤ tt;
   roots = refl;
+  home = refl;
   legal = legal_111;
   range = λ other. (lit≤ tt, lit≤ tt);
   heap = λ is. absurd (let clash : false ≡ true = is in cc);

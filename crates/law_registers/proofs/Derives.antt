@@ -14,7 +14,7 @@ use Rattle.def_machine.specs.Image.{Image, root, made_cap, stack_entry}
 use Rattle.def_profile.specs.declared.rights.TheConstants.{HEAP_RIGHTS}
 use Rattle.def_machine.specs.State.{Frame, Object}
 use Rattle.def_machine.specs.Objects.{Any}
-use Rattle.def_confined.specs.Capabilities.{Rooted, AsBoot, IsBootType, IsReturnType, Kept, heap_cap}
+use Rattle.def_confined.specs.Capabilities.{Rooted, AsBoot, IsBootType, IsReturnType, Kept, heap_cap, is_home}
 use Rattle.def_confined.specs.Places.{Placed, InFrames, WithinRun, OwnStack, Covers, HasObject, HasLive, LiveCovers}
 use Rattle.def_confined.specs.Confined.{IsPcc}
 use Rattle.def_confined.specs.Made.{Loose, IsDerived, Derived}
@@ -86,6 +86,7 @@ derived_rooted i c d x bound r =
     record {
       order = x.narrows.order r.order;
       from = let P : Shadow → Type 0 = λ s. is_root (root i s.root).origin ≡ true in subst P (sym e) r.from;
+      home = let P : Shadow → Type 0 = λ s. is_home (root i s.root).origin (root i s.root).owner ≡ true in subst P (sym e) r.home;
       legal = x.narrows.legal;
       range =
           let P : Shadow → Type 0 = λ s. of_heap i s ≡ false → ((root i s.root).base ≤ cap_base d) × (cap_top d ≤ (root i s.root).top) in

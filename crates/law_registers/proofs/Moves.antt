@@ -1,5 +1,5 @@
--- One register is written.
-use Rattle.std.proofs.Common.{ℕ, ◌≡◌, true, false, sym, ap, ◌∙◌}
+-- One register is written; and what a register of the running thread may get.
+use Rattle.std.proofs.Common.{ℕ, ◌≡◌, true, false, Some, sym, ap, ◌∙◌}
 use Rattle.def_words.specs.declared.Cap.{Cap}
 use Rattle.def_reach.specs.Roots.{is_native}
 use Rattle.def_machine.specs.Image.{Image, root}
@@ -8,6 +8,7 @@ use Rattle.def_machine.specs.Registers.{put_register}
 use Rattle.def_confined.specs.Capabilities.{Kept}
 use Rattle.def_confined.specs.Confined.{Confined}
 use Rattle.def_confined.specs.Made.{Derived}
+use Rattle.def_confined.specs.Changes.{Puts}
 use Rattle.law_places.proofs.Places.{plain_in}
 use Rattle.law_places.proofs.Puts.{plain_kept}
 use Rattle.law_places.proofs.Turns.{put_register_confined}
@@ -17,13 +18,6 @@ pub untagged_confined : (i : Image) (s : State) (t n : ℕ) (c : Cap) → Confin
 untagged_confined i s t n c h none = put_register_confined i s t n c h (plain_in i s.objects t (thread s t).frames c none) (plain_kept i c none)
     (λ runs tagged. absurd (let clash : true ≡ false = sym tagged ∙ none in cc))
 
-pub register_confined : (i : Image) (s : State) (t n from : ℕ) (d : Cap) → Confined i s → Derived (register (thread s t) from) d → Confined i (put_register s t n d)
-register_confined i s t n from d h x =
-    let c : Cap = register (thread s t) from in
-    let bound : (register (thread s t) from).tag ≡ true → Bound i (register (thread s t) from) = λ tagged. kept_bound i (register (thread s t) from) tagged (h.kept.registers t from) in
-    put_register_confined i s t n d h (derived_in i s.objects t (thread s t).frames (register (thread s t) from) d bound x (h.registers t from)) (derived_kept i (register (thread s t) from) d bound x (h.kept.registers t from))
-    (λ runs. live_derived i s.objects (register (thread s t) from) d x (h.live t runs from))
-
 pub not_native_bound : (i : Image) (c : Cap) → is_native (root i c.shadow.root).origin ≡ false → Bound i c
 not_native_bound i c not native loose = let clash : true ≡ false = sym native ∙ not in cc
 
@@ -31,9 +25,35 @@ pub not_native_kept : (i : Image) (c : Cap) → is_native (root i c.shadow.root)
 not_native_kept i c not tagged =
     ((λ service. absurd (let clash : true ≡ false = sym (ap is_native service) ∙ not in cc)), (λ trusted. absurd (let clash : true ≡ false = sym (ap is_native trusted) ∙ not in cc)))
 
-pub pcc_confined : (i : Image) (s : State) (t n : ℕ) (d : Cap) → Confined i s → is_native (root i (thread s t).pcc.shadow.root).origin ≡ false → Derived (thread s t).pcc d → Confined i (put_register s t n d)
-pcc_confined i s t n d h not x =
-    let bound : (thread s t).pcc.tag ≡ true → Bound i (thread s t).pcc = λ tagged. not_native_bound i (thread s t).pcc not in
-    put_register_confined i s t n d h (derived_in i s.objects t (thread s t).frames (thread s t).pcc d bound x (h.pcc t))
-    (derived_kept i (thread s t).pcc d bound x (not_native_kept i (thread s t).pcc not))
-    (λ runs. pcc_live i s.objects (thread s t).pcc d (h.runs t) x)
+-- ---- what a register of the running thread may get
+
+pub untagged_puts : (i : Image) (s : State) (t : ℕ) (c : Cap) → c.tag ≡ false → Puts i s t c
+untagged_puts i s t c none = record {
+  there = plain_in i s.objects t (thread s t).frames c none;
+  kept = plain_kept i c none;
+  live = λ tagged. absurd (let clash : true ≡ false = sym tagged ∙ none in cc);
+}
+
+pub same_puts : (i : Image) (s : State) (t from : ℕ) → Confined i s → s.running ≡ Some t → Puts i s t (register (thread s t) from)
+same_puts i s t from h runs = record { there = h.registers t from; kept = h.kept.registers t from; live = h.live t runs from }
+
+pub register_puts : (i : Image) (s : State) (t from : ℕ) (d : Cap) → Confined i s → s.running ≡ Some t → Derived (register (thread s t) from) d → Puts i s t d
+register_puts i s t from d h runs x =
+    let bound = λ (tagged : (register (thread s t) from).tag ≡ true). kept_bound i (register (thread s t) from) tagged (h.kept.registers t from) in
+    record {
+      there = derived_in i s.objects t (thread s t).frames (register (thread s t) from) d bound x (h.registers t from);
+      kept = derived_kept i (register (thread s t) from) d bound x (h.kept.registers t from);
+      live = live_derived i s.objects (register (thread s t) from) d x (h.live t runs from);
+    }
+
+pub pcc_puts : (i : Image) (s : State) (t : ℕ) (d : Cap) → Confined i s → is_native (root i (thread s t).pcc.shadow.root).origin ≡ false → Derived (thread s t).pcc d → Puts i s t d
+pcc_puts i s t d h other x =
+    let bound = λ (tagged : (thread s t).pcc.tag ≡ true). not_native_bound i (thread s t).pcc other in
+    record {
+      there = derived_in i s.objects t (thread s t).frames (thread s t).pcc d bound x (h.pcc t);
+      kept = derived_kept i (thread s t).pcc d bound x (not_native_kept i (thread s t).pcc other);
+      live = pcc_live i s.objects (thread s t).pcc d (h.runs t) x;
+    }
+
+pub put_confined : (i : Image) (s : State) (t n : ℕ) (c : Cap) → Confined i s → Puts i s t c → Confined i (put_register s t n c)
+put_confined i s t n c h x = put_register_confined i s t n c h x.there x.kept (λ runs. x.live)

@@ -16,7 +16,7 @@ use Rattle.def_machine.specs.State.{nobody}
 use Rattle.def_step.specs.Boot.{made_by, made_from, made_for, return_sentry, boot_cap, boot_word, boot_granules, granules_from, slot_number, head_number, first_thread, first_threads, boot_state, home_of, code_number, globals_number, stack_number}
 use Rattle.law_words.proofs.Away.{address_settles}
 use Rattle.law_words.proofs.Making.{settled}
-use Rattle.law_settled.specs.Settled.{ThreadSettled, Settled}
+use Rattle.def_confined.specs.Settled.{ThreadSettled, Settled}
 use Rattle.law_settled.proofs.Values.{plain_settled}
 use Rattle.law_settled.proofs.Events.{nobody_settled, sixteen}
 

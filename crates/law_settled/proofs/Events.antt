@@ -39,7 +39,7 @@ use Rattle.def_step.specs.Events.{preempted_from, preempted, picked_as, picked_f
 use Rattle.law_words.proofs.Away.{address_settles, opens_settles}
 use Rattle.law_lists.proofs.Maps.{at_map}
 use Rattle.law_sweeps.proofs.Slices.{granule_at_slice, register_at_slice, thread_sliced}
-use Rattle.law_settled.specs.Settled.{FrameSettled, ThreadSettled, Settled}
+use Rattle.def_confined.specs.Settled.{FrameSettled, ThreadSettled, Settled}
 use Rattle.law_settled.proofs.Values.{plain_settled, filtered_settled, result_settled, IfFlows, flow_settled, IfAccesses, accessed_settled}
 
 -- ---- changes of a state

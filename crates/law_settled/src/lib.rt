@@ -8,7 +8,7 @@ ghost use Rattle.def_step.specs.Boot.{boot_state};
 ghost use Rattle.def_step.specs.declared.Event.{Event};
 ghost use Rattle.def_step.specs.Instructions.{Board};
 ghost use Rattle.def_step.specs.Events.{happens, run};
-ghost use Rattle.law_settled.specs.Settled.{Settled};
+ghost use Rattle.def_confined.specs.Settled.{Settled};
 
 /// What is untagged in RAM, in registers, in program counters and in frames is settled after an event, where it was
 /// before.

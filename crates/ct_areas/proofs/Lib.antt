@@ -1,0 +1,4 @@
+pub mod Places
+pub mod Same
+pub mod Rows
+pub mod Stopped

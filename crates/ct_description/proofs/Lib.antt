@@ -1,0 +1,4 @@
+pub mod Once
+pub mod Owners
+pub mod Sets
+pub mod Steps

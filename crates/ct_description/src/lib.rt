@@ -1,0 +1,82 @@
+//! A description is read exactly: `read` answers the rows that the bytes stand for exactly where they
+//! are a well-formed description, and otherwise the least fault that holds anywhere, at its first
+//! place (docs/use/description.md; definitions in def_description).
+//!
+//! JSON is read by `serde_json`. The places of the value are walked once for each fault: members,
+//! limits and tables are judged in ct_value, rows are read in ct_rows, and names, references and
+//! addresses are judged here.
+#![tactic(auto)]
+
+mod addresses;
+mod judge;
+mod names;
+mod naming;
+mod references;
+mod rules;
+mod spaces;
+#[cfg(test)]
+mod tests;
+
+ghost use Rattle.std.specs.Prelude.{MatchResult};
+ghost use Rattle.def_description.specs.WellFormed.{WellFormed};
+ghost use Rattle.ct_description.specs.Answers.{Refused, Unread};
+
+use ct_rows::Desc;
+use def_description::PartWord;
+use serde_json::Value;
+use std::alloc::{AllocError, Global};
+use thiserror::Error;
+
+/// Why a description is not read.
+#[derive(Debug, Drop, PartialEq, Error)]
+pub enum DescFault {
+    /// The least fault that holds anywhere, by the number after its F, and its first place.
+    #[error("not a well-formed description")]
+    At {
+        number: u32,
+        part: PartWord,
+        index: u32,
+        item: u32,
+    },
+    /// Memory was wanted.
+    #[error("out of memory")]
+    NoMemory,
+}
+
+impl From<AllocError> for DescFault {
+    ghost use Rattle.std.specs.Prelude.{◌≡◌};
+    ghost use Rattle.ct_description.specs.declared.DescFault.TheVariants.{NoMemory};
+
+    ghost from_gives = { λ _ e. e ≡ NoMemory };
+
+    fn from(_: AllocError) -> DescFault {
+        DescFault::NoMemory
+    }
+}
+
+fn text_fault(e: serde_json::Error) -> DescFault
+    ensures { Unread e result }
+{
+    if e.is_memory() {
+        DescFault::NoMemory
+    } else {
+        DescFault::At {
+            number: 1,
+            part: PartWord::Firmware,
+            index: 0,
+            item: 0,
+        }
+    }
+}
+
+/// Reads a description (docs/use/description.md, "Faults"). Ok comes exactly of a well-formed
+/// description, with the rows that it stands for; `At` is exactly the least fault that holds
+/// anywhere, at its first place. `NoMemory` is want of memory, and may come of any bytes.
+pub fn read(alloc: Global, bytes: &[u8]) -> Result<Desc, DescFault>
+    ensures { MatchResult result (λ d. WellFormed bytes.now d) (λ e. Refused bytes.now e) }
+{
+    match Value::from_slice(alloc, bytes) {
+        Ok(value) => judge::read_value(alloc, &value),
+        Err(e) => Err(text_fault(e)),
+    }
+}

@@ -1,0 +1,5 @@
+pub mod OnOks
+pub mod Told
+pub mod NameTexts
+pub mod Rows
+pub mod Backs

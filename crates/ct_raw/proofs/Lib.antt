@@ -1,0 +1,7 @@
+pub mod Loop
+pub mod Exact
+pub mod Parts
+pub mod Texts
+pub mod Whole
+pub mod Readings
+pub mod Unbroken

@@ -1,0 +1,89 @@
+-- What stands in a thread's area of the trusted region. All places count granules from RAM's begin. An area begins with
+-- the program counter capability and registers c1 to c15 of a thread that isn't running; its frames stand after its
+-- head, the outermost first.
+use Rattle.std.specs.Prelude.{ℕ, zero, suc, ◌+◌, ◌*◌, ◌/◌, ◌%◌, ◌^◌, ◌==◌, ◌++◌, Bool, true, false, List, [], ◌∷◌, slice_set}
+use Rattle.def_profile.specs.declared.layout.TheConstants.{GRANULE, AREA_HEAD, FRAME_SIZE}
+use Rattle.def_words.specs.declared.Cap.{Cap}
+use Rattle.def_memory.specs.declared.Granule.{Granule}
+use Rattle.def_memory.specs.Granules.{plain, granule_at}
+use Rattle.def_machine.specs.State.{Frame}
+
+-- ---- granules one by one
+
+-- what a granule holds
+abbrev pub held : List Granule → ℕ → Cap
+held gs k = (granule_at gs k).cap
+
+-- so many granules from k on
+abbrev pub held_from : List Granule → ℕ → ℕ → List Cap
+held_from gs k zero = []
+held_from gs k (suc n) = held gs k ∷ held_from gs (k + 1) n
+
+-- the granule holds this; its mark stays
+abbrev pub holding : List Granule → ℕ → Cap → List Granule
+holding gs k c = slice_set gs k (record { cap = c; mark = (granule_at gs k).mark })
+
+-- the granules from k on hold these
+abbrev pub holding_all : List Granule → ℕ → List Cap → List Granule
+holding_all gs k [] = gs
+holding_all gs k (c ∷ cs) = holding_all (holding gs k c) (k + 1) cs
+
+-- the two words of a granule
+abbrev pub low_word : Cap → ℕ
+low_word c = c.word % 2 ^ 32
+
+abbrev pub high_word : Cap → ℕ
+high_word c = c.word / 2 ^ 32
+
+-- ---- a frame
+
+-- where frame j of an area begins, of which the outermost is frame 0
+abbrev pub frame_place : ℕ → ℕ → ℕ
+frame_place area j = area + AREA_HEAD / GRANULE + FRAME_SIZE / GRANULE * j
+
+-- The frame that begins at granule k keeps the caller's registers, the number of its own export, and the caller's
+-- compartment, top and mark. Its own compartment, top and mark are its thread's, or stand in the frame above it.
+abbrev pub frame_export : List Granule → ℕ → ℕ
+frame_export gs k = low_word (held gs (k + 5))
+
+abbrev pub caller_actor : List Granule → ℕ → ℕ
+caller_actor gs k = high_word (held gs (k + 5))
+
+abbrev pub caller_top : List Granule → ℕ → ℕ
+caller_top gs k = low_word (held gs (k + 6))
+
+abbrev pub caller_handling : List Granule → ℕ → Bool
+caller_handling gs k = low_word (held gs (k + 7)) == 1
+
+abbrev pub frame_at : List Granule → ℕ → ℕ → ℕ → Bool → Frame
+frame_at gs k actor top handling = record {
+  actor = actor;
+  export = frame_export gs k;
+  top = top;
+  handling = handling;
+  c1 = held gs k;
+  c2 = held gs (k + 1);
+  c3 = held gs (k + 2);
+  c8 = held gs (k + 3);
+  c9 = held gs (k + 4);
+}
+
+-- So many frames of an area, innermost first, where the innermost has this compartment, top and mark.
+abbrev pub frames_from : List Granule → ℕ → ℕ → ℕ → Bool → ℕ → List Frame
+frames_from gs area actor top handling zero = []
+frames_from gs area actor top handling (suc j) =
+    frame_at gs (frame_place area j) actor top handling
+    ∷ frames_from gs area (caller_actor gs (frame_place area j)) (caller_top gs (frame_place area j)) (caller_handling gs (frame_place area j)) j
+
+unfoldable pub frames_in : List Granule → ℕ → ℕ → ℕ → Bool → ℕ → List Frame
+frames_in gs area actor top handling depth = frames_from gs area actor top handling depth
+
+-- ---- what is written for a frame
+
+abbrev pub mark_word : Bool → ℕ
+mark_word true = 1
+mark_word false = 0
+
+-- the caller's registers c1, c2, c3, c8 and c9, the export, and the caller's compartment, top and mark
+abbrev pub frame_words : List Cap → ℕ → ℕ → ℕ → Bool → List Cap
+frame_words saved export actor top handling = saved ++ plain (export + actor * 2 ^ 32) ∷ plain top ∷ plain (mark_word handling) ∷ []

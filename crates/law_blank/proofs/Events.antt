@@ -1,0 +1,217 @@
+-- Every event leaves what is hidden zero.
+use Rattle.std.proofs.Common.{ℕ, zero, suc, ◌≡◌, ◌+◌, ◌-◌, ◌*◌, ◌≤◌, ◌<◌, ◌&&◌, ◌||◌, Bool, true, false, not, nat_le, nat_lt, inl, inr, ◌⊎◌, List, [], ◌∷◌, map, Option, Some, None, Result, Ok, Err, refl, sym, ap, ◌∙◌, subst, arith}
+use Rattle.std.proofs.Math.ListN.{get_or}
+use Rattle.std.proofs.lemmas.Bool.{eqb-true}
+use Rattle.law_lists.proofs.Tests.{chosen, le_tells, lt_tells}
+use Rattle.law_granules.proofs.Lists.{zeroed_at}
+use Rattle.def_words.specs.declared.Cap.{Cap}
+use Rattle.def_words.specs.declared.Trap.{Trap}
+use Rattle.def_words.specs.Authority.{cap_address}
+use Rattle.def_words.specs.Traps.{plain_trap}
+use Rattle.def_profile.specs.declared.traps.TheConstants.{ILLEGAL_INSTRUCTION}
+use Rattle.def_memory.specs.declared.Granule.{Granule}
+use Rattle.def_memory.specs.Granules.{plain, nothing, granule_at}
+use Rattle.def_memory.specs.Ranges.{zeroed_from}
+use Rattle.def_sched.specs.Picks.{pick}
+use Rattle.def_instr.specs.declared.Instr.{Instr}
+use Rattle.def_machine.specs.Image.{Image, address_of, stack_base, trusted_end}
+use Rattle.def_machine.specs.State.{State, Frame, Object, thread, register, granule}
+use Rattle.def_machine.specs.Objects.{Each, has_quarantined, painted, unpainted}
+use Rattle.def_machine.specs.Threads.{timed, statuses_of}
+use Rattle.def_machine.specs.Frames.{returned, unwound}
+use Rattle.def_machine.specs.Memory.{filtered}
+use Rattle.def_machine.specs.Heap.{with_object, quarantined, freed, sliced, with_slice, slice_end, unmarked, sweep_over, ram_size, ended_sweep, sweep_began, sweep_on}
+use Rattle.def_confined.specs.Changes.{Frees}
+use Rattle.def_confined.specs.Confined.{Confined, ObjectFits}
+use Rattle.def_confined.specs.Keeps.{Keeps}
+use Rattle.def_confined.specs.Partitioned.{Partitioned}
+use Rattle.def_hidden.specs.Hidden.{Shut, Blank, is_live_at, is_hidden}
+use Rattle.def_board.specs.Wired.{Wired}
+use Rattle.def_step.specs.declared.Class.{Class}
+use Rattle.def_step.specs.declared.Class.TheVariants as class
+use Rattle.def_step.specs.declared.Next.{Next}
+use Rattle.def_step.specs.declared.Next.TheVariants.{Returning, Instruction, Nothing}
+use Rattle.def_step.specs.declared.Event.{Event}
+use Rattle.def_step.specs.declared.Event.TheVariants.{Step, Tick, Sweep, Input}
+use Rattle.def_step.specs.Checks.{first_failed}
+use Rattle.def_step.specs.Accesses.{Accessed}
+use Rattle.def_step.specs.Jumps.{Flowed}
+use Rattle.def_step.specs.Operands.{operands_of, class_of}
+use Rattle.def_step.specs.Instructions.{Board, Done, carried_out, flows, accesses, around, space_of, put_done, ends, operand, trapped, goes_on, after_fetch, executed, fetch_checks, next_at}
+use Rattle.def_step.specs.Events.{preempted_from, preempted, picked_as, picked_from, scheduled, continued, one_more_step, stepped, interrupted, happens, run}
+use Rattle.law_places.proofs.Rows.{each_map}
+use Rattle.law_heap.proofs.Quarantines.{one_there}
+use Rattle.law_heap.proofs.Frees.{freed_cap}
+use Rattle.law_sweeps.proofs.Slices.{granule_at_slice}
+use Rattle.law_events.proofs.Events.{ready_kept, event_keeps}
+use Rattle.law_blank.proofs.Rows.{hidden_as, among_live, quarantine_live, painted_live, left_live}
+use Rattle.law_blank.proofs.Stores.{BlankIn, Reaching, IfBlank, result_blank}
+
+-- ---- returns and unwinds
+
+zeroed_blank : (i : Image) (s : State) (t high : ℕ) → Blank i s → (k : ℕ) → is_hidden i s.objects k ≡ true → (granule_at (zeroed_from (stack_base i t) high i.ram s.granules) k).cap ≡ plain 0
+zeroed_blank i s t high h k hidden = zeroed_at (stack_base i t) high i.ram s.granules k (λ g. g.cap ≡ plain 0) (λ low below. refl) (λ outside. h k hidden)
+
+returned_blank : (i : Image) (s : State) (t : ℕ) (fs : List Frame) → Blank i s → Blank i (returned i s t fs)
+returned_blank i s t [] h = h
+returned_blank i s t (f ∷ []) h = zeroed_blank i s t f.top h
+returned_blank i s t (f ∷ g ∷ gs) h = zeroed_blank i s t f.top h
+
+unwound_blank : (i : Image) (s : State) (t : ℕ) (fs : List Frame) → Blank i s → Blank i (unwound i s t fs)
+unwound_blank i s t [] h = h
+unwound_blank i s t (f ∷ []) h = zeroed_blank i s t f.top h
+unwound_blank i s t (f ∷ g ∷ gs) h = zeroed_blank i s t f.top h
+
+-- ---- an instruction
+
+abbrev IfDone : Board → State → Result Done Trap → Type 0
+IfDone b s (Err w) = Unit {0}
+IfDone b s (Ok d) = BlankIn b s d.granules
+
+ends_blank : (b : Board) (s : State) (t : ℕ) (x : Cap) (r : Result Done Trap) → Blank b.image s → IfDone b s r → Blank b.image (ends b s t x r).0
+ends_blank b s t x (Err why) h done = unwound_blank b.image s t (thread s t).frames h
+ends_blank b s t x (Ok d) h done = done
+
+flows_blank : (b : Board) (s : State) (t to : ℕ) (r : Result Flowed Trap) → Blank b.image s → IfDone b s (flows (around b s t) to r)
+flows_blank b s t to (Err w) h = tt
+flows_blank b s t to (Ok j) h = h
+
+accesses_blank : (b : Board) (s : State) (t to : ℕ) (r : Result Accessed Trap) → IfBlank b s r → IfDone b s (accesses (around b s t) to r)
+accesses_blank b s t to (Err w) h = tt
+accesses_blank b s t to (Ok m) h = h
+
+class_blank : (b : Board) (s : State) (t : ℕ) (c : Class) (k : Instr) (to m n : ℕ) → Reaching b s t → IfDone b s (carried_out c k to (operand s t m) (operand s t n) (around b s t))
+class_blank b s t class.Integer k to m n r = r.blank
+class_blank b s t class.Capability k to m n r = r.blank
+class_blank b s t class.System k to m n r = tt
+class_blank b s t class.Jump k to m n r = flows_blank b s t to _ r.blank
+class_blank b s t class.Access k to m n r = accesses_blank b s t to _ (result_blank b s t m n k r)
+class_blank b s t class.Fence k to m n r = r.blank
+class_blank b s t class.Call k to m n r = tt
+class_blank b s t class.Break k to m n r = tt
+class_blank b s t class.Absent k to m n r = tt
+
+next_blank : (b : Board) (s : State) (t : ℕ) (n : Next) → Reaching b s t → Blank b.image (goes_on b s t n).0
+next_blank b s t Returning r = returned_blank b.image s t (thread s t).frames r.blank
+next_blank b s t (Instruction k) r = ends_blank b s t (operand s t (operands_of k).first) (carried_out (class_of k) k (operands_of k).to (operand s t (operands_of k).first) (operand s t (operands_of k).second) (around b s t)) r.blank (class_blank b s t (class_of k) k (operands_of k).to (operands_of k).first (operands_of k).second r)
+next_blank b s t Nothing r = unwound_blank b.image s t (thread s t).frames r.blank
+
+fetch_blank : (b : Board) (s : State) (t : ℕ) (o : Option Trap) → Reaching b s t → Blank b.image (after_fetch b s t o).0
+fetch_blank b s t (Some why) r = unwound_blank b.image s t (thread s t).frames r.blank
+fetch_blank b s t None r = next_blank b s t (next_at (space_of b s) (cap_address (thread s t).pcc)) r
+
+executed_blank : (b : Board) (s : State) (t : ℕ) → Reaching b s t → Blank b.image (executed b s t).0
+unfolding executed
+executed_blank b s t r = fetch_blank b s t (first_failed (fetch_checks (thread s t).pcc)) r
+
+-- ---- a step
+
+preempted_blank : (i : Image) (s : State) (o : Option ℕ) → Blank i s → Blank i (preempted_from s o)
+preempted_blank i s None h = h
+preempted_blank i s (Some t) h = chosen (Blank i) (s.pending && not (thread s t).posture.off) (record s { running = None; pending = false }) s (λ is. h) (λ not. h)
+
+picked_blank : (b : Board) (s : State) (o : Option ℕ) → Blank b.image s → Blank b.image (picked_as b s o)
+picked_blank b s None h = h
+picked_blank b s (Some t) h = h
+
+scheduled_blank : (b : Board) (s : State) (o : Option ℕ) → Blank b.image s → Blank b.image (picked_from b s o)
+scheduled_blank b s (Some t) h = h
+scheduled_blank b s None h = picked_blank b s (pick b.image.priorities (statuses_of s.threads) s.picks) h
+
+continued_blank : (b : Board) (s : State) (o : Option ℕ) → s.running ≡ o → Shut b.image → Confined b.image s → Blank b.image s → Blank b.image (continued b s o).0
+continued_blank b s None runs shut held h = h
+continued_blank b s (Some t) runs shut held h = executed_blank b s t (record { shut = shut; held = held; runs = runs; blank = h })
+
+stepped_blank : (b : Board) (s : State) → Partitioned b.image → Shut b.image → Confined b.image s → Blank b.image s → Blank b.image (stepped b s).0
+stepped_blank b s parts shut held h =
+    let before : Blank b.image (preempted (one_more_step s)) = preempted_blank b.image (one_more_step s) s.running h in
+    let turn : Blank b.image (scheduled b (preempted (one_more_step s))) = scheduled_blank b (preempted (one_more_step s)) (preempted (one_more_step s)).running before in
+    continued_blank b (scheduled b (preempted (one_more_step s))) (scheduled b (preempted (one_more_step s))).running refl shut (ready_kept b s parts held).confined turn
+
+-- ---- a tick
+
+interrupted_blank : (i : Image) (s : State) (o : Option ℕ) → Blank i s → Blank i (interrupted s o)
+interrupted_blank i s None h = h
+interrupted_blank i s (Some t) h = chosen (Blank i) (thread s t).posture.off (record s { pending = true }) (record s { running = None }) (λ is. h) (λ not. h)
+
+-- ---- a sweep
+
+sliced_zero : (i : Image) (s : State) (low high offset : ℕ) → sliced i s low high offset (plain 0) ≡ plain 0
+sliced_zero i s low high offset = chosen (λ z. z ≡ plain 0) (nat_le low offset && nat_lt offset high) (filtered i s (plain 0)) (plain 0) (λ is. refl) (λ not. refl)
+
+slice_blank : (i : Image) (s : State) (low high : ℕ) → Blank i s → Blank i (with_slice i s low high)
+slice_blank i s low high h k hidden = granule_at_slice (λ (g : Granule). g.cap ≡ plain 0) i s low high 0 s.granules k refl (ap (sliced i s low high (0 + 8 * k)) (h k hidden) ∙ sliced_zero i s low high (0 + 8 * k))
+
+unmarked_cap : (i : Image) (rows : List Object) (x : ℕ) (gs : List Granule) (k : ℕ) → (get_or (unmarked i rows x gs) k nothing).cap ≡ (get_or gs k nothing).cap
+unmarked_cap i rows x [] k = refl
+unmarked_cap i rows x (g ∷ gs) zero = refl
+unmarked_cap i rows x (g ∷ gs) (suc k) = unmarked_cap i rows (x + 8) gs k
+
+over_blank : (i : Image) (s : State) → Each (λ (r : Object). r.live ≡ true → r.painted ≡ false) s.objects → Blank i s → Blank i (sweep_over i s)
+over_blank i s fits h k hidden = unmarked_cap i s.objects i.ram s.granules k ∙ h k (hidden_as i s.objects (unpainted s.objects) k (λ lives. left_live s.objects (address_of i k) fits ∙ lives) hidden)
+
+ended_blank : (i : Image) (s : State) (front : ℕ) → Each (λ (r : Object). r.live ≡ true → r.painted ≡ false) s.objects → Blank i s → Blank i (ended_sweep i s front)
+ended_blank i s front fits h = chosen (Blank i) (nat_le (ram_size s) front) (sweep_over i s) s (λ is. over_blank i s fits h) (λ not. h)
+
+pub record Sound (i : Image) (s : State) : Type 0 where
+  pub fits : Each (λ (r : Object). r.live ≡ true → r.painted ≡ false) s.objects
+  pub blank : Blank i s
+
+painted_fits : (rs : List Object) → Each (λ (r : Object). r.live ≡ true → r.painted ≡ false) (painted rs)
+painted_fits [] = tt
+painted_fits (r ∷ rs) = (λ lives. ap not lives, painted_fits rs)
+
+began_sound : (i : Image) (s : State) (o : Option ℕ) → Sound i s → Sound i (sweep_began s o)
+began_sound i s None h = chosen (Sound i) (has_quarantined s.objects) (record s { objects = painted s.objects; front = Some 0 }) s
+    (λ is. record {
+      fits = painted_fits s.objects;
+      blank = λ k hidden. h.blank k (hidden_as i s.objects (painted s.objects) k (λ lives. painted_live s.objects (address_of i k) ∙ lives) hidden);
+    })
+    (λ not. h)
+began_sound i s (Some front) h = h
+
+swept_blank : (i : Image) (s : State) (o : Option ℕ) → Sound i s → Blank i (sweep_on i s o)
+swept_blank i s None h = h.blank
+swept_blank i s (Some front) h = ended_blank i (with_slice i s front (slice_end i s front)) (slice_end i s front) h.fits (slice_blank i s front (slice_end i s front) h.blank)
+
+-- ---- whole
+
+pub event_blank : (b : Board) (s : State) (e : Event) → Partitioned b.image → Wired b → Shut b.image → Keeps b.image s → Blank b.image s → Blank b.image (happens b s e).0
+event_blank b s Step parts wired shut k h = stepped_blank b s parts shut k.confined h
+event_blank b s Tick parts wired shut k h = interrupted_blank b.image (record s { threads = map timed s.threads; time = s.time + 1; counts = record s.counts { ticks = s.counts.ticks + 1 } }) s.running h
+event_blank b s (Input n byte) parts wired shut k h = h
+event_blank b s Sweep parts wired shut k h =
+    let sound : Sound b.image (record s { counts = record s.counts { sweeps = s.counts.sweeps + 1 } }) = record {
+      fits = each_map (ObjectFits b.image s.next) (λ (r : Object). r.live ≡ true → r.painted ≡ false) s.objects (λ r f. f.unpainted) k.confined.fits;
+      blank = h;
+    } in
+    swept_blank b.image (sweep_began (record s { counts = record s.counts { sweeps = s.counts.sweeps + 1 } }) s.front) (sweep_began (record s { counts = record s.counts { sweeps = s.counts.sweeps + 1 } }) s.front).front
+    (began_sound b.image (record s { counts = record s.counts { sweeps = s.counts.sweeps + 1 } }) s.front sound)
+
+pub run_blank : (b : Board) (s : State) (es : List Event) → Partitioned b.image → Wired b → Shut b.image → Keeps b.image s → Blank b.image s → Blank b.image (run b s es)
+unfolding run
+run_blank b s [] parts wired shut k h = h
+run_blank b s (e ∷ es) parts wired shut k h = run_blank b (happens b s e).0 es parts wired shut (event_keeps b s e parts wired k) (event_blank b s e parts wired shut k h)
+
+-- ---- the heap
+
+pub heap_zero : (i : Image) (s : State) (k : ℕ) → Blank i s → i.heap_base ≤ address_of i k → address_of i k < i.heap_end → is_live_at s.objects (address_of i k) ≡ false → (granule s k).cap ≡ plain 0
+heap_zero i s k h low high none = h k (elim (le_tells i.heap_base (address_of i k)) [
+  | inl a ↦ elim (lt_tells (address_of i k) i.heap_end) [
+    | inl b ↦ rw (a.0, b.0, none) (any_true (nat_le i.trusted (address_of i k) && nat_lt (address_of i k) (trusted_end i)))
+    | inr b ↦ absurd (let past = b.1 in omega (arith, past, high))
+  ]
+  | inr a ↦ absurd (let below = a.1 in omega (arith, below, low))
+])
+  where
+    any_true : (b : Bool) → (b || true) ≡ true
+    any_true true = refl
+    any_true false = refl
+
+pub object_blank : (i : Image) (s : State) (r : Object) → Blank i s → Blank i (with_object s r)
+object_blank i s r h k hidden = h k (hidden_as i s.objects (with_object s r).objects k (among_live r s.objects (address_of i k)) hidden)
+
+pub freed_blank : (i : Image) (s : State) (t : ℕ) (r : Object) → Confined i s → Frees s t r → Blank i s → Blank i (freed i s t r)
+freed_blank i s t r held f h k hidden = freed_cap (λ (c : Cap). c ≡ plain 0) i s r k
+    (λ low high. refl)
+    (λ outside. h k (hidden_as i s.objects (quarantined i s r).objects k (quarantine_live r s.objects (address_of i k) (one_there r s.objects held.apart f.there) outside) hidden))

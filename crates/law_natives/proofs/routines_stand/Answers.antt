@@ -1,0 +1,6 @@
+use Rattle.law_natives.proofs.Serving.{switch_stands, rests_stands, allocate_stands, remaining_stands}
+use Rattle.law_natives.proofs.Freeing.{free_stands}
+use Rattle.law_natives.proofs.routines_stand.Goals as goal
+
+pub returns : goal.returns
+returns c = record { switch = switch_stands; rests = rests_stands; allocate = allocate_stands; free = free_stands; remaining = remaining_stands }

@@ -1,0 +1,4 @@
+pub mod Callable
+pub mod Clean
+pub mod Fresh
+pub mod Stands

@@ -1,0 +1,69 @@
+//! Laws of native routines, as they are written: *Clean calls* of the switch and of returns, *Fresh objects* of an
+//! allocation, and that the routines of switcher and heap keep a state confined, with all that stands beside.
+#![tactic(auto)]
+
+ghost use Rattle.std.specs.Prelude.{◌≡◌, ℕ, List, ◌∷◌, Option, Some, false};
+ghost use Rattle.ct_entry.specs.declared.acts.Act.{Act};
+ghost use Rattle.ct_entry.specs.declared.acts.Act.TheVariants.{Call, Allocate};
+ghost use Rattle.def_confined.specs.Keeps.{Keeps};
+ghost use Rattle.def_confined.specs.Licensed.{Licensed};
+ghost use Rattle.def_confined.specs.Partitioned.{Partitioned};
+ghost use Rattle.def_hidden.specs.Hidden.{Blank};
+ghost use Rattle.def_machine.specs.Frames.{returned, unwound};
+ghost use Rattle.def_machine.specs.Image.{Image, root};
+ghost use Rattle.def_machine.specs.State.{State, Frame, thread};
+ghost use Rattle.def_step.specs.Quotas.{allocate, free, remaining};
+ghost use Rattle.def_step.specs.Routines.{Leaves, switch, sleep, yield};
+ghost use Rattle.law_fresh.specs.Fresh.{RootsAway};
+ghost use Rattle.law_natives.specs.Callable.{Callable};
+ghost use Rattle.law_natives.specs.Clean.{CleanEntry, CleanReturn};
+ghost use Rattle.law_natives.specs.Fresh.{HandsOut};
+ghost use Rattle.law_natives.specs.Stands.{Stands};
+
+/// What the switch, yield, sleep, allocate, free and remaining leave is confined, with all that stands beside.
+pub fn routines_stand()
+    ensures switch { (i : Image) (s : State) (t : ℕ)
+        → Partitioned i → Callable i → Keeps i s → s.running ≡ Some t → Stands i (switch i s t) }
+    ensures rests { (i : Image) (s : State) (t : ℕ)
+        → Partitioned i → Keeps i s → s.running ≡ Some t → Stands i (yield s t) × Stands i (sleep s t) }
+    ensures allocate { (i : Image) (s : State) (t : ℕ)
+        → Partitioned i → Callable i → Keeps i s → s.running ≡ Some t → Stands i (allocate i s t) }
+    ensures free { (i : Image) (s : State) (t : ℕ)
+        → Partitioned i → Keeps i s → s.running ≡ Some t → Stands i (free i s t) }
+    ensures remaining { (i : Image) (s : State) (t : ℕ)
+        → Partitioned i → Keeps i s → s.running ≡ Some t → Stands i (remaining i s t) }
+{}
+
+/// A call through an export that passes plain values enters its callee clean.
+pub fn entries_clean()
+    ensures { (i : Image) (s after : State) (t entry export : ℕ)
+        → Partitioned i → Callable i → Keeps i s → s.running ≡ Some t
+        → switch i s t ≡ Leaves after (Some (entry, Call export)) → (root i export).passes ≡ false
+        → CleanEntry i s t export after }
+{}
+
+/// A call that the switch tells is licensed.
+pub fn calls_licensed()
+    ensures { (i : Image) (s after : State) (t entry export : ℕ) (f : Frame) (fs : List Frame)
+        → Keeps i s → (thread s t).frames ≡ f ∷ fs
+        → switch i s t ≡ Leaves after (Some (entry, Call export))
+        → Licensed i.entries (record { thread = t; actor = f.actor; entry = entry; act = Call export }) }
+{}
+
+/// A return of a frame whose export passes plain values, and an unwind of any frame, lead to its caller clean.
+pub fn returns_clean()
+    ensures back { (i : Image) (s : State) (t : ℕ) (f g : Frame) (gs : List Frame)
+        → (thread s t).frames ≡ f ∷ g ∷ gs → (root i f.export).passes ≡ false
+        → CleanReturn i s t f (returned i s t (f ∷ g ∷ gs)) }
+    ensures unwind { (i : Image) (s : State) (t : ℕ) (f g : Frame) (gs : List Frame)
+        → (thread s t).frames ≡ f ∷ g ∷ gs
+        → CleanReturn i s t f (unwound i s t (f ∷ g ∷ gs)) }
+{}
+
+/// An allocation that tells its deed hands out a fresh object, at the least lawful place.
+pub fn objects_fresh()
+    ensures { (i : Image) (s after : State) (t entry number base long live : ℕ)
+        → Partitioned i → RootsAway i → Keeps i s → Blank i s
+        → allocate i s t ≡ Leaves after (Some (entry, Allocate number base long live))
+        → HandsOut i s t number base long after }
+{}
