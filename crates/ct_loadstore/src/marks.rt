@@ -1,7 +1,7 @@
 //! The load filter.
 
 ghost use Rattle.std.specs.Prelude.{◌≡◌, ◌&&◌, ◌+◌, ◌*◌, ◌≤◌, ◌<◌, ◌^◌, length};
-ghost use Rattle.def_step.specs.Accesses.{filtered_in, is_marked_in};
+ghost use Rattle.def_machine.specs.Memory.{filtered_in, is_marked_in};
 
 use ct_cap::{Live, clear_tag};
 use ct_mem::Memory;

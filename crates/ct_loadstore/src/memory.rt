@@ -3,7 +3,8 @@
 ghost use Rattle.std.specs.Prelude.{◌≡◌, ◌+◌, ◌*◌, ◌%◌, ◌≤◌, ◌<◌, ◌⊎◌, ◌^◌, ◌-◌, false, true, length};
 ghost use Rattle.def_words.specs.Loaded.{attenuated, stored_through};
 ghost use Rattle.def_memory.specs.Accesses.{loaded, loaded_cap, stored, stored_cap};
-ghost use Rattle.def_step.specs.Accesses.{ram_value, ram_stored, widened, filtered_in};
+ghost use Rattle.def_machine.specs.Memory.{filtered_in};
+ghost use Rattle.def_step.specs.Accesses.{ram_value, ram_stored, widened};
 ghost use Rattle.ct_loadstore.specs.Shapes.{IsShape, Reaches};
 
 use crate::marks::filter;

@@ -1,17 +1,11 @@
--- Zeroing leaves how much RAM there is, and a deed counts once.
-use Rattle.std.proofs.Common.{ℕ, ◌≡◌, ◌≤◌, ◌+◌, suc, List, [], ◌∷◌, length, Option, Some, None, Ok, refl, ap, sym, arith}
+-- A deed counts once.
+use Rattle.std.proofs.Common.{ℕ, ◌≤◌, ◌+◌, Option, Some, None, arith}
 use Rattle.ct_entry.specs.declared.acts.Act.{Act}
 use Rattle.ct_entry.specs.declared.acts.Act.TheVariants.{Call, Load, Store, Allocate, Free, Trap}
 use Rattle.ct_entry.specs.declared.acts.Deed.{Deed}
-use Rattle.def_memory.specs.declared.Granule.{Granule}
-use Rattle.def_memory.specs.Ranges.{zeroed_from}
 use Rattle.def_machine.specs.State.{Counts}
 use Rattle.def_step.specs.Events.{with_deed, with_act}
 use Rattle.ct_machine.specs.Parts.{IsCounted, deeds_of}
-
-pub zeroed_size : (from to place : ℕ) (gs : List Granule) → length (zeroed_from from to place gs) ≡ length gs
-zeroed_size from to place [] = refl
-zeroed_size from to place (g ∷ gs) = ap (λ n. suc n) (zeroed_size from to (place + 8) gs)
 
 act_counts : (c : Counts) (a : Act) (time : ℕ) → IsCounted c time → deeds_of c + 1 ≤ c.steps → IsCounted (with_act c a) time
 act_counts c (Call export) time h room = record { steps = h.steps; ticks = h.ticks; sweeps = h.sweeps; inputs = h.inputs; deeds = omega (arith, room); clock = h.clock }

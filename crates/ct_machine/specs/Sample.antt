@@ -1,5 +1,7 @@
 -- A firmware for tests: one compartment with one device, one export at its text's begin, and one thread.
 use Rattle.std.specs.Prelude.{ℕ, ◌+◌, ◌*◌, ◌/◌, true, List, [], ◌∷◌, length}
+use Rattle.def_profile.specs.declared.rights.TheConstants.{CODE_RIGHTS, GLOBALS_RIGHTS, STACK_RIGHTS, SERVICE_RIGHTS, EXPORT_RIGHTS}
+use Rattle.def_profile.specs.declared.native.TheConstants.{NATIVE_BASE, NATIVE_LENGTH}
 use Rattle.ct_entry.specs.Listed.{FirmwareRow, Listed}
 use Rattle.ct_entry.specs.declared.rows.Entry.{Entry}
 use Rattle.ct_entry.specs.declared.rows.Owner.{Owner}
@@ -14,25 +16,25 @@ row o k base size rights = record { owner = o; kind = k; base = base; length = s
 
 abbrev pub sample_entries : ℕ → ℕ → Listed
 sample_entries rights size = record {
-  rows = row (Compartment 0) kind.Code 2147483648 ((16 + size + 15) / 16 * 16) 363
-      ∷ row (Compartment 0) kind.Globals 2147483728 16 111
-      ∷ row (Compartment 0) kind.Service 65536 8 353
-      ∷ row (Compartment 0) kind.Device 268435456 16 rights
-      ∷ row (Compartment 0) kind.Export 2147483712 16 33
-      ∷ row (Thread 0) kind.Stack 2147483744 256 126
+  rows = row (Compartment 0) kind.Code 0x80000000 ((16 + size + 15) / 16 * 16) CODE_RIGHTS
+      ∷ row (Compartment 0) kind.Globals 0x80000050 16 GLOBALS_RIGHTS
+      ∷ row (Compartment 0) kind.Service NATIVE_BASE NATIVE_LENGTH SERVICE_RIGHTS
+      ∷ row (Compartment 0) kind.Device 0x10000000 16 rights
+      ∷ row (Compartment 0) kind.Export 0x80000040 16 EXPORT_RIGHTS
+      ∷ row (Thread 0) kind.Stack 0x80000060 256 STACK_RIGHTS
       ∷ [];
-  gates = record { entry = 5; code = 2147483664; stack = 0; args = 6; posture = Enabled; capabilities = true } ∷ [];
+  gates = record { entry = 5; code = 0x80000010; stack = 0; args = 6; posture = Enabled; capabilities = true } ∷ [];
 }
 
 abbrev pub sample : DeviceKind → ℕ → List ℕ → FirmwareRow
 sample device rights text = record {
   entries = sample_entries rights (length text);
-  ram = 2147483648;
-  size = 4096;
-  tables = 2147483696 ∷ [];
-  trusted = 2147484000;
-  heap = 2147484304;
-  devices = record { name = []; kind = device; base = 268435456 } ∷ [];
+  ram = 0x80000000;
+  size = 0x1000;
+  tables = 0x80000030 ∷ [];
+  trusted = 0x80000160;
+  heap = 0x80000290;
+  devices = record { name = []; kind = device; base = 0x10000000 } ∷ [];
   texts = text ∷ [];
   threads = record { export = 5; priority = 1; frames = 2 } ∷ [];
 }

@@ -2,7 +2,7 @@
 
 ghost use Rattle.std.specs.Prelude.{◌≡◌, ◌<◌, ◌≤◌, ◌+◌, ◌*◌, ◌%◌, length, map};
 ghost use Rattle.def_memory.specs.Ranges.{zeroed_from};
-ghost use Rattle.def_step.specs.Accesses.{filtered_in};
+ghost use Rattle.def_machine.specs.Memory.{filtered_in};
 ghost use Rattle.ct_machine.specs.Parts.{IsStackPlaced, IsRam};
 
 use crate::active::Active;

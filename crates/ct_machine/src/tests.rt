@@ -12,6 +12,10 @@ use ct_entry::{
     Mode, Owner, Starter, Totals,
 };
 use ct_mem::Plain;
+use def_profile::native::{NATIVE_BASE, NATIVE_LENGTH};
+use def_profile::rights::{
+    CODE_RIGHTS, EXPORT_RIGHTS, GLOBALS_RIGHTS, SERVICE_RIGHTS, STACK_RIGHTS,
+};
 use def_refusals::NoMemory;
 use std::alloc::Global;
 use std::process::Abort;
@@ -56,12 +60,24 @@ fn entries_of(alloc: Global, rights: u32, length: u32) -> Result<Entries, NoMemo
     let owner = Owner::Compartment(0);
     let code_length = (16 + length + 15) / 16 * 16;
     let rows = vec![in alloc;
-        row(owner, Kind::Code, 0x8000_0000, code_length, 363),
-        row(owner, Kind::Globals, 0x8000_0050, 16, 111),
-        row(owner, Kind::Service, 0x0001_0000, 8, 353),
+        row(owner, Kind::Code, 0x8000_0000, code_length, CODE_RIGHTS),
+        row(owner, Kind::Globals, 0x8000_0050, 16, GLOBALS_RIGHTS),
+        row(
+            owner,
+            Kind::Service,
+            NATIVE_BASE,
+            NATIVE_LENGTH,
+            SERVICE_RIGHTS
+        ),
         row(owner, Kind::Device, 0x1000_0000, 16, rights),
-        row(owner, Kind::Export, 0x8000_0040, 16, 33),
-        row(Owner::Thread(0), Kind::Stack, 0x8000_0060, 256, 126),
+        row(owner, Kind::Export, 0x8000_0040, 16, EXPORT_RIGHTS),
+        row(
+            Owner::Thread(0),
+            Kind::Stack,
+            0x8000_0060,
+            256,
+            STACK_RIGHTS
+        ),
     ]?;
     let gates = vec![in alloc;
         Gate {

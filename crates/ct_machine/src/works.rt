@@ -1,7 +1,7 @@
 //! What an instruction works on.
 
 ghost use Rattle.std.specs.Prelude.{◌≡◌, ◌%◌, length, map};
-ghost use Rattle.def_step.specs.Accesses.{filtered_in};
+ghost use Rattle.def_machine.specs.Memory.{filtered_in};
 ghost use Rattle.ct_machine.specs.Deciding.{decide, Decided};
 ghost use Rattle.ct_machine.specs.Parts.{space_by, IsHeapPlaced};
 

@@ -1,6 +1,7 @@
 -- One step of what is left of a run, and the loop that makes it.
 use Rattle.std.proofs.Common.{◌≡◌, ℕ, zero, suc, ◌+◌, ◌-◌, ◌<◌, ◌≤◌, List, [], ◌∷◌, ◌++◌, Option, Some, None, refl, sym, ap, ◌∙◌, subst, arith}
 use Rattle.ct_entry.specs.declared.acts.End.{End}
+use Rattle.def_profile.specs.declared.limits.TheConstants.{MOST_STEPS}
 use Rattle.def_machine.specs.State.{State}
 use Rattle.def_step.specs.declared.Event.TheVariants.{Step}
 use Rattle.def_step.specs.Instructions.{Board}
@@ -59,10 +60,10 @@ pub record Going (first m : MachineRow) (limit done : ℕ) (before now : Option 
   pub board : m.board ≡ first.board
   pub state : state_left m.board m.state (limit - done) ≡ state_left first.board first.state limit
   pub written : AppendsBefore before now (lines_left m.board m.state (done + 1) (limit - done)) (lines_left first.board first.state 1 limit)
-  pub early : m.state.counts.steps + (limit - done) ≤ 4000000000
+  pub early : m.state.counts.steps + (limit - done) ≤ MOST_STEPS
   pub same : counted ≡ faults
 
-pub begins : (m : MachineRow) (limit : ℕ) (old : Option (List ℕ)) (faults : ℕ) → m.state.counts.steps + limit ≤ 4000000000 → Going m m limit 0 old old faults faults
+pub begins : (m : MachineRow) (limit : ℕ) (old : Option (List ℕ)) (faults : ℕ) → m.state.counts.steps + limit ≤ MOST_STEPS → Going m m limit 0 old old faults faults
 begins m limit old faults early =
     let all : limit - 0 ≡ limit = omega arith in
     record {
@@ -162,7 +163,7 @@ pub text_is : (r : DescRow) (limit : ℕ) (report : List ℕ) (m : MachineRow) �
 unfolding run_text
 text_is r limit report m reports boots = rw (reports, boots) refl
 
-pub fresh : (f : FirmwareRow) (m : MachineRow) (limit : ℕ) → m ≡ booted_machine f → limit ≤ 4000000000 → m.state.counts.steps + limit ≤ 4000000000
+pub fresh : (f : FirmwareRow) (m : MachineRow) (limit : ℕ) → m ≡ booted_machine f → limit ≤ MOST_STEPS → m.state.counts.steps + limit ≤ MOST_STEPS
 fresh f m limit boots short =
     let none : m.state.counts.steps ≡ 0 = ap (λ (x : MachineRow). x.state.counts.steps) boots ∙ none_yet f in
     omega (arith, none, short)

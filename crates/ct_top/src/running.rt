@@ -3,6 +3,7 @@
 
 ghost use Rattle.std.specs.Prelude.{◌≡◌, ◌+◌, ◌<◌, ◌≤◌, ◌++◌, MatchResult, unwrap_or};
 ghost use Rattle.ct_entry.specs.declared.acts.End.TheVariants.{Limit};
+ghost use Rattle.def_profile.specs.declared.limits.TheConstants.{MOST_STEPS};
 ghost use Rattle.def_port.specs.Writes.{Writes, WriteFails};
 ghost use Rattle.def_step.specs.declared.Event.TheVariants.{Step};
 ghost use Rattle.def_step.specs.Events.{happens, end_of};
@@ -46,7 +47,7 @@ fn write_step<M: Memory + Drop, S: Sink>(
     number: u32,
     sink: &mut S,
 ) -> Result<(), WriteFailed>
-    requires { machine.old.state.counts.steps < 4000000000 }
+    requires { machine.old.state.counts.steps < MOST_STEPS }
     ensures state { machine.new.state ≡ (happens machine.old.board machine.old.state Step).0 }
     ensures board { machine.new.board ≡ machine.old.board }
     ensures written { MatchResult result
@@ -69,7 +70,7 @@ fn write_trace<M: Memory + Drop, S: Sink>(
     limit: u32,
     sink: &mut S,
 ) -> Result<(), WriteFailed>
-    requires { machine.old.state.counts.steps + limit ≤ 4000000000 }
+    requires { machine.old.state.counts.steps + limit ≤ MOST_STEPS }
     ensures { MatchResult result
         (λ _. Traced machine.old machine.new limit (S.bytes sink.old) (S.bytes sink.new) (S.faults sink.old) (S.faults sink.new))
         (λ _. WriteFails (S.bytes sink.old) (S.bytes sink.new) (S.faults sink.old) (S.faults sink.new) (lines_left machine.old.board machine.old.state 1 limit)) }
@@ -117,7 +118,7 @@ fn write_run<M: Memory + Drop, S: Sink>(
     limit: u32,
     sink: &mut S,
 ) -> Result<(), WriteFailed>
-    requires { machine.old.state.counts.steps + limit ≤ 4000000000 }
+    requires { machine.old.state.counts.steps + limit ≤ MOST_STEPS }
     ensures { MatchResult result
         (λ _. Writes (S.bytes sink.old) (S.bytes sink.new) (S.faults sink.old) (S.faults sink.new) (run_lines machine.old limit))
         (λ _. WriteFails (S.bytes sink.old) (S.bytes sink.new) (S.faults sink.old) (S.faults sink.new) (run_lines machine.old limit)) }
@@ -135,7 +136,7 @@ pub fn write_whole<M: Memory + Drop, S: Sink>(
     limit: u32,
     sink: &mut S,
 ) -> Result<(), WriteFailed>
-    requires { machine.old.state.counts.steps + limit ≤ 4000000000 }
+    requires { machine.old.state.counts.steps + limit ≤ MOST_STEPS }
     ensures { MatchResult result
         (λ _. Writes (S.bytes sink.old) (S.bytes sink.new) (S.faults sink.old) (S.faults sink.new) (report.now ++ run_lines machine.old limit))
         (λ _. WriteFails (S.bytes sink.old) (S.bytes sink.new) (S.faults sink.old) (S.faults sink.new) (report.now ++ run_lines machine.old limit)) }

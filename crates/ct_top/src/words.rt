@@ -2,6 +2,7 @@
 
 ghost use Rattle.std.specs.Prelude.{◌≡◌, ◌≤◌, map, nat_le, option_map, string_bytes, IfSome, Some, None, if◌then◌else◌};
 ghost use Rattle.std.specs.List.{list_all};
+ghost use Rattle.def_profile.specs.declared.limits.TheConstants.{MOST_STEPS};
 ghost use Rattle.def_output.specs.Commands as spec;
 ghost use Rattle.ct_top.specs.Forms.{command_of, IsShort};
 
@@ -31,8 +32,8 @@ fn are_digits(text: &[u8]) -> bool
 
 /// The number that digits spell, where it is at most 4,000,000,000.
 fn value_of(digits: &[u8]) -> Option<u32>
-    ensures small { IfSome result (λ n. n ≤ spec.most_steps) }
-    ensures value { result ≡ (if nat_le (spec.value_of digits.now) spec.most_steps then Some (spec.value_of digits.now) else None) }
+    ensures small { IfSome result (λ n. n ≤ MOST_STEPS) }
+    ensures value { result ≡ (if nat_le (spec.value_of digits.now) MOST_STEPS then Some (spec.value_of digits.now) else None) }
 {
     let mut value: u64 = 0;
     for c in digits {
@@ -46,7 +47,7 @@ fn value_of(digits: &[u8]) -> Option<u32>
 
 /// A limit: decimal digits without sign or leading zero, of 1 to 4,000,000,000.
 fn limit_of(text: &[u8]) -> Option<u32>
-    ensures small { IfSome result (λ n. n ≤ spec.most_steps) }
+    ensures small { IfSome result (λ n. n ≤ MOST_STEPS) }
     ensures value { result ≡ spec.limit_of text.now }
 {
     match text {

@@ -1,9 +1,11 @@
 -- What stores do, and the load filter.
-use Rattle.std.specs.Prelude.{ℕ, ◌-◌, ◌&&◌, nat_le, Bool, cond}
+use Rattle.std.specs.Prelude.{ℕ, ◌-◌, ◌/◌, ◌&&◌, nat_le, Bool, List, cond}
 use Rattle.def_words.specs.declared.Cap.{Cap}
 use Rattle.def_words.specs.Authority.{cap_base}
 use Rattle.def_words.specs.Capability.{untagged}
 use Rattle.def_words.specs.Loaded.{attenuated, stored_through}
+use Rattle.def_memory.specs.declared.Granule.{Granule}
+use Rattle.def_memory.specs.Granules.{granule_at}
 use Rattle.def_memory.specs.Accesses.{stored, stored_cap}
 use Rattle.def_machine.specs.Image.{Image, granule_of}
 use Rattle.def_machine.specs.State.{State, granule}
@@ -16,14 +18,21 @@ cap_stored i s x by c = record s { granules = stored_cap s.granules (x - i.ram) 
 abbrev pub bytes_stored : Image → State → ℕ → ℕ → ℕ → State
 bytes_stored i s x width value = record s { granules = stored s.granules (x - i.ram) width value }
 
--- whether an address lies in a marked granule
-abbrev pub is_marked : Image → State → ℕ → Bool
-is_marked i s x = nat_le i.ram x && (granule s (granule_of i x)).mark
+-- whether an address lies in a marked granule of the memory that begins at `ram`
+abbrev pub is_marked_in : ℕ → List Granule → ℕ → Bool
+is_marked_in ram gs x = nat_le ram x && (granule_at gs ((x - ram) / 8)).mark
 
 -- The load filter: a capability whose base lies in a marked granule loses its tag, and nothing else of its
 -- word.
+abbrev pub filtered_in : ℕ → List Granule → Cap → Cap
+filtered_in ram gs c = cond (c.tag && is_marked_in ram gs (cap_base c)) (untagged c) c
+
+-- the same of a state's memory
+abbrev pub is_marked : Image → State → ℕ → Bool
+is_marked i s = is_marked_in i.ram s.granules
+
 abbrev pub filtered : Image → State → Cap → Cap
-filtered i s c = cond (c.tag && is_marked i s (cap_base c)) (untagged c) c
+filtered i s = filtered_in i.ram s.granules
 
 -- what a load through `by` gives of the capability in an address's granule
 abbrev pub loaded_through : Image → State → Cap → ℕ → Cap

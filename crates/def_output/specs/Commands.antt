@@ -17,11 +17,8 @@ abbrev pub value_of : List ℕ → ℕ
 value_of [] = 0
 value_of (c ∷ cs) = (c - 48) * 10 ^ length cs + value_of cs
 
-abbrev pub most_steps : ℕ
-most_steps = MOST_STEPS
-
 abbrev pub is_limit : ℕ → List ℕ → Bool
-is_limit c cs = list_all is_digit (c ∷ cs) && not (c == 48) && nat_le (value_of (c ∷ cs)) most_steps
+is_limit c cs = list_all is_digit (c ∷ cs) && not (c == 48) && nat_le (value_of (c ∷ cs)) MOST_STEPS
 
 abbrev pub limit_of : List ℕ → Option ℕ
 limit_of [] = None

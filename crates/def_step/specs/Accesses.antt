@@ -4,17 +4,17 @@ use Rattle.ct_entry.specs.declared.acts.Act.{Act}
 use Rattle.ct_entry.specs.declared.acts.Act.TheVariants.{Load, Store}
 use Rattle.def_words.specs.declared.Cap.{Cap}
 use Rattle.def_words.specs.declared.Trap.{Trap}
-use Rattle.def_words.specs.Authority.{cap_address, cap_base}
+use Rattle.def_words.specs.Authority.{cap_address}
 use Rattle.def_words.specs.Permissions.{has, load_data, store_data, memory_capability}
 use Rattle.def_words.specs.Seals.{is_unsealed}
-use Rattle.def_words.specs.Capability.{integer, untagged, is_range_inside}
+use Rattle.def_words.specs.Capability.{integer, is_range_inside}
 use Rattle.def_words.specs.Loaded.{attenuated, stored_through}
 use Rattle.def_memory.specs.declared.Granule.{Granule}
-use Rattle.def_memory.specs.Granules.{granule_at}
 use Rattle.def_memory.specs.Accesses.{loaded, stored, loaded_cap, stored_cap}
 use Rattle.def_instr.specs.declared.Instr.{Instr}
 use Rattle.def_instr.specs.declared.Instr.TheVariants.{Lb, Lh, Lw, Clc, Lbu, Lhu, Sb, Sh, Sw, Csc}
 use Rattle.def_bits.specs.Bits.{extended}
+use Rattle.def_machine.specs.Memory.{filtered_in}
 use Rattle.def_step.specs.declared.Access.{Access}
 use Rattle.def_profile.specs.declared.traps.TheConstants.{BOUNDS_CODE, TAG_CODE, SEAL_CODE, LOAD_CODE, STORE_CODE, STORE_CAPABILITY_CODE, MISALIGNED_LOAD, MISALIGNED_STORE}
 use Rattle.def_words.specs.Traps.{capability_trap, plain_trap}
@@ -88,13 +88,6 @@ pub record Accessed : Type 0 where
 -- whether so many bytes lie in RAM
 abbrev pub is_ram : Space → ℕ → ℕ → Bool
 is_ram p at width = nat_le p.ram at && nat_le (at + width) (p.ram + 8 * length p.granules)
-
--- The load filter: a capability whose base lies in a marked granule loses its tag, and nothing else.
-abbrev pub is_marked_in : ℕ → List Granule → ℕ → Bool
-is_marked_in ram gs x = nat_le ram x && (granule_at gs ((x - ram) / 8)).mark
-
-abbrev pub filtered_in : ℕ → List Granule → Cap → Cap
-filtered_in ram gs c = if c.tag && is_marked_in ram gs (cap_base c) then untagged c else c
 
 -- a loaded number as a 32-bit word
 abbrev pub widened : Access → ℕ → ℕ

@@ -37,11 +37,13 @@ pub fn pop_moves()
 /// any export, whose results are plain. The stack up to the new top, or up to the ending frame's, is
 /// zero and untagged.
 pub fn clean_calls()
-    ensures entry { (i : Image) (old : Thread) (callee export high : ℕ) (w : Given) → (root i export).passes ≡ false
-        → (n : ℕ) → (register (entered i old callee export high w) n).tag ≡ true
+    ensures entry { (i : Image) (old : Thread) (callee export high : ℕ) (w : Given)
+        → (root i export).passes ≡ false → (n : ℕ)
+        → (register (entered i old callee export high w) n).tag ≡ true
         → IsGiven w n (register (entered i old callee export high w) n) }
     ensures back { (i : Image) (s : State) (old : Thread) (f : Frame) (fs : List Frame)
-        → (root i f.export).passes ≡ false → (n : ℕ) → (register (back_from i s old f fs) n).tag ≡ true
+        → (root i f.export).passes ≡ false → (n : ℕ)
+        → (register (back_from i s old f fs) n).tag ≡ true
         → IsSaved i s f n (register (back_from i s old f fs) n) }
     ensures unwind { (i : Image) (s : State) (old : Thread) (f : Frame) (fs : List Frame) (n : ℕ)
         → (register (unwound_from i s old f fs) n).tag ≡ true

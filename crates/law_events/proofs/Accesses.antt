@@ -30,7 +30,8 @@ use Rattle.def_machine.specs.Memory.{cap_stored, bytes_stored}
 use Rattle.def_step.specs.declared.Access.{Access}
 use Rattle.def_step.specs.Checks.{Check, first_failed}
 use Rattle.def_step.specs.Devices.{Bank, found, bank_value, bank_read, bank_written}
-use Rattle.def_step.specs.Accesses.{Accessed, access_of, access_checks, load_checks, store_checks, access_address, access_result, accessed, in_ram, on_device, is_ram, ram_value, ram_stored, device_value, stored_value, filtered_in, widened, deed_at, unless}
+use Rattle.def_machine.specs.Memory.{filtered_in}
+use Rattle.def_step.specs.Accesses.{Accessed, access_of, access_checks, load_checks, store_checks, access_address, access_result, accessed, in_ram, on_device, is_ram, ram_value, ram_stored, device_value, stored_value, widened, deed_at, unless}
 use Rattle.def_step.specs.Instructions.{Board, Done, Around, accesses, around, space_of, bank_of, deed, put_done, operand, carried_out, actor_of}
 use Rattle.def_board.specs.Wired.{Wired}
 use Rattle.def_confined.specs.Confined.{Confined}

@@ -1,5 +1,5 @@
-//! Laws of jumps: where a jump may go, what posture it takes and what link it leaves; and that a jump that leaves
-//! such things keeps a state confined.
+//! Laws of jumps: where a jump may go, what posture it takes and what link it leaves; and that a jump
+//! that leaves such things keeps a state confined.
 #![tactic(auto)]
 
 ghost use Rattle.std.specs.Prelude.{◌≡◌, ◌<◌, ℕ, List, true, false};
@@ -21,17 +21,19 @@ ghost use Rattle.law_jumps.specs.Jumping.{IsForwardType, IsRunnable, MayJump, La
 
 /// A jump, or the advance of the program counter, with a register that gets a value.
 pub fn jump_move()
-    ensures { (i : Image) (s : State) (t to : ℕ) (pcc : Cap) (posture : Posture) (link : Cap) (w : Clockwork)
+    ensures { (i : Image) (s : State) (t to : ℕ) (pcc : Cap) (posture : Posture) (link : Cap)
+        (w : Clockwork)
         → Jumps i s t pcc posture link
         → Confined i (changed s t (jumped (thread s t) pcc posture to link) s.running w) }
 {}
 
-/// What the running code leaves where it goes on or branches, away from native routines; and the link of a jump,
-/// where the fetch found the program counter's bounds not empty.
+/// What the running code leaves where it goes on or branches, away from native routines; and the link of
+/// a jump, where the fetch found the program counter's bounds not empty.
 pub fn code_jumps()
     ensures onward { (i : Image) (s : State) (t : ℕ) (p l : Cap)
         → Partitioned i → Confined i s → is_native (root i (thread s t).pcc.shadow.root).origin ≡ false
-        → Derived (thread s t).pcc p → IsRunnable p → Puts i s t l → Jumps i s t p (thread s t).posture l }
+        → Derived (thread s t).pcc p → IsRunnable p → Puts i s t l
+        → Jumps i s t p (thread s t).posture l }
     ensures link { (i : Image) (s : State) (t : ℕ) (l : Cap)
         → Confined i s → is_native (root i (thread s t).pcc.shadow.root).origin ≡ false
         → cap_base (thread s t).pcc < cap_top (thread s t).pcc
@@ -44,13 +46,17 @@ pub fn targets_land()
         → Partitioned i → MayJump i objects t fs x → Opens x p → Lands i objects t fs p }
 {}
 
-/// The posture that a thread takes through a return sentry, which the return and the switch need, and through a
-/// forward sentry, which jumps into libraries need.
+/// The posture that a thread takes through a return sentry, which the return and the switch need, and
+/// through a forward sentry, which jumps into libraries need.
 pub fn postures_fit()
-    ensures back { (i : Image) (objects : List Object) (t : ℕ) (th : Thread) (fs : List Frame) (c : Cap) (named : ℕ)
+    ensures back { (i : Image) (objects : List Object) (t : ℕ) (th : Thread) (fs : List Frame)
+        (c : Cap) (named : ℕ)
         → InFrames i objects t fs c → c.tag ≡ true → IsReturnType (cap_seal c)
-        → PostureFits i (record th { posture = posture_through th.posture (cap_seal c) named c.shadow.source }) fs }
-    ensures forward { (i : Image) (objects : List Object) (t : ℕ) (th : Thread) (fs : List Frame) (c : Cap)
+        → PostureFits i (record th {
+          posture = posture_through th.posture (cap_seal c) named c.shadow.source;
+        }) fs }
+    ensures forward { (i : Image) (objects : List Object) (t : ℕ) (th : Thread) (fs : List Frame)
+        (c : Cap)
         → Partitioned i → PostureFits i th fs
         → InFrames i objects t fs c → c.tag ≡ true → IsForwardType (cap_seal c)
         → PostureFits i (record th {

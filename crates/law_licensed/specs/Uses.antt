@@ -20,9 +20,11 @@ use Rattle.def_confined.specs.Places.{LiveCovers}
 -- thread's own stack; range and rights are within the root's. A heap capability lies in the heap, and, where it
 -- isn't empty, in a live object.
 pub record IsUse (i : Image) (objects : List Object) (t actor : ℕ) (c : Cap) : Type 0 where
-  pub owner : is_owned (root i c.shadow.root).origin ≡ true → Reaches i.entries (root i c.shadow.root).owner actor
+  pub owner : is_owned (root i c.shadow.root).origin ≡ true
+      → Reaches i.entries (root i c.shadow.root).owner actor
   pub own : stack_cap i c ≡ true → c.shadow.root ≡ stack_entry i t
-  pub range : heap_cap i c ≡ false → ((root i c.shadow.root).base ≤ cap_base c) × (cap_top c ≤ (root i c.shadow.root).top)
+  pub range : heap_cap i c ≡ false
+      → ((root i c.shadow.root).base ≤ cap_base c) × (cap_top c ≤ (root i c.shadow.root).top)
   pub rights : heap_cap i c ≡ false → Within (cap_perms c) (root i c.shadow.root).rights
   pub heap : heap_cap i c ≡ true → (i.heap_base ≤ cap_base c) × (cap_top c ≤ i.heap_end)
   pub heap_rights : heap_cap i c ≡ true → Within (cap_perms c) HEAP_RIGHTS

@@ -1,6 +1,6 @@
-//! Laws of deeds: in a confined state what the running thread uses is authority of a root whose owner reaches
-//! its compartment, within the root's range and rights; so calls, device accesses, allocations, frees and
-//! spans with interrupts off are licensed.
+//! Laws of deeds: in a confined state what the running thread uses is authority of a root whose owner
+//! reaches its compartment, within the root's range and rights; so calls, device accesses, allocations,
+//! frees and spans with interrupts off are licensed.
 #![tactic(auto)]
 
 ghost use Rattle.std.specs.Prelude.{◌≡◌, ℕ, List, ◌∷◌, Option, Some, true};
@@ -25,26 +25,31 @@ pub fn uses_reach()
         → IsUse i s.objects t f.actor (thread s t).pcc × IsPcc i (thread s t).pcc }
 {}
 
-/// Deeds through a register, with its root as entry and the thread's top frame as actor. Live charges are those
-/// of the state after the deed.
+/// Deeds through a register, with its root as entry and the thread's top frame as actor. Live charges are
+/// those of the state after the deed.
 pub fn deeds_licensed()
     ensures call { (i : Image) (s : State) (t n : ℕ) (f : Frame) (fs : List Frame)
         → Confined i s → Holds s t n f fs → cap_seal (register (thread s t) n) ≡ 9
-        → Licensed i.entries (deed_by s t n f (Call (root i (register (thread s t) n).shadow.root).of)) }
-    ensures load { (i : Image) (s : State) (t n address width value : ℕ) (f : Frame) (fs : List Frame)
+        → Licensed i.entries (deed_by s t n f
+          (Call (root i (register (thread s t) n).shadow.root).of)) }
+    ensures load { (i : Image) (s : State) (t n address width value : ℕ)
+        (f : Frame) (fs : List Frame)
         → Confined i s → Accesses i s t n load_data address width f fs
         → Licensed i.entries (deed_by s t n f (Load address width value)) }
-    ensures store { (i : Image) (s : State) (t n address width value : ℕ) (f : Frame) (fs : List Frame)
+    ensures store { (i : Image) (s : State) (t n address width value : ℕ)
+        (f : Frame) (fs : List Frame)
         → Confined i s → Accesses i s t n store_data address width f fs
         → Licensed i.entries (deed_by s t n f (Store address width value)) }
-    ensures allocate { (i : Image) (s after : State) (t n number base long : ℕ) (f : Frame) (fs : List Frame)
+    ensures allocate { (i : Image) (s after : State) (t n number base long : ℕ)
+        (f : Frame) (fs : List Frame)
         → Confined i s → Confined i after → Charges i s t n f fs
         → Licensed i.entries (deed_by s t n f (Allocate number base long
-        (charges (register (thread s t) n).shadow.root after.objects))) }
-    ensures free { (i : Image) (s after : State) (t n number base long : ℕ) (f : Frame) (fs : List Frame)
+          (charges (register (thread s t) n).shadow.root after.objects))) }
+    ensures free { (i : Image) (s after : State) (t n number base long : ℕ)
+        (f : Frame) (fs : List Frame)
         → Confined i s → Confined i after → Charges i s t n f fs
         → Licensed i.entries (deed_by s t n f (Free number base long
-        (charges (register (thread s t) n).shadow.root after.objects))) }
+          (charges (register (thread s t) n).shadow.root after.objects))) }
 {}
 
 /// A thread whose interrupts are off holds them by an export that may.

@@ -62,8 +62,10 @@ pub fn calls_made()
     ensures stack { (i : Image) (t high : ℕ) (from : Shadow)
         → Partitioned i → (root i (stack_entry i t)).origin ≡ Listing Stack
         → from.root ≡ stack_entry i t → stack_base i t ≤ high → high ≤ stack_top i t
-        → (stack_up_to i t high from).tag ≡ true → IsStackUpTo i t high (stack_up_to i t high from) }
-    ensures enters { (i : Image) (s : State) (t : ℕ) (g : Frame) (gs : List Frame) (callee export high : ℕ)
+        → (stack_up_to i t high from).tag ≡ true
+        → IsStackUpTo i t high (stack_up_to i t high from) }
+    ensures enters { (i : Image) (s : State) (t : ℕ) (g : Frame) (gs : List Frame)
+        (callee export high : ℕ)
         → Partitioned i → Confined i s → PassesChecks i s t g gs callee export high
         → Enters i s t g gs callee export high (given i (thread s t) t callee export high) }
 {}

@@ -1,6 +1,9 @@
 -- Two compartments that import nothing from each other. The second's export passes capabilities; a thread is in
 -- it, called from the first by nobody's leave, and holds the second's globals in c10.
 use Rattle.std.specs.Prelude.{[], ◌∷◌, Some, true, false, replicate, None}
+use Rattle.def_profile.specs.declared.rights.TheConstants.{CODE_RIGHTS, GLOBALS_RIGHTS, STACK_RIGHTS, SERVICE_RIGHTS, EXPORT_RIGHTS}
+use Rattle.def_profile.specs.declared.native.TheConstants.{NATIVE_LENGTH, RETURN_ENTRY}
+use Rattle.def_profile.specs.declared.seals.TheConstants.{RETURN_ENABLE}
 use Rattle.def_words.specs.declared.Cap.{Cap}
 use Rattle.def_words.specs.Derive.{memory_root, executable_root}
 use Rattle.def_memory.specs.Granules.{plain, nothing}
@@ -15,22 +18,27 @@ use Rattle.law_example.specs.Small.{row, gate, made}
 
 abbrev pub apart_entries : Listed
 apart_entries = record {
-  rows = row (Compartment 0) kinds.Code 2147483648 16 363 0 0 ∷ row (Compartment 0) kinds.Globals 2147483664 16 111 0 0 ∷ row (Compartment 1) kinds.Code 2147483680 16 363 0 0 ∷ row (Compartment 1) kinds.Globals 2147483696 16 111 0 0
-      ∷ row (Compartment 1) kinds.Export 2147483680 16 33 0 0 ∷ row (Thread 0) kinds.Stack 2147483712 64 126 0 0 ∷ [];
-  gates = record (gate 5 2147483680) { capabilities = true } ∷ [];
+  rows = row (Compartment 0) kinds.Code 0x80000000 16 CODE_RIGHTS 0 0
+      ∷ row (Compartment 0) kinds.Globals 0x80000010 16 GLOBALS_RIGHTS 0 0
+      ∷ row (Compartment 1) kinds.Code 0x80000020 16 CODE_RIGHTS 0 0
+      ∷ row (Compartment 1) kinds.Globals 0x80000030 16 GLOBALS_RIGHTS 0 0
+      ∷ row (Compartment 1) kinds.Export 0x80000020 16 EXPORT_RIGHTS 0 0
+      ∷ row (Thread 0) kinds.Stack 0x80000040 64 STACK_RIGHTS 0 0
+      ∷ [];
+  gates = record (gate 5 0x80000020) { capabilities = true } ∷ [];
 }
 
 abbrev pub sentry : Cap
-sentry = made 0 executable_root 65552 8 353 65552 5
+sentry = made 0 executable_root RETURN_ENTRY NATIVE_LENGTH SERVICE_RIGHTS RETURN_ENTRY RETURN_ENABLE
 
 abbrev pub inner_globals : Cap
-inner_globals = made 4 memory_root 2147483696 16 111 2147483696 0
+inner_globals = made 4 memory_root 0x80000030 16 GLOBALS_RIGHTS 0x80000030 0
 
 abbrev pub two : Image
 two = record {
   entries = apart_entries;
   made = sentry ∷ plain 0 ∷ plain 0 ∷ plain 0 ∷ inner_globals ∷ plain 0 ∷ plain 0 ∷ [];
-  ram = 2147483648;
+  ram = 0x80000000;
   regions = Fixed ∷ Fixed ∷ Globals 0 ∷ Globals 0 ∷ Fixed ∷ Fixed ∷ Globals 1 ∷ Globals 1 ∷ Stack 0 ∷ Stack 0 ∷ Stack 0 ∷ Stack 0 ∷ Stack 0 ∷ Stack 0 ∷ Stack 0 ∷ Stack 0 ∷ [];
   boot = [];
   codes = 1 ∷ 3 ∷ [];
@@ -41,15 +49,15 @@ two = record {
   priorities = 1 ∷ [];
   trusted = 0;
   sweep = 64;
-  heap_base = 2147483776;
-  heap_end = 2147483776;
+  heap_base = 0x80000080;
+  heap_end = 0x80000080;
 }
 
 abbrev pub inner : Frame
-inner = record { actor = 1; export = 5; top = 2147483744; handling = false; c1 = sentry; c2 = plain 0; c3 = plain 0; c8 = plain 0; c9 = plain 0 }
+inner = record { actor = 1; export = 5; top = 0x80000060; handling = false; c1 = sentry; c2 = plain 0; c3 = plain 0; c8 = plain 0; c9 = plain 0 }
 
 abbrev pub outermost : Frame
-outermost = record { actor = 0; export = 0; top = 2147483776; handling = false; c1 = plain 0; c2 = plain 0; c3 = plain 0; c8 = plain 0; c9 = plain 0 }
+outermost = record { actor = 0; export = 0; top = 0x80000080; handling = false; c1 = plain 0; c2 = plain 0; c3 = plain 0; c8 = plain 0; c9 = plain 0 }
 
 abbrev pub runner : state.Thread
 runner = record {

@@ -16,8 +16,9 @@ ghost use Rattle.def_confined.specs.Confined.{Confined};
 ghost use Rattle.def_confined.specs.Partitioned.{Partitioned};
 ghost use Rattle.def_confined.specs.Made.{Derived};
 
-/// A state stays confined where a register of any thread gets an untagged value, or one of the running thread what
-/// it may get. Instructions change the program counter too, by `law_jumps`; native routines answer so.
+/// A state stays confined where a register of any thread gets an untagged value, or one of the running
+/// thread what it may get. Instructions change the program counter too, by `law_jumps`; native routines
+/// answer so.
 pub fn register_moves()
     ensures untagged { (i : Image) (s : State) (t n : ℕ) (c : Cap)
         → Confined i s → c.tag ≡ false → Confined i (put_register s t n c) }
@@ -25,14 +26,15 @@ pub fn register_moves()
         → Confined i s → Puts i s t c → Confined i (put_register s t n c) }
 {}
 
-/// What a register of the running thread may get: an untagged value, what another register holds, a result of an
-/// operation on what a register holds or, away from native routines, on the program counter.
+/// What a register of the running thread may get: an untagged value, what another register holds, a
+/// result of an operation on what a register holds or, away from native routines, on the program counter.
 pub fn values_put()
     ensures untagged { (i : Image) (s : State) (t : ℕ) (c : Cap) → c.tag ≡ false → Puts i s t c }
     ensures same { (i : Image) (s : State) (t from : ℕ)
         → Confined i s → s.running ≡ Some t → Puts i s t (register (thread s t) from) }
     ensures operation { (i : Image) (s : State) (t from : ℕ) (d : Cap)
-        → Confined i s → s.running ≡ Some t → Derived (register (thread s t) from) d → Puts i s t d }
+        → Confined i s → s.running ≡ Some t → Derived (register (thread s t) from) d
+        → Puts i s t d }
     ensures from_pcc { (i : Image) (s : State) (t : ℕ) (d : Cap)
         → Confined i s → is_native (root i (thread s t).pcc.shadow.root).origin ≡ false
         → Derived (thread s t).pcc d → Puts i s t d }

@@ -20,23 +20,23 @@ use Rattle.law_words.proofs.Away.{address_settles, bounds_settles, exact_settles
 use Rattle.def_capstep.specs.Results.{capability_result}
 use Rattle.def_machine.specs.Image.{Image}
 use Rattle.def_machine.specs.State.{State}
-use Rattle.def_machine.specs.Memory.{is_marked, filtered}
+use Rattle.def_machine.specs.Memory.{is_marked_in, filtered, filtered_in}
 use Rattle.def_step.specs.declared.Access.{Access}
 use Rattle.def_step.specs.Checks.{first_failed}
 use Rattle.def_step.specs.Devices.{bank_value}
 use Rattle.def_step.specs.Jumps.{Flowed, jumped_to, passed_over, branched, register_jumped, flow_result, target_checks, target_at, register_jump_checks, register_target}
-use Rattle.def_step.specs.Accesses.{Space, Accessed, is_ram, is_marked_in, filtered_in, ram_value, ram_stored, device_value, widened, in_ram, on_device, accessed, unless, access_result, access_of, access_checks, access_address}
+use Rattle.def_step.specs.Accesses.{Space, Accessed, is_ram, ram_value, ram_stored, device_value, widened, in_ram, on_device, accessed, unless, access_result, access_of, access_checks, access_address}
 
 -- ---- single values
 
 pub plain_settled : (n : ℕ) → IsSettled (plain n)
 plain_settled n e = refl
 
-pub filtered_settled : (i : Image) (s : State) (c : Cap) → IsSettled c → IsSettled (filtered i s c)
-filtered_settled i s c h = chosen IsSettled (c.tag && is_marked i s (cap_base c)) (untagged c) c (λ is e. refl) (λ not. h)
-
 filtered_in_settled : (ram : ℕ) (gs : List Granule) (c : Cap) → IsSettled c → IsSettled (filtered_in ram gs c)
 filtered_in_settled ram gs c h = chosen IsSettled (c.tag && is_marked_in ram gs (cap_base c)) (untagged c) c (λ is e. refl) (λ not. h)
+
+pub filtered_settled : (i : Image) (s : State) (c : Cap) → IsSettled c → IsSettled (filtered i s c)
+filtered_settled i s = filtered_in_settled i.ram s.granules
 
 stored_settled : (by c : Cap) → IsSettled c → IsSettled (stored_through by c)
 stored_settled by c h = chosen IsSettled (c.tag && not (has c global) && not (has by store_local)) (untagged c) c (λ is e. refl) (λ not. h)

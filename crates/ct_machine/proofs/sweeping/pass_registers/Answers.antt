@@ -1,6 +1,6 @@
 use Rattle.std.proofs.Common.{◌<◌, length, arith}
 use Rattle.law_lists.proofs.Maps.{step}
-use Rattle.def_step.specs.Accesses.{filtered_in}
+use Rattle.def_machine.specs.Memory.{filtered_in}
 use Rattle.ct_machine.proofs.sweeping.pass_registers.Goals as goal
 
 pub loop-i-preserved : goal.loop-i-preserved

@@ -1,6 +1,6 @@
 use Rattle.std.proofs.Common.{◌≡◌}
 use Rattle.law_lists.proofs.Maps.{so_far}
-use Rattle.def_step.specs.Accesses.{filtered_in}
+use Rattle.def_machine.specs.Memory.{filtered_in}
 use Rattle.ct_machine.proofs.sweeping.pass_registers.Given as goal
 
 -- the first registers have passed
