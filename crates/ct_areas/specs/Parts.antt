@@ -33,12 +33,14 @@ abbrev pub register_in : row.Thread → ℕ → Cap
 register_in t n = slice_index_or t.regs n (plain 0)
 
 abbrev pub saved_of : row.Thread → List Cap
-saved_of t = register_in t 1 ∷ register_in t 2 ∷ register_in t 3 ∷ register_in t 8 ∷ register_in t 9 ∷ []
+saved_of t =
+    register_in t 1 ∷ register_in t 2 ∷ register_in t 3 ∷ register_in t 8 ∷ register_in t 9 ∷ []
 
 -- above its frames stands one more, of this export, which keeps the thread's own
 abbrev pub with_frame : List Granule → row.Thread → ℕ → List Granule
 with_frame gs t export =
-    holding_all gs (frame_place (area_begin t.area) t.depth) (frame_words (saved_of t) export t.actor t.top t.handling)
+    holding_all gs (frame_place (area_begin t.area) t.depth)
+        (frame_words (saved_of t) export t.actor t.top t.handling)
 
 abbrev pub deeper : row.Thread → ℕ → ℕ → row.Thread
 deeper t actor top = record t { depth = t.depth + 1; top = top; actor = actor; handling = false }
@@ -54,7 +56,8 @@ inner_frame gs t = frame_at gs (inner_place t) t.actor t.top t.handling
 
 abbrev pub outer_frames : List Granule → row.Thread → List Frame
 outer_frames gs t =
-    frames_in gs (area_begin t.area) (caller_actor gs (inner_place t)) (caller_top gs (inner_place t))
+    frames_in gs (area_begin t.area) (caller_actor gs (inner_place t))
+        (caller_top gs (inner_place t))
     (caller_handling gs (inner_place t)) (t.depth - 1)
 
 abbrev pub saved_in : Frame → Saved

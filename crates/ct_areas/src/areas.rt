@@ -73,16 +73,20 @@ pub fn clear<M: Memory>(mem: &mut M, ram: u32, from: u32, bytes: u32)
 /// A thread is what it was after any change that meets no granule of its area: after what touches other granules
 /// alone, and so after a store, a capability store and a clearing elsewhere.
 pub fn areas_apart()
-    ensures touches { (gs hs : List Granule) (lo hi : ℕ) (runs : Bool) (t : row.Thread) (size : ℕ) → HasArea size t.area
+    ensures touches { (gs hs : List Granule) (lo hi : ℕ) (runs : Bool) (t : row.Thread) (size : ℕ)
+        → HasArea size t.area
         → t.depth ≤ frames_most t.area → IsApart lo hi t.area → Touches lo hi gs hs
         → thread_of hs runs t ≡ thread_of gs runs t }
-    ensures stored { (gs : List Granule) (at width value : ℕ) (runs : Bool) (t : row.Thread) (size : ℕ)
+    ensures stored { (gs : List Granule) (at width value : ℕ) (runs : Bool) (t : row.Thread)
+        (size : ℕ)
         → HasArea size t.area → t.depth ≤ frames_most t.area → IsApart (at / 8) (at / 8 + 1) t.area
         → thread_of (stored gs at width value) runs t ≡ thread_of gs runs t }
-    ensures capability { (gs : List Granule) (at : ℕ) (c : Cap) (runs : Bool) (t : row.Thread) (size : ℕ)
+    ensures capability { (gs : List Granule) (at : ℕ) (c : Cap) (runs : Bool) (t : row.Thread)
+        (size : ℕ)
         → HasArea size t.area → t.depth ≤ frames_most t.area → IsApart (at / 8) (at / 8 + 1) t.area
         → thread_of (stored_cap gs at c) runs t ≡ thread_of gs runs t }
-    ensures cleared { (gs : List Granule) (ram from to : ℕ) (runs : Bool) (t : row.Thread) (size : ℕ)
+    ensures cleared { (gs : List Granule) (ram from to : ℕ) (runs : Bool) (t : row.Thread)
+        (size : ℕ)
         → HasArea size t.area → t.depth ≤ frames_most t.area → IsSpan ram size from to
         → IsApart ((from - ram) / 8) ((to - ram) / 8) t.area
         → thread_of (zeroed_from from to ram gs) runs t ≡ thread_of gs runs t }

@@ -68,7 +68,8 @@ pub fn push<M: Memory>(t: &mut Thread, mem: &mut M, actor: u32, export: u32, top
     ensures thread { thread_of (M.granules mem.new) true t.new
         ≡ pushed (thread_of (M.granules mem.old) true t.old) actor export top }
     ensures memory { M.granules mem.new ≡ with_frame (M.granules mem.old) t.old export }
-    ensures touches { Touches (area_begin t.old.area) (area_end t.old.area) (M.granules mem.old) (M.granules mem.new) }
+    ensures touches { Touches (area_begin t.old.area) (area_end t.old.area) (M.granules mem.old)
+        (M.granules mem.new) }
     ensures row { t.new ≡ deeper t.old actor top }
 {
     let at = frame_offset(&t.area, t.depth, mem);
@@ -121,9 +122,11 @@ pub fn pop<M: Memory>(t: &mut Thread, mem: &mut M)
     requires area { HasArea (8 * length (M.granules mem.old)) t.old.area }
     requires some { 0 < t.old.depth }
     requires room { t.old.depth ≤ frames_most t.old.area }
-    ensures frames { (thread_of (M.granules mem.new) true t.new).frames ≡ outer_frames (M.granules mem.old) t.old }
+    ensures frames { (thread_of (M.granules mem.new) true t.new).frames
+        ≡ outer_frames (M.granules mem.old) t.old }
     ensures memory { M.granules mem.new ≡ without_frame (M.granules mem.old) t.old }
-    ensures touches { Touches (area_begin t.old.area) (area_end t.old.area) (M.granules mem.old) (M.granules mem.new) }
+    ensures touches { Touches (area_begin t.old.area) (area_end t.old.area) (M.granules mem.old)
+        (M.granules mem.new) }
     ensures row { t.new ≡ shallower (M.granules mem.old) t.old }
 {
     let at = frame_offset(&t.area, t.depth - 1, mem);

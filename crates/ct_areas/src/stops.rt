@@ -20,7 +20,8 @@ use def_profile::layout::SAVED_SIZE;
 fn put_registers<M: Memory>(registers: &[Live; 16], mem: &mut M, at: u32)
     requires even { at % 8 ≡ 0 }
     requires inside { at + 120 ≤ 8 * length (M.granules mem.old) }
-    ensures is { M.granules mem.new ≡ holding_all (M.granules mem.old) (at / 8) (drop 1 registers.now) }
+    ensures is { M.granules mem.new
+        ≡ holding_all (M.granules mem.old) (at / 8) (drop 1 registers.now) }
     ensures long { length registers.now ≡ 16 }
 {
     let _size = mem.size();
@@ -38,7 +39,8 @@ pub fn save<M: Memory>(t: &mut Thread, mem: &mut M)
     ensures thread { register_in t.old 0 ≡ plain 0
         → thread_of (M.granules mem.new) false t.new ≡ thread_of (M.granules mem.old) true t.old }
     ensures memory { M.granules mem.new ≡ with_saved (M.granules mem.old) t.old }
-    ensures touches { Touches (area_begin t.old.area) (area_end t.old.area) (M.granules mem.old) (M.granules mem.new) }
+    ensures touches { Touches (area_begin t.old.area) (area_end t.old.area) (M.granules mem.old)
+        (M.granules mem.new) }
     ensures row { t.new ≡ t.old }
 {
     let at = area_offset(&t.area, mem);
@@ -68,7 +70,8 @@ pub fn resume<M: Memory>(t: &mut Thread, mem: &mut M)
     ensures thread { thread_of (M.granules mem.new) true t.new
         ≡ picked_with (filtered_in t.old.area.ram (M.granules mem.old)) (thread_of (M.granules mem.old) false t.old) }
     ensures memory { M.granules mem.new ≡ without_saved (M.granules mem.old) t.old }
-    ensures touches { Touches (area_begin t.old.area) (area_end t.old.area) (M.granules mem.old) (M.granules mem.new) }
+    ensures touches { Touches (area_begin t.old.area) (area_end t.old.area) (M.granules mem.old)
+        (M.granules mem.new) }
     ensures row { t.new ≡ record t.old { pcc = t.new.pcc; regs = t.new.regs } }
     ensures zero { register_in t.new 0 ≡ plain 0 }
 {

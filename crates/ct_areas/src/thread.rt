@@ -52,13 +52,15 @@ impl Thread {
         area: Area,
     ) -> Thread
         requires area { HasArea (8 * length (M.granules mem.old)) area }
-        requires clear { (k : ℕ) → area_begin area ≤ k → k < area_end area → held (M.granules mem.old) k ≡ plain 0 }
+        requires clear { (k : ℕ) → area_begin area ≤ k → k < area_end area
+            → held (M.granules mem.old) k ≡ plain 0 }
         requires end { area.stack + area.stack_length ≤ 4294967280 }
         ensures thread { thread_of (M.granules mem.new) true result
             ≡ first pcc regs posture actor export (area.stack + area.stack_length) }
         ensures memory { M.granules mem.new
             ≡ holding (M.granules mem.old) (frame_place (area_begin area) 0 + 5) (plain export) }
-        ensures touches { Touches (area_begin area) (area_end area) (M.granules mem.old) (M.granules mem.new) }
+        ensures touches { Touches (area_begin area) (area_end area) (M.granules mem.old)
+            (M.granules mem.new) }
         ensures row { result ≡ record {
           pcc = pcc;
           regs = regs;

@@ -37,8 +37,11 @@ is_plain _ = false
 
 abbrev pub plain_shape : Part Name → Shape
 plain_shape (part.Registers operation rd rs1 rs2) = shapes.Registers operation rd rs1 rs2
-plain_shape (part.Immediate operation rd rs1 number) = shapes.Immediate operation rd rs1 (number_word number)
-plain_shape (part.Upper operation rd number) = shapes.Upper operation rd (number_word number % 2 ^ 20)
+plain_shape (part.Immediate operation rd rs1 number) =
+    shapes.Immediate operation rd rs1 (number_word number)
+plain_shape (part.Upper operation rd number) =
+    shapes.Upper operation rd (number_word number % 2 ^ 20)
 plain_shape (part.Load operation rd number rs1) = shapes.Load operation rd rs1 (number_word number)
-plain_shape (part.Store operation rs2 number rs1) = shapes.Store operation rs1 rs2 (number_word number)
+plain_shape (part.Store operation rs2 number rs1) =
+    shapes.Store operation rs1 rs2 (number_word number)
 plain_shape _ = shapes.Call

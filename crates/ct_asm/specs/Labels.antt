@@ -16,7 +16,9 @@ label_named name (row ∷ rows) = if bytes_eq name row.0 then Some row.1 else la
 
 -- the rows after a statement at a place, which is number k: a label goes last, unless its name is there
 abbrev pub noted : List (Name × Label) → Place → ℕ → Part Name → List (Name × Label)
-noted rows p k (part.Label name) = if is_some (label_named name rows) then rows else rows ++ (name, record { section = p.section; offset = offset p; index = k }) ∷ []
+noted rows p k (part.Label name) =
+    if is_some (label_named name rows) then rows
+    else rows ++ (name, record { section = p.section; offset = offset p; index = k }) ∷ []
 noted rows p k _ = rows
 
 -- an object: its bytes, and the labels that it keeps

@@ -26,10 +26,14 @@ fn push_in(
 ) -> Result<(), AllocError>
     requires fit { source.numbers_fit (part_view part) ≡ true }
     requires exist { source.registers_exist (part_view part) ≡ true }
-    requires found { IsFound (λ n. label_named n labels.now) (object.offset place) (part_view part) }
+    requires found { IsFound (λ n. label_named n labels.now) (object.offset place)
+        (part_view part) }
     requires text { place.text < 2 ^ 100 }
     requires initial { place.initial < 2 ^ 100 }
-    ensures { OnOk result (out.new.items ≡ out.old.items ++ object.section_bytes wanted (λ n. label_named n labels.now) slots.now place (part_view part.entry)) }
+    ensures { OnOk result
+        (out.new.items ≡ out.old.items
+            ++ object.section_bytes wanted (λ n. label_named n labels.now) slots.now place
+              (part_view part.entry)) }
 {
     if place.section == wanted {
         return push_statement(out, labels, slots, offset(place), part);
@@ -46,8 +50,13 @@ pub(crate) fn section_bytes(
     statements: &[Statement<&[u8]>],
 ) -> Result<Vec<u8>, AllocError>
     requires lawful { source.IsLawful (statements_view statements.now) }
-    requires faultless { object.fault_from (λ n. label_named n labels.now) object.start 0 (statements_view statements.now) ≡ None }
-    ensures { IfOk result (λ v. v.items ≡ object.bytes_from wanted (λ n. label_named n labels.now) slots.now object.start (statements_view statements.now)) }
+    requires faultless { object.fault_from (λ n. label_named n labels.now) object.start 0
+          (statements_view statements.now)
+        ≡ None }
+    ensures { IfOk result
+        (λ v. v.items
+            ≡ object.bytes_from wanted (λ n. label_named n labels.now) slots.now object.start
+              (statements_view statements.now)) }
 {
     let mut out = Vec::new(alloc);
     let mut place = START;

@@ -26,7 +26,8 @@ fn push_word(out: &mut Vec<u8>, word: u32) -> Result<(), AllocError>
 /// Adds an instruction.
 fn push(out: &mut Vec<u8>, instruction: Instr) -> Result<(), AllocError>
     requires { InRange instruction }
-    ensures { OnOk result (out.new.items ≡ out.old.items ++ object.instruction_bytes (instruction ∷ [])) }
+    ensures { OnOk result
+        (out.new.items ≡ out.old.items ++ object.instruction_bytes (instruction ∷ [])) }
 {
     push_word(out, encode(instruction))
 }
@@ -35,7 +36,8 @@ fn push(out: &mut Vec<u8>, instruction: Instr) -> Result<(), AllocError>
 fn push_two(out: &mut Vec<u8>, first: Instr, second: Instr) -> Result<(), AllocError>
     requires first { InRange first }
     requires second { InRange second }
-    ensures { OnOk result (out.new.items ≡ out.old.items ++ object.instruction_bytes (first ∷ second ∷ [])) }
+    ensures { OnOk result
+        (out.new.items ≡ out.old.items ++ object.instruction_bytes (first ∷ second ∷ [])) }
 {
     push(out, first)?;
     push(out, second)
@@ -44,7 +46,8 @@ fn push_two(out: &mut Vec<u8>, first: Instr, second: Instr) -> Result<(), AllocE
 /// Adds the instructions of a statement.
 fn push_all(out: &mut Vec<u8>, emitted: Emitted) -> Result<(), AllocError>
     requires { AreInRange (instructions_in emitted) }
-    ensures { OnOk result (out.new.items ≡ out.old.items ++ object.instruction_bytes (instructions_in emitted)) }
+    ensures { OnOk result
+        (out.new.items ≡ out.old.items ++ object.instruction_bytes (instructions_in emitted)) }
 {
     match emitted {
         Emitted::Nothing => Ok(()),
@@ -73,7 +76,9 @@ pub(crate) fn push_statement(
     requires exist { source.registers_exist (part_view part) ≡ true }
     requires found { IsFound (λ n. label_named n labels.now) at (part_view part) }
     requires at { at < 2 ^ 101 }
-    ensures { OnOk result (out.new.items ≡ out.old.items ++ object.bytes_at (λ n. label_named n labels.now) slots.now at (part_view part.entry)) }
+    ensures { OnOk result
+        (out.new.items ≡ out.old.items
+            ++ object.bytes_at (λ n. label_named n labels.now) slots.now at (part_view part.entry)) }
 {
     match part {
         Part::Word { number } => push_word(out, number_word(number)),

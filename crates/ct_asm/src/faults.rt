@@ -50,7 +50,8 @@ fn reach_fault(reach: u128, at: u128, label: Option<Label>) -> Option<u32>
 /// A branch to a target; an offset has its range already.
 fn target_fault(labels: &Labels, reach: u128, at: u128, target: Target<&[u8]>) -> Option<u32>
     requires { 2 ≤ reach }
-    ensures { result ≡ object.target_fault (λ n. label_named n labels.now) reach at (target_view target.entry) }
+    ensures { result
+        ≡ object.target_fault (λ n. label_named n labels.now) reach at (target_view target.entry) }
 {
     match target {
         Target::Label(name) => reach_fault(reach, at, labels.get(name)),
@@ -90,7 +91,8 @@ fn second_fault(k: u64, label: Option<Label>) -> Option<u32>
 
 /// What a statement refers to, or what it defines again.
 fn reference_fault(labels: &Labels, k: u64, at: u128, part: Part<&[u8]>) -> Option<u32>
-    ensures { result ≡ object.reference_fault (λ n. label_named n labels.now) k at (part_view part.entry) }
+    ensures { result
+        ≡ object.reference_fault (λ n. label_named n labels.now) k at (part_view part.entry) }
 {
     match part {
         Part::Label { name } => second_fault(k, labels.get(name)),
@@ -144,7 +146,8 @@ fn statement_fault(labels: &Labels, place: Place, k: u64, part: Part<&[u8]>) -> 
     requires fit { source.numbers_fit (part_view part) ≡ true }
     requires text { place.text < 2 ^ 100 }
     requires initial { place.initial < 2 ^ 100 }
-    ensures { result ≡ object.statement_fault (λ n. label_named n labels.now) place k (part_view part.entry) }
+    ensures { result
+        ≡ object.statement_fault (λ n. label_named n labels.now) place k (part_view part.entry) }
 {
     match reference_fault(labels, k, offset(place), part) {
         Some(number) => Some(number),
@@ -182,7 +185,9 @@ fn on_line(line: u32, number: Option<u32>) -> Option<Fault>
 /// The least fault of all statements.
 pub(crate) fn least_fault(labels: &Labels, statements: &[Statement<&[u8]>]) -> Option<Fault>
     requires { source.IsLawful (statements_view statements.now) }
-    ensures { result ≡ object.fault_from (λ n. label_named n labels.now) object.start 0 (statements_view statements.now) }
+    ensures { result
+        ≡ object.fault_from (λ n. label_named n labels.now) object.start 0
+          (statements_view statements.now) }
 {
     let mut place = START;
     let mut least = None;

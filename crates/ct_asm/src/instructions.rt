@@ -140,7 +140,8 @@ fn jump_register(rd: u32, rs1: u32) -> Instr
 /// The instructions that load a number.
 fn load_number(rd: u32, number: Number) -> Emitted
     requires { rd < 16 }
-    ensures value { instructions_in result ≡ object.number_instructions rd (object.number_word number) }
+    ensures value { instructions_in result
+        ≡ object.number_instructions rd (object.number_word number) }
     ensures range { AreInRange (instructions_in result) }
 {
     let word = number_word(number);
@@ -298,7 +299,9 @@ pub(crate) fn instructions(labels: &Labels, slots: &Names, at: u128, part: Part<
     requires exist { source.registers_exist (part_view part) ≡ true }
     requires found { IsFound (λ n. label_named n labels.now) at (part_view part) }
     requires at { at < 2 ^ 101 }
-    ensures value { instructions_in result ≡ object.instructions_at (λ n. label_named n labels.now) slots.now at (part_view part.entry) }
+    ensures value { instructions_in result
+        ≡ object.instructions_at (λ n. label_named n labels.now) slots.now at
+          (part_view part.entry) }
     ensures range { AreInRange (instructions_in result) }
 {
     match part {

@@ -49,7 +49,8 @@ impl Names {
     /// Gives a name the next slot, unless it has one. An `Err` changes nothing.
     pub fn add(&mut self, alloc: Global, name: &str) -> Result<bool, AllocError>
         ensures fresh { IfOk result (λ fresh. fresh ≡ is_none (object.slot_of self.old name.now)) }
-        ensures added { IfOk result (λ fresh. self.new ≡ (if fresh then self.old ++ name.now ∷ [] else self.old)) }
+        ensures added { IfOk result
+            (λ fresh. self.new ≡ (if fresh then self.old ++ name.now ∷ [] else self.old)) }
         ensures err { OnErr result (self.new ≡ self.old) }
     {
         if self.slot(name.as_bytes()).is_some() {

@@ -24,7 +24,9 @@ fn way(at: u128, to: u128) -> u32
 /// A branch's offset as it is written.
 #[tactic(auto, using(crate::proofs::Reach::branch_word))]
 fn branch_number(number: Number) -> u32
-    requires { (source.within BRANCH_REACH (BRANCH_REACH - 2) number && (number.magnitude % 2 == 0)) ≡ true }
+    requires { (source.within BRANCH_REACH (BRANCH_REACH - 2) number
+            && (number.magnitude % 2 == 0))
+        ≡ true }
     ensures value { result ≡ object.number_word number }
     ensures range { IsOffset 13 result }
 {
@@ -34,7 +36,8 @@ fn branch_number(number: Number) -> u32
 /// A jump's offset as it is written.
 #[tactic(auto, using(crate::proofs::Reach::jump_word))]
 fn jump_number(number: Number) -> u32
-    requires { (source.within JUMP_REACH (JUMP_REACH - 2) number && (number.magnitude % 2 == 0)) ≡ true }
+    requires { (source.within JUMP_REACH (JUMP_REACH - 2) number && (number.magnitude % 2 == 0))
+        ≡ true }
     ensures value { result ≡ object.number_word number }
     ensures range { IsOffset 21 result }
 {
@@ -114,8 +117,11 @@ pub(crate) fn label_offset(label: Option<Label>) -> u128
 /// The way of a branch that has no fault.
 pub(crate) fn branch_target(labels: &Labels, at: u128, target: Target<&[u8]>) -> u32
     requires fit { source.fits_target BRANCH_REACH (target_view target) ≡ true }
-    requires found { object.target_fault (λ n. label_named n labels.now) BRANCH_REACH at (target_view target) ≡ None }
-    ensures value { result ≡ object.target_word (λ n. label_named n labels.now) at (target_view target.entry) }
+    requires found { object.target_fault (λ n. label_named n labels.now) BRANCH_REACH at
+          (target_view target)
+        ≡ None }
+    ensures value { result
+        ≡ object.target_word (λ n. label_named n labels.now) at (target_view target.entry) }
     ensures range { IsOffset 13 result }
 {
     match target {
@@ -130,8 +136,11 @@ pub(crate) fn branch_target(labels: &Labels, at: u128, target: Target<&[u8]>) ->
 /// The way of a jump that has no fault.
 pub(crate) fn jump_target(labels: &Labels, at: u128, target: Target<&[u8]>) -> u32
     requires fit { source.fits_target JUMP_REACH (target_view target) ≡ true }
-    requires found { object.target_fault (λ n. label_named n labels.now) JUMP_REACH at (target_view target) ≡ None }
-    ensures value { result ≡ object.target_word (λ n. label_named n labels.now) at (target_view target.entry) }
+    requires found { object.target_fault (λ n. label_named n labels.now) JUMP_REACH at
+          (target_view target)
+        ≡ None }
+    ensures value { result
+        ≡ object.target_word (λ n. label_named n labels.now) at (target_view target.entry) }
     ensures range { IsOffset 21 result }
 {
     match target {

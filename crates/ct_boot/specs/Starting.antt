@@ -8,7 +8,23 @@ use Rattle.def_sched.specs.declared.Status.TheVariants.{Ready}
 
 -- the outermost frame, which has no caller
 abbrev pub first_in : ℕ → ℕ → ℕ → Frame
-first_in actor export top = record { actor = actor; export = export; top = top; handling = false; c1 = plain 0; c2 = plain 0; c3 = plain 0; c8 = plain 0; c9 = plain 0 }
+first_in actor export top = record {
+  actor = actor;
+  export = export;
+  top = top;
+  handling = false;
+  c1 = plain 0;
+  c2 = plain 0;
+  c3 = plain 0;
+  c8 = plain 0;
+  c9 = plain 0;
+}
 
 abbrev pub started : Cap → List Cap → Posture → ℕ → ℕ → ℕ → Thread
-started pcc registers posture actor export top = record { pcc = pcc; registers = registers; frames = first_in actor export top ∷ []; status = Ready; posture = posture }
+started pcc registers posture actor export top = record {
+  pcc = pcc;
+  registers = registers;
+  frames = first_in actor export top ∷ [];
+  status = Ready;
+  posture = posture;
+}

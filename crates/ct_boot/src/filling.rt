@@ -35,7 +35,8 @@ fn put_head<M: Memory>(firmware: &Firmware, mem: &mut M, of: u32, table: u32)
     requires bootable { IsBootable firmware.now }
     requires booting { Booting firmware.now (M.granules mem.old) }
     requires there { slice_get firmware.now.tables of ≡ Some table }
-    ensures { Stage firmware.now (M.granules mem.old) (M.granules mem.new) (λ x. (x ≡ table) ⊎ (x ≡ table + 8)) }
+    ensures { Stage firmware.now (M.granules mem.old) (M.granules mem.new)
+        (λ x. (x ≡ table) ⊎ (x ≡ table + 8)) }
 {
     let code = made_for(&firmware.entries, code_number(firmware, of));
     put(firmware, mem, table as u64, code);
@@ -48,7 +49,8 @@ fn put_table<M: Memory>(firmware: &Firmware, mem: &mut M, of: u32)
     requires lawful { IsLawfulFirmware firmware.now }
     requires bootable { IsBootable firmware.now }
     requires booting { Booting firmware.now (M.granules mem.old) }
-    ensures { Stage firmware.now (M.granules mem.old) (M.granules mem.new) (HeadAt firmware.now of) }
+    ensures { Stage firmware.now (M.granules mem.old) (M.granules mem.new)
+        (HeadAt firmware.now of) }
 {
     match firmware.tables.get(of as usize).copied() {
         Some(table) => put_head(firmware, mem, of, table),
@@ -73,7 +75,8 @@ fn put_slot<M: Memory>(firmware: &Firmware, mem: &mut M, part: Part, index: u32,
     requires there { slice_get firmware.now.entries.rows index ≡ Some row }
     requires few { index < 4294967294 }
     requires own { is_compartment part.of row.owner ≡ true }
-    ensures { Stage firmware.now (M.granules mem.old) (M.granules mem.new) (SlotAt firmware.now part.of (1 + index) row) }
+    ensures { Stage firmware.now (M.granules mem.old) (M.granules mem.new)
+        (SlotAt firmware.now part.of (1 + index) row) }
 {
     if !is_slot(row.kind) {
         return;
@@ -88,9 +91,14 @@ fn put_words_of<M: Memory>(firmware: &Firmware, mem: &mut M, part: Part, number:
     requires bootable { IsBootable firmware.now }
     requires booting { Booting firmware.now (M.granules mem.old) }
     requires few { number < 4294967295 }
-    requires first { Puts firmware.now base (plain ((gate_for firmware.now.entries.gates number).code - part.text + (gate_for firmware.now.entries.gates number).stack * 2 ^ 32)) }
-    requires second { Puts firmware.now (base + 8) (plain (export_second (gate_for firmware.now.entries.gates number))) }
-    ensures { Stage firmware.now (M.granules mem.old) (M.granules mem.new) (λ x. (x ≡ base) ⊎ (x ≡ base + 8)) }
+    requires first { Puts firmware.now base
+        (plain
+            ((gate_for firmware.now.entries.gates number).code - part.text
+                + (gate_for firmware.now.entries.gates number).stack * 2 ^ 32)) }
+    requires second { Puts firmware.now (base + 8)
+        (plain (export_second (gate_for firmware.now.entries.gates number))) }
+    ensures { Stage firmware.now (M.granules mem.old) (M.granules mem.new)
+        (λ x. (x ≡ base) ⊎ (x ≡ base + 8)) }
 {
     let gate = gate_of(&firmware.entries, number);
     put(
@@ -127,7 +135,8 @@ fn put_row<M: Memory>(firmware: &Firmware, mem: &mut M, part: Part, index: u32, 
     requires part { IsPart firmware.now part }
     requires there { slice_get firmware.now.entries.rows index ≡ Some row }
     requires few { index < 4294967294 }
-    ensures { Stage firmware.now (M.granules mem.old) (M.granules mem.new) (RowAt firmware.now part.of (1 + index) row) }
+    ensures { Stage firmware.now (M.granules mem.old) (M.granules mem.new)
+        (RowAt firmware.now part.of (1 + index) row) }
 {
     if !is_compartment(row.owner, part.of) {
         return;
@@ -143,7 +152,8 @@ fn put_row_at<M: Memory>(firmware: &Firmware, mem: &mut M, part: Part, rows: &[E
     requires booting { Booting firmware.now (M.granules mem.old) }
     requires part { IsPart firmware.now part }
     requires all { rows.now ≡ firmware.now.entries.rows }
-    ensures { Stage firmware.now (M.granules mem.old) (M.granules mem.new) (IndexAt firmware.now part.of index) }
+    ensures { Stage firmware.now (M.granules mem.old) (M.granules mem.new)
+        (IndexAt firmware.now part.of index) }
 {
     match rows.get(index).copied() {
         Some(row) => put_row(firmware, mem, part, index as u32, row),
@@ -158,7 +168,8 @@ fn put_rows<M: Memory>(firmware: &Firmware, mem: &mut M, part: Part, rows: &[Ent
     requires booting { Booting firmware.now (M.granules mem.old) }
     requires part { IsPart firmware.now part }
     requires all { rows.now ≡ firmware.now.entries.rows }
-    ensures { Stage firmware.now (M.granules mem.old) (M.granules mem.new) (RowsAt firmware.now part.of) }
+    ensures { Stage firmware.now (M.granules mem.old) (M.granules mem.new)
+        (RowsAt firmware.now part.of) }
 {
     for index in 0..rows.len() {
         put_row_at(firmware, mem, part, rows, index);
@@ -172,8 +183,10 @@ fn put_word<M: Memory>(firmware: &Firmware, mem: &mut M, base: u64, text: &[u8],
     requires short { length text.now < 4294967296 }
     requires few { index ≤ length text.now / 8 }
     requires based { base < 2 ^ 40 }
-    requires puts { 8 * index < length text.now → Puts firmware.now (base + 8 * index) (plain (text_word text.now (8 * index))) }
-    ensures { Stage firmware.now (M.granules mem.old) (M.granules mem.new) (λ x. (8 * index < length text.now) × (x ≡ base + 8 * index)) }
+    requires puts { 8 * index < length text.now
+        → Puts firmware.now (base + 8 * index) (plain (text_word text.now (8 * index))) }
+    ensures { Stage firmware.now (M.granules mem.old) (M.granules mem.new)
+        (λ x. (8 * index < length text.now) × (x ≡ base + 8 * index)) }
 {
     let offset = 8 * index as u64;
     if text.len() as u64 <= offset {
@@ -188,8 +201,10 @@ fn put_text<M: Memory>(firmware: &Firmware, mem: &mut M, base: u64, text: &[u8])
     requires booting { Booting firmware.now (M.granules mem.old) }
     requires short { length text.now < 4294967296 }
     requires based { base < 2 ^ 40 }
-    requires puts { (w : ℕ) → 8 * w < length text.now → Puts firmware.now (base + 8 * w) (plain (text_word text.now (8 * w))) }
-    ensures { Stage firmware.now (M.granules mem.old) (M.granules mem.new) (WordsTo base text.now (length text.now / 8 + 1)) }
+    requires puts { (w : ℕ) → 8 * w < length text.now
+        → Puts firmware.now (base + 8 * w) (plain (text_word text.now (8 * w))) }
+    ensures { Stage firmware.now (M.granules mem.old) (M.granules mem.new)
+        (WordsTo base text.now (length text.now / 8 + 1)) }
 {
     for index in 0..text.len() / 8 + 1 {
         put_word(firmware, mem, base, text, index);
@@ -203,7 +218,8 @@ fn put_texts<M: Memory>(firmware: &Firmware, mem: &mut M, part: Part)
     requires booting { Booting firmware.now (M.granules mem.old) }
     requires part { IsPart firmware.now part }
     requires based { part.text < 2 ^ 40 }
-    ensures { Stage firmware.now (M.granules mem.old) (M.granules mem.new) (TextAt firmware.now part.of) }
+    ensures { Stage firmware.now (M.granules mem.old) (M.granules mem.new)
+        (TextAt firmware.now part.of) }
 {
     match text_of(firmware, part.of as usize) {
         Some(text) => put_text(firmware, mem, part.text, text),
@@ -216,7 +232,8 @@ fn put_part<M: Memory>(firmware: &Firmware, mem: &mut M, of: u32)
     requires lawful { IsLawfulFirmware firmware.now }
     requires bootable { IsBootable firmware.now }
     requires booting { Booting firmware.now (M.granules mem.old) }
-    ensures { Stage firmware.now (M.granules mem.old) (M.granules mem.new) (PartAt firmware.now of) }
+    ensures { Stage firmware.now (M.granules mem.old) (M.granules mem.new)
+        (PartAt firmware.now of) }
 {
     let part = part_of(firmware, of);
     put_table(firmware, mem, of);
@@ -229,7 +246,8 @@ fn put_parts<M: Memory>(firmware: &Firmware, mem: &mut M)
     requires lawful { IsLawfulFirmware firmware.now }
     requires bootable { IsBootable firmware.now }
     requires booting { Booting firmware.now (M.granules mem.old) }
-    ensures { Stage firmware.now (M.granules mem.old) (M.granules mem.new) (PartsTo firmware.now (length firmware.now.tables)) }
+    ensures { Stage firmware.now (M.granules mem.old) (M.granules mem.new)
+        (PartsTo firmware.now (length firmware.now.tables)) }
 {
     for of in 0..firmware.tables.len() {
         put_part(firmware, mem, of as u32);

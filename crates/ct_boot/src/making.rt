@@ -105,7 +105,8 @@ fn made_by(number: u32, row: Entry) -> Live
 /// The capability of a number: the return sentry for 0, and none for a number that names no entry.
 pub(crate) fn made_for(entries: &Entries, number: u32) -> Live
     requires { Each IsStackFit entries.now.rows }
-    ensures { result ≡ slice_index_or (return_sentry ∷ made_from 1 entries.now.rows) number (plain 0) }
+    ensures { result
+        ≡ slice_index_or (return_sentry ∷ made_from 1 entries.now.rows) number (plain 0) }
 {
     if number == 0 {
         return return_sentry();

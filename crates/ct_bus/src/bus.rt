@@ -38,7 +38,8 @@ fn has(base: u32, address: u32) -> bool
 /// The first device of these that has the address.
 fn find(bases: &[u32], address: u32) -> Option<usize>
     ensures found { result ≡ found bases.now address }
-    ensures inside { IfSome result (λ n. (n < length bases.now) × (is_of (base_of bases.now n) address ≡ true)) }
+    ensures inside { IfSome result
+        (λ n. (n < length bases.now) × (is_of (base_of bases.now n) address ≡ true)) }
 {
     for (index, base) in bases.iter().enumerate() {
         if has(*base, address) {
@@ -53,7 +54,12 @@ impl Bus {
     ///
     /// `NoMemory` where the allocator has no room for them.
     pub fn new(alloc: Global, devices: &Devices) -> Result<Bus, NoMemory>
-        ensures { IfOk result (λ b. b ≡ record { bases = map (λ d. d.base) devices.now; states = map (λ d. fresh_device d.kind) devices.now }) }
+        ensures { IfOk result
+            (λ b. b
+                ≡ record {
+                  bases = map (λ d. d.base) devices.now;
+                  states = map (λ d. fresh_device d.kind) devices.now;
+                }) }
     {
         let mut bases = Vec::new(alloc);
         let mut units = Vec::new(alloc);

@@ -78,7 +78,9 @@ fn is_key_type(executes: bool, kind: u32) -> bool
 
 /// A word with the field of a type, where it is one.
 fn sealed_word(word: u64, lawful: bool, kind: u32) -> u64
-    ensures { result ≡ (if lawful then word_of (with_seal_field (word / 2 ^ 32) (kind % 8)) (word % 2 ^ 32) else word) }
+    ensures { result
+        ≡ (if lawful then word_of (with_seal_field (word / 2 ^ 32) (kind % 8)) (word % 2 ^ 32)
+            else word) }
 {
     if lawful {
         words::word_of(
@@ -92,7 +94,12 @@ fn sealed_word(word: u64, lawful: bool, kind: u32) -> u64
 
 /// A word unsealed, without GL where it is to go.
 fn opened_word(word: u64, keeps_global: bool) -> u64
-    ensures { result ≡ word_of (with_permission_bits (with_seal_field (word / 2 ^ 32) 0) (if keeps_global then permission_bits (word / 2 ^ 32) else permission_bits (word / 2 ^ 32) % 32)) (word % 2 ^ 32) }
+    ensures { result
+        ≡ word_of
+          (with_permission_bits (with_seal_field (word / 2 ^ 32) 0)
+              (if keeps_global then permission_bits (word / 2 ^ 32)
+                  else permission_bits (word / 2 ^ 32) % 32))
+          (word % 2 ^ 32) }
 {
     let high = high_of(word);
     let all = field(high, 25, 6) as u8;

@@ -11,14 +11,17 @@ use Rattle.def_chunks.specs.Gaps.{FreeLinked}
 pub record CutBack (r : Range) (gs hs : List Granule) (g : Gap) (back next : ℕ) : Type 0 where
   pub tiled : Tiled r hs
   pub linked : FreeLinked r hs g.at (g.size - back) next g.before g.before_size
-  pub chunks_are : chunks r hs ≡ replaced g.at (λ c. free_chunk (c.size - back) ∷ gap back) r.base (chunks r gs)
+  pub chunks_are : chunks r hs
+      ≡ replaced g.at (λ c. free_chunk (c.size - back) ∷ gap back) r.base (chunks r gs)
   pub keeps : Keeps r (chunks r gs) gs hs
 
 -- the begin of a gap's chunk, which has this size by now, is a chunk of its own
-pub record CutFront (r : Range) (gs hs : List Granule) (g : Gap) (size next front before before_size : ℕ) : Type 0 where
+pub record CutFront (r : Range) (gs hs : List Granule) (g : Gap)
+    (size next front before before_size : ℕ) : Type 0 where
   pub tiled : Tiled r hs
   pub linked : FreeLinked r hs (g.at + front) (size - front) next before before_size
-  pub chunks_are : chunks r hs ≡ replaced g.at (λ c. gap front ++ free_chunk (c.size - front) ∷ []) r.base (chunks r gs)
+  pub chunks_are : chunks r hs
+      ≡ replaced g.at (λ c. gap front ++ free_chunk (c.size - front) ∷ []) r.base (chunks r gs)
   pub keeps : Keeps r (chunks r gs) gs hs
 
 -- an object of this length, and its head before it, lie in the gap's chunk

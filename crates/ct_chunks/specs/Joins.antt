@@ -15,14 +15,16 @@ goes h = nat_eq h.state FREE || nat_eq h.state PAINTED
 
 -- the last free chunk ends at an address
 abbrev pub touches : Range → Last → ℕ → Bool
-touches r last at = not (nat_eq last.offset NO_CHUNK) && nat_eq (last.offset + last.size) (at - r.base)
+touches r last at =
+    not (nat_eq last.offset NO_CHUNK) && nat_eq (last.offset + last.size) (at - r.base)
 
 -- memory, the last free chunk and the first one after a chunk became free
 abbrev pub absorbed : List Granule → Range → Last → ℕ → ℕ → List Granule
 absorbed gs r last at size =
     cond (touches r last at)
     (stored_cap gs (r.base + last.offset - r.ram) (plain (last.size + size + NO_CHUNK * 2 ^ 32)))
-    (linked (stored_cap gs (at - r.ram) (plain (size + NO_CHUNK * 2 ^ 32))) r.ram r.base last.offset last.size (at - r.base))
+    (linked (stored_cap gs (at - r.ram) (plain (size + NO_CHUNK * 2 ^ 32))) r.ram r.base last.offset
+          last.size (at - r.base))
 
 abbrev pub last_after : Range → Last → ℕ → ℕ → Last
 last_after r last at size =
@@ -31,7 +33,8 @@ last_after r last at size =
     (record { offset = at - r.base; size = size })
 
 abbrev pub first_after : Range → Last → ℕ → ℕ
-first_after r last at = cond (touches r last at) r.first (cond (nat_eq last.offset NO_CHUNK) (at - r.base) r.first)
+first_after r last at =
+    cond (touches r last at) r.first (cond (nat_eq last.offset NO_CHUNK) (at - r.base) r.first)
 
 -- the chunk lies in the heap, behind the last free one
 pub record Absorbs (r : Range) (granules : ℕ) (last : Last) (at size : ℕ) : Type 0 where
@@ -48,7 +51,8 @@ pub record Absorbs (r : Range) (granules : ℕ) (last : Last) (at size : ℕ) : 
   pub last_fits : nat_eq last.offset NO_CHUNK ≡ false → r.base + last.offset + last.size ≤ at
 
 -- a chunk that goes is absorbed; else nothing changes
-pub record Visits (r q : Range) (gs hs : List Granule) (last next : Last) (at : ℕ) (h : Head) : Type 0 where
+pub record Visits (r q : Range) (gs hs : List Granule) (last next : Last) (at : ℕ) (h : Head) : Type
+    0 where
   pub memory : hs ≡ cond (goes h) (absorbed gs r last at h.size) gs
   pub last_is : next ≡ cond (goes h) (last_after r last at h.size) last
   pub range : q ≡ cond (goes h) (record r { first = first_after r last at }) r

@@ -22,8 +22,10 @@ fn split<M: Memory>(range: &Range, mem: &mut M, at: u32, size: u32, first: u32, 
     requires some { 8 ≤ first }
     requires fits { first + 8 ≤ size }
     ensures tiled { Tiled range.now (M.granules mem.new) }
-    ensures chunks { chunks range.now (M.granules mem.new) ≡ replaced at (parts first) range.now.base (chunks range.now (M.granules mem.old)) }
-    ensures keeps { Keeps range.now (chunks range.now (M.granules mem.old)) (M.granules mem.old) (M.granules mem.new) }
+    ensures chunks { chunks range.now (M.granules mem.new)
+        ≡ replaced at (parts first) range.now.base (chunks range.now (M.granules mem.old)) }
+    ensures keeps { Keeps range.now (chunks range.now (M.granules mem.old)) (M.granules mem.old)
+        (M.granules mem.new) }
 {
     let _size = mem.size();
     write_head(mem, range.ram, at + first, size - first, next);
@@ -45,8 +47,10 @@ fn take<M: Memory>(
     requires stands { FreeLinked range.old (M.granules mem.old) at size next before before_size }
     requires wide { 16 ≤ size }
     ensures tiled { Tiled range.new (M.granules mem.new) }
-    ensures chunks { chunks range.new (M.granules mem.new) ≡ replaced at (taken number) range.old.base (chunks range.old (M.granules mem.old)) }
-    ensures keeps { Keeps range.old (chunks range.old (M.granules mem.old)) (M.granules mem.old) (M.granules mem.new) }
+    ensures chunks { chunks range.new (M.granules mem.new)
+        ≡ replaced at (taken number) range.old.base (chunks range.old (M.granules mem.old)) }
+    ensures keeps { Keeps range.old (chunks range.old (M.granules mem.old)) (M.granules mem.old)
+        (M.granules mem.new) }
     ensures range { range.new ≡ record range.old { first = range.new.first } }
 {
     let _size = mem.size();
@@ -60,7 +64,8 @@ fn take<M: Memory>(
 /// links to from then on.
 fn cut_back<M: Memory>(range: &Range, mem: &mut M, gap: &Gap, back: u32) -> u32
     requires tiled { Tiled range.now (M.granules mem.old) }
-    requires stands { FreeLinked range.now (M.granules mem.old) gap.now.at gap.now.size gap.now.next gap.now.before gap.now.before_size }
+    requires stands { FreeLinked range.now (M.granules mem.old) gap.now.at gap.now.size
+        gap.now.next gap.now.before gap.now.before_size }
     requires whole { back % 8 ≡ 0 }
     requires fits { back + 8 ≤ gap.now.size }
     ensures { CutBack range.now (M.granules mem.old) (M.granules mem.new) gap.now back result }
@@ -84,10 +89,12 @@ fn cut_front<M: Memory>(
     front: u32,
 ) -> (u32, u32)
     requires tiled { Tiled range.now (M.granules mem.old) }
-    requires stands { FreeLinked range.now (M.granules mem.old) gap.now.at size next gap.now.before gap.now.before_size }
+    requires stands { FreeLinked range.now (M.granules mem.old) gap.now.at size next
+        gap.now.before gap.now.before_size }
     requires whole { front % 8 ≡ 0 }
     requires fits { front + 8 ≤ size }
-    ensures { CutFront range.now (M.granules mem.old) (M.granules mem.new) gap.now size next front result.0 result.1 }
+    ensures { CutFront range.now (M.granules mem.old) (M.granules mem.new) gap.now size next front
+        result.0 result.1 }
 {
     if front == 0 {
         return (gap.before, gap.before_size);
@@ -100,11 +107,15 @@ fn cut_front<M: Memory>(
 /// before it and behind it stays free.
 pub fn carve<M: Memory>(range: &mut Range, mem: &mut M, gap: &Gap, length: u32, number: u32)
     requires settled { Settled range.old (M.granules mem.old) }
-    requires stands { FreeLinked range.old (M.granules mem.old) gap.now.at gap.now.size gap.now.next gap.now.before gap.now.before_size }
+    requires stands { FreeLinked range.old (M.granules mem.old) gap.now.at gap.now.size
+        gap.now.next gap.now.before gap.now.before_size }
     requires fitting { Fitting gap.now length }
     ensures settled { Settled range.new (M.granules mem.new) }
-    ensures chunks { chunks range.new (M.granules mem.new) ≡ replaced gap.now.at (carved (gap.now.base - 8 - gap.now.at) length number) range.old.base (chunks range.old (M.granules mem.old)) }
-    ensures keeps { Keeps range.old (chunks range.old (M.granules mem.old)) (M.granules mem.old) (M.granules mem.new) }
+    ensures chunks { chunks range.new (M.granules mem.new)
+        ≡ replaced gap.now.at (carved (gap.now.base - 8 - gap.now.at) length number)
+          range.old.base (chunks range.old (M.granules mem.old)) }
+    ensures keeps { Keeps range.old (chunks range.old (M.granules mem.old)) (M.granules mem.old)
+        (M.granules mem.new) }
     ensures range { range.new ≡ record range.old { first = range.new.first } }
 {
     let front = gap.base - CHUNK_HEAD - gap.at;

@@ -28,7 +28,8 @@ pub fn find<M: Memory>(range: &Range, mem: &M, length: u32, unit: u32) -> Option
     requires tiled { Tiled range.now (M.granules mem.now) }
     requires unit { 0 < unit }
     requires some { 0 < length }
-    ensures { MatchOption result (NoGap range.now (M.granules mem.now) unit length) (λ g. IsGap range.now (M.granules mem.now) unit length g) }
+    ensures { MatchOption result (NoGap range.now (M.granules mem.now) unit length)
+        (λ g. IsGap range.now (M.granules mem.now) unit length g) }
 {
     let _size = mem.size();
     let mut before = NO_CHUNK;

@@ -34,7 +34,8 @@ pub fn write_head<M: Memory>(mem: &mut M, ram: u32, at: u32, low: u32, high: u32
     requires above { ram ≤ at }
     requires even { (at - ram) % 8 ≡ 0 }
     requires inside { at - ram + 8 ≤ 8 * length (M.granules mem.old) }
-    ensures is { M.granules mem.new ≡ stored_cap (M.granules mem.old) (at - ram) (plain (low + high * 2 ^ 32)) }
+    ensures is { M.granules mem.new
+        ≡ stored_cap (M.granules mem.old) (at - ram) (plain (low + high * 2 ^ 32)) }
     ensures size { length (M.granules mem.new) ≡ length (M.granules mem.old) }
 {
     mem.store_cap(
@@ -57,7 +58,8 @@ pub(crate) fn relink<M: Memory>(
     next: u32,
 ) -> u32
     requires place { Linkable range (length (M.granules mem.old)) before }
-    ensures is { M.granules mem.new ≡ linked (M.granules mem.old) range.ram range.base before before_size next }
+    ensures is { M.granules mem.new
+        ≡ linked (M.granules mem.old) range.ram range.base before before_size next }
     ensures size { length (M.granules mem.new) ≡ length (M.granules mem.old) }
     ensures first { result ≡ cond (nat_eq before NO_CHUNK) next range.first }
 {

@@ -49,9 +49,11 @@ fn absorb<M: Memory>(range: &mut Range, mem: &mut M, at: u32, size: u32, last: L
 
 /// Absorbs the chunk at an address where it is free or painted; its size, and the last free chunk.
 fn visit<M: Memory>(range: &mut Range, mem: &mut M, at: u32, last: Last) -> (u32, Last)
-    requires { Absorbs range.old (length (M.granules mem.old)) last at (head_in (head_at (M.granules mem.old) range.old.ram at)).size }
+    requires { Absorbs range.old (length (M.granules mem.old)) last at
+        (head_in (head_at (M.granules mem.old) range.old.ram at)).size }
     ensures size { result.0 ≡ (head_in (head_at (M.granules mem.old) range.old.ram at)).size }
-    ensures visits { Visits range.old range.new (M.granules mem.old) (M.granules mem.new) last result.1 at (head_in (head_at (M.granules mem.old) range.old.ram at)) }
+    ensures visits { Visits range.old range.new (M.granules mem.old) (M.granules mem.new) last
+        result.1 at (head_in (head_at (M.granules mem.old) range.old.ram at)) }
 {
     let head = read_head(mem, range.ram, at);
     if head.state == FREE || head.state == PAINTED {
@@ -66,8 +68,10 @@ fn visit<M: Memory>(range: &mut Range, mem: &mut M, at: u32, last: Last) -> (u32
 pub fn join<M: Memory>(range: &mut Range, mem: &mut M)
     requires tiled { Tiled range.old (M.granules mem.old) }
     ensures settled { Settled range.new (M.granules mem.new) }
-    ensures chunks { chunks range.new (M.granules mem.new) ≡ released (chunks range.old (M.granules mem.old)) }
-    ensures keeps { Keeps range.old (chunks range.old (M.granules mem.old)) (M.granules mem.old) (M.granules mem.new) }
+    ensures chunks { chunks range.new (M.granules mem.new)
+        ≡ released (chunks range.old (M.granules mem.old)) }
+    ensures keeps { Keeps range.old (chunks range.old (M.granules mem.old)) (M.granules mem.old)
+        (M.granules mem.new) }
     ensures range { range.new ≡ record range.old { first = range.new.first } }
 {
     let _size = mem.size();

@@ -19,9 +19,12 @@ pub fn set_state<M: Memory>(range: &Range, mem: &mut M, at: u32, size: u32, numb
     requires some { 1 ≤ state }
     requires most { state ≤ 3 }
     ensures tiled { Tiled range.now (M.granules mem.new) }
-    ensures chunks { chunks range.now (M.granules mem.new) ≡ replaced at (in_state state) range.now.base (chunks range.now (M.granules mem.old)) }
-    ensures keeps { Keeps range.now (chunks range.now (M.granules mem.old)) (M.granules mem.old) (M.granules mem.new) }
-    ensures elsewhere { (k : ℕ) → (range.now.ram + 8 * k ≡ at → ⊥) → granule_at (M.granules mem.new) k ≡ granule_at (M.granules mem.old) k }
+    ensures chunks { chunks range.now (M.granules mem.new)
+        ≡ replaced at (in_state state) range.now.base (chunks range.now (M.granules mem.old)) }
+    ensures keeps { Keeps range.now (chunks range.now (M.granules mem.old)) (M.granules mem.old)
+        (M.granules mem.new) }
+    ensures elsewhere { (k : ℕ) → (range.now.ram + 8 * k ≡ at → ⊥)
+        → granule_at (M.granules mem.new) k ≡ granule_at (M.granules mem.old) k }
 {
     write_head(mem, range.ram, at, size + state, number);
 }
@@ -32,8 +35,11 @@ fn paint_chunk<M: Memory>(range: &Range, mem: &mut M, at: u32) -> u32
     requires stands { Stands range.now (M.granules mem.old) at }
     ensures size { result ≡ (head_in (head_at (M.granules mem.old) range.now.ram at)).size }
     ensures tiled { Tiled range.now (M.granules mem.new) }
-    ensures chunks { chunks range.now (M.granules mem.new) ≡ replaced at (λ c. painted_chunk c ∷ []) range.now.base (chunks range.now (M.granules mem.old)) }
-    ensures keeps { Keeps range.now (chunks range.now (M.granules mem.old)) (M.granules mem.old) (M.granules mem.new) }
+    ensures chunks { chunks range.now (M.granules mem.new)
+        ≡ replaced at (λ c. painted_chunk c ∷ []) range.now.base
+          (chunks range.now (M.granules mem.old)) }
+    ensures keeps { Keeps range.now (chunks range.now (M.granules mem.old)) (M.granules mem.old)
+        (M.granules mem.new) }
 {
     let _size = mem.size();
     let head = read_head(mem, range.ram, at);
@@ -47,8 +53,10 @@ fn paint_chunk<M: Memory>(range: &Range, mem: &mut M, at: u32) -> u32
 pub fn paint<M: Memory>(range: &Range, mem: &mut M)
     requires settled { Settled range.now (M.granules mem.old) }
     ensures settled { Settled range.now (M.granules mem.new) }
-    ensures chunks { chunks range.now (M.granules mem.new) ≡ all_painted (chunks range.now (M.granules mem.old)) }
-    ensures keeps { Keeps range.now (chunks range.now (M.granules mem.old)) (M.granules mem.old) (M.granules mem.new) }
+    ensures chunks { chunks range.now (M.granules mem.new)
+        ≡ all_painted (chunks range.now (M.granules mem.old)) }
+    ensures keeps { Keeps range.now (chunks range.now (M.granules mem.old)) (M.granules mem.old)
+        (M.granules mem.new) }
 {
     let mut left = range.length;
     while left != 0 {

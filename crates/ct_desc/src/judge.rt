@@ -102,7 +102,8 @@ fn first_fault(
 ) -> Option<Fault>
     requires repeats { repeats.now ≡ repeats_in desc.now }
     requires placed { placed ≡ placed_in desc.now }
-    ensures { result ≡ spec.first_fault (spec.fails (view value.now) desc.now) rules.now places.now }
+    ensures { result
+        ≡ spec.first_fault (spec.fails (view value.now) desc.now) rules.now places.now }
 {
     for rule in rules {
         if let Some(place) = find_place(value, desc, repeats, placed, *rule, places) {

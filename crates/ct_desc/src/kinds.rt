@@ -170,7 +170,9 @@ fn is_listed(name: &str, listed: &[&str]) -> bool
 
 #[tactic(auto, using(crate::proofs::Listed::names_back))]
 fn keys_are_listed(members: &Map<String, Value>, listed: &[&str]) -> bool
-    ensures { result ≡ spec.all_among (map (λ n. n.now) listed.now) (names_in (members_view members.now.entries)) }
+    ensures { result
+        ≡ spec.all_among (map (λ n. n.now) listed.now)
+          (names_in (members_view members.now.entries)) }
 {
     for key in members.keys() {
         if !is_listed(key.as_str(), listed) {

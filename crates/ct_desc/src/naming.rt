@@ -59,7 +59,8 @@ fn export_at(desc: &Desc, index: usize, item: usize) -> Option<&Export>
 }
 
 fn name_at(desc: &Desc, place: Place) -> Option<&str>
-    ensures { option_map (λ s. s.now) result ≡ spec.name_in place.part place.index place.item desc.now }
+    ensures { option_map (λ s. s.now) result
+        ≡ spec.name_in place.part place.index place.item desc.now }
 {
     match place.part {
         Part::Firmware => Some(desc.firmware.as_str()),

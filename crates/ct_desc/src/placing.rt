@@ -37,7 +37,9 @@ fn all_begin(size: u32, exports: &[Export]) -> bool
 /// Adds the regions of a compartment, where it is small and its exports begin in its text.
 fn add_compartment(regions: &mut Vec<Region>, compartment: &Compartment) -> Result<bool, AllocError>
     ensures value { IfOk result (λ b. b ≡ spec.compartment_is_placed compartment.now) }
-    ensures added { IfOk result (λ b. IsTrue b → regions.new.items ≡ regions.old.items ++ spec.regions_of_one compartment.now) }
+    ensures added { IfOk result
+        (λ b. IsTrue b
+            → regions.new.items ≡ regions.old.items ++ spec.regions_of_one compartment.now) }
 {
     if !is_small(compartment) {
         return Ok(false);
@@ -62,7 +64,8 @@ fn add_compartment(regions: &mut Vec<Region>, compartment: &Compartment) -> Resu
 
 fn add_compartments(regions: &mut Vec<Region>, rows: &[Compartment]) -> Result<bool, AllocError>
     ensures value { IfOk result (λ b. b ≡ list_all spec.compartment_is_placed rows.now) }
-    ensures added { IfOk result (λ b. IsTrue b → regions.new.items ≡ regions.old.items ++ spec.regions_from rows.now) }
+    ensures added { IfOk result
+        (λ b. IsTrue b → regions.new.items ≡ regions.old.items ++ spec.regions_from rows.now) }
 {
     for row in rows {
         if !add_compartment(regions, row)? {
@@ -82,9 +85,13 @@ fn thread_is_small(thread: &Thread) -> bool
 /// Adds the stacks, where the threads are small, and says how much of the trusted region they need.
 fn add_stacks(regions: &mut Vec<Region>, rows: &[Thread]) -> Result<Option<u32>, AllocError>
     requires { length rows.now ≤ 1 }
-    ensures value { IfOk result (λ o. MatchOption o (list_all spec.thread_is_small rows.now ≡ false) (λ n. (list_all spec.thread_is_small rows.now ≡ true) × (n ≡ spec.saves_size rows.now))) }
+    ensures value { IfOk result
+        (λ o.
+            MatchOption o (list_all spec.thread_is_small rows.now ≡ false)
+            (λ n. (list_all spec.thread_is_small rows.now ≡ true) × (n ≡ spec.saves_size rows.now))) }
     ensures few { IfOk result (λ o. IfSome o (λ n. n ≤ 6304)) }
-    ensures added { IfOk result (λ o. IsSome o → regions.new.items ≡ regions.old.items ++ spec.stacks_from rows.now) }
+    ensures added { IfOk result
+        (λ o. IsSome o → regions.new.items ≡ regions.old.items ++ spec.stacks_from rows.now) }
 {
     let mut saves = 0;
     for row in rows {
@@ -160,8 +167,11 @@ fn is_few(desc: &Desc) -> bool
 /// The regions of a description without the heap, or None where one is too large, an export does not
 /// begin in its text, or the heap's base is not placed.
 fn regions_of(alloc: Global, desc: &Desc) -> Result<Option<Vec<Region>>, AllocError>
-    ensures { IfOk result (λ o. MatchOption o (spec.is_placed desc.now ≡ false) (λ v. (v.items ≡ spec.regions_of desc.now)
-        × (spec.is_placed desc.now ≡ (list_all (spec.lies desc.now.ram desc.now.heapbase) (spec.regions_of desc.now) && spec.apart (spec.regions_of desc.now))))) }
+    ensures { IfOk result
+        (λ o. MatchOption o (spec.is_placed desc.now ≡ false) (λ v. (v.items ≡ spec.regions_of desc.now)
+        × (spec.is_placed desc.now
+            ≡ (list_all (spec.lies desc.now.ram desc.now.heapbase) (spec.regions_of desc.now)
+                && spec.apart (spec.regions_of desc.now))))) }
 {
     if !is_few(desc) {
         return Ok(None);

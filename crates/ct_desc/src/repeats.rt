@@ -42,7 +42,8 @@ impl Model for Repeats {
 #[tactic(auto, using(crate::proofs::Sets::any_text, crate::proofs::Sets::texts_added))]
 fn add_name<'a>(seen: &mut IndexSet<&'a str>, name: &'a str) -> Result<bool, AllocError>
     ensures twice { IfOk result (λ b. b ≡ among name.now (texts seen.old.keys)) }
-    ensures added { OnOk result (texts seen.new.keys ≡ spec.with_name (texts seen.old.keys) name.now) }
+    ensures added { OnOk result
+        (texts seen.new.keys ≡ spec.with_name (texts seen.old.keys) name.now) }
 {
     let (_, fresh) = seen.insert_full(name)?;
     Ok(!fresh)
@@ -53,8 +54,10 @@ fn repeated<'a>(
     seen: &mut IndexSet<&'a str>,
     names: &[&'a str],
 ) -> Result<Vec<bool>, AllocError>
-    ensures flags { IfOk result (λ v. v.items ≡ spec.repeated (texts seen.old.keys) (texts names.now)) }
-    ensures added { OnOk result (texts seen.new.keys ≡ spec.with_names (texts seen.old.keys) (texts names.now)) }
+    ensures flags { IfOk result
+        (λ v. v.items ≡ spec.repeated (texts seen.old.keys) (texts names.now)) }
+    ensures added { OnOk result
+        (texts seen.new.keys ≡ spec.with_names (texts seen.old.keys) (texts names.now)) }
 {
     let mut all = Vec::new(alloc);
     for name in names {
@@ -170,8 +173,12 @@ fn owners_twice(
     compartments: &[Compartment],
     threads: &[Thread],
 ) -> Result<Owners, AllocError>
-    ensures compartments { IfOk result (λ o. o.compartments.items ≡ spec.repeated [] (map (λ x. x.name) compartments.now)) }
-    ensures threads { IfOk result (λ o. o.threads.items ≡ spec.repeated (spec.with_names [] (map (λ x. x.name) compartments.now)) (map (λ x. x.name) threads.now)) }
+    ensures compartments { IfOk result
+        (λ o. o.compartments.items ≡ spec.repeated [] (map (λ x. x.name) compartments.now)) }
+    ensures threads { IfOk result
+        (λ o. o.threads.items
+            ≡ spec.repeated (spec.with_names [] (map (λ x. x.name) compartments.now))
+              (map (λ x. x.name) threads.now)) }
 {
     let owners = compartment_names(alloc, compartments)?;
     let others = thread_names(alloc, threads)?;

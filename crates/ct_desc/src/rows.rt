@@ -45,7 +45,8 @@ fn word_of(text: &[u8]) -> u32
 }
 
 fn words_of(alloc: Global, values: &[Value]) -> Result<Vec<u32>, AllocError>
-    ensures { IfOk result (λ v. v.items ≡ map (λ w. spec.word_of (spec.text_of w)) (map view values.now)) }
+    ensures { IfOk result
+        (λ v. v.items ≡ map (λ w. spec.word_of (spec.text_of w)) (map view values.now)) }
 {
     let mut all = Vec::new(alloc);
     for value in values {

@@ -10,7 +10,8 @@ use serde_json::Value;
 use std::alloc::{AllocError, Global};
 
 fn add_outer(places: &mut Vec<Place>, part: Part, values: &[Value]) -> Result<(), AllocError>
-    ensures { OnOk result (places.new.items ≡ places.old.items ++ spec.outer part 0 (map view values.now)) }
+    ensures { OnOk result
+        (places.new.items ≡ places.old.items ++ spec.outer part 0 (map view values.now)) }
 {
     for (index, _) in values.iter().enumerate() {
         places.push(Place {
@@ -28,7 +29,8 @@ fn add_inner(
     index: usize,
     values: &[Value],
 ) -> Result<(), AllocError>
-    ensures { OnOk result (places.new.items ≡ places.old.items ++ spec.inner part index 0 (map view values.now)) }
+    ensures { OnOk result
+        (places.new.items ≡ places.old.items ++ spec.inner part index 0 (map view values.now)) }
 {
     for (item, _) in values.iter().enumerate() {
         places.push(Place { part, index, item })?;
@@ -37,7 +39,8 @@ fn add_inner(
 }
 
 fn add_compartment(places: &mut Vec<Place>, index: usize, value: &Value) -> Result<(), AllocError>
-    ensures { OnOk result (places.new.items ≡ places.old.items ++ spec.compartment_places index (view value.now)) }
+    ensures { OnOk result
+        (places.new.items ≡ places.old.items ++ spec.compartment_places index (view value.now)) }
 {
     places.push(Place {
         part: Part::Compartment,
@@ -49,7 +52,8 @@ fn add_compartment(places: &mut Vec<Place>, index: usize, value: &Value) -> Resu
 }
 
 fn add_compartments(places: &mut Vec<Place>, values: &[Value]) -> Result<(), AllocError>
-    ensures { OnOk result (places.new.items ≡ places.old.items ++ spec.places_from 0 (map view values.now)) }
+    ensures { OnOk result
+        (places.new.items ≡ places.old.items ++ spec.places_from 0 (map view values.now)) }
 {
     for (index, value) in values.iter().enumerate() {
         add_compartment(places, index, value)?;

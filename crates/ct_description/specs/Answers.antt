@@ -24,5 +24,6 @@ Faulty d NoMemory = Unit {0}
 
 -- an error of the JSON reader: F1 where it isn't want of memory
 abbrev pub Unread : Error → DescFault → Type 0
-Unread e (At number part index item) = (fault number (place part index item) ≡ text_fault) × ¬ IsMemory e
+Unread e (At number part index item) =
+    (fault number (place part index item) ≡ text_fault) × ¬ IsMemory e
 Unread e NoMemory = Unit {0}

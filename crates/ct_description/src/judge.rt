@@ -75,7 +75,8 @@ fn row_fault(desc: &Desc) -> Result<Option<Fault>, AllocError>
 }
 
 fn refused(fault: Fault) -> DescFault
-    ensures { result ≡ DescFault.At fault.number fault.place.part fault.place.index fault.place.item }
+    ensures { result
+        ≡ DescFault.At fault.number fault.place.part fault.place.index fault.place.item }
 {
     DescFault::At {
         number: fault.number,

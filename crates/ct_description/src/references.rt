@@ -57,7 +57,8 @@ fn add_exports(
 
 /// The exports of all owners of a list, each as `owner.export`.
 fn exports_of(alloc: Global, owners: &[Value]) -> Result<Names, AllocError>
-    ensures { IfOk result (λ n. n ≡ with_names [] (flat_map spec.exports_in (map view owners.now))) }
+    ensures { IfOk result
+        (λ n. n ≡ with_names [] (flat_map spec.exports_in (map view owners.now))) }
 {
     let mut names = Names::new(alloc);
     for owner in owners {
@@ -136,7 +137,8 @@ impl<'a> Named<'a> {
 
     /// The first place that names nothing.
     pub fn first_unresolved(&self, spots: &[Spot]) -> Option<Place>
-        ensures { result ≡ first_failing (spec.refers_at (view self.now.value.now)) (map seen spots.now) }
+        ensures { result
+            ≡ first_failing (spec.refers_at (view self.now.value.now)) (map seen spots.now) }
     {
         for spot in spots {
             if !self.refers(spot) {

@@ -88,7 +88,8 @@ impl Spaces {
 
     fn add_compartment(&mut self, alloc: Global, name: &[u8]) -> Result<bool, AllocError>
         ensures twice { IfOk result (λ b. b ≡ among name.now self.old.owners) }
-        ensures added { OnOk result (self.new ≡ spec.joined PartWord.Compartment name.now self.old) }
+        ensures added { OnOk result
+            (self.new ≡ spec.joined PartWord.Compartment name.now self.old) }
     {
         let twice = self.owners.add(alloc, name)?;
         self.slots = first_slots(alloc)?;
@@ -108,7 +109,8 @@ impl Spaces {
 
     fn add_key(&mut self, alloc: Global, n: u64) -> Result<bool, AllocError>
         ensures twice { IfOk result (λ b. b ≡ among (spec.key_name n) self.old.slots) }
-        ensures added { OnOk result (self.new ≡ spec.joined PartWord.Key (spec.key_name n) self.old) }
+        ensures added { OnOk result
+            (self.new ≡ spec.joined PartWord.Key (spec.key_name n) self.old) }
     {
         let name = key_name(alloc, n)?;
         self.slots.add(alloc, name.as_bytes())

@@ -11,7 +11,8 @@ use std::alloc::{AllocError, Global};
 
 /// The base of each compartment's export table.
 pub fn tables_of(alloc: Global, compartments: &[Compartment]) -> Result<Vec<u32>, AllocError>
-    ensures { IfOk result (λ v. v.items ≡ map (λ (c : CompartmentRow). c.tablebase) compartments.now) }
+    ensures { IfOk result
+        (λ v. v.items ≡ map (λ (c : CompartmentRow). c.tablebase) compartments.now) }
 {
     let mut tables = Vec::new(alloc);
     for compartment in compartments {
@@ -55,7 +56,8 @@ fn starter_of(desc: &Desc, thread: &Thread) -> Starter
 /// Where each thread starts.
 pub fn threads_of(alloc: Global, desc: &Desc) -> Result<Vec<Starter>, AllocError>
     requires { is_placed desc.now ≡ true }
-    ensures { IfOk result (λ v. v.items ≡ map (spec.starter_of desc.now.compartments) desc.now.threads) }
+    ensures { IfOk result
+        (λ v. v.items ≡ map (spec.starter_of desc.now.compartments) desc.now.threads) }
 {
     let threads = desc.threads.as_slice();
     let mut starters = Vec::new(alloc);

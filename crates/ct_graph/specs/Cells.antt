@@ -27,7 +27,8 @@ pub record IsDistance (joined : ℕ → ℕ → Bool) (n b : ℕ) (ds : List ℕ
   pub size : length ds ≡ n
   pub end : far n ds b ≡ 0
   pub most : (v : ℕ) → far n ds v ≤ n
-  pub sound : (v : ℕ) → far n ds v < n → (xs : List ℕ) × (Links joined v xs b × (length xs ≡ far n ds v))
+  pub sound : (v : ℕ) → far n ds v < n
+      → (xs : List ℕ) × (Links joined v xs b × (length xs ≡ far n ds v))
   pub closed : (v x : ℕ) → joined v x ≡ true → far n ds x < n → far n ds v ≤ far n ds x + 1
   pub known : (v x : ℕ) → joined v x ≡ true → far n ds x < n → far n ds v < n
 
@@ -39,7 +40,8 @@ pub record IsNext (joined : ℕ → ℕ → Bool) (n : ℕ) (ds : List ℕ) (v y
   pub least : (z : ℕ) → z < y → joined v z ≡ true → far n ds v ≡ far n ds z + 1 → ⊥
 
 abbrev pub NoneNext : (ℕ → ℕ → Bool) → ℕ → List ℕ → ℕ → Type 0
-NoneNext joined n ds v = (z : ℕ) → z < length ds → joined v z ≡ true → far n ds v ≡ far n ds z + 1 → ⊥
+NoneNext joined n ds v =
+    (z : ℕ) → z < length ds → joined v z ≡ true → far n ds v ≡ far n ds z + 1 → ⊥
 
 -- a walk that takes the next place each time
 abbrev pub Walks : (ℕ → ℕ → Bool) → ℕ → List ℕ → ℕ → List ℕ → ℕ → Type 0
@@ -57,7 +59,8 @@ pub record Relaxed (joined : ℕ → ℕ → Bool) (n b : ℕ) (ds : List ℕ) :
   pub size : length ds ≡ n
   pub end : far n ds b ≡ 0
   pub most : (v : ℕ) → far n ds v ≤ n
-  pub sound : (v : ℕ) → far n ds v < n → (xs : List ℕ) × (Links joined v xs b × (length xs ≡ far n ds v))
+  pub sound : (v : ℕ) → far n ds v < n
+      → (xs : List ℕ) × (Links joined v xs b × (length xs ≡ far n ds v))
   pub bound : (v : ℕ) → far n ds v < n → far n ds v + unknown n ds < n
 
 -- an edge over which v can come nearer
@@ -81,7 +84,8 @@ pub record IsNearer (row : List Bool) (n : ℕ) (ds : List ℕ) (own value : ℕ
   pub nearer : value < own
 
 abbrev pub NoneNearer : List Bool → ℕ → List ℕ → ℕ → Type 0
-NoneNearer row n ds own = (x : ℕ) → slice_index_or row x false ≡ true → far n ds x < n → own ≤ far n ds x + 1
+NoneNearer row n ds own =
+    (x : ℕ) → slice_index_or row x false ≡ true → far n ds x < n → own ≤ far n ds x + 1
 
 -- the least place of one row that is nearer by one
 pub record IsNextIn (row : List Bool) (n : ℕ) (ds : List ℕ) (own y : ℕ) : Type 0 where
@@ -91,4 +95,5 @@ pub record IsNextIn (row : List Bool) (n : ℕ) (ds : List ℕ) (own y : ℕ) : 
   pub least : (z : ℕ) → z < y → slice_index_or row z false ≡ true → own ≡ far n ds z + 1 → ⊥
 
 abbrev pub NoneNextIn : List Bool → ℕ → List ℕ → ℕ → Type 0
-NoneNextIn row n ds own = (z : ℕ) → z < length ds → slice_index_or row z false ≡ true → own ≡ far n ds z + 1 → ⊥
+NoneNextIn row n ds own =
+    (z : ℕ) → z < length ds → slice_index_or row z false ≡ true → own ≡ far n ds z + 1 → ⊥

@@ -68,7 +68,9 @@ meets a ls b ms = list_any (calls b) ls || (list_any (calls a) ms || list_any (s
 
 -- whether there is a step from a, which has the links ls, to b, which has the links ms
 abbrev pub steps : Owner → List Link → Owner → List Link → Bool
-steps a ls b ms = (is_library a && list_any (brings a) ms) || (is_compartment a && (is_compartment b && (not (same_owner a b) && meets a ls b ms)))
+steps a ls b ms =
+    (is_library a && list_any (brings a) ms)
+    || (is_compartment a && (is_compartment b && (not (same_owner a b) && meets a ls b ms)))
 
 abbrev pub goes : Listed → Owner → Owner → Bool
 goes e a b = steps a (own (links_of e) a) b (own (links_of e) b)

@@ -15,7 +15,8 @@ is_node o = is_compartment o || is_library o
 
 abbrev pub with_node : Owner → List Owner → List Owner
 with_node o [] = o ∷ []
-with_node o (n ∷ ns) = if precedes n o then n ∷ with_node o ns else (if same_owner n o then n ∷ ns else o ∷ n ∷ ns)
+with_node o (n ∷ ns) =
+    if precedes n o then n ∷ with_node o ns else (if same_owner n o then n ∷ ns else o ∷ n ∷ ns)
 
 abbrev pub nodes_of : List Link → List Owner
 nodes_of [] = []
@@ -41,7 +42,8 @@ row_of a from [] ls = []
 row_of a from (b ∷ bs) [] = []
 row_of a from (b ∷ bs) (to ∷ ls) = steps a from b to ∷ row_of a from bs ls
 
-abbrev pub rows_of : List Owner → List (List Link) → List Owner → List (List Link) → List (List Bool)
+abbrev pub rows_of : List Owner → List (List Link) → List Owner → List (List Link)
+    → List (List Bool)
 rows_of ns all [] ls = []
 rows_of ns all (a ∷ rest) [] = []
 rows_of ns all (a ∷ rest) (from ∷ ls) = row_of a from ns all ∷ rows_of ns all rest ls
@@ -53,10 +55,12 @@ matrix_of e ns = map (λ a. map (goes e a) ns) ns
 -- for each place, how far each is from it
 pub record AllDistances (steps : List (List Bool)) (all : List (List ℕ)) : Type 0 where
   pub rows : length all ≡ length steps
-  pub each : (b : ℕ) → b < length steps → IsDistance (cell steps) (length steps) b (slice_index_or all b [])
+  pub each : (b : ℕ) → b < length steps
+      → IsDistance (cell steps) (length steps) b (slice_index_or all b [])
 
 -- what a graph keeps of its entries
-pub record IsGraph (e : Listed) (ns : List Owner) (steps : List (List Bool)) (far : List (List ℕ)) : Type 0 where
+pub record IsGraph (e : Listed) (ns : List Owner) (steps : List (List Bool))
+    (far : List (List ℕ)) : Type 0 where
   pub few : length ns < 4294967296
   pub nodes : ns ≡ nodes_of (links_of e)
   pub steps_are : steps ≡ matrix_of e ns
@@ -67,7 +71,8 @@ abbrev pub HasRows : ℕ → List (List ℕ) → Type 0
 HasRows n far = (length far ≡ n) × ((b : ℕ) → b < n → length (slice_index_or far b []) ≡ n)
 
 -- an owner and a target stand at these places, and the first has a distance to the second
-pub record IsNear (ns : List Owner) (all : List (List ℕ)) (o target : Owner) (i k : ℕ) : Type 0 where
+pub record IsNear (ns : List Owner) (all : List (List ℕ)) (o target : Owner) (i k : ℕ) : Type 0
+    where
   pub start : Stands ns o i
   pub end : Stands ns target k
   pub known : far (length ns) (slice_index_or all k []) i < length ns
@@ -85,10 +90,12 @@ stands_among ns o = list_any (λ (n : Owner). same_owner n o) ns
 
 -- one of them doesn't stand among the nodes, or there is no distance
 abbrev pub NotNear : List Owner → List (List ℕ) → Owner → Owner → Type 0
-NotNear ns all o target = (stands_among ns o ≡ false) ⊎ (stands_among ns target ≡ false) ⊎ IsFarOff ns all o target
+NotNear ns all o target =
+    (stands_among ns o ≡ false) ⊎ (stands_among ns target ≡ false) ⊎ IsFarOff ns all o target
 
 -- the owners on a walk from o to the target
-pub record IsRoute (ns : List Owner) (steps : List (List Bool)) (all : List (List ℕ)) (o target : Owner) (owners : List Owner) : Type 0 where
+pub record IsRoute (ns : List Owner) (steps : List (List Bool)) (all : List (List ℕ))
+    (o target : Owner) (owners : List Owner) : Type 0 where
   pub i : ℕ
   pub k : ℕ
   pub places : List ℕ
@@ -114,4 +121,5 @@ pub record StaysOff (ns : List Owner) (steps : List (List Bool)) (a b : Owner) :
 
 -- one of them doesn't stand among the nodes, or there is no step
 abbrev pub NoStep : List Owner → List (List Bool) → Owner → Owner → Type 0
-NoStep ns steps a b = (stands_among ns a ≡ false) ⊎ (stands_among ns b ≡ false) ⊎ StaysOff ns steps a b
+NoStep ns steps a b =
+    (stands_among ns a ≡ false) ⊎ (stands_among ns b ≡ false) ⊎ StaysOff ns steps a b

@@ -21,7 +21,8 @@ pub(crate) fn distances(
 ) -> Result<Vec<u32>, AllocError>
     requires end { end < length rows.now }
     requires few { length rows.now < 2 ^ 32 }
-    ensures { IfOk result (λ v. IsDistance (cell (map (λ r. r.items) rows.now)) (length rows.now) end v.items) }
+    ensures { IfOk result
+        (λ v. IsDistance (cell (map (λ r. r.items) rows.now)) (length rows.now) end v.items) }
 {
     let never = rows.len() as u32;
     let mut far = vec![in alloc; never; rows.len()]?;
@@ -38,7 +39,8 @@ fn find_loose(rows: &[Vec<bool>], far: &[u32]) -> Option<Loose>
     requires few { length rows.now < 2 ^ 32 }
     ensures { MatchOption result
         (NoneLoose (cell (map (λ r. r.items) rows.now)) (length rows.now) far.now)
-        (λ l. IsLoose (cell (map (λ r. r.items) rows.now)) (length rows.now) far.now l.place l.value) }
+        (λ l.
+            IsLoose (cell (map (λ r. r.items) rows.now)) (length rows.now) far.now l.place l.value) }
 {
     for place in 0..rows.len() {
         match nearer_by(rows[place].as_slice(), far, far[place]) {
@@ -52,7 +54,8 @@ fn find_loose(rows: &[Vec<bool>], far: &[u32]) -> Option<Loose>
 /// How near the first neighbour brings a place that is `own` far, where one brings it nearer.
 fn nearer_by(row: &[bool], far: &[u32], own: u32) -> Option<u32>
     requires few { length far.now < 2 ^ 32 }
-    ensures { MatchOption result (NoneNearer row.now (length far.now) far.now own) (λ value. IsNearer row.now (length far.now) far.now own value) }
+    ensures { MatchOption result (NoneNearer row.now (length far.now) far.now own)
+        (λ value. IsNearer row.now (length far.now) far.now own value) }
 {
     let never = far.len() as u32;
     for place in 0..far.len() {

@@ -76,7 +76,8 @@ fn place_for(nodes: &[Owner], owner: Owner) -> usize
 
 /// Where an owner stands among the nodes.
 pub(crate) fn place_of(nodes: &[Owner], owner: Owner) -> Option<usize>
-    ensures { MatchOption result (list_any (λ (n : Owner). same_owner n owner) nodes.now ≡ false) (λ i. Stands nodes.now owner i) }
+    ensures { MatchOption result (list_any (λ (n : Owner). same_owner n owner) nodes.now ≡ false)
+        (λ i. Stands nodes.now owner i) }
 {
     for place in 0..nodes.len() {
         if same(nodes[place], owner) {
@@ -110,7 +111,8 @@ pub(crate) fn row(
     links: &[Vec<Link>],
 ) -> Result<Vec<bool>, AllocError>
     requires size { length links.now ≡ length nodes.now }
-    ensures { IfOk result (λ v. v.items ≡ row_of owner from.now nodes.now (map (λ l. l.items) links.now)) }
+    ensures { IfOk result
+        (λ v. v.items ≡ row_of owner from.now nodes.now (map (λ l. l.items) links.now)) }
 {
     let mut all = Vec::new(alloc);
     for place in 0..nodes.len() {
@@ -126,7 +128,10 @@ pub(crate) fn rows(
     links: &[Vec<Link>],
 ) -> Result<Vec<Vec<bool>>, AllocError>
     requires size { length links.now ≡ length nodes.now }
-    ensures { IfOk result (λ v. map (λ r. r.items) v.items ≡ rows_of nodes.now (map (λ l. l.items) links.now) nodes.now (map (λ l. l.items) links.now)) }
+    ensures { IfOk result
+        (λ v. map (λ r. r.items) v.items
+            ≡ rows_of nodes.now (map (λ l. l.items) links.now) nodes.now
+              (map (λ l. l.items) links.now)) }
 {
     let mut all = Vec::new(alloc);
     for place in 0..nodes.len() {

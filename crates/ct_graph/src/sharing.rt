@@ -121,7 +121,10 @@ impl Graph {
     /// `NoMemory`: want of memory.
     pub fn path(&self, alloc: Global, o: Owner, c: Comp) -> Result<Option<Path>, NoMemory>
         requires { o ≢ Trusted }
-        ensures { IfOk result (λ found. MatchOption found (Reached self.now o c.0 → ⊥) (λ p. Reached self.now o c.0 × IsPath self.now o c.0 p)) }
+        ensures { IfOk result
+            (λ found.
+                MatchOption found (Reached self.now o c.0 → ⊥)
+                (λ p. Reached self.now o c.0 × IsPath self.now o c.0 p)) }
     {
         if !has_slots(o) {
             return Ok(None);
@@ -155,7 +158,9 @@ fn route(
     requires distances { AllDistances (map (λ r. r.items) steps.now) (map (λ d. d.items) far.now) }
     ensures { IfOk result (λ found. MatchOption found
         (NotNear nodes.now (map (λ d. d.items) far.now) o target)
-        (λ v. IsRoute nodes.now (map (λ r. r.items) steps.now) (map (λ d. d.items) far.now) o target v.items)) }
+        (λ v.
+            IsRoute nodes.now (map (λ r. r.items) steps.now) (map (λ d. d.items) far.now) o target
+            v.items)) }
 {
     match find(nodes, far, o, target) {
         None => Ok(None),
@@ -265,7 +270,8 @@ fn named(
 /// For each place, the distances of all places to it.
 fn all_distances(alloc: Global, rows: &[Vec<bool>]) -> Result<Vec<Vec<u32>>, AllocError>
     requires few { length rows.now < 2 ^ 32 }
-    ensures { IfOk result (λ v. AllDistances (map (λ r. r.items) rows.now) (map (λ d. d.items) v.items)) }
+    ensures { IfOk result
+        (λ v. AllDistances (map (λ r. r.items) rows.now) (map (λ d. d.items) v.items)) }
 {
     let mut all = Vec::new(alloc);
     for end in 0..rows.len() {

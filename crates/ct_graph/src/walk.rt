@@ -14,9 +14,12 @@ pub(crate) fn walk(
     end: usize,
 ) -> Result<Vec<usize>, AllocError>
     requires few { length rows.now < 2 ^ 32 }
-    requires distance { IsDistance (cell (map (λ r. r.items) rows.now)) (length rows.now) end far.now }
+    requires distance { IsDistance (cell (map (λ r. r.items) rows.now)) (length rows.now) end
+        far.now }
     requires reached { slice_index_or far.now start (length rows.now) < length rows.now }
-    ensures { IfOk result (λ v. Walks (cell (map (λ r. r.items) rows.now)) (length rows.now) far.now start v.items end) }
+    ensures { IfOk result
+        (λ v.
+            Walks (cell (map (λ r. r.items) rows.now)) (length rows.now) far.now start v.items end) }
 {
     let mut places = Vec::new(alloc);
     let mut here = start;
@@ -49,7 +52,8 @@ fn step(rows: &[Vec<bool>], far: &[u32], here: usize) -> Option<usize>
 fn next(row: &[bool], far: &[u32], own: u32) -> Option<usize>
     requires few { length far.now < 2 ^ 32 }
     requires own { own ≤ length far.now }
-    ensures { MatchOption result (NoneNextIn row.now (length far.now) far.now own) (λ y. IsNextIn row.now (length far.now) far.now own y) }
+    ensures { MatchOption result (NoneNextIn row.now (length far.now) far.now own)
+        (λ y. IsNextIn row.now (length far.now) far.now own y) }
 {
     for place in 0..far.len() {
         if place < row.len() && row[place] && far[place] < own && far[place] + 1 == own {

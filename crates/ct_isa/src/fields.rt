@@ -75,7 +75,8 @@ pub(crate) fn branch_offset(f: Fields) -> u32
     ensures value { result ≡ reading.branch_offset f }
     ensures range { IsOffset 13 result }
     ensures low { result / 2 ^ 11 % 2 * 2 ^ 7 + result / 2 % 2 ^ 4 * 2 ^ 8 ≡ f.rd * 2 ^ 7 }
-    ensures high { result / 2 ^ 5 % 2 ^ 6 * 2 ^ 25 + result / 2 ^ 12 % 2 * 2 ^ 31 ≡ f.funct7 * 2 ^ 25 }
+    ensures high { result / 2 ^ 5 % 2 ^ 6 * 2 ^ 25 + result / 2 ^ 12 % 2 * 2 ^ 31
+        ≡ f.funct7 * 2 ^ 25 }
 {
     let low = f.rd / 2 * 2 + ((f.funct7 % (1 << 6)) << 5);
     extended(13, low + ((f.rd % 2) << 11) + ((f.funct7 >> 6) << 12))
@@ -87,7 +88,9 @@ pub(crate) fn jump_offset(f: Fields) -> u32
     ensures value { result ≡ reading.jump_offset f }
     ensures range { IsOffset 21 result }
     ensures middle { result / 2 ^ 12 % 2 ^ 8 * 2 ^ 12 ≡ f.funct3 * 2 ^ 12 + f.rs1 * 2 ^ 15 }
-    ensures low { result / 2 ^ 11 % 2 * 2 ^ 20 + result / 2 % 2 ^ 10 * 2 ^ 21 + result / 2 ^ 20 % 2 * 2 ^ 31 ≡ f.rs2 * 2 ^ 20 + f.funct7 * 2 ^ 25 }
+    ensures low { result / 2 ^ 11 % 2 * 2 ^ 20 + result / 2 % 2 ^ 10 * 2 ^ 21
+          + result / 2 ^ 20 % 2 * 2 ^ 31
+        ≡ f.rs2 * 2 ^ 20 + f.funct7 * 2 ^ 25 }
 {
     let low = f.rs2 / 2 * 2 + ((f.funct7 % (1 << 6)) << 5) + ((f.rs2 % 2) << 11);
     extended(

@@ -143,8 +143,10 @@ fn numbered(operation: ImmediateOperation, rd: u32, rs1: u32, immediate: u32) ->
 }
 
 fn signed(operation: SignedOperation, rd: u32, rs1: u32, immediate: u32) -> Instr
-    ensures value { result ≡ shaped (shapes.Immediate (immediates.Signed operation) rd rs1 immediate) }
-    ensures back { shape_of result ≡ shapes.Immediate (immediates.Signed operation) rd rs1 immediate }
+    ensures value { result
+        ≡ shaped (shapes.Immediate (immediates.Signed operation) rd rs1 immediate) }
+    ensures back { shape_of result
+        ≡ shapes.Immediate (immediates.Signed operation) rd rs1 immediate }
 {
     match operation {
         SignedOperation::Addi => Instr::Addi { rd, rs1, immediate },

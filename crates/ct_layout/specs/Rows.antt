@@ -34,5 +34,6 @@ pub record HasRoom (s : SizesRow) (p : PlacesRow) : Type 0 where
 
 -- a refusal other than for want of memory, and its cause
 abbrev pub Refuses : SizesRow → LayoutFault → Type 0
-Refuses s (NoRoom n h) = (n ≡ needed s.base s.regions) × (h ≡ s.size) × (s.size < needed s.base s.regions)
+Refuses s (NoRoom n h) =
+    (n ≡ needed s.base s.regions) × (h ≡ s.size) × (s.size < needed s.base s.regions)
 Refuses s NoMemory = Unit {0}

@@ -50,7 +50,8 @@ impl Model for Moved {
 
 /// Whether so many bytes from an address on lie in RAM.
 fn in_ram<M: Memory>(mem: &M, ram: u32, at: u32, width: u32) -> bool
-    ensures { result ≡ nat_le ram at && nat_le (at + width) (ram + 8 * length (M.granules mem.now)) }
+    ensures { result ≡ nat_le ram at
+        && nat_le (at + width) (ram + 8 * length (M.granules mem.now)) }
 {
     ram <= at && at as u64 + width as u64 <= ram as u64 + mem.size() as u64
 }
@@ -69,7 +70,13 @@ fn carry_out<M: Memory>(
     requires shape { IsShape a }
     requires even { ram % 16 ≡ 0 }
     requires aligned { at % a.width ≡ 0 }
-    ensures { accessed a x y at (space_of ram (M.granules mem.old) bus.old time) ≡ record { value = result.value; act = result.device; granules = M.granules mem.new; bank = bus.new } }
+    ensures { accessed a x y at (space_of ram (M.granules mem.old) bus.old time)
+        ≡ record {
+          value = result.value;
+          act = result.device;
+          granules = M.granules mem.new;
+          bank = bus.new;
+        } }
 {
     if !in_ram(mem, ram, at, a.width) {
         if a.loads {
@@ -107,8 +114,18 @@ pub fn loadstore<M: Memory>(
     requires access { IsTrue (is_access instruction) }
     requires map { IsMap map.now (8 * length (M.granules mem.old)) }
     ensures is { MatchResult result
-        (λ m. access_result instruction x y (space_of map.now.ram (M.granules mem.old) bus.old time) ≡ Ok (record { value = m.value; act = m.device; granules = M.granules mem.new; bank = bus.new }))
-        (λ t. (access_result instruction x y (space_of map.now.ram (M.granules mem.old) bus.old time) ≡ Err t) × (M.granules mem.new ≡ M.granules mem.old) × (bus.new ≡ bus.old)) }
+        (λ m. access_result instruction x y (space_of map.now.ram (M.granules mem.old) bus.old time)
+            ≡ Ok (record {
+              value = m.value;
+              act = m.device;
+              granules = M.granules mem.new;
+              bank = bus.new;
+            }))
+        (λ t.
+              (access_result instruction x y
+                  (space_of map.now.ram (M.granules mem.old) bus.old time)
+                ≡ Err t)
+            × (M.granules mem.new ≡ M.granules mem.old) × (bus.new ≡ bus.old)) }
     ensures size { length (M.granules mem.new) ≡ length (M.granules mem.old) }
     ensures bases { bus.new.bases ≡ bus.old.bases }
 {

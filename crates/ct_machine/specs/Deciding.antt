@@ -41,7 +41,8 @@ by_result entry (Ok d) = Goes d entry
 abbrev pub decide_instruction : Thread → Space → Instr → Decision
 decide_instruction w p i =
     by_result (register w (operands_of i).first).shadow.root
-    (carried_out (class_of i) i (operands_of i).to (register w (operands_of i).first) (register w (operands_of i).second) (around_of w p))
+    (carried_out (class_of i) i (operands_of i).to (register w (operands_of i).first)
+          (register w (operands_of i).second) (around_of w p))
 
 abbrev pub decide_next : Thread → Space → Next → Decision
 decide_next w p Returning = Returns
@@ -63,15 +64,25 @@ settle b s t (Traps why) = trapped b s t why
 
 -- what the code leaves of the thread, of RAM and of the devices, and answers
 abbrev pub Decided : Decision → Thread → Space → Thread → List Granule → Bank → Ran → Type 0
-Decided (Goes d entry) w p new gs k r = (new ≡ jumped w d.pcc d.posture d.to d.value) × (gs ≡ d.granules) × (k ≡ d.bank) × (r ≡ Went d.act entry)
+Decided (Goes d entry) w p new gs k r =
+    (new ≡ jumped w d.pcc d.posture d.to d.value) × (gs ≡ d.granules) × (k ≡ d.bank)
+    × (r ≡ Went d.act entry)
 Decided Returns w p new gs k r = (new ≡ w) × (gs ≡ p.granules) × (k ≡ p.bank) × (r ≡ Returned)
-Decided (Traps why) w p new gs k r = (new ≡ w) × (gs ≡ p.granules) × (k ≡ p.bank) × (r ≡ Trapped why)
+Decided (Traps why) w p new gs k r =
+    (new ≡ w) × (gs ≡ p.granules) × (k ≡ p.bank) × (r ≡ Trapped why)
 
 -- the deed of what one instruction came to
 abbrev pub deed_by : ℕ → Ran → Option Deed
-deed_by actor (Went act entry) = option_map (λ a. record { thread = 0; actor = actor; entry = entry; act = a }) act
+deed_by actor (Went act entry) =
+    option_map (λ a. record { thread = 0; actor = actor; entry = entry; act = a }) act
 deed_by actor Returned = None
-deed_by actor (Trapped why) = Some (record { thread = 0; actor = actor; entry = 0; act = Trap why.cause why.code why.register })
+deed_by actor (Trapped why) =
+    Some (record {
+      thread = 0;
+      actor = actor;
+      entry = 0;
+      act = Trap why.cause why.code why.register;
+    })
 
 -- whether the thread goes on, and what is left of RAM: the stack of one that ends, up to its top, is zero
 abbrev pub presence_after : Ran → Presence

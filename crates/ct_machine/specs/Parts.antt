@@ -19,10 +19,26 @@ use Rattle.ct_machine.specs.declared.presence.Presence.TheVariants.{Absent, Gone
 
 -- the outermost frame, which has no caller
 abbrev pub outermost : ℕ → ℕ → ℕ → Frame
-outermost actor export top = record { actor = actor; export = export; top = top; handling = false; c1 = plain 0; c2 = plain 0; c3 = plain 0; c8 = plain 0; c9 = plain 0 }
+outermost actor export top = record {
+  actor = actor;
+  export = export;
+  top = top;
+  handling = false;
+  c1 = plain 0;
+  c2 = plain 0;
+  c3 = plain 0;
+  c8 = plain 0;
+  c9 = plain 0;
+}
 
 abbrev pub thread_of : Cap → List Cap → Posture → ℕ → ℕ → ℕ → Thread
-thread_of pcc registers posture actor export top = record { pcc = pcc; registers = registers; frames = outermost actor export top ∷ []; status = Ready; posture = posture }
+thread_of pcc registers posture actor export top = record {
+  pcc = pcc;
+  registers = registers;
+  frames = outermost actor export top ∷ [];
+  status = Ready;
+  posture = posture;
+}
 
 abbrev pub threads_by : Presence → Thread → List Thread
 threads_by Absent t = []
@@ -40,7 +56,8 @@ picks_by Absent = []
 picks_by Gone = 0 ∷ []
 picks_by Alive = 0 ∷ []
 
-abbrev pub state_by : List Granule → Presence → Thread → Bool → Bool → List DeviceState → ℕ → Counts → State
+abbrev pub state_by : List Granule → Presence → Thread → Bool → Bool → List DeviceState → ℕ → Counts
+    → State
 state_by granules presence t runs pending devices time counts = record {
   granules = granules;
   threads = threads_by presence t;

@@ -12,7 +12,15 @@ use Rattle.ct_entry.specs.declared.rows.Mode.TheVariants.{Enabled}
 use Rattle.ct_entry.specs.declared.hardware.DeviceKind.{DeviceKind}
 
 abbrev pub row : Owner → Kind → ℕ → ℕ → ℕ → Entry
-row o k base size rights = record { owner = o; kind = k; base = base; length = size; rights = rights; of = 0; limit = 0 }
+row o k base size rights = record {
+  owner = o;
+  kind = k;
+  base = base;
+  length = size;
+  rights = rights;
+  of = 0;
+  limit = 0;
+}
 
 abbrev pub sample_entries : ℕ → ℕ → Listed
 sample_entries rights size = record {
@@ -23,7 +31,16 @@ sample_entries rights size = record {
       ∷ row (Compartment 0) kind.Export 0x80000040 16 EXPORT_RIGHTS
       ∷ row (Thread 0) kind.Stack 0x80000060 256 STACK_RIGHTS
       ∷ [];
-  gates = record { entry = 5; code = 0x80000010; stack = 0; args = 6; posture = Enabled; capabilities = true } ∷ [];
+  gates =
+      record {
+        entry = 5;
+        code = 0x80000010;
+        stack = 0;
+        args = 6;
+        posture = Enabled;
+        capabilities = true;
+      }
+      ∷ [];
 }
 
 abbrev pub sample : DeviceKind → ℕ → List ℕ → FirmwareRow

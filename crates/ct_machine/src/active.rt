@@ -42,7 +42,8 @@ impl Active {
     /// A register gets a value, which register 0 drops.
     pub(crate) fn write(&mut self, number: u32, value: Live)
         requires { number < 16 }
-        ensures { self.new ≡ record self.old { registers = written self.old.registers number value } }
+        ensures { self.new
+            ≡ record self.old { registers = written self.old.registers number value } }
     {
         if number != 0 {
             self.registers[number as usize] = value;

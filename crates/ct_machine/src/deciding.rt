@@ -53,7 +53,8 @@ fn fetch_trap(pcc: Live) -> Option<Trap>
 
 /// Whether an aligned word at an address lies in RAM.
 fn is_word_of_ram<M: Memory>(mem: &M, ram: u32, at: u32) -> bool
-    ensures { result ≡ nat_le ram at && nat_le (at + 4) (ram + 8 * length (M.granules mem.now)) && (at % 4 == 0) }
+    ensures { result ≡ nat_le ram at && nat_le (at + 4) (ram + 8 * length (M.granules mem.now))
+        && (at % 4 == 0) }
 {
     ram <= at && at as u64 + 4 <= ram as u64 + mem.size() as u64 && at % 4 == 0
 }
@@ -116,7 +117,11 @@ fn carry_jump<M: Memory>(
     requires ranged { InRange instruction }
     requires class { class_of instruction ≡ kinds.Jump }
     requires jump { is_jump instruction ≡ true }
-    ensures is { Decided (decide_instruction active.old (space_by ram (M.granules mem.now) bus.now time) instruction) active.old (space_by ram (M.granules mem.now) bus.now time) active.new (M.granules mem.now) bus.now result }
+    ensures is { Decided
+        (decide_instruction active.old (space_by ram (M.granules mem.now) bus.now time)
+            instruction)
+        active.old (space_by ram (M.granules mem.now) bus.now time) active.new
+        (M.granules mem.now) bus.now result }
     ensures frames { active.new.frames ≡ active.old.frames }
 {
     let operands = operands_of(instruction);
@@ -152,7 +157,11 @@ fn carry_access<M: Memory>(
     requires class { class_of instruction ≡ kinds.Access }
     requires access { is_access instruction ≡ true }
     requires heap { IsHeapPlaced ram heap (length (M.granules mem.old)) }
-    ensures is { Decided (decide_instruction active.old (space_by ram (M.granules mem.old) bus.old time) instruction) active.old (space_by ram (M.granules mem.old) bus.old time) active.new (M.granules mem.new) bus.new result }
+    ensures is { Decided
+        (decide_instruction active.old (space_by ram (M.granules mem.old) bus.old time)
+            instruction)
+        active.old (space_by ram (M.granules mem.old) bus.old time) active.new
+        (M.granules mem.new) bus.new result }
     ensures frames { active.new.frames ≡ active.old.frames }
     ensures bases { bus.new.bases ≡ bus.old.bases }
     ensures size { length (M.granules mem.new) ≡ length (M.granules mem.old) }
@@ -199,8 +208,13 @@ fn carry_value<M: Memory>(
     requires jump { class ≡ kinds.Jump → ⊥ }
     requires access { class ≡ kinds.Access → ⊥ }
     requires integer { class ≡ kinds.Integer → is_integer instruction ≡ true }
-    requires capability { class ≡ kinds.Capability → (is_capability instruction ≡ true) × (is_system instruction ≡ false) }
-    ensures is { Decided (decide_instruction active.old (space_by ram (M.granules mem.now) bus.now time) instruction) active.old (space_by ram (M.granules mem.now) bus.now time) active.new (M.granules mem.now) bus.now result }
+    requires capability { class ≡ kinds.Capability
+        → (is_capability instruction ≡ true) × (is_system instruction ≡ false) }
+    ensures is { Decided
+        (decide_instruction active.old (space_by ram (M.granules mem.now) bus.now time)
+            instruction)
+        active.old (space_by ram (M.granules mem.now) bus.now time) active.new
+        (M.granules mem.now) bus.now result }
     ensures frames { active.new.frames ≡ active.old.frames }
 {
     let operands = operands_of(instruction);
@@ -257,7 +271,11 @@ fn carry_out<M: Memory>(
 ) -> Ran
     requires ranged { InRange instruction }
     requires heap { IsHeapPlaced ram heap (length (M.granules mem.old)) }
-    ensures is { Decided (decide_instruction active.old (space_by ram (M.granules mem.old) bus.old time) instruction) active.old (space_by ram (M.granules mem.old) bus.old time) active.new (M.granules mem.new) bus.new result }
+    ensures is { Decided
+        (decide_instruction active.old (space_by ram (M.granules mem.old) bus.old time)
+            instruction)
+        active.old (space_by ram (M.granules mem.old) bus.old time) active.new
+        (M.granules mem.new) bus.new result }
     ensures frames { active.new.frames ≡ active.old.frames }
     ensures bases { bus.new.bases ≡ bus.old.bases }
     ensures size { length (M.granules mem.new) ≡ length (M.granules mem.old) }
@@ -280,7 +298,9 @@ pub(crate) fn run_one<M: Memory>(
     time: u64,
 ) -> Ran
     requires { IsHeapPlaced ram heap (length (M.granules mem.old)) }
-    ensures is { Decided (decide active.old (space_by ram (M.granules mem.old) bus.old time)) active.old (space_by ram (M.granules mem.old) bus.old time) active.new (M.granules mem.new) bus.new result }
+    ensures is { Decided (decide active.old (space_by ram (M.granules mem.old) bus.old time))
+        active.old (space_by ram (M.granules mem.old) bus.old time) active.new
+        (M.granules mem.new) bus.new result }
     ensures frames { active.new.frames ≡ active.old.frames }
     ensures bases { bus.new.bases ≡ bus.old.bases }
     ensures size { length (M.granules mem.new) ≡ length (M.granules mem.old) }

@@ -270,7 +270,8 @@ impl<M: Memory + Drop> Engine<M> {
     /// One byte comes at a device.
     fn input(&mut self, device: u32, byte: u8) -> Happened
         requires { IsTrue (is_lawful self.old.state (event.Input device byte)) }
-        ensures is { (self.new.state, result) ≡ happens self.old.board self.old.state (event.Input device byte) }
+        ensures is { (self.new.state, result)
+            ≡ happens self.old.board self.old.state (event.Input device byte) }
         ensures board { self.new.board ≡ self.old.board }
     {
         let before = self.holder();

@@ -57,7 +57,8 @@ pub(crate) fn operands_of(instruction: Instr) -> Operands
 pub(crate) fn class_of(instruction: Instr) -> Class
     ensures is { result ≡ class_of instruction }
     ensures integer { result ≡ kinds.Integer → is_integer instruction ≡ true }
-    ensures capability { result ≡ kinds.Capability → (is_capability instruction ≡ true) × (is_system instruction ≡ false) }
+    ensures capability { result ≡ kinds.Capability
+        → (is_capability instruction ≡ true) × (is_system instruction ≡ false) }
     ensures jump { result ≡ kinds.Jump → is_jump instruction ≡ true }
     ensures access { result ≡ kinds.Access → is_access instruction ≡ true }
 {

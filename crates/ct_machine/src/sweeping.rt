@@ -21,7 +21,11 @@ fn pass_registers<M: Memory>(registers: &mut [Live; 16], mem: &M, ram: u32)
 
 /// A thread's program counter capability and registers pass the load filter.
 pub(crate) fn pass<M: Memory>(active: &mut Active, mem: &M, ram: u32)
-    ensures { active.new ≡ record active.old { pcc = filtered_in ram (M.granules mem.now) active.old.pcc; registers = map (filtered_in ram (M.granules mem.now)) active.old.registers } }
+    ensures { active.new
+        ≡ record active.old {
+          pcc = filtered_in ram (M.granules mem.now) active.old.pcc;
+          registers = map (filtered_in ram (M.granules mem.now)) active.old.registers;
+        } }
 {
     active.pcc = filter(mem, ram, active.pcc);
     pass_registers(&mut active.registers, mem, ram);

@@ -28,7 +28,10 @@ pub(crate) fn run_works<M: Memory + Drop>(
     time: u64,
 ) -> Ran
     requires { IsHeapPlaced ram heap (length (M.granules works.old.mem)) }
-    ensures is { Decided (decide works.old.active (space_by ram (M.granules works.old.mem) works.old.bus time)) works.old.active (space_by ram (M.granules works.old.mem) works.old.bus time) works.new.active (M.granules works.new.mem) works.new.bus result }
+    ensures is { Decided
+        (decide works.old.active (space_by ram (M.granules works.old.mem) works.old.bus time))
+        works.old.active (space_by ram (M.granules works.old.mem) works.old.bus time)
+        works.new.active (M.granules works.new.mem) works.new.bus result }
     ensures frames { works.new.active.frames ≡ works.old.active.frames }
     ensures bases { works.new.bus.bases ≡ works.old.bus.bases }
     ensures size { length (M.granules works.new.mem) ≡ length (M.granules works.old.mem) }
@@ -45,7 +48,11 @@ pub(crate) fn run_works<M: Memory + Drop>(
 
 /// The thread's capabilities pass the load filter.
 pub(crate) fn pass_works<M: Memory + Drop>(works: &mut Works<M>, ram: u32)
-    ensures active { works.new.active ≡ record works.old.active { pcc = filtered_in ram (M.granules works.old.mem) works.old.active.pcc; registers = map (filtered_in ram (M.granules works.old.mem)) works.old.active.registers } }
+    ensures active { works.new.active
+        ≡ record works.old.active {
+          pcc = filtered_in ram (M.granules works.old.mem) works.old.active.pcc;
+          registers = map (filtered_in ram (M.granules works.old.mem)) works.old.active.registers;
+        } }
     ensures mem { works.new.mem ≡ works.old.mem }
     ensures bus { works.new.bus ≡ works.old.bus }
 {

@@ -59,5 +59,6 @@ pub trait Memory {
     /// The offset of the least tagged granule at or after an offset, `None` exactly where there
     /// is none.
     fn next_tagged(&self, from: u32) -> Option<u32>
-        ensures { MatchOption result (NoneTagged (granules self.now) from) (IsNextTagged (granules self.now) from) };
+        ensures { MatchOption result (NoneTagged (granules self.now) from)
+            (IsNextTagged (granules self.now) from) };
 }

@@ -24,7 +24,8 @@ text_of field = flat_map encode_utf8 (name_of field)
 
 abbrev pub kind_of : ℕ → SlotKind
 kind_of n =
-    if n == 1 then Service else if n == 2 then Device else if n == 3 then Shared else if n == 4 then Sealed
+    if n == 1 then Service else if n == 2 then Device else if n == 3 then Shared
+    else if n == 4 then Sealed
     else if n == 5 then Call else if n == 6 then Library else if n == 7 then Quota else Key
 
 abbrev pub posture_of : ℕ → Mode
@@ -68,7 +69,13 @@ abbrev pub shared_of : RawShared → SharedRow
 shared_of s = record { name = text_of s.name; base = s.base; length = s.length }
 
 abbrev pub sealed_of : RawSealed → SealedRow
-sealed_of s = record { name = text_of s.name; base = s.base; length = s.length; seal = s.seal; bytes = s.bytes }
+sealed_of s = record {
+  name = text_of s.name;
+  base = s.base;
+  length = s.length;
+  seal = s.seal;
+  bytes = s.bytes;
+}
 
 abbrev pub code_of : RawCode → CodeRow
 code_of c = record {

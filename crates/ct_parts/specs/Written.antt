@@ -25,7 +25,8 @@ head c = name_field c.name ++ number c.base ++ number c.length ++ count c.text
 
 -- with their counts
 abbrev pub tables : CodeRow → List ℕ
-tables c = count c.slots ++ count c.exports ++ flat_map slot c.slots ++ flat_map gate c.exports ++ c.text
+tables c =
+    count c.slots ++ count c.exports ++ flat_map slot c.slots ++ flat_map gate c.exports ++ c.text
 
 abbrev pub library : CodeRow → List ℕ
 library c = head c ++ tables c
@@ -43,7 +44,8 @@ begin version = magic ++ number version
 
 abbrev pub counts : PartsRow → List ℕ
 counts p =
-    count p.devices ++ count p.shared ++ count p.sealed ++ count p.compartments ++ count p.libraries ++ count p.threads
+    count p.devices ++ count p.shared ++ count p.sealed ++ count p.compartments ++ count p.libraries
+        ++ count p.threads
 
 abbrev pub bases : PartsRow → List ℕ
 bases p = number p.quantum ++ number p.ram ++ number p.size ++ number p.trusted ++ number p.heap
@@ -54,4 +56,5 @@ rate version sweep = if version == 1 then [] else number sweep
 abbrev pub lists : PartsRow → List ℕ
 lists p =
     flat_map device p.devices ++ flat_map shared p.shared ++ flat_map sealed p.sealed
-    ++ flat_map compartment p.compartments ++ flat_map library p.libraries ++ flat_map thread p.threads
+    ++ flat_map compartment p.compartments ++ flat_map library p.libraries
+    ++ flat_map thread p.threads

@@ -62,7 +62,8 @@ pub fn form_of(set: Perms) -> Form
 impl Form {
     /// All that the form can hold.
     pub fn held(self) -> u16
-        ensures { (set : ℕ) → bit_and set result ≡ set_where (λ p. bit set p && holds (written self) p) }
+        ensures { (set : ℕ)
+            → bit_and set result ≡ set_where (λ p. bit set p && holds (written self) p) }
     {
         match self {
             Form::Executable => EXECUTABLE,

@@ -54,7 +54,8 @@ fn two(set: Perms, high: Permission, low: Permission) -> u8
 
 /// Three bits for three permissions, the first the highest.
 fn three(set: Perms, high: Permission, middle: Permission, low: Permission) -> u8
-    ensures value { result ≡ spelling set.0 (number_of high ∷ number_of middle ∷ number_of low ∷ []) }
+    ensures value { result
+        ≡ spelling set.0 (number_of high ∷ number_of middle ∷ number_of low ∷ []) }
     ensures small { result < 8 }
 {
     flag(set.has(high), 4) + two(set, middle, low)

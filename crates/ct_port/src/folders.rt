@@ -60,7 +60,8 @@ impl FolderMem {
 
     /// Makes the read with this number fail; numbers count from 1. A refusal changes nothing.
     pub fn fail_at(&mut self, _alloc: Global, call: u64) -> Result<(), NoMemory>
-        ensures ok { OnOk result (self.new ≡ record self.old { fails = self.old.fails ++ call ∷ [] }) }
+        ensures ok { OnOk result
+            (self.new ≡ record self.old { fails = self.old.fails ++ call ∷ [] }) }
         ensures err { OnErr result (self.new ≡ self.old) }
     {
         self.fails.push(call)?;
@@ -78,9 +79,13 @@ impl Folder for FolderMem {
     fn read(&mut self, alloc: Global, name: &str, limit: u64) -> Result<Vec<u8>, ReadError>
         requires { limit ≤ 2 ^ 32 }
         ensures answer { MatchResult result
-            (λ v. Reads name.now limit (told_as (file_of self.old.files name.now)) self.old.calls self.new.calls self.old.faults self.new.faults v.items)
-            (λ e. ReadFails name.now self.old.calls self.new.calls self.old.faults self.new.faults e) }
-        ensures same { (n : List ℕ) → told_as (file_of self.new.files n) ≡ told_as (file_of self.old.files n) }
+            (λ v.
+                Reads name.now limit (told_as (file_of self.old.files name.now)) self.old.calls
+                self.new.calls self.old.faults self.new.faults v.items)
+            (λ e.
+                ReadFails name.now self.old.calls self.new.calls self.old.faults self.new.faults e) }
+        ensures same { (n : List ℕ)
+            → told_as (file_of self.new.files n) ≡ told_as (file_of self.old.files n) }
         ensures cause { FailsAsTold self.old name.now result }
         ensures files { self.new.files ≡ self.old.files }
         ensures fails { self.new.fails ≡ self.old.fails }

@@ -55,7 +55,8 @@ pub fn find<'a>(files: &'a [StoredFile], name: &str) -> Option<&'a [u8]>
 
 /// The place of the first file of this name.
 fn position_of(files: &[StoredFile], name: &str) -> Option<usize>
-    ensures { MatchOption result (file_of files.now name.now ≡ None) (λ i. IsFirstOf files.now name.now i) }
+    ensures { MatchOption result (file_of files.now name.now ≡ None)
+        (λ i. IsFirstOf files.now name.now i) }
 {
     for i in 0..files.len() {
         let file = &files[i];

@@ -28,8 +28,12 @@ pub trait Folder {
     fn read(&mut self, alloc: Global, name: &str, limit: u64) -> Result<Vec<u8>, ReadError>
         requires { limit ≤ 2 ^ 32 }
         ensures answer { MatchResult result
-            (λ v. Reads name.now limit (file self.old name.now) (calls self.old) (calls self.new) (faults self.old) (faults self.new) v.items)
-            (λ e. ReadFails name.now (calls self.old) (calls self.new) (faults self.old) (faults self.new) e) }
+            (λ v.
+                Reads name.now limit (file self.old name.now) (calls self.old) (calls self.new)
+                (faults self.old) (faults self.new) v.items)
+            (λ e.
+                ReadFails name.now (calls self.old) (calls self.new) (faults self.old)
+                (faults self.new) e) }
         ensures same { (n : List ℕ) → file self.new n ≡ file self.old n };
 }
 
@@ -45,6 +49,11 @@ pub trait Sink {
     /// faults rose.
     fn write(&mut self, piece: &[u8]) -> Result<(), WriteFailed>
         ensures { MatchResult result
-            (λ _. Writes (bytes self.old) (bytes self.new) (faults self.old) (faults self.new) piece.now)
-            (λ _. WriteFails (bytes self.old) (bytes self.new) (faults self.old) (faults self.new) piece.now) };
+            (λ _.
+                Writes (bytes self.old) (bytes self.new) (faults self.old) (faults self.new)
+                piece.now)
+            (λ _.
+                  WriteFails (bytes self.old) (bytes self.new) (faults self.old) (faults self.new)
+                  piece.now)
+              };
 }

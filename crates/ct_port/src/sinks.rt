@@ -43,7 +43,8 @@ impl SinkMem {
     /// An empty sink with this room in bytes, and with no call that fails. `NoMemory`: the room
     /// can't be had.
     pub fn new(alloc: Global, room: u64) -> Result<SinkMem, NoMemory>
-        ensures { IfOk result (λ s. s ≡ record { bytes = []; room = room; fails = []; calls = 0; faults = 0 }) }
+        ensures { IfOk result
+            (λ s. s ≡ record { bytes = []; room = room; fails = []; calls = 0; faults = 0 }) }
     {
         let bytes = Vec::with_capacity(alloc, room as usize)?;
         Ok(SinkMem {
@@ -64,7 +65,8 @@ impl SinkMem {
 
     /// Makes the write with this number fail; numbers count from 1. A refusal changes nothing.
     pub fn fail_at(&mut self, _alloc: Global, call: u64) -> Result<(), NoMemory>
-        ensures ok { OnOk result (self.new ≡ record self.old { fails = self.old.fails ++ call ∷ [] }) }
+        ensures ok { OnOk result
+            (self.new ≡ record self.old { fails = self.old.fails ++ call ∷ [] }) }
         ensures err { OnErr result (self.new ≡ self.old) }
     {
         self.fails.push(call)?;
@@ -80,8 +82,12 @@ impl Sink for SinkMem {
     #[tactic(auto, using(crate::proofs::Parts::part_of, crate::proofs::Parts::nothing_of))]
     fn write(&mut self, piece: &[u8]) -> Result<(), WriteFailed>
         ensures answer { MatchResult result
-            (λ _. Writes (Some self.old.bytes) (Some self.new.bytes) self.old.faults self.new.faults piece.now)
-            (λ _. WriteFails (Some self.old.bytes) (Some self.new.bytes) self.old.faults self.new.faults piece.now) }
+            (λ _.
+                Writes (Some self.old.bytes) (Some self.new.bytes) self.old.faults self.new.faults
+                piece.now)
+            (λ _.
+                WriteFails (Some self.old.bytes) (Some self.new.bytes) self.old.faults
+                self.new.faults piece.now) }
         ensures state { self.new ≡ written self.old piece.now }
         ensures cause { IsOk result ↔ (succeeds self.old piece.now ≡ true) }
     {
@@ -104,7 +110,8 @@ fn add_front(bytes: &mut Vec<u8>, room: u64, piece: &[u8]) -> bool
     requires size { length bytes.old.items ≤ room }
     requires capacity { room ≤ vec_capacity bytes.old }
     ensures whole { result ≡ nat_le (length bytes.old.items + length piece.now) room }
-    ensures added { bytes.new.items ≡ bytes.old.items ++ take (room - length bytes.old.items) piece.now }
+    ensures added { bytes.new.items ≡ bytes.old.items
+        ++ take (room - length bytes.old.items) piece.now }
     ensures same { vec_capacity bytes.old ≤ vec_capacity bytes.new }
 {
     let left = room - bytes.len() as u64;

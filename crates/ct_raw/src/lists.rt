@@ -12,7 +12,8 @@ use std::alloc::Global;
 
 /// So many rows with their names.
 pub fn entries_at(alloc: Global, count: u32, bytes: &[u8]) -> Result<(Vec<RawEntry>, &[u8]), Cut>
-    ensures { Gives (λ x. (x.0.items, x.1.now)) result (spec.many_at spec.entry_at count bytes.now) }
+    ensures { Gives (λ x. (x.0.items, x.1.now)) result
+        (spec.many_at spec.entry_at count bytes.now) }
 {
     let mut found = Vec::new(alloc);
     let mut rest = bytes;
@@ -26,7 +27,8 @@ pub fn entries_at(alloc: Global, count: u32, bytes: &[u8]) -> Result<(Vec<RawEnt
 
 /// So many devices.
 pub fn devices_at(alloc: Global, count: u32, bytes: &[u8]) -> Result<(Vec<RawDevice>, &[u8]), Cut>
-    ensures { Gives (λ x. (x.0.items, x.1.now)) result (spec.many_at spec.device_at count bytes.now) }
+    ensures { Gives (λ x. (x.0.items, x.1.now)) result
+        (spec.many_at spec.device_at count bytes.now) }
 {
     let mut found = Vec::new(alloc);
     let mut rest = bytes;
@@ -44,7 +46,8 @@ pub fn shared_objects_at(
     count: u32,
     bytes: &[u8],
 ) -> Result<(Vec<RawShared>, &[u8]), Cut>
-    ensures { Gives (λ x. (x.0.items, x.1.now)) result (spec.many_at spec.shared_at count bytes.now) }
+    ensures { Gives (λ x. (x.0.items, x.1.now)) result
+        (spec.many_at spec.shared_at count bytes.now) }
 {
     let mut found = Vec::new(alloc);
     let mut rest = bytes;
@@ -62,7 +65,8 @@ pub fn sealed_objects_at(
     count: u32,
     bytes: &[u8],
 ) -> Result<(Vec<RawSealed>, &[u8]), Cut>
-    ensures { Gives (λ x. (x.0.items, x.1.now)) result (spec.many_at spec.sealed_at count bytes.now) }
+    ensures { Gives (λ x. (x.0.items, x.1.now)) result
+        (spec.many_at spec.sealed_at count bytes.now) }
 {
     let mut found = Vec::new(alloc);
     let mut rest = bytes;
@@ -80,7 +84,8 @@ pub fn compartments_at(
     count: u32,
     bytes: &[u8],
 ) -> Result<(Vec<RawCompartment>, &[u8]), Cut>
-    ensures { Gives (λ x. (x.0.items, x.1.now)) result (spec.many_at spec.compartment_at count bytes.now) }
+    ensures { Gives (λ x. (x.0.items, x.1.now)) result
+        (spec.many_at spec.compartment_at count bytes.now) }
 {
     let mut found = Vec::new(alloc);
     let mut rest = bytes;
@@ -94,7 +99,8 @@ pub fn compartments_at(
 
 /// So many libraries.
 pub fn libraries_at(alloc: Global, count: u32, bytes: &[u8]) -> Result<(Vec<RawCode>, &[u8]), Cut>
-    ensures { Gives (λ x. (x.0.items, x.1.now)) result (spec.many_at spec.library_at count bytes.now) }
+    ensures { Gives (λ x. (x.0.items, x.1.now)) result
+        (spec.many_at spec.library_at count bytes.now) }
 {
     let mut found = Vec::new(alloc);
     let mut rest = bytes;
@@ -108,7 +114,8 @@ pub fn libraries_at(alloc: Global, count: u32, bytes: &[u8]) -> Result<(Vec<RawC
 
 /// So many threads.
 pub fn threads_at(alloc: Global, count: u32, bytes: &[u8]) -> Result<(Vec<RawThread>, &[u8]), Cut>
-    ensures { Gives (λ x. (x.0.items, x.1.now)) result (spec.many_at spec.thread_at count bytes.now) }
+    ensures { Gives (λ x. (x.0.items, x.1.now)) result
+        (spec.many_at spec.thread_at count bytes.now) }
 {
     let mut found = Vec::new(alloc);
     let mut rest = bytes;

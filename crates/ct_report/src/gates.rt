@@ -32,7 +32,9 @@ fn add_gates(
 ) -> Result<(), AllocError>
     requires fits { Fits compartment.now }
     requires number { number ≤ 65536 }
-    ensures { OnOk result (gates.new.items ≡ gates.old.items ++ spec.gates_in number compartment.now compartment.now.exports) }
+    ensures { OnOk result
+        (gates.new.items ≡ gates.old.items
+            ++ spec.gates_in number compartment.now compartment.now.exports) }
 {
     let exports = compartment.exports.as_slice();
     for (item, export) in exports.iter().enumerate() {
@@ -60,7 +62,8 @@ fn entries_in(compartment: &Compartment) -> u32
 fn add_all(gates: &mut Vec<Gate>, compartments: &[Compartment]) -> Result<(), AllocError>
     requires fits { AllFit compartments.now }
     requires count { length compartments.now ≤ 64 }
-    ensures { OnOk result (gates.new.items ≡ gates.old.items ++ spec.gates_from 1 compartments.now) }
+    ensures { OnOk result
+        (gates.new.items ≡ gates.old.items ++ spec.gates_from 1 compartments.now) }
 {
     let mut number = 1;
     for compartment in compartments {

@@ -145,7 +145,9 @@ fn add_imports<'a>(
     imports: &'a [Import],
 ) -> Result<(), AllocError>
     requires { length devices.now ≤ 16 }
-    ensures { OnOk result (shown lines.new.items ≡ shown lines.old.items ++ map (spec.import_line devices.now index compartment.now) imports.now) }
+    ensures { OnOk result
+        (shown lines.new.items ≡ shown lines.old.items
+            ++ map (spec.import_line devices.now index compartment.now) imports.now) }
 {
     for import in imports {
         lines.push(import_line(devices, index, compartment, import))?;
@@ -179,7 +181,9 @@ fn add_exports<'a>(
     compartment: &'a Compartment,
 ) -> Result<(), AllocError>
     requires { Fits compartment.now }
-    ensures { OnOk result (shown lines.new.items ≡ shown lines.old.items ++ spec.exports_from index compartment.now 0 compartment.now.exports) }
+    ensures { OnOk result
+        (shown lines.new.items ≡ shown lines.old.items
+            ++ spec.exports_from index compartment.now 0 compartment.now.exports) }
 {
     let exports = compartment.exports.as_slice();
     for (item, export) in exports.iter().enumerate() {
@@ -196,7 +200,9 @@ fn add_compartment<'a>(
 ) -> Result<(), AllocError>
     requires fits { Fits compartment.now }
     requires few { length devices.now ≤ 16 }
-    ensures { OnOk result (shown lines.new.items ≡ shown lines.old.items ++ spec.compartment_lines devices.now index compartment.now) }
+    ensures { OnOk result
+        (shown lines.new.items ≡ shown lines.old.items
+            ++ spec.compartment_lines devices.now index compartment.now) }
 {
     lines.push(code_line(index, compartment))?;
     lines.push(globals_line(index, compartment))?;
@@ -219,7 +225,9 @@ fn add_compartments<'a>(
     requires fits { AllFit compartments.now }
     requires few { length devices.now ≤ 16 }
     requires count { length compartments.now ≤ 64 }
-    ensures { OnOk result (shown lines.new.items ≡ shown lines.old.items ++ spec.compartments_from devices.now 0 compartments.now) }
+    ensures { OnOk result
+        (shown lines.new.items ≡ shown lines.old.items
+            ++ spec.compartments_from devices.now 0 compartments.now) }
 {
     for (index, compartment) in compartments.iter().enumerate() {
         add_compartment(lines, devices, index as u32, compartment)?;
@@ -242,7 +250,8 @@ fn stack_line<'a>(index: u32, thread: &'a Thread) -> Line<'a>
 
 fn add_stacks<'a>(lines: &mut Vec<Line<'a>>, threads: &'a [Thread]) -> Result<(), AllocError>
     requires { length threads.now ≤ 64 }
-    ensures { OnOk result (shown lines.new.items ≡ shown lines.old.items ++ spec.stacks_from 0 threads.now) }
+    ensures { OnOk result
+        (shown lines.new.items ≡ shown lines.old.items ++ spec.stacks_from 0 threads.now) }
 {
     for (index, thread) in threads.iter().enumerate() {
         lines.push(stack_line(index as u32, thread))?;

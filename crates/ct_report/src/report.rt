@@ -43,7 +43,8 @@ fn devices_of(alloc: Global, desc: &Desc) -> Result<Value, AllocError>
 #[tactic(auto, using(crate::proofs::Placed::all_fit, crate::proofs::Placed::few_compartments))]
 fn threads_of(alloc: Global, desc: &Desc) -> Result<Value, AllocError>
     requires { is_placed desc.now ≡ true }
-    ensures { IfOk result (λ v. view v ≡ spec.list (map (spec.thread_data desc.now.compartments) desc.now.threads)) }
+    ensures { IfOk result
+        (λ v. view v ≡ spec.list (map (spec.thread_data desc.now.compartments) desc.now.threads)) }
 {
     let compartments = desc.compartments.as_slice();
     let threads = desc.threads.as_slice();
@@ -60,7 +61,10 @@ fn value_of(
     heap: Value,
     threads: Value,
 ) -> Result<Value, AllocError>
-    ensures { IfOk result (λ v. view v ≡ spec.object_of desc.now (view names) (view devices) (view entries) (view heap) (view threads)) }
+    ensures { IfOk result
+        (λ v. view v
+            ≡ spec.object_of desc.now (view names) (view devices) (view entries) (view heap)
+              (view threads)) }
 {
     json!(in alloc; {
         "compartments": names,

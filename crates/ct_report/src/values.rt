@@ -197,7 +197,8 @@ pub fn thread_values(
 ) -> Result<Vec<Value>, AllocError>
     requires fits { AllFit compartments.now }
     requires count { length compartments.now ≤ 64 }
-    ensures { IfOk result (λ v. map view v.items ≡ map (spec.thread_data compartments.now) threads.now) }
+    ensures { IfOk result
+        (λ v. map view v.items ≡ map (spec.thread_data compartments.now) threads.now) }
 {
     let mut values = Vec::new(alloc);
     for thread in threads {

@@ -45,7 +45,8 @@ fn all_of<R: Row>(alloc: Global, values: &[Value]) -> Result<Vec<R>, AllocError>
 }
 
 fn words_of(alloc: Global, values: &[Value]) -> Result<Vec<u32>, AllocError>
-    ensures { IfOk result (λ v. v.items ≡ map (λ w. spec.word_of (member.text_of w)) (map view values.now)) }
+    ensures { IfOk result
+        (λ v. v.items ≡ map (λ w. spec.word_of (member.text_of w)) (map view values.now)) }
 {
     let mut all = Vec::new(alloc);
     for value in values {
@@ -73,7 +74,8 @@ fn text_owned(alloc: Global, value: &Value, key: &str) -> Result<String, AllocEr
 
 /// The text at a key, if there is one.
 fn text_there(alloc: Global, value: &Value, key: &str) -> Result<Option<String>, AllocError>
-    ensures { IfOk result (λ o. option_map string_bytes o ≡ member.text_at key.now (view value.now)) }
+    ensures { IfOk result
+        (λ o. option_map string_bytes o ≡ member.text_at key.now (view value.now)) }
 {
     match text_at(value, key) {
         Some(text) => Ok(Some(String::from_str(alloc, text)?)),

@@ -32,7 +32,8 @@ pub(crate) fn is_ready(status: Status) -> bool
 pub(crate) fn foremost(priorities: &[u8], statuses: &[Status], order: &[u32]) -> Option<usize>
     requires size { length priorities.now ≡ length statuses.now }
     requires below { All (λ t. t < length statuses.now) order.now }
-    ensures { MatchOption result (NoneReady statuses.now order.now) (λ place. IsForemost priorities.now statuses.now order.now place) }
+    ensures { MatchOption result (NoneReady statuses.now order.now)
+        (λ place. IsForemost priorities.now statuses.now order.now place) }
 {
     let mut found = 0;
     let mut least = 0;

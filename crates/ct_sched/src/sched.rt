@@ -38,7 +38,13 @@ impl Sched {
     /// been picked. The one error is `NoMemory`.
     pub fn new(alloc: Global, priorities: &[u8]) -> Result<Sched, NoMemory>
         requires { length priorities.now < 2 ^ 32 }
-        ensures { IfOk result (λ s. s ≡ record { priorities = priorities.now; statuses = replicate (length priorities.now) Ready; order = first_order (length priorities.now) }) }
+        ensures { IfOk result
+            (λ s. s
+                ≡ record {
+                  priorities = priorities.now;
+                  statuses = replicate (length priorities.now) Ready;
+                  order = first_order (length priorities.now);
+                }) }
     {
         Ok(Sched {
             priorities: Vec::from_slice(alloc, priorities)?,
@@ -88,7 +94,9 @@ impl Sched {
         requires thread { t < length self.old.statuses }
         requires ready { status_of self.old.statuses t ≡ Ready }
         ensures waits { IsTrue result ↔ (held ≡ wanted) }
-        ensures row { self.new ≡ with_statuses self.old (slice_set self.old.statuses t (awaiting address held wanted)) }
+        ensures row { self.new
+            ≡ with_statuses self.old
+              (slice_set self.old.statuses t (awaiting address held wanted)) }
         ensures stays { (held ≡ wanted → ⊥) → self.new ≡ self.old }
     {
         if held != wanted {

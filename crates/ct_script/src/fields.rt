@@ -53,7 +53,8 @@ fn run_length(text: &[u8]) -> usize
 
 /// The number whose decimal digits these are, with no sign and no leading zero.
 fn number_of(digits: &[u8]) -> Option<u32>
-    ensures { MatchOption result ((n : ℕ) → n < 2 ^ 32 → decimal n ≡ digits.now → ⊥) (λ n. decimal n ≡ digits.now) }
+    ensures { MatchOption result ((n : ℕ) → n < 2 ^ 32 → decimal n ≡ digits.now → ⊥)
+        (λ n. decimal n ≡ digits.now) }
 {
     let number: u32 = match std::str::from_utf8(digits) {
         Ok(text) => match text.parse() {
@@ -74,7 +75,8 @@ fn number_of(digits: &[u8]) -> Option<u32>
 #[tactic(auto, using(crate::proofs::Parts::endless, crate::proofs::Parts::other_end, crate::proofs::Parts::no_digits, crate::proofs::Parts::number_is))]
 fn number_before(text: &[u8], end: u8) -> Option<Counted<'_>>
     requires { is_inner end ≡ false }
-    ensures { MatchOption result (NoNumber text.now end) (λ c. IsNumber text.now end c.number c.rest.now) }
+    ensures { MatchOption result (NoNumber text.now end)
+        (λ c. IsNumber text.now end c.number c.rest.now) }
 {
     let place = run_length(text);
     if place == text.len() {
@@ -117,7 +119,8 @@ fn name_before(text: &[u8]) -> Option<Named<'_>>
 #[tactic(auto, using(crate::proofs::Parts::no_step, crate::proofs::Parts::no_count, crate::proofs::Parts::too_many, crate::proofs::Parts::no_name, crate::proofs::Parts::no_byte, crate::proofs::Parts::bad_byte, crate::proofs::Parts::line_is))]
 pub(crate) fn first_line(text: &[u8]) -> Option<Line<'_>>
     requires { 0 < length text.now }
-    ensures { MatchOption result (NoLine text.now) (λ l. Begins text.now (row_of l.step l.name.now l.byte) l.rest.now) }
+    ensures { MatchOption result (NoLine text.now)
+        (λ l. Begins text.now (row_of l.step l.name.now l.byte) l.rest.now) }
 {
     let step = match number_before(text, b' ') {
         Some(step) => step,

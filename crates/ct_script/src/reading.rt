@@ -147,7 +147,8 @@ pub(crate) fn read_lines(
 ) -> Result<Lines, ScriptFault>
     requires bytes { length bytes.now < 2 ^ 32 }
     requires devices { length devices.now < 2 ^ 32 }
-    ensures { MatchResult result (λ l. Going devices.now bytes.now l []) (λ fault. IsCause devices.now bytes.now fault) }
+    ensures { MatchResult result (λ l. Going devices.now bytes.now l [])
+        (λ fault. IsCause devices.now bytes.now fault) }
 {
     let mut lines = Lines {
         steps: Vec::new(alloc),

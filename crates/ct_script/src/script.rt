@@ -32,7 +32,8 @@ impl Model for Script {
 pub fn read(alloc: Global, bytes: &[u8], devices: &Devices) -> Result<Script, ScriptFault>
     requires bytes { length bytes.now < 2 ^ 32 }
     requires devices { length devices.now < 2 ^ 32 }
-    ensures { MatchResult result (λ s. Reads devices.now bytes.now s) (λ fault. IsCause devices.now bytes.now fault) }
+    ensures { MatchResult result (λ s. Reads devices.now bytes.now s)
+        (λ fault. IsCause devices.now bytes.now fault) }
 {
     let lines = read_lines(alloc, bytes, devices)?;
     Ok(Script { lines })

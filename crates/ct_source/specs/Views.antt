@@ -55,7 +55,8 @@ part_named name (part.Load operation rd number rs1) = part.Load operation rd num
 part_named name (part.RegisterJump rd number rs1) = part.RegisterJump rd number rs1
 part_named name (part.JumpCapability rd rs1) = part.JumpCapability rd rs1
 part_named name (part.Store operation rs2 number rs1) = part.Store operation rs2 number rs1
-part_named name (part.Branch operation rs1 rs2 target) = part.Branch operation rs1 rs2 (target_named name target)
+part_named name (part.Branch operation rs1 rs2 target) =
+    part.Branch operation rs1 rs2 (target_named name target)
 part_named name (part.Jal rd target) = part.Jal rd (target_named name target)
 part_named name (part.Source operation rd rs1) = part.Source operation rd rs1
 part_named name (part.Bare operation) = part.Bare operation

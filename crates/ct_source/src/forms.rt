@@ -26,7 +26,8 @@ fn alone<'a>(row: &[Token<&'a [u8]>], part: Part<&'a [u8]>) -> Option<Part<&'a [
 }
 
 fn registers<'a>(operation: RegisterOperation, row: &[Token<&'a [u8]>]) -> Option<Part<&'a [u8]>>
-    ensures { option_map part_view result ≡ source.form_of (head.Registers operation) (row_view row.now) }
+    ensures { option_map part_view result
+        ≡ source.form_of (head.Registers operation) (row_view row.now) }
 {
     let (rd, rs1, rs2) = three_registers(row)?;
     Some(Part::Registers {
@@ -38,7 +39,8 @@ fn registers<'a>(operation: RegisterOperation, row: &[Token<&'a [u8]>]) -> Optio
 }
 
 fn immediate<'a>(operation: ImmediateOperation, row: &[Token<&'a [u8]>]) -> Option<Part<&'a [u8]>>
-    ensures { option_map part_view result ≡ source.form_of (head.Immediate operation) (row_view row.now) }
+    ensures { option_map part_view result
+        ≡ source.form_of (head.Immediate operation) (row_view row.now) }
 {
     let (rd, rs1, number) = two_registers_number(row)?;
     Some(Part::Immediate {
@@ -50,7 +52,8 @@ fn immediate<'a>(operation: ImmediateOperation, row: &[Token<&'a [u8]>]) -> Opti
 }
 
 fn upper<'a>(operation: UpperOperation, row: &[Token<&'a [u8]>]) -> Option<Part<&'a [u8]>>
-    ensures { option_map part_view result ≡ source.form_of (head.Upper operation) (row_view row.now) }
+    ensures { option_map part_view result
+        ≡ source.form_of (head.Upper operation) (row_view row.now) }
 {
     let (rd, number) = register_number(row)?;
     Some(Part::Upper {
@@ -61,7 +64,8 @@ fn upper<'a>(operation: UpperOperation, row: &[Token<&'a [u8]>]) -> Option<Part<
 }
 
 fn store<'a>(operation: StoreOperation, row: &[Token<&'a [u8]>]) -> Option<Part<&'a [u8]>>
-    ensures { option_map part_view result ≡ source.form_of (head.Store operation) (row_view row.now) }
+    ensures { option_map part_view result
+        ≡ source.form_of (head.Store operation) (row_view row.now) }
 {
     let (rs2, number, rs1) = register_address(row)?;
     Some(Part::Store {
@@ -73,7 +77,8 @@ fn store<'a>(operation: StoreOperation, row: &[Token<&'a [u8]>]) -> Option<Part<
 }
 
 fn branch<'a>(operation: BranchOperation, row: &[Token<&'a [u8]>]) -> Option<Part<&'a [u8]>>
-    ensures { option_map part_view result ≡ source.form_of (head.Branch operation) (row_view row.now) }
+    ensures { option_map part_view result
+        ≡ source.form_of (head.Branch operation) (row_view row.now) }
 {
     let (rs1, rs2, target) = two_registers_target(row)?;
     Some(Part::Branch {
@@ -85,7 +90,8 @@ fn branch<'a>(operation: BranchOperation, row: &[Token<&'a [u8]>]) -> Option<Par
 }
 
 fn source<'a>(operation: SourceOperation, row: &[Token<&'a [u8]>]) -> Option<Part<&'a [u8]>>
-    ensures { option_map part_view result ≡ source.form_of (head.Source operation) (row_view row.now) }
+    ensures { option_map part_view result
+        ≡ source.form_of (head.Source operation) (row_view row.now) }
 {
     let (rd, rs1) = two_registers(row)?;
     Some(Part::Source { operation, rd, rs1 })
@@ -169,7 +175,8 @@ fn global_address<'a>(row: &[Token<&'a [u8]>]) -> Option<Part<&'a [u8]>>
 }
 
 fn load<'a>(operation: LoadOperation, row: &[Token<&'a [u8]>]) -> Option<Part<&'a [u8]>>
-    ensures { option_map part_view result ≡ source.form_of (head.Load operation) (row_view row.now) }
+    ensures { option_map part_view result
+        ≡ source.form_of (head.Load operation) (row_view row.now) }
 {
     let (rd, number, rs1) = register_address(row)?;
     Some(Part::Load {
@@ -182,7 +189,9 @@ fn load<'a>(operation: LoadOperation, row: &[Token<&'a [u8]>]) -> Option<Part<&'
 
 /// `cjalr rd, number(rs1)`
 fn jump_address<'a>(row: &[Token<&'a [u8]>]) -> Option<Part<&'a [u8]>>
-    ensures { option_map part_view result ≡ option_map (λ o. part.RegisterJump o.0 o.1 o.2) (source.register_address (row_view row.now)) }
+    ensures { option_map part_view result
+        ≡ option_map (λ o. part.RegisterJump o.0 o.1 o.2)
+          (source.register_address (row_view row.now)) }
 {
     let (rd, number, rs1) = register_address(row)?;
     Some(Part::RegisterJump { rd, number, rs1 })
@@ -190,7 +199,8 @@ fn jump_address<'a>(row: &[Token<&'a [u8]>]) -> Option<Part<&'a [u8]>>
 
 /// `cjalr rd, rs1`
 fn jump_capability<'a>(row: &[Token<&'a [u8]>]) -> Option<Part<&'a [u8]>>
-    ensures { option_map part_view result ≡ option_map (λ o. part.JumpCapability o.0 o.1) (source.two_registers (row_view row.now)) }
+    ensures { option_map part_view result
+        ≡ option_map (λ o. part.JumpCapability o.0 o.1) (source.two_registers (row_view row.now)) }
 {
     let (rd, rs1) = two_registers(row)?;
     Some(Part::JumpCapability { rd, rs1 })

@@ -51,7 +51,8 @@ pub fn statements<'a>(alloc: Global, text: &'a [u8]) -> Result<Program<'a>, AsmF
 /// The statements, line by line.
 fn all_statements<'a>(alloc: Global, text: &'a [u8]) -> Result<Vec<Statement<&'a [u8]>>, AsmFault>
     requires { length text.now < 2 ^ 32 }
-    ensures { Gives (λ v. statements_view v.items) result (source.program_from section.Text 1 (source.lines_of text.now)) }
+    ensures { Gives (λ v. statements_view v.items) result
+        (source.program_from section.Text 1 (source.lines_of text.now)) }
 {
     let mut all = Vec::new(alloc);
     let mut section = Section::Text;
@@ -79,7 +80,9 @@ fn add<'a>(
     line: u32,
     read: Line<&'a [u8]>,
 ) -> Result<(), AllocError>
-    ensures { OnOk result (statements_view all.new.items ≡ statements_view all.old.items ++ source.line_statements line (line_view read.entry)) }
+    ensures { OnOk result
+        (statements_view all.new.items ≡ statements_view all.old.items
+            ++ source.line_statements line (line_view read.entry)) }
 {
     if let Some(name) = read.label {
         all.push(Statement {

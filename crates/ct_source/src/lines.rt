@@ -33,7 +33,8 @@ fn lawful<'a>(section: Section, part: Part<&'a [u8]>) -> Result<Part<&'a [u8]>, 
 
 /// The statement of a form, if it has one.
 fn formed<'a>(section: Section, part: Option<Part<&'a [u8]>>) -> Result<Option<Part<&'a [u8]>>, u32>
-    ensures { result_map (λ o. option_map part_view o) result ≡ source.formed section (option_map part_view part.entry) }
+    ensures { result_map (λ o. option_map part_view o) result
+        ≡ source.formed section (option_map part_view part.entry) }
 {
     match part {
         Some(part) => match lawful(section, part) {
@@ -46,7 +47,8 @@ fn formed<'a>(section: Section, part: Option<Part<&'a [u8]>>) -> Result<Option<P
 
 /// The statement of a row of tokens, which may be none.
 fn statement<'a>(section: Section, row: &[Token<&'a [u8]>]) -> Result<Option<Part<&'a [u8]>>, u32>
-    ensures { result_map (λ o. option_map part_view o) result ≡ source.statement_of section (row_view row.now) }
+    ensures { result_map (λ o. option_map part_view o) result
+        ≡ source.statement_of section (row_view row.now) }
 {
     match row {
         [] => Ok(None),
@@ -123,7 +125,8 @@ fn line_tokens<'a>(
     alloc: Global,
     line: &'a [u8],
 ) -> Result<Option<Vec<Token<&'a [u8]>>>, AllocError>
-    ensures { IfOk result (λ o. option_map (λ v. row_view v.items) o ≡ source.line_tokens line.now) }
+    ensures { IfOk result
+        (λ o. option_map (λ v. row_view v.items) o ≡ source.line_tokens line.now) }
 {
     if !are_ascii(line) {
         return Ok(None);

@@ -39,7 +39,8 @@ fn close_at<'a, 'b>(row: &'b [Token<&'a [u8]>]) -> Option<&'b [Token<&'a [u8]>]>
 
 /// A name.
 fn name_at<'a, 'b>(row: &'b [Token<&'a [u8]>]) -> Option<(&'a [u8], &'b [Token<&'a [u8]>])>
-    ensures { option_map (λ p. (p.0.now, row_view p.1.now)) result ≡ source.name_at (row_view row.now) }
+    ensures { option_map (λ p. (p.0.now, row_view p.1.now)) result
+        ≡ source.name_at (row_view row.now) }
 {
     match row {
         [Token::Name(name), rest @ ..] => Some((*name, rest)),
@@ -49,7 +50,8 @@ fn name_at<'a, 'b>(row: &'b [Token<&'a [u8]>]) -> Option<(&'a [u8], &'b [Token<&
 
 /// A number.
 fn number_at<'a, 'b>(row: &'b [Token<&'a [u8]>]) -> Option<(Number, &'b [Token<&'a [u8]>])>
-    ensures { option_map (λ p. (p.0, row_view p.1.now)) result ≡ source.number_at (row_view row.now) }
+    ensures { option_map (λ p. (p.0, row_view p.1.now)) result
+        ≡ source.number_at (row_view row.now) }
 {
     match row {
         [Token::Number(number), rest @ ..] => Some((*number, rest)),
@@ -61,7 +63,8 @@ fn number_at<'a, 'b>(row: &'b [Token<&'a [u8]>]) -> Option<(Number, &'b [Token<&
 fn target_at<'a, 'b>(
     row: &'b [Token<&'a [u8]>],
 ) -> Option<(Target<&'a [u8]>, &'b [Token<&'a [u8]>])>
-    ensures { option_map (λ p. (target_view p.0, row_view p.1.now)) result ≡ source.target_at (row_view row.now) }
+    ensures { option_map (λ p. (target_view p.0, row_view p.1.now)) result
+        ≡ source.target_at (row_view row.now) }
 {
     match row {
         [Token::Name(name), rest @ ..] => Some((Target::Label(*name), rest)),
@@ -73,7 +76,8 @@ fn target_at<'a, 'b>(
 /// A register, by any of its names.
 #[tactic(auto, unfolding(def_source::specs::Source::register_at))]
 fn register_at<'a, 'b>(row: &'b [Token<&'a [u8]>]) -> Option<(u32, &'b [Token<&'a [u8]>])>
-    ensures { option_map (λ p. (p.0, row_view p.1.now)) result ≡ source.register_at (row_view row.now) }
+    ensures { option_map (λ p. (p.0, row_view p.1.now)) result
+        ≡ source.register_at (row_view row.now) }
 {
     let (name, rest) = name_at(row)?;
     let register = tables::register(name)?;
@@ -83,7 +87,8 @@ fn register_at<'a, 'b>(row: &'b [Token<&'a [u8]>]) -> Option<(u32, &'b [Token<&'
 /// A register, and a comma.
 #[tactic(auto, unfolding(def_source::specs::Source::register_comma))]
 fn register_comma<'a, 'b>(row: &'b [Token<&'a [u8]>]) -> Option<(u32, &'b [Token<&'a [u8]>])>
-    ensures { option_map (λ p. (p.0, row_view p.1.now)) result ≡ source.register_comma (row_view row.now) }
+    ensures { option_map (λ p. (p.0, row_view p.1.now)) result
+        ≡ source.register_comma (row_view row.now) }
 {
     let (register, rest) = register_at(row)?;
     let rest = comma_at(rest)?;
@@ -93,7 +98,8 @@ fn register_comma<'a, 'b>(row: &'b [Token<&'a [u8]>]) -> Option<(u32, &'b [Token
 /// A number, and a register in brackets.
 #[tactic(auto, unfolding(def_source::specs::Source::address_at))]
 fn address_at<'a, 'b>(row: &'b [Token<&'a [u8]>]) -> Option<(Number, u32, &'b [Token<&'a [u8]>])>
-    ensures { option_map (λ p. (p.0, p.1, row_view p.2.now)) result ≡ source.address_at (row_view row.now) }
+    ensures { option_map (λ p. (p.0, p.1, row_view p.2.now)) result
+        ≡ source.address_at (row_view row.now) }
 {
     let (number, rest) = number_at(row)?;
     let rest = open_at(rest)?;
@@ -148,7 +154,8 @@ pub(crate) fn two_registers_number<'a>(row: &[Token<&'a [u8]>]) -> Option<(u32, 
 pub(crate) fn two_registers_target<'a>(
     row: &[Token<&'a [u8]>],
 ) -> Option<(u32, u32, Target<&'a [u8]>)>
-    ensures { option_map (λ o. (o.0, o.1, target_view o.2)) result ≡ source.two_registers_target (row_view row.now) }
+    ensures { option_map (λ o. (o.0, o.1, target_view o.2)) result
+        ≡ source.two_registers_target (row_view row.now) }
 {
     let (a, rest) = register_comma(row)?;
     let (b, rest) = register_comma(rest)?;
@@ -175,7 +182,8 @@ pub(crate) fn register_number<'a>(row: &[Token<&'a [u8]>]) -> Option<(u32, Numbe
 /// `rd, target`, and nothing after it.
 #[tactic(auto, unfolding(def_source::specs::Source::register_target))]
 pub(crate) fn register_target<'a>(row: &[Token<&'a [u8]>]) -> Option<(u32, Target<&'a [u8]>)>
-    ensures { option_map (λ o. (o.0, target_view o.1)) result ≡ source.register_target (row_view row.now) }
+    ensures { option_map (λ o. (o.0, target_view o.1)) result
+        ≡ source.register_target (row_view row.now) }
 {
     let (a, rest) = register_comma(row)?;
     let (target, rest) = target_at(rest)?;

@@ -59,7 +59,9 @@ fn fits_target(reach: u128, target: Target<&[u8]>) -> bool
 
 /// Whether a number is 1 or a power of two up to the greatest alignment.
 fn fits_align(number: Number) -> bool
-    ensures { result ≡ (source.within 0 MOST_ALIGNMENT number && nat_lt 0 number.magnitude && MOST_ALIGNMENT % number.magnitude == 0) }
+    ensures { result
+        ≡ (source.within 0 MOST_ALIGNMENT number && nat_lt 0 number.magnitude
+            && MOST_ALIGNMENT % number.magnitude == 0) }
 {
     within(0, MOST_ALIGNMENT, number)
         && 0 < number.magnitude

@@ -76,7 +76,8 @@ pub(crate) fn row<'a>(
     alloc: Global,
     text: &'a [u8],
 ) -> Result<Option<Vec<Token<&'a [u8]>>>, AllocError>
-    ensures { IfOk result (λ o. option_map (λ v. row_view v.items) o ≡ source.row_of (source.pieces text.now)) }
+    ensures { IfOk result
+        (λ o. option_map (λ v. row_view v.items) o ≡ source.row_of (source.pieces text.now)) }
 {
     let mut all = Vec::new(alloc);
     let mut rest = skip_blanks(text);

@@ -14,7 +14,8 @@ unfoldable pub state_left : Board → State → ℕ → State
 state_left b s n = run b s (steps_until b s n)
 
 -- a machine made its steps, and their lines were written
-pub record Traced (old new : MachineRow) (limit : ℕ) (before after : Option (List ℕ)) (faults now : ℕ) : Type 0 where
+pub record Traced (old new : MachineRow) (limit : ℕ) (before after : Option (List ℕ))
+    (faults now : ℕ) : Type 0 where
   pub board : new.board ≡ old.board
   pub state : new.state ≡ state_left old.board old.state limit
   pub written : Writes before after faults now (lines_left old.board old.state 1 limit)

@@ -27,7 +27,8 @@ use std::alloc::Global;
 /// Writes the report line of a description.
 fn audit<S: Sink>(alloc: Global, desc: &Desc, sink: &mut S) -> Status
     requires { is_placed desc.now ≡ true }
-    ensures { Settles (S.bytes sink.old) (S.bytes sink.new) (S.faults sink.old) (S.faults sink.new) (report_line desc.now) result }
+    ensures { Settles (S.bytes sink.old) (S.bytes sink.new) (S.faults sink.old)
+        (S.faults sink.new) (report_line desc.now) result }
 {
     match ct_report::text(alloc, desc) {
         Ok(line) => close(line.as_bytes(), Status::Done, sink),
@@ -51,7 +52,8 @@ fn run<S: Sink>(alloc: Global, desc: &Desc, limit: u32, sink: &mut S) -> Status
     requires placed { is_placed desc.now ≡ true }
     requires lawful { IsLawfulFirmware (firmware_of desc.now) }
     requires short { limit ≤ MOST_STEPS }
-    ensures { Settles (S.bytes sink.old) (S.bytes sink.new) (S.faults sink.old) (S.faults sink.new) (run_text desc.now limit) result }
+    ensures { Settles (S.bytes sink.old) (S.bytes sink.new) (S.faults sink.old)
+        (S.faults sink.new) (run_text desc.now limit) result }
 {
     let report = match ct_report::text(alloc, desc) {
         Ok(report) => report,
@@ -72,7 +74,9 @@ fn finish<S: Sink>(alloc: Global, task: Task, desc: &Desc, sink: &mut S) -> Stat
     requires placed { is_placed desc.now ≡ true }
     requires lawful { IsLawfulFirmware (firmware_of desc.now) }
     requires short { IsShort task }
-    ensures { (name : List ℕ) → Settles (S.bytes sink.old) (S.bytes sink.new) (S.faults sink.old) (S.faults sink.new) (due_text (command_for name task) desc.now) result }
+    ensures { (name : List ℕ)
+        → Settles (S.bytes sink.old) (S.bytes sink.new) (S.faults sink.old) (S.faults sink.new)
+          (due_text (command_for name task) desc.now) result }
 {
     match task {
         Task::Audit => audit(alloc, desc, sink),

@@ -35,7 +35,8 @@ fn write_named<S: Sink>(text: &[u8], name: &str, sink: &mut S) -> Result<(), Wri
 
 /// Writes a text, a name and a line feed, and ends with a status.
 fn close_named<S: Sink>(text: &[u8], name: &str, status: Status, sink: &mut S) -> Status
-    ensures { Closes (S.bytes sink.old) (S.bytes sink.new) (S.faults sink.old) (S.faults sink.new) (text.now ++ (name.now ++ 10 ∷ [])) status result }
+    ensures { Closes (S.bytes sink.old) (S.bytes sink.new) (S.faults sink.old) (S.faults sink.new)
+        (text.now ++ (name.now ++ 10 ∷ [])) status result }
 {
     match write_named(text, name, sink) {
         Ok(()) => status,
@@ -45,7 +46,8 @@ fn close_named<S: Sink>(text: &[u8], name: &str, status: Status, sink: &mut S) -
 
 /// Writes a text, and ends with a status.
 pub fn close<S: Sink>(text: &[u8], status: Status, sink: &mut S) -> Status
-    ensures { Closes (S.bytes sink.old) (S.bytes sink.new) (S.faults sink.old) (S.faults sink.new) text.now status result }
+    ensures { Closes (S.bytes sink.old) (S.bytes sink.new) (S.faults sink.old) (S.faults sink.new)
+        text.now status result }
 {
     match sink.write(text) {
         Ok(()) => status,
@@ -55,7 +57,8 @@ pub fn close<S: Sink>(text: &[u8], status: Status, sink: &mut S) -> Status
 
 /// Writes the line of a refusal; for want of memory nothing is written.
 pub fn refuse<S: Sink>(stop: Stop, name: &str, sink: &mut S) -> Status
-    ensures { Refuses name.now stop (S.bytes sink.old) (S.bytes sink.new) (S.faults sink.old) (S.faults sink.new) result }
+    ensures { Refuses name.now stop (S.bytes sink.old) (S.bytes sink.new) (S.faults sink.old)
+        (S.faults sink.new) result }
 {
     match stop {
         Stop::Unread => close_named(b"refused 2 read ", name, Status::ReadFault, sink),
@@ -67,7 +70,8 @@ pub fn refuse<S: Sink>(stop: Stop, name: &str, sink: &mut S) -> Status
 
 /// Refuses words that aren't a form. It takes no memory and reads no file.
 pub fn refuse_usage<S: Sink>(sink: &mut S) -> Status
-    ensures { Closes (S.bytes sink.old) (S.bytes sink.new) (S.faults sink.old) (S.faults sink.new) usage_line Status.Usage result }
+    ensures { Closes (S.bytes sink.old) (S.bytes sink.new) (S.faults sink.old) (S.faults sink.new)
+        usage_line Status.Usage result }
 {
     close(b"refused 1 usage\n", Status::Usage, sink)
 }

@@ -26,7 +26,8 @@ pub enum Stop {
 }
 
 fn description_of(alloc: Global, bytes: &[u8]) -> Result<Desc, Stop>
-    ensures { MatchResult result (λ d. WellFormed bytes.now d) (λ stop. NoDescription bytes.now stop) }
+    ensures { MatchResult result (λ d. WellFormed bytes.now d)
+        (λ stop. NoDescription bytes.now stop) }
 {
     match ct_desc::read(alloc, bytes) {
         Ok(desc) => Ok(desc),
@@ -38,8 +39,12 @@ fn description_of(alloc: Global, bytes: &[u8]) -> Result<Desc, Stop>
 /// Reads the description in the file of this name.
 pub fn read_description<F: Folder>(alloc: Global, name: &str, folder: &mut F) -> Result<Desc, Stop>
     ensures { MatchResult result
-        (λ d. Described name.now (F.file folder.old name.now) (F.calls folder.old) (F.calls folder.new) (F.faults folder.old) (F.faults folder.new) d)
-        (λ stop. Stopped name.now (F.file folder.old name.now) (F.calls folder.old) (F.calls folder.new) (F.faults folder.old) (F.faults folder.new) stop) }
+        (λ d.
+            Described name.now (F.file folder.old name.now) (F.calls folder.old)
+            (F.calls folder.new) (F.faults folder.old) (F.faults folder.new) d)
+        (λ stop.
+            Stopped name.now (F.file folder.old name.now) (F.calls folder.old)
+            (F.calls folder.new) (F.faults folder.old) (F.faults folder.new) stop) }
 {
     let bytes = match folder.read(alloc, name, MOST) {
         Ok(bytes) => bytes,

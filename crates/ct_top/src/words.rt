@@ -33,7 +33,9 @@ fn are_digits(text: &[u8]) -> bool
 /// The number that digits spell, where it is at most 4,000,000,000.
 fn value_of(digits: &[u8]) -> Option<u32>
     ensures small { IfSome result (λ n. n ≤ MOST_STEPS) }
-    ensures value { result ≡ (if nat_le (spec.value_of digits.now) MOST_STEPS then Some (spec.value_of digits.now) else None) }
+    ensures value { result
+        ≡ (if nat_le (spec.value_of digits.now) MOST_STEPS then Some (spec.value_of digits.now)
+            else None) }
 {
     let mut value: u64 = 0;
     for c in digits {

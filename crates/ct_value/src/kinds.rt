@@ -80,7 +80,9 @@ fn has_member(value: &Value, name: &str, shape: Shape, needed: bool) -> bool
 }
 
 fn has_each(value: &Value, members: &[Member]) -> bool
-    ensures { result ≡ list_all (spec.has_member (view value.now)) (map (λ r. table.row r.0.now r.1 r.2) members.now) }
+    ensures { result
+        ≡ list_all (spec.has_member (view value.now))
+          (map (λ r. table.row r.0.now r.1 r.2) members.now) }
 {
     for (name, shape, needed) in members {
         if !has_member(value, *name, *shape, *needed) {
@@ -91,7 +93,8 @@ fn has_each(value: &Value, members: &[Member]) -> bool
 }
 
 fn has_any(value: &Value, names: &[&'static str]) -> bool
-    ensures { result ≡ list_any (λ name. members.has name (view value.now)) (map (λ n. n.now) names.now) }
+    ensures { result
+        ≡ list_any (λ name. members.has name (view value.now)) (map (λ n. n.now) names.now) }
 {
     for name in names {
         if has(value, *name) {
@@ -102,7 +105,8 @@ fn has_any(value: &Value, names: &[&'static str]) -> bool
 }
 
 fn count_of(value: &Value, names: &[&'static str]) -> usize
-    ensures { result ≡ count_by (λ name. members.has name (view value.now)) (map (λ n. n.now) names.now) }
+    ensures { result
+        ≡ count_by (λ name. members.has name (view value.now)) (map (λ n. n.now) names.now) }
 {
     let mut count = 0;
     for name in names {

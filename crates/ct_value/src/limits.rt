@@ -77,7 +77,8 @@ fn keeps(shape: Shape, value: &Value) -> bool
 }
 
 fn keeps_member(value: &Value, name: &str, shape: Shape) -> bool
-    ensures { (needed : Bool) → result ≡ spec.keeps_member (view value.now) (table.row name.now shape needed) }
+    ensures { (needed : Bool)
+        → result ≡ spec.keeps_member (view value.now) (table.row name.now shape needed) }
 {
     match value.get(name) {
         Some(there) => keeps(shape, there),
@@ -86,7 +87,9 @@ fn keeps_member(value: &Value, name: &str, shape: Shape) -> bool
 }
 
 fn keeps_each(value: &Value, members: &[Member]) -> bool
-    ensures { result ≡ list_all (spec.keeps_member (view value.now)) (map (λ r. table.row r.0.now r.1 r.2) members.now) }
+    ensures { result
+        ≡ list_all (spec.keeps_member (view value.now))
+          (map (λ r. table.row r.0.now r.1 r.2) members.now) }
 {
     for (name, shape, _) in members {
         if !keeps_member(value, *name, *shape) {
@@ -118,7 +121,8 @@ fn most_threads(version: u64) -> u32
 }
 
 fn keeps_sweep(version: u64, sweep: u64) -> bool
-    ensures { result ≡ spec.is_within (versions.least_sweep version) (versions.most_sweep version) sweep }
+    ensures { result
+        ≡ spec.is_within (versions.least_sweep version) (versions.most_sweep version) sweep }
 {
     if version == 1 {
         is_within(SWEEP_RATE, SWEEP_RATE, sweep)

@@ -111,7 +111,8 @@ fn add_lists<'a>(
 }
 
 fn first_spot(value: &Value) -> Spot<'_>
-    ensures { seen result ≡ spec.spot (spec.place PartWord.Firmware 0 0) (view value.now) (view value.now) }
+    ensures { seen result
+        ≡ spec.spot (spec.place PartWord.Firmware 0 0) (view value.now) (view value.now) }
 {
     let place = Place {
         part: PartWord::Firmware,

@@ -73,7 +73,8 @@ abbrev pub frames_from : List Granule → ℕ → ℕ → ℕ → Bool → ℕ �
 frames_from gs area actor top handling zero = []
 frames_from gs area actor top handling (suc j) =
     frame_at gs (frame_place area j) actor top handling
-    ∷ frames_from gs area (caller_actor gs (frame_place area j)) (caller_top gs (frame_place area j)) (caller_handling gs (frame_place area j)) j
+    ∷ frames_from gs area (caller_actor gs (frame_place area j))
+        (caller_top gs (frame_place area j)) (caller_handling gs (frame_place area j)) j
 
 unfoldable pub frames_in : List Granule → ℕ → ℕ → ℕ → Bool → ℕ → List Frame
 frames_in gs area actor top handling depth = frames_from gs area actor top handling depth
@@ -86,4 +87,5 @@ mark_word false = 0
 
 -- the caller's registers c1, c2, c3, c8 and c9, the export, and the caller's compartment, top and mark
 abbrev pub frame_words : List Cap → ℕ → ℕ → ℕ → Bool → List Cap
-frame_words saved export actor top handling = saved ++ plain (export + actor * 2 ^ 32) ∷ plain top ∷ plain (mark_word handling) ∷ []
+frame_words saved export actor top handling =
+    saved ++ plain (export + actor * 2 ^ 32) ∷ plain top ∷ plain (mark_word handling) ∷ []

@@ -12,7 +12,13 @@ use Rattle.def_step.specs.Instructions.{Board, is_native_entry}
 -- fetched through it. What an entry that may load or store reaches of a device, it reaches as an import of a
 -- device. No device lies in the heap. Gates with interrupts disabled are of exports alone.
 pub record Wired (b : Board) : Type 0 where
-  pub natives : (n : ℕ) → is_native (root b.image n).origin ≡ true → is_native_entry (cap_address (made_cap b.image n)) ≡ true
-  pub devices : (n x : ℕ) → (bit (root b.image n).rights load_data ≡ true) ⊎ (bit (root b.image n).rights store_data ≡ true) → (root b.image n).base ≤ x → x < (root b.image n).top → is_some (found b.bases x) ≡ true → (root b.image n).origin ≡ Listing Device
-  pub apart : (x : ℕ) → b.image.heap_base ≤ x → x < b.image.heap_end → is_some (found b.bases x) ≡ false
+  pub natives : (n : ℕ) → is_native (root b.image n).origin ≡ true
+      → is_native_entry (cap_address (made_cap b.image n)) ≡ true
+  pub devices : (n x : ℕ)
+      → (bit (root b.image n).rights load_data ≡ true)
+        ⊎ (bit (root b.image n).rights store_data ≡ true)
+      → (root b.image n).base ≤ x → x < (root b.image n).top → is_some (found b.bases x) ≡ true
+      → (root b.image n).origin ≡ Listing Device
+  pub apart : (x : ℕ) → b.image.heap_base ≤ x → x < b.image.heap_end
+      → is_some (found b.bases x) ≡ false
   pub gates : (n : ℕ) → (root b.image n).disabled ≡ true → (root b.image n).origin ≡ Listing Export

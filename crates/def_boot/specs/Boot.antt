@@ -74,7 +74,9 @@ disables None = false
 disables (Some x) = is_disabled x.row.posture
 
 abbrev pub first_posture : PartsRow → ThreadRow → Posture
-first_posture p t = if disables (entered p t) then record { off = true; source = entry_number p t } else interrupts_on
+first_posture p t =
+    if disables (entered p t) then record { off = true; source = entry_number p t }
+    else interrupts_on
 
 -- one frame, whose caller is nobody
 abbrev pub first_frame : PartsRow → ThreadRow → Frame
@@ -96,7 +98,8 @@ first_pcc p t = with_address (made_for p (code_number p t.compartment)) (entry_a
 -- the return sentry in c1, the stack at its top in c2, the globals in c3
 abbrev pub first_registers : PartsRow → ℕ → ThreadRow → List Cap
 first_registers p n t =
-    plain 0 ∷ return_sentry ∷ made_for p (stack_number p n) ∷ made_for p (globals_number p t.compartment)
+    plain 0 ∷ return_sentry ∷ made_for p (stack_number p n)
+    ∷ made_for p (globals_number p t.compartment)
     ∷ plain 0 ∷ plain 0 ∷ plain 0 ∷ plain 0 ∷ plain 0 ∷ plain 0
     ∷ plain 0 ∷ plain 0 ∷ plain 0 ∷ plain 0 ∷ plain 0 ∷ plain 0 ∷ []
 
@@ -121,7 +124,17 @@ fresh_device Timer = Clock
 fresh_device Gpio = Pins 0 0
 
 abbrev pub no_counts : Counts
-no_counts = record { steps = 0; ticks = 0; sweeps = 0; inputs = 0; calls = 0; loads = 0; stores = 0; frees = 0; traps = 0 }
+no_counts = record {
+  steps = 0;
+  ticks = 0;
+  sweeps = 0;
+  inputs = 0;
+  calls = 0;
+  loads = 0;
+  stores = 0;
+  frees = 0;
+  traps = 0;
+}
 
 unfoldable pub boot_state : PartsRow → State
 boot_state p = record {

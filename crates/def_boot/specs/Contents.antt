@@ -21,8 +21,10 @@ byte_of bytes at = get_or bytes at 0
 
 abbrev pub word_of : List ℕ → ℕ → ℕ
 word_of bytes at =
-    byte_of bytes at + byte_of bytes (at + 1) * 2 ^ 8 + byte_of bytes (at + 2) * 2 ^ 16 + byte_of bytes (at + 3) * 2 ^ 24
-    + byte_of bytes (at + 4) * 2 ^ 32 + byte_of bytes (at + 5) * 2 ^ 40 + byte_of bytes (at + 6) * 2 ^ 48 + byte_of bytes (at + 7) * 2 ^ 56
+    byte_of bytes at + byte_of bytes (at + 1) * 2 ^ 8 + byte_of bytes (at + 2) * 2 ^ 16
+    + byte_of bytes (at + 3) * 2 ^ 24
+    + byte_of bytes (at + 4) * 2 ^ 32 + byte_of bytes (at + 5) * 2 ^ 40
+    + byte_of bytes (at + 6) * 2 ^ 48 + byte_of bytes (at + 7) * 2 ^ 56
 
 -- the slots, whose entries are numbered from `first`, then the text
 abbrev pub code_content : PartsRow → ℕ → CodeRow → ℕ → Cap
@@ -40,7 +42,9 @@ abbrev pub table_content : PartsRow → ℕ → ℕ → Cap
 table_content p b k =
     if k == 0 then made_for p (code_number p b)
     else if k == GRANULE then made_for p (globals_number p b)
-    else plain (gate_word (slice_get (compartment p b).code.exports ((k - TABLE_HEAD) / TABLE_ROW)) ((k - TABLE_HEAD) % TABLE_ROW))
+    else plain
+        (gate_word (slice_get (compartment p b).code.exports ((k - TABLE_HEAD) / TABLE_ROW))
+            ((k - TABLE_HEAD) % TABLE_ROW))
 
 -- a compartment's slots are numbered after its code and globals, a library's after its code
 abbrev pub owned_content : PartsRow → Owner → ℕ → Cap

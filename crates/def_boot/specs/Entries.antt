@@ -19,7 +19,15 @@ use Rattle.def_image.specs.Members.{compartment, library, shared, sealed, device
 -- `of` is the index of the device, object or service, or the number of the named export, else 0
 abbrev pub row : Owner → Kind → ℕ → ℕ → ℕ → ℕ → Entry
 row owner kind base length rights of =
-    record { owner = owner; kind = kind; base = base; length = length; rights = rights; of = of; limit = 0 }
+    record {
+      owner = owner;
+      kind = kind;
+      base = base;
+      length = length;
+      rights = rights;
+      of = of;
+      limit = 0;
+    }
 
 -- ---- slots
 
@@ -37,11 +45,13 @@ slot_row p o at r slot.Shared =
 slot_row p o at r slot.Sealed =
     row o kind.Sealed (sealed p r.first).base (sealed p r.first).length (rights_of r) r.first
 slot_row p o at r slot.Call =
-    row o kind.Call (gate_address (compartment p r.first) r.second) TABLE_ROW (rights_of r) (gate_number p r.first r.second)
+    row o kind.Call (gate_address (compartment p r.first) r.second) TABLE_ROW (rights_of r)
+        (gate_number p r.first r.second)
 slot_row p o at r slot.Library =
     row o kind.Library (library p r.first).base (library p r.first).length (rights_of r)
     (library_gate_number p r.first r.second)
-slot_row p o at r slot.Quota = record (row o kind.Quota at SLOT_SIZE (rights_of r) 0) { limit = r.first }
+slot_row p o at r slot.Quota =
+    record (row o kind.Quota at SLOT_SIZE (rights_of r) 0) { limit = r.first }
 slot_row p o at r slot.Key = row o kind.Key r.first 1 (rights_of r) 0
 
 -- the first of them stands at this address

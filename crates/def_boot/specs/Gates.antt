@@ -27,11 +27,13 @@ gates_in n c (x ∷ xs) = gate n c x.row ∷ gates_in (n + 1) c xs
 abbrev pub compartment_gates : ℕ → List CompartmentRow → List Gate
 compartment_gates n [] = []
 compartment_gates n (c ∷ cs) =
-    gates_in (n + 2 + length c.code.slots) c.code c.code.exports ++ compartment_gates (n + compartment_entries c) cs
+    gates_in (n + 2 + length c.code.slots) c.code c.code.exports
+        ++ compartment_gates (n + compartment_entries c) cs
 
 abbrev pub library_gates : ℕ → List CodeRow → List Gate
 library_gates n [] = []
-library_gates n (c ∷ cs) = gates_in (n + 1 + length c.slots) c c.exports ++ library_gates (n + library_entries c) cs
+library_gates n (c ∷ cs) =
+    gates_in (n + 1 + length c.slots) c c.exports ++ library_gates (n + library_entries c) cs
 
 unfoldable pub gates_of : PartsRow → List Gate
 gates_of p = compartment_gates 1 p.compartments ++ library_gates (first_library p) p.libraries

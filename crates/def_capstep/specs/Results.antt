@@ -36,12 +36,14 @@ capability_result (CSetBoundsExact rd rs1 rs2) x y pcc = with_exact_bounds x (ca
 capability_result (CAndPerm rd rs1 rs2) x y pcc = masked x (cap_address y)
 capability_result (CSeal rd rs1 rs2) x y pcc = sealed_by x y
 capability_result (CUnseal rd rs1 rs2) x y pcc = unsealed_by x y
-capability_result (CSetHigh rd rs1 rs2) x y pcc = cap_of false (word_of (cap_address y) (cap_address x)) nowhere
+capability_result (CSetHigh rd rs1 rs2) x y pcc =
+    cap_of false (word_of (cap_address y) (cap_address x)) nowhere
 capability_result (CMove rd rs1) x y pcc = x
 capability_result (CClearTag rd rs1) x y pcc = untagged x
 capability_result (CTestSubset rd rs1 rs2) x y pcc = integer (truth (is_subset y x))
 capability_result (CSetEqualExact rd rs1 rs2) x y pcc = integer (truth (is_same x y))
-capability_result (CSub rd rs1 rs2) x y pcc = integer ((cap_address x + (2 ^ 32 - cap_address y)) % 2 ^ 32)
+capability_result (CSub rd rs1 rs2) x y pcc =
+    integer ((cap_address x + (2 ^ 32 - cap_address y)) % 2 ^ 32)
 capability_result (CGetPerm rd rs1) x y pcc = integer (cap_perms x)
 capability_result (CGetType rd rs1) x y pcc = integer (cap_seal x)
 capability_result (CGetBase rd rs1) x y pcc = integer (cap_base x)

@@ -35,7 +35,8 @@ all_painted cs = map painted_chunk cs
 -- the free chunk at an offset, of this size, gets this link; where there is none nothing is written
 abbrev pub linked : List Granule → ℕ → ℕ → ℕ → ℕ → ℕ → List Granule
 linked gs ram base before size next =
-    cond (nat_eq before NO_CHUNK) gs (stored_cap gs (base + before - ram) (plain (size + next * 2 ^ 32)))
+    cond (nat_eq before NO_CHUNK) gs
+        (stored_cap gs (base + before - ram) (plain (size + next * 2 ^ 32)))
 
 -- ---- what a sweep lets go
 
@@ -53,7 +54,8 @@ gap size = cond (nat_eq size 0) [] (free_chunk size ∷ [])
 -- the same chunks, those that leave joined into free ones; so many free bytes stand before them
 abbrev pub joined : ℕ → List Chunk → List Chunk
 joined before [] = gap before
-joined before (c ∷ cs) = cond (leaves c) (joined (before + c.size) cs) (gap before ++ c ∷ joined 0 cs)
+joined before (c ∷ cs) =
+    cond (leaves c) (joined (before + c.size) cs) (gap before ++ c ∷ joined 0 cs)
 
 abbrev pub released : List Chunk → List Chunk
 released cs = joined 0 cs
@@ -63,7 +65,8 @@ released cs = joined 0 cs
 -- an address in a used chunk, past its head
 abbrev pub InUse : ℕ → ℕ → List Chunk → Type 0
 InUse p at [] = ⊥
-InUse p at (c ∷ cs) = ((is_free c ≡ false) × (at + 8 ≤ p) × (p < at + c.size)) ⊎ InUse p (at + c.size) cs
+InUse p at (c ∷ cs) =
+    ((is_free c ≡ false) × (at + 8 ≤ p) × (p < at + c.size)) ⊎ InUse p (at + c.size) cs
 
 -- an address outside the heap, or in a used chunk past its head
 abbrev pub Spared : Range → List Chunk → ℕ → Type 0

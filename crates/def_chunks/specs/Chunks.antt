@@ -24,7 +24,8 @@ total (c ∷ cs) = c.size + total cs
 -- where the first free one of these chunks begins, from the heap's first address; `next` where none is free
 abbrev pub first_free : ℕ → ℕ → List Chunk → ℕ → ℕ
 first_free base at [] next = next
-first_free base at (c ∷ cs) next = cond (is_free c) (at - base) (first_free base (at + c.size) cs next)
+first_free base at (c ∷ cs) next =
+    cond (is_free c) (at - base) (first_free base (at + c.size) cs next)
 
 -- the head of a chunk: its size with its state, then its object's number, or where the next free chunk begins
 abbrev pub head_of : Chunk → ℕ → Cap
@@ -36,13 +37,18 @@ head_at gs ram at = loaded_cap gs (at - ram)
 
 -- what a head holds, as numbers
 abbrev pub head_in : Cap → Head
-head_in c = record { size = c.word % 2 ^ 32 / 8 * 8; state = c.word % 2 ^ 32 % 8; rest = c.word / 2 ^ 32 }
+head_in c = record {
+  size = c.word % 2 ^ 32 / 8 * 8;
+  state = c.word % 2 ^ 32 % 8;
+  rest = c.word / 2 ^ 32;
+}
 
 -- the chunks lie in memory from an address on; `next` is the first free one after them
 abbrev pub Lays : List Granule → ℕ → ℕ → ℕ → List Chunk → ℕ → Type 0
 Lays gs ram base at [] next = Unit {0}
 Lays gs ram base at (c ∷ cs) next =
-    (head_at gs ram at ≡ head_of c (first_free base (at + c.size) cs next)) × Lays gs ram base (at + c.size) cs next
+    (head_at gs ram at ≡ head_of c (first_free base (at + c.size) cs next))
+        × Lays gs ram base (at + c.size) cs next
 
 -- an address at which a chunk begins
 abbrev pub Starts : ℕ → ℕ → List Chunk → Type 0

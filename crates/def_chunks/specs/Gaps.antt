@@ -13,7 +13,8 @@ use Rattle.def_chunks.specs.Changes.{gap}
 abbrev pub Holds : ℕ → ℕ → ℕ → List Chunk → Type 0
 Holds base length at [] = ⊥
 Holds base length at (c ∷ cs) =
-    ((is_free c ≡ true) × (at + CHUNK_HEAD ≤ base) × (base + length ≤ at + c.size)) ⊎ Holds base length (at + c.size) cs
+    ((is_free c ≡ true) × (at + CHUNK_HEAD ≤ base) × (base + length ≤ at + c.size))
+        ⊎ Holds base length (at + c.size) cs
 
 -- none of them is free
 abbrev pub NoFree : List Chunk → Type 0
@@ -58,7 +59,8 @@ pub record UsedStands (r : Range) (gs : List Granule) (at size number : ℕ) : T
   pub number_is : stands.chunk.number ≡ number
 
 -- and this is the last free one before it
-pub record FreeLinked (r : Range) (gs : List Granule) (at size next before before_size : ℕ) : Type 0 where
+pub record FreeLinked (r : Range) (gs : List Granule) (at size next before before_size : ℕ) : Type 0
+    where
   pub free_stands : FreeStands r gs at size next
   pub last : LastFree free_stands.stands.above before before_size
 

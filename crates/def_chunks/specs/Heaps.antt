@@ -25,7 +25,9 @@ name_at names offset = slice_index_or names (offset / SLOT) 0
 
 -- a used chunk begins at this offset, a multiple of 8
 abbrev pub is_named : List ℕ → ℕ → Bool
-is_named names offset = not (nat_eq (name_at names offset) 0) && nat_eq ((name_at names offset - 1) % 2) (offset / 8 % 2)
+is_named names offset =
+    not (nat_eq (name_at names offset) 0)
+    && nat_eq ((name_at names offset - 1) % 2) (offset / 8 % 2)
 
 -- and this is its quota
 abbrev pub quota_named : List ℕ → ℕ → ℕ
@@ -103,7 +105,8 @@ waiting_in (r ∷ rs) = cond r.live 0 1 + waiting_in rs
 pub record Laid (h : HeapRow) (gs : List Granule) : Type 0 where
   pub settled : Settled h.range gs
   pub slots : length h.names ≡ h.range.length / SLOT
-  pub named : (o : ℕ) → o % 8 ≡ 0 → is_named h.names o ≡ is_used_at (h.range.base + o) h.range.base (chunks h.range gs)
+  pub named : (o : ℕ) → o % 8 ≡ 0
+      → is_named h.names o ≡ is_used_at (h.range.base + o) h.range.base (chunks h.range gs)
   pub quotas : Each (λ r. r.quota < length h.accounts) (objects_of h gs)
   pub few : length h.accounts ≤ 32767
   pub charged : (q : ℕ) → (account h q).charged ≡ charges q (objects_of h gs)

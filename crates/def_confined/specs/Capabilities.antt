@@ -49,19 +49,25 @@ pub record Rooted (i : Image) (c : Cap) : Type 0 where
   pub from : is_root (root i c.shadow.root).origin ≡ true
   pub home : is_home (root i c.shadow.root).origin (root i c.shadow.root).owner ≡ true
   pub legal : IsLegal (cap_perms c)
-  pub range : heap_cap i c ≡ false → ((root i c.shadow.root).base ≤ cap_base c) × (cap_top c ≤ (root i c.shadow.root).top)
+  pub range : heap_cap i c ≡ false
+      → ((root i c.shadow.root).base ≤ cap_base c) × (cap_top c ≤ (root i c.shadow.root).top)
   pub heap : heap_cap i c ≡ true → (i.heap_base ≤ cap_base c) × (cap_top c ≤ i.heap_end)
   pub rights : heap_cap i c ≡ false → Within (cap_perms c) (root i c.shadow.root).rights
   pub heap_rights : heap_cap i c ≡ true → Within (cap_perms c) HEAP_RIGHTS
   pub local : has c store_local ≡ true → stack_cap i c ≡ true
   pub held : stack_cap i c ≡ true → has c global ≡ false
-  pub returns : IsReturnType (cap_seal c) → (cap_base c < cap_top c) × (has c execute ≡ true) × (heap_cap i c ≡ false)
+  pub returns : IsReturnType (cap_seal c)
+      → (cap_base c < cap_top c) × (has c execute ≡ true) × (heap_cap i c ≡ false)
   pub source : cap_seal c ≡ 4 → (root i c.shadow.source).disabled ≡ true
   pub boot : IsBootType (cap_seal c) → AsBoot i c
   pub calls : cap_seal c ≡ 9 → (root i c.shadow.root).origin ≡ Listing Call
-  pub native : is_native (root i c.shadow.root).origin ≡ true → cap_address c ≡ cap_address (made_cap i c.shadow.root)
+  pub native : is_native (root i c.shadow.root).origin ≡ true
+      → cap_address c ≡ cap_address (made_cap i c.shadow.root)
 
 -- part 7, of every place but a program counter: a service's capability is a sentry, and so is the trusted
 -- part's
 abbrev pub Kept : Image → Cap → Type 0
-Kept i c = c.tag ≡ true → ((root i c.shadow.root).origin ≡ Listing Service → cap_seal c ≡ 1) × ((root i c.shadow.root).origin ≡ TrustedPart → cap_seal c ≡ 5)
+Kept i c =
+    c.tag ≡ true
+    → ((root i c.shadow.root).origin ≡ Listing Service → cap_seal c ≡ 1)
+      × ((root i c.shadow.root).origin ≡ TrustedPart → cap_seal c ≡ 5)

@@ -23,7 +23,8 @@ pub record Puts (i : Image) (s : State) (t : ℕ) (c : Cap) : Type 0 where
   pub live : HasLive i s.objects c
 
 -- what a jump of a thread leaves: its program counter, its posture, and the link in a register
-pub record Jumps (i : Image) (s : State) (t : ℕ) (pcc : Cap) (posture : Posture) (link : Cap) : Type 0 where
+pub record Jumps (i : Image) (s : State) (t : ℕ) (pcc : Cap) (posture : Posture) (link : Cap) : Type
+    0 where
   pub held : Confined i s
   pub target : InFrames i s.objects t (thread s t).frames pcc
   pub runs : pcc.tag ≡ true → IsPcc i pcc
@@ -42,7 +43,8 @@ pub record Changes (i : Image) (s : State) (t : ℕ) (new : Thread) (run : Optio
   pub others : (u : ℕ) → (t ≡ u → ⊥) → run ≡ Some u → s.running ≡ Some u
 
 -- a thread's new self whose stack was zeroed up to `high`
-pub record Turned (i : Image) (s : State) (t high : ℕ) (new : Thread) (run : Option ℕ) : Type 0 where
+pub record Turned (i : Image) (s : State) (t high : ℕ) (new : Thread) (run : Option ℕ) : Type 0
+    where
   pub stack : (root i (stack_entry i t)).origin ≡ Listing Stack
   pub inside : high ≤ stack_top i t
   pub outers : (x : ℕ) → high ≤ x → outer new.frames x ≡ outer (thread s t).frames x
@@ -57,7 +59,8 @@ pub record Turned (i : Image) (s : State) (t high : ℕ) (new : Thread) (run : O
   pub stays : (u : ℕ) → run ≡ Some u → s.running ≡ Some u
 
 -- a call whose checks passed: the caller's top frame is g
-pub record Enters (i : Image) (s : State) (t : ℕ) (g : Frame) (gs : List Frame) (callee export high : ℕ) (w : Given) : Type 0 where
+pub record Enters (i : Image) (s : State) (t : ℕ) (g : Frame) (gs : List Frame)
+    (callee export high : ℕ) (w : Given) : Type 0 where
   pub running : s.running ≡ Some t
   pub caller : (thread s t).frames ≡ g ∷ gs
   pub return_tagged : (register (thread s t) 1).tag ≡ true
@@ -76,7 +79,8 @@ pub record Enters (i : Image) (s : State) (t : ℕ) (g : Frame) (gs : List Frame
 
 -- a capability is as it was, of an object that is still there, or it is untagged
 abbrev pub Fades : Image → List Object → List Object → Cap → Cap → Type 0
-Fades i old new c d = (d.tag ≡ false) ⊎ ((d ≡ c) × (c.tag ≡ true → HasObject i old c → HasObject i new c))
+Fades i old new c d =
+    (d.tag ≡ false) ⊎ ((d ≡ c) × (c.tag ≡ true → HasObject i old c → HasObject i new c))
 
 pub record FrameFades (i : Image) (old new : List Object) (f h : Frame) : Type 0 where
   pub actor : h.actor ≡ f.actor
@@ -103,10 +107,14 @@ pub record ThreadFades (i : Image) (old new : List Object) (t u : Thread) : Type
 
 pub record StateFades (i : Image) (s new : State) : Type 0 where
   pub caps : (k : ℕ) → Fades i s.objects new.objects (granule s k).cap (granule new k).cap
-  pub fixed : (k : ℕ) → region i k ≡ Fixed → (granule s k).cap ≡ (booted i k).cap → (granule new k).cap ≡ (granule s k).cap
-  pub domains : (k : ℕ) → (granule new k).cap.tag ≡ true → (d : ℕ) → (HeapDomain i s.objects (address_of i k) d → HeapDomain i new.objects (address_of i k) d) × (HeapDomain i new.objects (address_of i k) d → HeapDomain i s.objects (address_of i k) d)
+  pub fixed : (k : ℕ) → region i k ≡ Fixed → (granule s k).cap ≡ (booted i k).cap
+      → (granule new k).cap ≡ (granule s k).cap
+  pub domains : (k : ℕ) → (granule new k).cap.tag ≡ true → (d : ℕ)
+      → (HeapDomain i s.objects (address_of i k) d → HeapDomain i new.objects (address_of i k) d)
+        × (HeapDomain i new.objects (address_of i k) d → HeapDomain i s.objects (address_of i k) d)
   pub threads : (t : ℕ) → ThreadFades i s.objects new.objects (thread s t) (thread new t)
-  pub live : (t : ℕ) → new.running ≡ Some t → (n : ℕ) → HasLive i new.objects (register (thread new t) n)
+  pub live : (t : ℕ) → new.running ≡ Some t → (n : ℕ)
+      → HasLive i new.objects (register (thread new t) n)
   pub apart : AllApart new.objects
   pub numbered : 0 < new.next
   pub fits : Each (ObjectFits i new.next) new.objects

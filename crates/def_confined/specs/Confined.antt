@@ -25,7 +25,8 @@ abbrev pub HasReturn : Frame → List Frame → Type 0
 HasReturn f [] = Unit {0}
 HasReturn f (g ∷ gs) = (f.c1.tag ≡ true) × IsReturnType (cap_seal f.c1)
 
-pub record FrameHolds (i : Image) (objects : List Object) (t : ℕ) (f : Frame) (fs : List Frame) : Type 0 where
+pub record FrameHolds (i : Image) (objects : List Object) (t : ℕ) (f : Frame)
+    (fs : List Frame) : Type 0 where
   pub stack : (root i (stack_entry i t)).origin ≡ Listing Stack
   pub even : f.top % 16 ≡ 0
   pub low : stack_base i t ≤ f.top
@@ -46,7 +47,10 @@ FramesHold i objects t (f ∷ fs) = FrameHolds i objects t f fs × FramesHold i 
 -- a posture that is off has an export with posture disabled as source, whose owner reaches the thread
 abbrev pub PostureFits : Image → Thread → List Frame → Type 0
 PostureFits i t [] = Unit {0}
-PostureFits i t (f ∷ fs) = t.posture.off ≡ true → ((root i t.posture.source).disabled ≡ true) × Reaches i.entries (root i t.posture.source).owner f.actor
+PostureFits i t (f ∷ fs) =
+    t.posture.off ≡ true
+    → ((root i t.posture.source).disabled ≡ true)
+      × Reaches i.entries (root i t.posture.source).owner f.actor
 
 -- part 7, of a program counter
 pub record IsPcc (i : Image) (c : Cap) : Type 0 where

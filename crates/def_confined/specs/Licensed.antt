@@ -14,22 +14,31 @@ use Rattle.def_reach.specs.Sharing.{Reaches}
 -- for the program counter; any other cause with zeros
 abbrev pub IsTrap : ℕ → ℕ → ℕ → Type 0
 IsTrap cause code register =
-    (((cause ≡ 0) ⊎ (cause ≡ 2) ⊎ (cause ≡ 3) ⊎ (cause ≡ 4) ⊎ (cause ≡ 6) ⊎ (cause ≡ 11)) × (code ≡ 0) × (register ≡ 0))
-    ⊎ ((cause ≡ 28) × (register ≡ 16) × ((code ≡ 1) ⊎ (code ≡ 2) ⊎ (code ≡ 3) ⊎ (code ≡ 17) ⊎ (code ≡ 24)))
-    ⊎ ((cause ≡ 28) × (register < 16) × ((code ≡ 1) ⊎ (code ≡ 2) ⊎ (code ≡ 3) ⊎ (code ≡ 17) ⊎ (code ≡ 18) ⊎ (code ≡ 19) ⊎ (code ≡ 21)))
+    (((cause ≡ 0) ⊎ (cause ≡ 2) ⊎ (cause ≡ 3) ⊎ (cause ≡ 4) ⊎ (cause ≡ 6) ⊎ (cause ≡ 11))
+          × (code ≡ 0) × (register ≡ 0))
+    ⊎ ((cause ≡ 28) × (register ≡ 16)
+          × ((code ≡ 1) ⊎ (code ≡ 2) ⊎ (code ≡ 3) ⊎ (code ≡ 17) ⊎ (code ≡ 24)))
+    ⊎ ((cause ≡ 28) × (register < 16)
+          × ((code ≡ 1) ⊎ (code ≡ 2) ⊎ (code ≡ 3) ⊎ (code ≡ 17) ⊎ (code ≡ 18) ⊎ (code ≡ 19)
+              ⊎ (code ≡ 21)))
 
 -- a device import that the actor is reached through, with this right, and the access in its range
 abbrev pub IsDeviceAccess : Listed → Deed → ℕ → ℕ → ℕ → Type 0
 IsDeviceAccess e d address width right =
     ((root_of e d.entry).origin ≡ Listing kind.Device) × Reaches e (root_of e d.entry).owner d.actor
-    × ((root_of e d.entry).base ≤ address) × (address + width ≤ (root_of e d.entry).top) × (bit (root_of e d.entry).rights right ≡ true)
+    × ((root_of e d.entry).base ≤ address) × (address + width ≤ (root_of e d.entry).top)
+    × (bit (root_of e d.entry).rights right ≡ true)
 
 -- a quota that the actor is reached through, whose limit the live charges keep
 abbrev pub IsQuotaUse : Listed → Deed → ℕ → Type 0
-IsQuotaUse e d live = ((root_of e d.entry).origin ≡ Listing kind.Quota) × Reaches e (root_of e d.entry).owner d.actor × (live ≤ (root_of e d.entry).limit)
+IsQuotaUse e d live =
+    ((root_of e d.entry).origin ≡ Listing kind.Quota) × Reaches e (root_of e d.entry).owner d.actor
+    × (live ≤ (root_of e d.entry).limit)
 
 abbrev pub IsLicensed : Listed → Deed → Act → Type 0
-IsLicensed e d (Call export) = ((root_of e d.entry).origin ≡ Listing kind.Call) × ((root_of e d.entry).of ≡ export) × Reaches e (root_of e d.entry).owner d.actor
+IsLicensed e d (Call export) =
+    ((root_of e d.entry).origin ≡ Listing kind.Call) × ((root_of e d.entry).of ≡ export)
+    × Reaches e (root_of e d.entry).owner d.actor
 IsLicensed e d (Load address width value) = IsDeviceAccess e d address width load_data
 IsLicensed e d (Store address width value) = IsDeviceAccess e d address width store_data
 IsLicensed e d (Allocate number base length live) = IsQuotaUse e d live
@@ -40,4 +49,6 @@ abbrev pub Licensed : Listed → Deed → Type 0
 Licensed e d = IsLicensed e d d.act
 
 abbrev pub OffLicensed : Listed → Owned → Type 0
-OffLicensed e o = ((root_of e o.export).origin ≡ Listing kind.Export) × ((root_of e o.export).disabled ≡ true) × Reaches e (root_of e o.export).owner o.actor
+OffLicensed e o =
+    ((root_of e o.export).origin ≡ Listing kind.Export) × ((root_of e o.export).disabled ≡ true)
+    × Reaches e (root_of e o.export).owner o.actor

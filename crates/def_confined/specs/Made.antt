@@ -42,7 +42,8 @@ Links pcc before l = l.tag ≡ true → IsLink pcc before l
 pub record IsOwn (i : Image) (b : ℕ) (c : Cap) : Type 0 where
   pub rooted : Rooted i c
   pub owner : (root i c.shadow.root).owner ≡ Compartment b
-  pub kind : ((root i c.shadow.root).origin ≡ Listing Code) ⊎ ((root i c.shadow.root).origin ≡ Listing Globals)
+  pub kind : ((root i c.shadow.root).origin ≡ Listing Code)
+      ⊎ ((root i c.shadow.root).origin ≡ Listing Globals)
   pub unsealed : cap_seal c ≡ 0
 
 -- the switcher's return sentry

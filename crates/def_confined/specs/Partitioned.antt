@@ -26,7 +26,9 @@ abbrev pub IsGlobalsOf : Image → ℕ → ℕ → Type 0
 IsGlobalsOf i n o = ((root i n).origin ≡ Listing kind.Globals) × ((root i n).owner ≡ Compartment o)
 
 abbrev pub IsShareOf : Image → ℕ → ℕ → Type 0
-IsShareOf i n object = ((root i n).origin ≡ Listing kind.Shared) × ((a : ℕ) × ((root i n).owner ≡ Compartment a) × SharesC i.entries object a)
+IsShareOf i n object =
+    ((root i n).origin ≡ Listing kind.Shared)
+    × ((a : ℕ) × ((root i n).owner ≡ Compartment a) × SharesC i.entries object a)
 
 abbrev pub IsStackOfThread : Image → ℕ → ℕ → Type 0
 IsStackOfThread i n t = ((root i n).origin ≡ Listing kind.Stack) × (n ≡ stack_entry i t)
@@ -47,7 +49,8 @@ AwayFromHeap i x = (x < i.heap_base) ⊎ (i.heap_end ≤ x)
 pub record BootHeld (i : Image) (n : ℕ) (c : Cap) : Type 0 where
   pub no_stack : stack_cap i c ≡ false
   pub no_heap : heap_cap i c ≡ false
-  pub owner : is_owned (root i c.shadow.root).origin ≡ true → (d : ℕ) → Reaches i.entries (root i n).owner d → Reaches i.entries (root i c.shadow.root).owner d
+  pub owner : is_owned (root i c.shadow.root).origin ≡ true → (d : ℕ)
+      → Reaches i.entries (root i n).owner d → Reaches i.entries (root i c.shadow.root).owner d
   pub no_source : cap_seal c ≡ 4 → ⊥
 
 -- what an entry reaches through which capabilities may be loaded
@@ -72,29 +75,58 @@ pub record IsOwnEntry (i : Image) (b n : ℕ) (k : Kind) : Type 0 where
   pub unsealed : cap_seal (made_cap i n) ≡ 0
 
 pub record Partitioned (i : Image) : Type 0 where
-  pub stores : (n x : ℕ) → i.ram ≤ x → bit (root i n).rights store_data ≡ true → (root i n).base ≤ x → x < (root i n).top → Open (region i (granule_of i x))
-  pub carries : (n x : ℕ) → bit (root i n).rights store_data ≡ true → bit (root i n).rights memory_capability ≡ true → (root i n).base ≤ x → x < (root i n).top → (i.ram ≤ x) × Carries i n (region i (granule_of i x))
-  pub loads : (n x : ℕ) → i.ram ≤ x → bit (root i n).rights load_data ≡ true → bit (root i n).rights memory_capability ≡ true → (root i n).base ≤ x → x < (root i n).top → Loads i n (booted i (granule_of i x)).cap (region i (granule_of i x))
-  pub heap : (x : ℕ) → i.heap_base ≤ x → x < i.heap_end → (i.ram ≤ x) × (region i (granule_of i x) ≡ HeapRam)
+  pub stores : (n x : ℕ) → i.ram ≤ x → bit (root i n).rights store_data ≡ true → (root i n).base ≤ x
+      → x < (root i n).top → Open (region i (granule_of i x))
+  pub carries : (n x : ℕ) → bit (root i n).rights store_data ≡ true
+      → bit (root i n).rights memory_capability ≡ true → (root i n).base ≤ x → x < (root i n).top
+      → (i.ram ≤ x) × Carries i n (region i (granule_of i x))
+  pub loads : (n x : ℕ) → i.ram ≤ x → bit (root i n).rights load_data ≡ true
+      → bit (root i n).rights memory_capability ≡ true → (root i n).base ≤ x → x < (root i n).top
+      → Loads i n (booted i (granule_of i x)).cap (region i (granule_of i x))
+  pub heap : (x : ℕ) → i.heap_base ≤ x → x < i.heap_end
+      → (i.ram ≤ x) × (region i (granule_of i x) ≡ HeapRam)
   pub even : (i.ram % 8 ≡ 0) × (i.heap_base % 8 ≡ 0) × (i.heap_end % 8 ≡ 0)
   pub stack_home : (k t : ℕ) → region i k ≡ Stack t → stack_base i t ≤ address_of i k
-  pub stack_span : (k t : ℕ) → (root i (stack_entry i t)).origin ≡ Listing kind.Stack → stack_base i t ≤ address_of i k → address_of i k < stack_top i t → region i k ≡ Stack t
-  pub stacks_differ : (t u : ℕ) → (root i (stack_entry i t)).origin ≡ Listing kind.Stack → stack_entry i t ≡ stack_entry i u → t ≡ u
-  pub libraries : (n : ℕ) → (root i n).origin ≡ Listing kind.Library → (l : ℕ) × ((root i (root i n).of).owner ≡ owner.Library l)
-  pub quotas : (n : ℕ) → (root i n).origin ≡ Listing kind.Quota → (a : ℕ) × ((root i n).owner ≡ Compartment a)
-  pub calls : (n : ℕ) → (root i n).origin ≡ Listing kind.Call → (a : ℕ) × ((root i n).owner ≡ Compartment a)
-  pub keys : (n : ℕ) → is_root (root i n).origin ≡ true → (bit (root i n).rights sealing ≡ true) ⊎ (bit (root i n).rights unsealing ≡ true) → 13 ≤ (root i n).base
-  pub executes : (n : ℕ) → is_root (root i n).origin ≡ true → bit (root i n).rights execute ≡ true → is_code (root i n).origin ≡ true
-  pub runs_away : (n x : ℕ) → bit (root i n).rights execute ≡ true → (root i n).base ≤ x → x < (root i n).top → AwayFromHeap i x
-  pub forwards : (n : ℕ) → (cap_seal (made_cap i n) ≡ 1) ⊎ (cap_seal (made_cap i n) ≡ 2) ⊎ (cap_seal (made_cap i n) ≡ 3) → ((root i n).origin ≡ Listing kind.Library) ⊎ ((root i n).origin ≡ Listing kind.Service)
-  pub disables : (n : ℕ) → cap_seal (made_cap i n) ≡ 2 → ((root i (root i n).of).disabled ≡ true) × ((d : ℕ) → Reaches i.entries (root i n).owner d → Reaches i.entries (root i (root i n).of).owner d)
-  pub made : (n : ℕ) → is_root (root i n).origin ≡ true → (made_cap i n).tag ≡ true → BootMade i n (made_cap i n)
-  pub own_code : (b n : ℕ) → (root i n).owner ≡ Compartment b → IsOwnEntry i b (code_entry i b) kind.Code × (has (made_cap i (code_entry i b)) execute ≡ true)
-  pub own_globals : (b n : ℕ) → (root i n).owner ≡ Compartment b → IsOwnEntry i b (globals_entry i b) kind.Globals
-  pub stacks_are : (n : ℕ) → (root i n).origin ≡ Listing kind.Stack → ((root i n).rights ≡ STACK_RIGHTS) × ((root i n).top ≤ RAM_END)
+  pub stack_span : (k t : ℕ) → (root i (stack_entry i t)).origin ≡ Listing kind.Stack
+      → stack_base i t ≤ address_of i k → address_of i k < stack_top i t → region i k ≡ Stack t
+  pub stacks_differ : (t u : ℕ) → (root i (stack_entry i t)).origin ≡ Listing kind.Stack
+      → stack_entry i t ≡ stack_entry i u → t ≡ u
+  pub libraries : (n : ℕ) → (root i n).origin ≡ Listing kind.Library
+      → (l : ℕ) × ((root i (root i n).of).owner ≡ owner.Library l)
+  pub quotas : (n : ℕ) → (root i n).origin ≡ Listing kind.Quota
+      → (a : ℕ) × ((root i n).owner ≡ Compartment a)
+  pub calls : (n : ℕ) → (root i n).origin ≡ Listing kind.Call
+      → (a : ℕ) × ((root i n).owner ≡ Compartment a)
+  pub keys : (n : ℕ) → is_root (root i n).origin ≡ true
+      → (bit (root i n).rights sealing ≡ true) ⊎ (bit (root i n).rights unsealing ≡ true)
+      → 13 ≤ (root i n).base
+  pub executes : (n : ℕ) → is_root (root i n).origin ≡ true → bit (root i n).rights execute ≡ true
+      → is_code (root i n).origin ≡ true
+  pub runs_away : (n x : ℕ) → bit (root i n).rights execute ≡ true → (root i n).base ≤ x
+      → x < (root i n).top → AwayFromHeap i x
+  pub forwards : (n : ℕ)
+      → (cap_seal (made_cap i n) ≡ 1) ⊎ (cap_seal (made_cap i n) ≡ 2)
+        ⊎ (cap_seal (made_cap i n) ≡ 3)
+      → ((root i n).origin ≡ Listing kind.Library) ⊎ ((root i n).origin ≡ Listing kind.Service)
+  pub disables : (n : ℕ) → cap_seal (made_cap i n) ≡ 2
+      → ((root i (root i n).of).disabled ≡ true)
+        × ((d : ℕ) → Reaches i.entries (root i n).owner d
+            → Reaches i.entries (root i (root i n).of).owner d)
+  pub made : (n : ℕ) → is_root (root i n).origin ≡ true → (made_cap i n).tag ≡ true
+      → BootMade i n (made_cap i n)
+  pub own_code : (b n : ℕ) → (root i n).owner ≡ Compartment b
+      → IsOwnEntry i b (code_entry i b) kind.Code
+        × (has (made_cap i (code_entry i b)) execute ≡ true)
+  pub own_globals : (b n : ℕ) → (root i n).owner ≡ Compartment b
+      → IsOwnEntry i b (globals_entry i b) kind.Globals
+  pub stacks_are : (n : ℕ) → (root i n).origin ≡ Listing kind.Stack
+      → ((root i n).rights ≡ STACK_RIGHTS) × ((root i n).top ≤ RAM_END)
   pub heap_small : i.heap_end ≤ 2 ^ 32
   pub gates_small : (n : ℕ) → (gate_for i.entries.gates n).code < 2 ^ 32
   pub sentry : (made_cap i 0).tag ≡ true → cap_seal (made_cap i 0) ≡ 5
-  pub boot_rooted : (k : ℕ) → region i k ≡ Fixed → (booted i k).cap.tag ≡ true → Rooted i (booted i k).cap
-  pub boot_away : (k : ℕ) → region i k ≡ Fixed → (booted i k).cap.tag ≡ true → AwayFromHeap i (cap_base (booted i k).cap)
-  pub boot_no_heap : (k : ℕ) → region i k ≡ Fixed → (booted i k).cap.tag ≡ true → heap_cap i (booted i k).cap ≡ false
+  pub boot_rooted : (k : ℕ) → region i k ≡ Fixed → (booted i k).cap.tag ≡ true
+      → Rooted i (booted i k).cap
+  pub boot_away : (k : ℕ) → region i k ≡ Fixed → (booted i k).cap.tag ≡ true
+      → AwayFromHeap i (cap_base (booted i k).cap)
+  pub boot_no_heap : (k : ℕ) → region i k ≡ Fixed → (booted i k).cap.tag ≡ true
+      → heap_cap i (booted i k).cap ≡ false

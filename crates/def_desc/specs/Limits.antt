@@ -14,7 +14,8 @@ number_or default key d = unwrap_or (number_at key d) default
 
 -- the number at a key, or its default, lies from low to high
 abbrev pub ranges : ℕ → List ℕ → ℕ → ℕ → Data → Bool
-ranges default key low high d = nat_le low (number_or default key d) && nat_le (number_or default key d) high
+ranges default key low high d =
+    nat_le low (number_or default key d) && nat_le (number_or default key d) high
 
 -- an address of 32 bits
 abbrev pub is_address : List ℕ → Data → Bool

@@ -21,10 +21,12 @@ is_name [] = false
 is_name (b ∷ bs) = is_lower b && list_all is_name_byte bs && nat_le (length bs) 31
 
 abbrev pub import_at : DescRow → ℕ → ℕ → Option ImportRow
-import_at r i j = option_and_then (λ (c : CompartmentRow). slice_get c.imports j) (slice_get r.compartments i)
+import_at r i j =
+    option_and_then (λ (c : CompartmentRow). slice_get c.imports j) (slice_get r.compartments i)
 
 abbrev pub export_at : DescRow → ℕ → ℕ → Option ExportRow
-export_at r i j = option_and_then (λ (c : CompartmentRow). slice_get c.exports j) (slice_get r.compartments i)
+export_at r i j =
+    option_and_then (λ (c : CompartmentRow). slice_get c.exports j) (slice_get r.compartments i)
 
 -- the name at a place
 abbrev pub name_in : Part → ℕ → ℕ → DescRow → Option (List ℕ)

@@ -47,7 +47,9 @@ region base length = record { base = base; length = length }
 
 -- a compartment's code, its export table and its globals
 abbrev pub regions_of_one : CompartmentRow → List Region
-regions_of_one c = region c.codebase (code_size c) ∷ region c.tablebase (table_size c) ∷ region c.globalsbase (globals_size c) ∷ []
+regions_of_one c =
+    region c.codebase (code_size c) ∷ region c.tablebase (table_size c)
+    ∷ region c.globalsbase (globals_size c) ∷ []
 
 abbrev pub regions_from : List CompartmentRow → List Region
 regions_from [] = []
@@ -59,7 +61,9 @@ stacks_from (t ∷ ts) = region t.stackbase t.stack ∷ stacks_from ts
 
 -- the regions in their order, without the heap
 abbrev pub regions_of : DescRow → List Region
-regions_of r = regions_from r.compartments ++ stacks_from r.threads ++ region r.trustedbase (trusted_size r) ∷ []
+regions_of r =
+    regions_from r.compartments ++ stacks_from r.threads
+    ++ region r.trustedbase (trusted_size r) ∷ []
 
 -- a region lies in RAM below the heap, at a multiple of 16
 abbrev pub lies : RamRow → ℕ → Region → Bool
@@ -79,7 +83,9 @@ begins size e = e.at % 4 == 0 && nat_lt e.at size
 
 -- a region has at most 8,176 bytes, with these many parts
 abbrev pub is_small : CompartmentRow → Bool
-is_small c = nat_le (length c.imports) 128 && nat_le (length c.exports) 64 && nat_le (length c.code.words) 1024 && nat_le c.globals 8176
+is_small c =
+    nat_le (length c.imports) 128 && nat_le (length c.exports) 64
+    && nat_le (length c.code.words) 1024 && nat_le c.globals 8176
 
 abbrev pub compartment_is_placed : CompartmentRow → Bool
 compartment_is_placed c = is_small c && list_all (begins (text_size c)) c.exports
@@ -93,10 +99,14 @@ heap_is_placed r = r.heapbase % 16 == 0 && nat_le r.heapbase (r.ram.base + r.ram
 
 -- few devices, compartments and threads, and RAM ends where the limits say
 abbrev pub is_few : DescRow → Bool
-is_few r = nat_le (length r.devices) 16 && nat_le (length r.compartments) 64 && nat_le (length r.threads) 1 && nat_le (r.ram.base + r.ram.size) 4294967280
+is_few r =
+    nat_le (length r.devices) 16 && nat_le (length r.compartments) 64 && nat_le (length r.threads) 1
+    && nat_le (r.ram.base + r.ram.size) 4294967280
 
 abbrev pub is_placed : DescRow → Bool
-is_placed r = is_few r && list_all compartment_is_placed r.compartments && list_all thread_is_small r.threads && heap_is_placed r
+is_placed r =
+    is_few r && list_all compartment_is_placed r.compartments && list_all thread_is_small r.threads
+    && heap_is_placed r
     && list_all (lies r.ram r.heapbase) (regions_of r) && apart (regions_of r)
 
 abbrev pub displaced : Part → DescRow → Bool

@@ -35,7 +35,9 @@ abbrev pub is_digit : ℕ → Bool
 is_digit b = (nat_le 48 b && nat_le b 57) || (nat_le 97 b && nat_le b 102)
 
 abbrev pub digit_of : ℕ → ℕ
-digit_of b = if nat_le 97 b && nat_le b 102 then b - 87 else (if nat_le 48 b && nat_le b 57 then b - 48 else 0)
+digit_of b =
+    if nat_le 97 b && nat_le b 102 then b - 87
+    else (if nat_le 48 b && nat_le b 57 then b - 48 else 0)
 
 abbrev pub are_digits : ℕ → ℕ → ℕ → ℕ → Bool
 are_digits a b c d = is_digit a && is_digit b && is_digit c && is_digit d
@@ -46,7 +48,9 @@ is_word (a ∷ b ∷ c ∷ d ∷ e ∷ f ∷ g ∷ h ∷ []) = are_digits a b c 
 is_word _ = false
 
 abbrev pub word_of : List ℕ → ℕ
-word_of (a ∷ b ∷ c ∷ d ∷ e ∷ f ∷ g ∷ h ∷ []) = digit_of a * 2 ^ 28 + digit_of b * 2 ^ 24 + digit_of c * 2 ^ 20 + digit_of d * 2 ^ 16 + digit_of e * 2 ^ 12 + digit_of f * 2 ^ 8 + digit_of g * 2 ^ 4 + digit_of h
+word_of (a ∷ b ∷ c ∷ d ∷ e ∷ f ∷ g ∷ h ∷ []) =
+    digit_of a * 2 ^ 28 + digit_of b * 2 ^ 24 + digit_of c * 2 ^ 20 + digit_of d * 2 ^ 16
+    + digit_of e * 2 ^ 12 + digit_of f * 2 ^ 8 + digit_of g * 2 ^ 4 + digit_of h
 word_of _ = 0
 
 abbrev pub text_of : Data → List ℕ

@@ -73,7 +73,9 @@ meets_device base x = meets base 16 x.base 16
 
 abbrev pub misplaced : RamRow → List DeviceRow → Option DeviceRow → Bool
 misplaced ram earlier None = false
-misplaced ram earlier (Some x) = not (x.base % 16 == 0) || meets x.base 16 ram.base ram.size || list_any (meets_device x.base) earlier || meets_native x.base 16
+misplaced ram earlier (Some x) =
+    not (x.base % 16 == 0) || meets x.base 16 ram.base ram.size
+    || list_any (meets_device x.base) earlier || meets_native x.base 16
 
 abbrev pub astray : Part → ℕ → ℕ → DescRow → Bool
 astray Firmware i j r = false

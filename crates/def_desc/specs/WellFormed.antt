@@ -28,7 +28,9 @@ fails d r rule.Address p = address_fails r p
 fails d r rule.Placing p = placing_fails r p
 
 abbrev pub rules : List Rule
-rules = rule.Kind ∷ rule.Member ∷ rule.Name ∷ rule.Twice ∷ rule.Limit ∷ rule.Reference ∷ rule.Right ∷ rule.Address ∷ rule.Placing ∷ []
+rules =
+    rule.Kind ∷ rule.Member ∷ rule.Name ∷ rule.Twice ∷ rule.Limit ∷ rule.Reference ∷ rule.Right
+    ∷ rule.Address ∷ rule.Placing ∷ []
 
 abbrev pub fault : Rule → Place → Fault
 fault rule place = record { rule = rule; place = place }
@@ -59,7 +61,9 @@ WellFormed bytes rows = (d : Data) × (IsText bytes d × (fault_of d ≡ None) �
 
 -- the bytes are no JSON text, or their value has a fault
 abbrev pub Malformed : List ℕ → Type 0
-Malformed bytes = (IsUtf8 bytes → read bytes ≡ None) ⊎ ((d : Data) × (f : Fault) × (IsText bytes d × (fault_of d ≡ Some f)))
+Malformed bytes =
+    (IsUtf8 bytes → read bytes ≡ None)
+    ⊎ ((d : Data) × (f : Fault) × (IsText bytes d × (fault_of d ≡ Some f)))
 
 abbrev pub NoneFails : (Place → Bool) → List Place → Type 0
 NoneFails fails [] = Unit {0}

@@ -119,4 +119,6 @@ code_is_listed part.Library d = all_among code_names (keys_of (member_at (codes 
 code_is_listed _ d = true
 
 abbrev pub has_only : Spot → Bool
-has_only s = list_all (is_listed s.place.part s.value) (keys_of s.value) && code_is_listed s.place.part s.value
+has_only s =
+    list_all (is_listed s.place.part s.value) (keys_of s.value)
+    && code_is_listed s.place.part s.value

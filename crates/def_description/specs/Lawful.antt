@@ -31,7 +31,8 @@ Has xs x = (i : ℕ) × (slice_get xs i ≡ Some x)
 -- the names of one space: each has the form of a name, and stands there once
 pub record AreNames (names : List (List ℕ)) : Type 0 where
   pub formed : AllByRecursion (λ n. is_name n ≡ true) names
-  pub once : (i j : ℕ) (n : List ℕ) → slice_get names i ≡ Some n → slice_get names j ≡ Some n → i ≡ j
+  pub once : (i j : ℕ) (n : List ℕ) → slice_get names i ≡ Some n → slice_get names j ≡ Some n
+      → i ≡ j
 
 -- ---- what is named
 
@@ -147,7 +148,9 @@ pub record AreFew (d : DescRow) : Type 0 where
 
 -- no two devices at one address
 abbrev pub AreApart : List DeviceRow → Type 0
-AreApart ds = (i j : ℕ) (x y : DeviceRow) → slice_get ds i ≡ Some x → slice_get ds j ≡ Some y → x.base ≡ y.base → i ≡ j
+AreApart ds =
+    (i j : ℕ) (x y : DeviceRow) → slice_get ds i ≡ Some x → slice_get ds j ≡ Some y
+    → x.base ≡ y.base → i ≡ j
 
 pub record IsLawful (d : DescRow) : Type 0 where
   pub firmware : is_name d.firmware ≡ true

@@ -40,7 +40,8 @@ abbrev pub keeps : Shape → Data → Bool
 keeps shape.Text d = true
 keeps (shape.Among choice) d = true
 keeps (shape.Number low high) d = is_within low high (number_in d)
-keeps (shape.Multiple low high) d = is_within low high (number_in d) && number_in d % REGION_UNIT == 0
+keeps (shape.Multiple low high) d =
+    is_within low high (number_in d) && number_in d % REGION_UNIT == 0
 keeps (shape.List most) d = nat_le (length (list_in (as_array d))) most
 keeps shape.Object d = true
 keeps (shape.Bytes least most) d = is_within least most (length (text_of d) / 2)

@@ -61,4 +61,5 @@ keys_of d = names_of (as_object d)
 -- what a table says of a text: the first row that has it
 abbrev pub says : {R A : Type 0} → (R → List ℕ) → (R → A) → List ℕ → List R → Option A
 says text value name [] = None
-says text value name (row ∷ rows) = if bytes_eq name (text row) then Some (value row) else says text value name rows
+says text value name (row ∷ rows) =
+    if bytes_eq name (text row) then Some (value row) else says text value name rows

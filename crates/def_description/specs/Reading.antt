@@ -34,10 +34,14 @@ word_at key d = word_or 0 key d
 -- ---- hexadecimal digits
 
 abbrev pub digit_of : ℕ → ℕ
-digit_of b = if nat_le 97 b && nat_le b 102 then b - 87 else (if nat_le 48 b && nat_le b 57 then b - 48 else 0)
+digit_of b =
+    if nat_le 97 b && nat_le b 102 then b - 87
+    else (if nat_le 48 b && nat_le b 57 then b - 48 else 0)
 
 abbrev pub word_of : List ℕ → ℕ
-word_of (a ∷ b ∷ c ∷ d ∷ e ∷ f ∷ g ∷ h ∷ []) = digit_of a * 2 ^ 28 + digit_of b * 2 ^ 24 + digit_of c * 2 ^ 20 + digit_of d * 2 ^ 16 + digit_of e * 2 ^ 12 + digit_of f * 2 ^ 8 + digit_of g * 2 ^ 4 + digit_of h
+word_of (a ∷ b ∷ c ∷ d ∷ e ∷ f ∷ g ∷ h ∷ []) =
+    digit_of a * 2 ^ 28 + digit_of b * 2 ^ 24 + digit_of c * 2 ^ 20 + digit_of d * 2 ^ 16
+    + digit_of e * 2 ^ 12 + digit_of f * 2 ^ 8 + digit_of g * 2 ^ 4 + digit_of h
 word_of _ = 0
 
 abbrev pub byte_of : ℕ → ℕ → ℕ

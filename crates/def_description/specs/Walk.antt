@@ -24,7 +24,8 @@ spot place owner value = record { place = place; owner = owner; value = value }
 -- the elements of a list of a compartment or library, from item j on
 abbrev pub items_from : PartWord → Data → ℕ → ℕ → List Data → List Spot
 items_from part owner i j [] = []
-items_from part owner i j (x ∷ xs) = spot (place part i j) owner x ∷ items_from part owner i (j + 1) xs
+items_from part owner i j (x ∷ xs) =
+    spot (place part i j) owner x ∷ items_from part owner i (j + 1) xs
 
 -- the elements of all its lists
 abbrev pub inside : Data → ℕ → List Inner → List Spot
@@ -33,7 +34,8 @@ inside owner i lists = flat_map (λ l. items_from l.part owner i 0 (list_at l.ke
 -- the elements of a list of the description, from index i on, each with what stands inside it
 abbrev pub each_from : PartWord → Data → ℕ → List Data → List Spot
 each_from part d i [] = []
-each_from part d i (x ∷ xs) = (spot (place part i 0) d x ∷ inside x i (inner_lists part)) ++ each_from part d (i + 1) xs
+each_from part d i (x ∷ xs) =
+    (spot (place part i 0) d x ∷ inside x i (inner_lists part)) ++ each_from part d (i + 1) xs
 
 abbrev pub each : Data → List Inner → List Spot
 each d lists = flat_map (λ l. each_from l.part d 0 (list_at l.key d)) lists

@@ -61,4 +61,5 @@ IsNoText bytes = IsUtf8 bytes → read bytes ≡ None
 
 -- the bytes have this fault: the least number that holds, at its first place
 abbrev pub IsFaulty : List ℕ → Fault → Type 0
-IsFaulty bytes f = ((f ≡ text_fault) × IsNoText bytes) ⊎ ((d : Data) × (IsText bytes d × (fault_of d ≡ Some f)))
+IsFaulty bytes f =
+    ((f ≡ text_fault) × IsNoText bytes) ⊎ ((d : Data) × (IsText bytes d × (fault_of d ≡ Some f)))

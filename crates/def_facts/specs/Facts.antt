@@ -36,7 +36,8 @@ IsInside r x = (r.base ≤ x) × (x < r.top)
 -- a word of its owner's code: a library's export has the range of that code itself
 pub record GateFits (i : Image) (n : ℕ) : Type 0 where
   pub even : gate_code i n % 4 ≡ 0
-  pub compartment : (b : ℕ) → (root i n).owner ≡ Compartment b → IsInside (root i (code_entry i b)) (gate_code i n)
+  pub compartment : (b : ℕ) → (root i n).owner ≡ Compartment b
+      → IsInside (root i (code_entry i b)) (gate_code i n)
   pub library : (l : ℕ) → (root i n).owner ≡ Library l → IsInside (root i n) (gate_code i n)
 
 -- ---- what boot makes
@@ -48,15 +49,23 @@ pub record HasCapability (i : Image) (n : ℕ) : Type 0 where
 
 -- what may load, store or run through an entry
 abbrev pub Reads : Root → Type 0
-Reads r = (bit r.rights load_data ≡ true) ⊎ (bit r.rights store_data ≡ true) ⊎ (bit r.rights execute ≡ true)
+Reads r =
+    (bit r.rights load_data ≡ true) ⊎ (bit r.rights store_data ≡ true)
+    ⊎ (bit r.rights execute ≡ true)
 
 pub record Facts (i : Image) : Type 0 where
   pub made : (n : ℕ) → HasCapability i n → (made_cap i n).tag ≡ true
-  pub quotas : (n : ℕ) → cap_seal (made_cap i n) ≡ QUOTA_TYPE → (root i n).origin ≡ Listing kind.Quota
-  pub calls : (n : ℕ) → cap_seal (made_cap i n) ≡ EXPORT_TYPE → (root i n).origin ≡ Listing kind.Call
+  pub quotas : (n : ℕ) → cap_seal (made_cap i n) ≡ QUOTA_TYPE
+      → (root i n).origin ≡ Listing kind.Quota
+  pub calls : (n : ℕ) → cap_seal (made_cap i n) ≡ EXPORT_TYPE
+      → (root i n).origin ≡ Listing kind.Call
   pub called : (n : ℕ) → (root i n).origin ≡ Listing kind.Call → IsCompartmentExport i (root i n).of
-  pub imported : (n : ℕ) → (root i n).origin ≡ Listing kind.Library → IsLibraryExport i n (root i n).of
+  pub imported : (n : ℕ) → (root i n).origin ≡ Listing kind.Library
+      → IsLibraryExport i n (root i n).of
   pub gates : (n : ℕ) → (root i n).origin ≡ Listing kind.Export → GateFits i n
-  pub stacks : (n : ℕ) → (root i n).origin ≡ Listing kind.Stack → (rounded_of (root i n).base (root i n).top).exact ≡ true
-  pub natives : (n x : ℕ) → is_native (root i n).origin ≡ false → Reads (root i n) → IsInside (root i n) x → (x < NATIVE_BASE) ⊎ (NATIVE_END ≤ x)
-  pub heap : (n x : ℕ) → Reads (root i n) → IsInside (root i n) x → (x < i.heap_base) ⊎ (i.heap_end ≤ x)
+  pub stacks : (n : ℕ) → (root i n).origin ≡ Listing kind.Stack
+      → (rounded_of (root i n).base (root i n).top).exact ≡ true
+  pub natives : (n x : ℕ) → is_native (root i n).origin ≡ false → Reads (root i n)
+      → IsInside (root i n) x → (x < NATIVE_BASE) ⊎ (NATIVE_END ≤ x)
+  pub heap : (n x : ℕ) → Reads (root i n) → IsInside (root i n) x
+      → (x < i.heap_base) ⊎ (i.heap_end ≤ x)

@@ -21,6 +21,10 @@ has_entry rows o = list_any (λ (r : Entry). same_owner r.owner o) rows
 -- every compartment, a thread by itself none. Neither an owner nor a compartment without an entry counts.
 abbrev pub Reached : Listed → Owner → ℕ → Type 0
 Reached e Trusted b = has_entry e.rows (Compartment b) ≡ true
-Reached e (Compartment a) b = (has_entry e.rows (Compartment a) ≡ true) × (has_entry e.rows (Compartment b) ≡ true) × Reaches e (Compartment a) b
-Reached e (Library l) b = (has_entry e.rows (Library l) ≡ true) × (has_entry e.rows (Compartment b) ≡ true) × Reaches e (Library l) b
+Reached e (Compartment a) b =
+    (has_entry e.rows (Compartment a) ≡ true) × (has_entry e.rows (Compartment b) ≡ true)
+    × Reaches e (Compartment a) b
+Reached e (Library l) b =
+    (has_entry e.rows (Library l) ≡ true) × (has_entry e.rows (Compartment b) ≡ true)
+    × Reaches e (Library l) b
 Reached e (Thread t) b = ⊥

@@ -8,9 +8,11 @@ check place fails = record { place = place; fails = fails }
 
 -- What is asked of a list: of each member, at its place, which follows those of the members before it, and with these
 -- known.
-unfoldable pub walked : {A : Type 0} → (ℕ → List A → A → List Check) → (A → ℕ) → ℕ → List A → List A → List Check
+unfoldable pub walked : {A : Type 0} → (ℕ → List A → A → List Check) → (A → ℕ) → ℕ → List A → List A
+    → List Check
 walked asked size at earlier [] = []
-walked asked size at earlier (x ∷ xs) = asked at earlier x ++ walked asked size (at + size x) (earlier ++ x ∷ []) xs
+walked asked size at earlier (x ∷ xs) =
+    asked at earlier x ++ walked asked size (at + size x) (earlier ++ x ∷ []) xs
 
 -- the place of the first that fails
 unfoldable pub first : List Check → Option ℕ

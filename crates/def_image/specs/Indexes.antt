@@ -54,7 +54,8 @@ abbrev pub is_reserved : ImportRow → Bool
 is_reserved r = is_service r.kind && (r.first == SWITCH || r.first == RETURN)
 
 abbrev pub is_astray : PartsRow → List SlotRow → ImportRow → Bool
-is_astray p earlier r = not (is_named p r r.kind) || is_reserved r || list_any (comes_before r) earlier
+is_astray p earlier r =
+    not (is_named p r r.kind) || is_reserved r || list_any (comes_before r) earlier
 
 -- ---- what is asked
 
@@ -69,7 +70,8 @@ abbrev pub own_slot_asked : PartsRow → ℕ → List SlotRow → SlotRow → Li
 own_slot_asked p at earlier s = check at (is_own_astray p earlier s.row) ∷ []
 
 abbrev pub compartment_asked : PartsRow → ℕ → List CompartmentRow → CompartmentRow → List Check
-compartment_asked p at earlier c = walked (own_slot_asked p) (λ s. ENTRY) (at + COMPARTMENT_HEAD) [] c.code.slots
+compartment_asked p at earlier c =
+    walked (own_slot_asked p) (λ s. ENTRY) (at + COMPARTMENT_HEAD) [] c.code.slots
 
 abbrev pub library_asked : PartsRow → ℕ → List CodeRow → CodeRow → List Check
 library_asked p at earlier c = walked (slot_asked p) (λ s. ENTRY) (at + LIBRARY_HEAD) [] c.slots

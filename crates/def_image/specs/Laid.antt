@@ -23,4 +23,5 @@ IsRegion p i r = slice_get (regions_of p) i ≡ Some r
 -- each region is laid, and an address lies in one of them at most
 pub record AreLaid (p : PartsRow) : Type 0 where
   pub each : (i : ℕ) (r : RegionRow) → IsRegion p i r → IsLaid p r
-  pub one : (i j x : ℕ) (r q : RegionRow) → IsRegion p i r → IsRegion p j q → IsIn r x → IsIn q x → i ≡ j
+  pub one : (i j x : ℕ) (r q : RegionRow) → IsRegion p i r → IsRegion p j q → IsIn r x → IsIn q x
+      → i ≡ j

@@ -131,7 +131,12 @@ pub record Bounds : Type 0 where
   pub passes : ℕ
 
 abbrev pub compartment_bounds : Bounds
-compartment_bounds = record { stack = most.MOST_STACK; args = most.MOST_ARGUMENTS; posture = 2; passes = 2 }
+compartment_bounds = record {
+  stack = most.MOST_STACK;
+  args = most.MOST_ARGUMENTS;
+  posture = 2;
+  passes = 2;
+}
 
 abbrev pub library_bounds : Bounds
 library_bounds = record { stack = 0; args = 0; posture = 1; passes = 1 }
@@ -159,7 +164,8 @@ key_name kind =
     if kind == 13 then codes "key13" else if kind == 14 then codes "key14" else if kind == 15 then codes "key15" else []
 
 abbrev pub is_unnamed_key : RawEntry → Bool
-is_unnamed_key s = (byte_at s.row 0 == 8) && not (bytes_eq (entry_name s) (key_name (number_at s.row 4)))
+is_unnamed_key s =
+    (byte_at s.row 0 == 8) && not (bytes_eq (entry_name s) (key_name (number_at s.row 4)))
 
 abbrev pub switch_name : List ℕ
 switch_name = codes "switch"
@@ -171,7 +177,8 @@ is_misnamed earlier s =
 
 unfoldable pub own_slot_limits : ℕ → List RawEntry → RawEntry → List Check
 own_slot_limits at earlier s =
-    row_limits at s.row ++ name_checks (at + ROW) (is_misnamed earlier s) (map entry_name earlier) s.name
+    row_limits at s.row
+        ++ name_checks (at + ROW) (is_misnamed earlier s) (map entry_name earlier) s.name
 
 -- in a library
 unfoldable pub slot_limits : ℕ → List RawEntry → RawEntry → List Check
@@ -181,7 +188,8 @@ slot_limits at earlier s =
 -- `entry` is the number of the first export's entry
 unfoldable pub export_limits : Bounds → ℕ → ℕ → ℕ → List RawEntry → RawEntry → List Check
 export_limits b text entry at earlier x =
-    gate_limits b text (entry + length earlier) at x.row ++ name_checks (at + ROW) false (map entry_name earlier) x.name
+    gate_limits b text (entry + length earlier) at x.row
+        ++ name_checks (at + ROW) false (map entry_name earlier) x.name
 
 -- ---- compartments and libraries
 
@@ -211,7 +219,8 @@ abbrev pub slots_limits : ℕ → RawCode → List Check
 slots_limits at c = walked slot_limits (λ s. ENTRY) at [] c.slots
 
 abbrev pub exports_limits : Bounds → ℕ → ℕ → RawCode → List Check
-exports_limits b entry at c = walked (export_limits b (length c.text) entry) (λ x. ENTRY) at [] c.exports
+exports_limits b entry at c =
+    walked (export_limits b (length c.text) entry) (λ x. ENTRY) at [] c.exports
 
 -- `entry` is the number of its first entry
 unfoldable pub compartment_limits_by : ℕ → ℕ → List (List ℕ) → RawCompartment → List Check
@@ -219,18 +228,21 @@ compartment_limits_by entry at seen c =
     name_checks at false seen c.code.name
     ++ code_limits at c.code
     ++ check (at + 52) (outside REGION_UNIT most.MOST_BYTES c.globals_length)
-    ∷ check (at + 56) (nat_lt most.MOST_BYTES (length c.initial) || nat_lt c.globals_length (length c.initial))
+    ∷ check (at + 56)
+        (nat_lt most.MOST_BYTES (length c.initial) || nat_lt c.globals_length (length c.initial))
     ∷ check (at + 60) (outside 1 most.MOST_SLOTS (length c.code.slots))
     ∷ check (at + 64) (nat_lt most.MOST_EXPORTS (length c.code.exports))
     ∷ own_slots_limits (at + COMPARTMENT_HEAD) c.code
     ++ exports_limits compartment_bounds (entry + 2 + length c.code.slots)
     (at + COMPARTMENT_HEAD + entries_size c.code.slots) c.code
-    ++ check (at + COMPARTMENT_HEAD + tables_size c.code + length c.initial) (not (are_zeros c.padding))
+    ++ check (at + COMPARTMENT_HEAD + tables_size c.code + length c.initial)
+        (not (are_zeros c.padding))
     ∷ []
 
 abbrev pub compartment_limits : ℕ → List RawCompartment → RawCompartment → List Check
 compartment_limits at earlier c =
-    compartment_limits_by (1 + sum_of compartment_entries earlier) at (map compartment_name earlier) c
+    compartment_limits_by (1 + sum_of compartment_entries earlier) at (map compartment_name earlier)
+        c
 
 unfoldable pub library_limits_by : ℕ → ℕ → List (List ℕ) → RawCode → List Check
 library_limits_by entry at seen c =
@@ -239,7 +251,8 @@ library_limits_by entry at seen c =
     ++ check (at + 44) (nat_lt most.MOST_IMPORTS (length c.slots))
     ∷ check (at + 48) (nat_lt most.MOST_EXPORTS (length c.exports))
     ∷ slots_limits (at + LIBRARY_HEAD) c
-    ++ exports_limits library_bounds (entry + 1 + length c.slots) (at + LIBRARY_HEAD + entries_size c.slots) c
+    ++ exports_limits library_bounds (entry + 1 + length c.slots)
+        (at + LIBRARY_HEAD + entries_size c.slots) c
 
 -- the number of the first library's first entry
 abbrev pub first_library_entry : RawImage → ℕ

@@ -45,7 +45,8 @@ is_heap_laid p = is_even p.heap && nat_le p.heap (p.ram + p.size) && nat_le (tru
 
 -- a region whose base stands after the heap's: laid, and below the heap
 abbrev pub is_laid_below : PartsRow → List RegionRow → RegionRow → Bool
-is_laid_below p earlier r = is_laid p (trusted_region p ∷ earlier) r && nat_le (r.base + r.length) p.heap
+is_laid_below p earlier r =
+    is_laid p (trusted_region p ∷ earlier) r && nat_le (r.base + r.length) p.heap
 
 abbrev pub region_asked : PartsRow → ℕ → List RegionRow → RegionRow → List Check
 region_asked p at earlier r = check r.place (not (is_laid_below p earlier r)) ∷ []
@@ -55,7 +56,8 @@ meets_device base d = meets base DEVICE_SIZE d.base DEVICE_SIZE
 
 abbrev pub is_device_laid : PartsRow → List DeviceRow → DeviceRow → Bool
 is_device_laid p earlier d =
-    is_even d.base && not (meets d.base DEVICE_SIZE p.ram p.size) && not (meets_native d.base DEVICE_SIZE)
+    is_even d.base && not (meets d.base DEVICE_SIZE p.ram p.size)
+    && not (meets_native d.base DEVICE_SIZE)
     && not (list_any (meets_device d.base) earlier)
 
 abbrev pub device_asked : PartsRow → ℕ → List DeviceRow → DeviceRow → List Check

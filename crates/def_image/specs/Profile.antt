@@ -19,4 +19,5 @@ abbrev pub last_service : ℕ
 last_service = SERVICES_TAKEN
 
 abbrev pub most_threads : ℕ → ℕ
-most_threads v = if nat_le THREADS_TAKEN (version.most_threads v) then THREADS_TAKEN else version.most_threads v
+most_threads v =
+    if nat_le THREADS_TAKEN (version.most_threads v) then THREADS_TAKEN else version.most_threads v

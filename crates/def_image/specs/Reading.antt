@@ -12,4 +12,5 @@ OneCut = (bytes : List ℕ) (r q : RawImage) → Spells r bytes → Spells q byt
 
 -- and are the image of one list of parts
 abbrev pub OneReading : Type 0
-OneReading = (p q : PartsRow) → IsSpellable p → IsSpellable q → image_bytes p ≡ image_bytes q → p ≡ q
+OneReading =
+    (p q : PartsRow) → IsSpellable p → IsSpellable q → image_bytes p ≡ image_bytes q → p ≡ q

@@ -29,7 +29,12 @@ pub record RegionRow : Type 0 where
   pub length : ℕ
 
 abbrev pub region : Holder → ℕ → ℕ → ℕ → RegionRow
-region holder place base length = record { holder = holder; place = place; base = base; length = length }
+region holder place base length = record {
+  holder = holder;
+  place = place;
+  base = base;
+  length = length;
+}
 
 -- ---- lengths that the image doesn't say
 
@@ -60,7 +65,8 @@ shared_regions at n (s ∷ ss) =
 abbrev pub sealed_regions : ℕ → ℕ → List SealedRow → List RegionRow
 sealed_regions at n [] = []
 sealed_regions at n (s ∷ ss) =
-    region (SealedOf n) (at + 32) s.base s.length ∷ sealed_regions (at + sealed_size (raw_sealed s)) (n + 1) ss
+    region (SealedOf n) (at + 32) s.base s.length
+        ∷ sealed_regions (at + sealed_size (raw_sealed s)) (n + 1) ss
 
 abbrev pub compartment_regions : ℕ → ℕ → List CompartmentRow → List RegionRow
 compartment_regions at b [] = []
@@ -73,7 +79,8 @@ compartment_regions at b (c ∷ cs) =
 abbrev pub library_regions : ℕ → ℕ → List CodeRow → List RegionRow
 library_regions at l [] = []
 library_regions at l (c ∷ cs) =
-    region (CodeOf (Library l)) (at + 32) c.base c.length ∷ library_regions (at + library_size (raw_code c)) (l + 1) cs
+    region (CodeOf (Library l)) (at + 32) c.base c.length
+        ∷ library_regions (at + library_size (raw_code c)) (l + 1) cs
 
 abbrev pub stack_regions : ℕ → ℕ → List ThreadRow → List RegionRow
 stack_regions at t [] = []

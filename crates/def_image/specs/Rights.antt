@@ -31,7 +31,8 @@ device_rights = read_rights ∷ write_rights ∷ both_rights ∷ []
 
 -- RC, WC, RWC
 abbrev pub carrying_rights : List ℕ
-carrying_rights = (read_rights + MC + LM + LG) ∷ (write_rights + MC) ∷ (both_rights + MC + LM + LG) ∷ []
+carrying_rights =
+    (read_rights + MC + LM + LG) ∷ (write_rights + MC) ∷ (both_rights + MC + LM + LG) ∷ []
 
 abbrev pub is_one_of : ℕ → List ℕ → Bool
 is_one_of set sets = list_any (λ x. set == x) sets
@@ -65,7 +66,8 @@ library_right_asked at earlier s =
     check at (not (fits_kind s.row.kind (rights_of s.row) && is_library s.row.kind)) ∷ []
 
 abbrev pub compartment_rights : ℕ → List CompartmentRow → CompartmentRow → List Check
-compartment_rights at earlier c = walked right_asked (λ s. ENTRY) (at + COMPARTMENT_HEAD) [] c.code.slots
+compartment_rights at earlier c =
+    walked right_asked (λ s. ENTRY) (at + COMPARTMENT_HEAD) [] c.code.slots
 
 abbrev pub library_rights : ℕ → List CodeRow → CodeRow → List Check
 library_rights at earlier c = walked library_right_asked (λ s. ENTRY) (at + LIBRARY_HEAD) [] c.slots

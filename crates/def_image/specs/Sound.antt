@@ -124,13 +124,15 @@ pub record CompartmentFits (p : PartsRow) (b : ℕ) (c : CompartmentRow) : Type 
   pub globals : IsWithin REGION_UNIT most.MOST_BYTES c.globals_length
   pub initial : length c.initial ≤ c.globals_length
   pub slot : (j : ℕ) (s : SlotRow) → slice_get c.code.slots j ≡ Some s → OwnSlotFits p j s.row
-  pub export : (j : ℕ) (x : GateRow) → slice_get c.code.exports j ≡ Some x → ExportFits c.code (gate_number p b j) x.row
+  pub export : (j : ℕ) (x : GateRow) → slice_get c.code.exports j ≡ Some x
+      → ExportFits c.code (gate_number p b j) x.row
 
 pub record LibraryFits (p : PartsRow) (l : ℕ) (c : CodeRow) : Type 0 where
   pub code : CodeFits c
   pub slots : length c.slots ≤ most.MOST_IMPORTS
   pub slot : (j : ℕ) (s : SlotRow) → slice_get c.slots j ≡ Some s → LibrarySlotFits p s.row
-  pub export : (j : ℕ) (x : GateRow) → slice_get c.exports j ≡ Some x → LibraryExportFits c (library_gate_number p l j) x.row
+  pub export : (j : ℕ) (x : GateRow) → slice_get c.exports j ≡ Some x
+      → LibraryExportFits c (library_gate_number p l j) x.row
 
 -- a thread enters an export of a compartment
 pub record ThreadFits (p : PartsRow) (t : ThreadRow) : Type 0 where
@@ -138,7 +140,8 @@ pub record ThreadFits (p : PartsRow) (t : ThreadRow) : Type 0 where
   pub priority : t.priority ≤ most.MOST_PRIORITY
   pub frames : IsWithin 1 most.MOST_FRAMES t.frames
   pub enters : (c : CompartmentRow) × (x : GateRow)
-      × (slice_get p.compartments t.compartment ≡ Some c) × (slice_get c.code.exports t.export ≡ Some x)
+      × (slice_get p.compartments t.compartment ≡ Some c)
+      × (slice_get c.code.exports t.export ≡ Some x)
 
 -- ---- the whole
 
@@ -159,9 +162,12 @@ pub record Sound (p : PartsRow) : Type 0 where
   pub heap : HeapFits p
   pub laid : AreLaid p
   pub device : (i : ℕ) (d : DeviceRow) → slice_get p.devices i ≡ Some d → DeviceFits p d
-  pub apart : (i j : ℕ) (d e : DeviceRow) → slice_get p.devices i ≡ Some d → slice_get p.devices j ≡ Some e → d.base ≡ e.base → i ≡ j
-  pub object : (i : ℕ) (s : SharedRow) → slice_get p.shared i ≡ Some s → IsWithin 1 most.MOST_BYTES s.length
+  pub apart : (i j : ℕ) (d e : DeviceRow) → slice_get p.devices i ≡ Some d
+      → slice_get p.devices j ≡ Some e → d.base ≡ e.base → i ≡ j
+  pub object : (i : ℕ) (s : SharedRow) → slice_get p.shared i ≡ Some s
+      → IsWithin 1 most.MOST_BYTES s.length
   pub sealed : (i : ℕ) (s : SealedRow) → slice_get p.sealed i ≡ Some s → SealedFits s
-  pub compartment : (b : ℕ) (c : CompartmentRow) → slice_get p.compartments b ≡ Some c → CompartmentFits p b c
+  pub compartment : (b : ℕ) (c : CompartmentRow) → slice_get p.compartments b ≡ Some c
+      → CompartmentFits p b c
   pub library : (l : ℕ) (c : CodeRow) → slice_get p.libraries l ≡ Some c → LibraryFits p l c
   pub thread : (t : ℕ) (x : ThreadRow) → slice_get p.threads t ≡ Some x → ThreadFits p x

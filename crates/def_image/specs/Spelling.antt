@@ -35,7 +35,8 @@ shared_spelled s = s.name ++ number s.base ++ number s.length
 
 abbrev pub sealed_spelled : RawSealed → List ℕ
 sealed_spelled s =
-    s.name ++ number s.base ++ number s.length ++ number s.seal ++ count s.bytes ++ s.bytes ++ s.padding
+    s.name ++ number s.base ++ number s.length ++ number s.seal ++ count s.bytes ++ s.bytes
+        ++ s.padding
 
 -- slots, exports and text
 abbrev pub tables_spelled : RawCode → List ℕ
@@ -72,8 +73,10 @@ spelled r =
     ++ count r.compartments ++ count r.libraries ++ count r.threads
     ++ number r.quantum ++ number r.ram ++ number r.size ++ number r.trusted ++ number r.heap
     ++ sweep_spelled r ++ r.name
-    ++ flat_map device_spelled r.devices ++ flat_map shared_spelled r.shared ++ flat_map sealed_spelled r.sealed
-    ++ flat_map compartment_spelled r.compartments ++ flat_map library_spelled r.libraries ++ flat_map thread_spelled r.threads
+    ++ flat_map device_spelled r.devices ++ flat_map shared_spelled r.shared
+    ++ flat_map sealed_spelled r.sealed
+    ++ flat_map compartment_spelled r.compartments ++ flat_map library_spelled r.libraries
+    ++ flat_map thread_spelled r.threads
 
 -- ---- what fields an image of these parts has
 

@@ -43,10 +43,15 @@ abbrev pub store_immediate : Fields → ℕ
 store_immediate f = extended 12 (f.rd + f.funct7 * 2 ^ 5)
 
 abbrev pub branch_offset : Fields → ℕ
-branch_offset f = extended 13 (f.rd / 2 * 2 + f.funct7 % 2 ^ 6 * 2 ^ 5 + f.rd % 2 * 2 ^ 11 + f.funct7 / 2 ^ 6 * 2 ^ 12)
+branch_offset f =
+    extended 13
+    (f.rd / 2 * 2 + f.funct7 % 2 ^ 6 * 2 ^ 5 + f.rd % 2 * 2 ^ 11 + f.funct7 / 2 ^ 6 * 2 ^ 12)
 
 abbrev pub jump_offset : Fields → ℕ
-jump_offset f = extended 21 (f.rs2 / 2 * 2 + f.funct7 % 2 ^ 6 * 2 ^ 5 + f.rs2 % 2 * 2 ^ 11 + f.funct3 * 2 ^ 12 + f.rs1 * 2 ^ 15 + f.funct7 / 2 ^ 6 * 2 ^ 20)
+jump_offset f =
+    extended 21
+    (f.rs2 / 2 * 2 + f.funct7 % 2 ^ 6 * 2 ^ 5 + f.rs2 % 2 * 2 ^ 11 + f.funct3 * 2 ^ 12
+        + f.rs1 * 2 ^ 15 + f.funct7 / 2 ^ 6 * 2 ^ 20)
 
 abbrev pub upper_immediate : Fields → ℕ
 upper_immediate f = f.funct3 + f.rs1 * 2 ^ 3 + f.rs2 * 2 ^ 8 + f.funct7 * 2 ^ 13
@@ -72,7 +77,9 @@ abbrev pub jump_of : Fields → Option Instr
 jump_of f = if one_small f.rd then Some (Jal f.rd (jump_offset f)) else None
 
 abbrev pub register_jump_of : Fields → Option Instr
-register_jump_of f = if f.funct3 == 0 && two_small f.rd f.rs1 then Some (CJalr f.rd f.rs1 (signed_immediate f)) else None
+register_jump_of f =
+    if f.funct3 == 0 && two_small f.rd f.rs1 then Some (CJalr f.rd f.rs1 (signed_immediate f))
+    else None
 
 abbrev pub branch_of : Fields → Option Instr
 branch_of f =
@@ -167,7 +174,8 @@ register_of f =
     ) else None
 
 abbrev pub fence_of : Fields → Option Instr
-fence_of f = if f.funct3 == 0 && f.rd == 0 && f.rs1 == 0 then Some (Fence (signed_immediate f)) else None
+fence_of f =
+    if f.funct3 == 0 && f.rd == 0 && f.rs1 == 0 then Some (Fence (signed_immediate f)) else None
 
 abbrev pub call_of : Fields → Option Instr
 call_of f = if f.rd == 0 && f.rs1 == 0 && f.funct7 == 0 then (
@@ -180,7 +188,9 @@ abbrev pub system_of : Fields → Option Instr
 system_of f =
     if f.funct3 == 0 then call_of f else
     if f.funct3 == 4 then None else
-    if one_small f.rd && (nat_le 5 f.funct3 || nat_lt f.rs1 16) then Some (Csr f.funct3 f.rd f.rs1 (low_immediate f)) else None
+    if one_small f.rd && (nat_le 5 f.funct3 || nat_lt f.rs1 16)
+          then Some (Csr f.funct3 f.rd f.rs1 (low_immediate f))
+        else None
 
 abbrev pub one_source_of : Fields → Option Instr
 one_source_of f =

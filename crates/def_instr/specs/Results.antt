@@ -58,7 +58,8 @@ integer_result (Mul rd rs1 rs2) x y = x * y % 2 ^ 32
 integer_result (Mulh rd rs1 rs2) x y = high_word (signed x *ℤ signed y)
 integer_result (Mulhsu rd rs1 rs2) x y = high_word (signed x *ℤ pos y)
 integer_result (Mulhu rd rs1 rs2) x y = high_word (pos (x * y))
-integer_result (Div rd rs1 rs2) x y = if y == 0 then 2 ^ 32 - 1 else low_word (int_div (signed x) (signed y))
+integer_result (Div rd rs1 rs2) x y =
+    if y == 0 then 2 ^ 32 - 1 else low_word (int_div (signed x) (signed y))
 integer_result (Divu rd rs1 rs2) x y = if y == 0 then 2 ^ 32 - 1 else x / y
 integer_result (Rem rd rs1 rs2) x y = if y == 0 then x else low_word (int_rem (signed x) (signed y))
 integer_result (Remu rd rs1 rs2) x y = if y == 0 then x else x % y

@@ -39,12 +39,18 @@ shape_of (instr.Sb rs1 rs2 immediate) = shape.Store stores.Sb rs1 rs2 immediate
 shape_of (instr.Sh rs1 rs2 immediate) = shape.Store stores.Sh rs1 rs2 immediate
 shape_of (instr.Sw rs1 rs2 immediate) = shape.Store stores.Sw rs1 rs2 immediate
 shape_of (instr.Csc rs1 rs2 immediate) = shape.Store stores.Csc rs1 rs2 immediate
-shape_of (instr.Addi rd rs1 immediate) = shape.Immediate (immediates.Signed signeds.Addi) rd rs1 immediate
-shape_of (instr.Slti rd rs1 immediate) = shape.Immediate (immediates.Signed signeds.Slti) rd rs1 immediate
-shape_of (instr.Sltiu rd rs1 immediate) = shape.Immediate (immediates.Signed signeds.Sltiu) rd rs1 immediate
-shape_of (instr.Xori rd rs1 immediate) = shape.Immediate (immediates.Signed signeds.Xori) rd rs1 immediate
-shape_of (instr.Ori rd rs1 immediate) = shape.Immediate (immediates.Signed signeds.Ori) rd rs1 immediate
-shape_of (instr.Andi rd rs1 immediate) = shape.Immediate (immediates.Signed signeds.Andi) rd rs1 immediate
+shape_of (instr.Addi rd rs1 immediate) =
+    shape.Immediate (immediates.Signed signeds.Addi) rd rs1 immediate
+shape_of (instr.Slti rd rs1 immediate) =
+    shape.Immediate (immediates.Signed signeds.Slti) rd rs1 immediate
+shape_of (instr.Sltiu rd rs1 immediate) =
+    shape.Immediate (immediates.Signed signeds.Sltiu) rd rs1 immediate
+shape_of (instr.Xori rd rs1 immediate) =
+    shape.Immediate (immediates.Signed signeds.Xori) rd rs1 immediate
+shape_of (instr.Ori rd rs1 immediate) =
+    shape.Immediate (immediates.Signed signeds.Ori) rd rs1 immediate
+shape_of (instr.Andi rd rs1 immediate) =
+    shape.Immediate (immediates.Signed signeds.Andi) rd rs1 immediate
 shape_of (instr.Slli rd rs1 amount) = shape.Immediate (immediates.Shift shifts.Slli) rd rs1 amount
 shape_of (instr.Srli rd rs1 amount) = shape.Immediate (immediates.Shift shifts.Srli) rd rs1 amount
 shape_of (instr.Srai rd rs1 amount) = shape.Immediate (immediates.Shift shifts.Srai) rd rs1 amount
@@ -70,20 +76,33 @@ shape_of (instr.Fence immediate) = shape.Fence immediate
 shape_of instr.Ecall = shape.Call
 shape_of instr.Ebreak = shape.Break
 shape_of (instr.Csr function rd source number) = shape.Status function rd source number
-shape_of (instr.CIncAddrImm rd rs1 immediate) = shape.Immediate immediates.CIncAddrImm rd rs1 immediate
-shape_of (instr.CSetBoundsImm rd rs1 immediate) = shape.Immediate immediates.CSetBoundsImm rd rs1 immediate
+shape_of (instr.CIncAddrImm rd rs1 immediate) =
+    shape.Immediate immediates.CIncAddrImm rd rs1 immediate
+shape_of (instr.CSetBoundsImm rd rs1 immediate) =
+    shape.Immediate immediates.CSetBoundsImm rd rs1 immediate
 shape_of (instr.CSpecialRw rd rs1 number) = shape.Special rd rs1 number
-shape_of (instr.CSetBounds rd rs1 rs2) = shape.Registers (registers.Capability capabilities.CSetBounds) rd rs1 rs2
-shape_of (instr.CSetBoundsExact rd rs1 rs2) = shape.Registers (registers.Capability capabilities.CSetBoundsExact) rd rs1 rs2
-shape_of (instr.CSeal rd rs1 rs2) = shape.Registers (registers.Capability capabilities.CSeal) rd rs1 rs2
-shape_of (instr.CUnseal rd rs1 rs2) = shape.Registers (registers.Capability capabilities.CUnseal) rd rs1 rs2
-shape_of (instr.CAndPerm rd rs1 rs2) = shape.Registers (registers.Capability capabilities.CAndPerm) rd rs1 rs2
-shape_of (instr.CSetAddr rd rs1 rs2) = shape.Registers (registers.Capability capabilities.CSetAddr) rd rs1 rs2
-shape_of (instr.CIncAddr rd rs1 rs2) = shape.Registers (registers.Capability capabilities.CIncAddr) rd rs1 rs2
-shape_of (instr.CSub rd rs1 rs2) = shape.Registers (registers.Capability capabilities.CSub) rd rs1 rs2
-shape_of (instr.CSetHigh rd rs1 rs2) = shape.Registers (registers.Capability capabilities.CSetHigh) rd rs1 rs2
-shape_of (instr.CTestSubset rd rs1 rs2) = shape.Registers (registers.Capability capabilities.CTestSubset) rd rs1 rs2
-shape_of (instr.CSetEqualExact rd rs1 rs2) = shape.Registers (registers.Capability capabilities.CSetEqualExact) rd rs1 rs2
+shape_of (instr.CSetBounds rd rs1 rs2) =
+    shape.Registers (registers.Capability capabilities.CSetBounds) rd rs1 rs2
+shape_of (instr.CSetBoundsExact rd rs1 rs2) =
+    shape.Registers (registers.Capability capabilities.CSetBoundsExact) rd rs1 rs2
+shape_of (instr.CSeal rd rs1 rs2) =
+    shape.Registers (registers.Capability capabilities.CSeal) rd rs1 rs2
+shape_of (instr.CUnseal rd rs1 rs2) =
+    shape.Registers (registers.Capability capabilities.CUnseal) rd rs1 rs2
+shape_of (instr.CAndPerm rd rs1 rs2) =
+    shape.Registers (registers.Capability capabilities.CAndPerm) rd rs1 rs2
+shape_of (instr.CSetAddr rd rs1 rs2) =
+    shape.Registers (registers.Capability capabilities.CSetAddr) rd rs1 rs2
+shape_of (instr.CIncAddr rd rs1 rs2) =
+    shape.Registers (registers.Capability capabilities.CIncAddr) rd rs1 rs2
+shape_of (instr.CSub rd rs1 rs2) =
+    shape.Registers (registers.Capability capabilities.CSub) rd rs1 rs2
+shape_of (instr.CSetHigh rd rs1 rs2) =
+    shape.Registers (registers.Capability capabilities.CSetHigh) rd rs1 rs2
+shape_of (instr.CTestSubset rd rs1 rs2) =
+    shape.Registers (registers.Capability capabilities.CTestSubset) rd rs1 rs2
+shape_of (instr.CSetEqualExact rd rs1 rs2) =
+    shape.Registers (registers.Capability capabilities.CSetEqualExact) rd rs1 rs2
 shape_of (instr.CGetPerm rd rs1) = shape.OneSource sources.CGetPerm rd rs1
 shape_of (instr.CGetType rd rs1) = shape.OneSource sources.CGetType rd rs1
 shape_of (instr.CGetBase rd rs1) = shape.OneSource sources.CGetBase rd rs1
@@ -120,12 +139,18 @@ shaped (shape.Store stores.Sb rs1 rs2 immediate) = instr.Sb rs1 rs2 immediate
 shaped (shape.Store stores.Sh rs1 rs2 immediate) = instr.Sh rs1 rs2 immediate
 shaped (shape.Store stores.Sw rs1 rs2 immediate) = instr.Sw rs1 rs2 immediate
 shaped (shape.Store stores.Csc rs1 rs2 immediate) = instr.Csc rs1 rs2 immediate
-shaped (shape.Immediate (immediates.Signed signeds.Addi) rd rs1 immediate) = instr.Addi rd rs1 immediate
-shaped (shape.Immediate (immediates.Signed signeds.Slti) rd rs1 immediate) = instr.Slti rd rs1 immediate
-shaped (shape.Immediate (immediates.Signed signeds.Sltiu) rd rs1 immediate) = instr.Sltiu rd rs1 immediate
-shaped (shape.Immediate (immediates.Signed signeds.Xori) rd rs1 immediate) = instr.Xori rd rs1 immediate
-shaped (shape.Immediate (immediates.Signed signeds.Ori) rd rs1 immediate) = instr.Ori rd rs1 immediate
-shaped (shape.Immediate (immediates.Signed signeds.Andi) rd rs1 immediate) = instr.Andi rd rs1 immediate
+shaped (shape.Immediate (immediates.Signed signeds.Addi) rd rs1 immediate) =
+    instr.Addi rd rs1 immediate
+shaped (shape.Immediate (immediates.Signed signeds.Slti) rd rs1 immediate) =
+    instr.Slti rd rs1 immediate
+shaped (shape.Immediate (immediates.Signed signeds.Sltiu) rd rs1 immediate) =
+    instr.Sltiu rd rs1 immediate
+shaped (shape.Immediate (immediates.Signed signeds.Xori) rd rs1 immediate) =
+    instr.Xori rd rs1 immediate
+shaped (shape.Immediate (immediates.Signed signeds.Ori) rd rs1 immediate) =
+    instr.Ori rd rs1 immediate
+shaped (shape.Immediate (immediates.Signed signeds.Andi) rd rs1 immediate) =
+    instr.Andi rd rs1 immediate
 shaped (shape.Immediate (immediates.Shift shifts.Slli) rd rs1 amount) = instr.Slli rd rs1 amount
 shaped (shape.Immediate (immediates.Shift shifts.Srli) rd rs1 amount) = instr.Srli rd rs1 amount
 shaped (shape.Immediate (immediates.Shift shifts.Srai) rd rs1 amount) = instr.Srai rd rs1 amount
@@ -151,20 +176,32 @@ shaped (shape.Fence immediate) = instr.Fence immediate
 shaped shape.Call = instr.Ecall
 shaped shape.Break = instr.Ebreak
 shaped (shape.Status function rd source number) = instr.Csr function rd source number
-shaped (shape.Immediate immediates.CIncAddrImm rd rs1 immediate) = instr.CIncAddrImm rd rs1 immediate
-shaped (shape.Immediate immediates.CSetBoundsImm rd rs1 immediate) = instr.CSetBoundsImm rd rs1 immediate
+shaped (shape.Immediate immediates.CIncAddrImm rd rs1 immediate) =
+    instr.CIncAddrImm rd rs1 immediate
+shaped (shape.Immediate immediates.CSetBoundsImm rd rs1 immediate) =
+    instr.CSetBoundsImm rd rs1 immediate
 shaped (shape.Special rd rs1 number) = instr.CSpecialRw rd rs1 number
-shaped (shape.Registers (registers.Capability capabilities.CSetBounds) rd rs1 rs2) = instr.CSetBounds rd rs1 rs2
-shaped (shape.Registers (registers.Capability capabilities.CSetBoundsExact) rd rs1 rs2) = instr.CSetBoundsExact rd rs1 rs2
-shaped (shape.Registers (registers.Capability capabilities.CSeal) rd rs1 rs2) = instr.CSeal rd rs1 rs2
-shaped (shape.Registers (registers.Capability capabilities.CUnseal) rd rs1 rs2) = instr.CUnseal rd rs1 rs2
-shaped (shape.Registers (registers.Capability capabilities.CAndPerm) rd rs1 rs2) = instr.CAndPerm rd rs1 rs2
-shaped (shape.Registers (registers.Capability capabilities.CSetAddr) rd rs1 rs2) = instr.CSetAddr rd rs1 rs2
-shaped (shape.Registers (registers.Capability capabilities.CIncAddr) rd rs1 rs2) = instr.CIncAddr rd rs1 rs2
+shaped (shape.Registers (registers.Capability capabilities.CSetBounds) rd rs1 rs2) =
+    instr.CSetBounds rd rs1 rs2
+shaped (shape.Registers (registers.Capability capabilities.CSetBoundsExact) rd rs1 rs2) =
+    instr.CSetBoundsExact rd rs1 rs2
+shaped (shape.Registers (registers.Capability capabilities.CSeal) rd rs1 rs2) =
+    instr.CSeal rd rs1 rs2
+shaped (shape.Registers (registers.Capability capabilities.CUnseal) rd rs1 rs2) =
+    instr.CUnseal rd rs1 rs2
+shaped (shape.Registers (registers.Capability capabilities.CAndPerm) rd rs1 rs2) =
+    instr.CAndPerm rd rs1 rs2
+shaped (shape.Registers (registers.Capability capabilities.CSetAddr) rd rs1 rs2) =
+    instr.CSetAddr rd rs1 rs2
+shaped (shape.Registers (registers.Capability capabilities.CIncAddr) rd rs1 rs2) =
+    instr.CIncAddr rd rs1 rs2
 shaped (shape.Registers (registers.Capability capabilities.CSub) rd rs1 rs2) = instr.CSub rd rs1 rs2
-shaped (shape.Registers (registers.Capability capabilities.CSetHigh) rd rs1 rs2) = instr.CSetHigh rd rs1 rs2
-shaped (shape.Registers (registers.Capability capabilities.CTestSubset) rd rs1 rs2) = instr.CTestSubset rd rs1 rs2
-shaped (shape.Registers (registers.Capability capabilities.CSetEqualExact) rd rs1 rs2) = instr.CSetEqualExact rd rs1 rs2
+shaped (shape.Registers (registers.Capability capabilities.CSetHigh) rd rs1 rs2) =
+    instr.CSetHigh rd rs1 rs2
+shaped (shape.Registers (registers.Capability capabilities.CTestSubset) rd rs1 rs2) =
+    instr.CTestSubset rd rs1 rs2
+shaped (shape.Registers (registers.Capability capabilities.CSetEqualExact) rd rs1 rs2) =
+    instr.CSetEqualExact rd rs1 rs2
 shaped (shape.OneSource sources.CGetPerm rd rs1) = instr.CGetPerm rd rs1
 shaped (shape.OneSource sources.CGetType rd rs1) = instr.CGetType rd rs1
 shaped (shape.OneSource sources.CGetBase rd rs1) = instr.CGetBase rd rs1

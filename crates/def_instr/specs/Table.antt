@@ -31,19 +31,25 @@ use Rattle.def_instr.specs.Shapes.{shape_of}
 
 -- the fields of format R, which cut a word into six; the other formats join some of them
 abbrev pub format_r : ℕ → ℕ → ℕ → ℕ → ℕ → ℕ → ℕ
-format_r opcode funct3 funct7 rd rs1 rs2 = opcode + rd * 2 ^ 7 + funct3 * 2 ^ 12 + rs1 * 2 ^ 15 + rs2 * 2 ^ 20 + funct7 * 2 ^ 25
+format_r opcode funct3 funct7 rd rs1 rs2 =
+    opcode + rd * 2 ^ 7 + funct3 * 2 ^ 12 + rs1 * 2 ^ 15 + rs2 * 2 ^ 20 + funct7 * 2 ^ 25
 
 -- twelve bits of immediate above rs1
 abbrev pub format_i : ℕ → ℕ → ℕ → ℕ → ℕ → ℕ
-format_i opcode funct3 rd rs1 immediate = opcode + rd * 2 ^ 7 + funct3 * 2 ^ 12 + rs1 * 2 ^ 15 + immediate % 2 ^ 12 * 2 ^ 20
+format_i opcode funct3 rd rs1 immediate =
+    opcode + rd * 2 ^ 7 + funct3 * 2 ^ 12 + rs1 * 2 ^ 15 + immediate % 2 ^ 12 * 2 ^ 20
 
 -- the immediate's low five bits in rd's place, the next seven at the top
 abbrev pub format_s : ℕ → ℕ → ℕ → ℕ → ℕ → ℕ
-format_s opcode funct3 rs1 rs2 immediate = opcode + immediate % 2 ^ 5 * 2 ^ 7 + funct3 * 2 ^ 12 + rs1 * 2 ^ 15 + rs2 * 2 ^ 20 + immediate / 2 ^ 5 % 2 ^ 7 * 2 ^ 25
+format_s opcode funct3 rs1 rs2 immediate =
+    opcode + immediate % 2 ^ 5 * 2 ^ 7 + funct3 * 2 ^ 12 + rs1 * 2 ^ 15 + rs2 * 2 ^ 20
+    + immediate / 2 ^ 5 % 2 ^ 7 * 2 ^ 25
 
 -- the offset's bit 11, bits 4 to 1, bits 10 to 5, and bit 12
 abbrev pub format_b : ℕ → ℕ → ℕ → ℕ → ℕ → ℕ
-format_b opcode funct3 rs1 rs2 offset = opcode + offset / 2 ^ 11 % 2 * 2 ^ 7 + offset / 2 % 2 ^ 4 * 2 ^ 8 + funct3 * 2 ^ 12 + rs1 * 2 ^ 15 + rs2 * 2 ^ 20 + offset / 2 ^ 5 % 2 ^ 6 * 2 ^ 25 + offset / 2 ^ 12 % 2 * 2 ^ 31
+format_b opcode funct3 rs1 rs2 offset =
+    opcode + offset / 2 ^ 11 % 2 * 2 ^ 7 + offset / 2 % 2 ^ 4 * 2 ^ 8 + funct3 * 2 ^ 12
+    + rs1 * 2 ^ 15 + rs2 * 2 ^ 20 + offset / 2 ^ 5 % 2 ^ 6 * 2 ^ 25 + offset / 2 ^ 12 % 2 * 2 ^ 31
 
 -- twenty bits of immediate above rd
 abbrev pub format_u : ℕ → ℕ → ℕ → ℕ
@@ -51,7 +57,9 @@ format_u opcode rd immediate = opcode + rd * 2 ^ 7 + immediate * 2 ^ 12
 
 -- the offset's bits 19 to 12, bit 11, bits 10 to 1, and bit 20
 abbrev pub format_j : ℕ → ℕ → ℕ → ℕ
-format_j opcode rd offset = opcode + rd * 2 ^ 7 + offset / 2 ^ 12 % 2 ^ 8 * 2 ^ 12 + offset / 2 ^ 11 % 2 * 2 ^ 20 + offset / 2 % 2 ^ 10 * 2 ^ 21 + offset / 2 ^ 20 % 2 * 2 ^ 31
+format_j opcode rd offset =
+    opcode + rd * 2 ^ 7 + offset / 2 ^ 12 % 2 ^ 8 * 2 ^ 12 + offset / 2 ^ 11 % 2 * 2 ^ 20
+    + offset / 2 % 2 ^ 10 * 2 ^ 21 + offset / 2 ^ 20 % 2 * 2 ^ 31
 
 -- a register of the machine, which has sixteen
 abbrev pub IsRegister : ℕ → Type 0
@@ -67,7 +75,11 @@ IsOffset width n = IsSigned width n × (n % 2 ≡ 0)
 
 -- what an access of a control and status register may hold: functions 1 to 3 have a source register, functions 5 to 7 any five bits
 abbrev pub IsCsr : ℕ → ℕ → ℕ → ℕ → Type 0
-IsCsr function rd source number = IsRegister rd × (((1 ≤ function) × (function ≤ 3) × IsRegister source) ⊎ ((5 ≤ function) × (function ≤ 7) × (source < 32))) × (number < 2 ^ 12)
+IsCsr function rd source number =
+    IsRegister rd
+    × (((1 ≤ function) × (function ≤ 3) × IsRegister source)
+        ⊎ ((5 ≤ function) × (function ≤ 7) × (source < 32)))
+    × (number < 2 ^ 12)
 
 -- the immediate of an operation with a number
 abbrev pub FitsImmediate : ImmediateOperation → ℕ → Type 0
@@ -79,11 +91,13 @@ FitsImmediate immediates.CSetBoundsImm n = n < 2 ^ 12
 -- what the fields of a shape may hold
 abbrev pub FieldsFit : Shape → Type 0
 FieldsFit (shape.Registers operation rd rs1 rs2) = IsRegister rd × IsRegister rs1 × IsRegister rs2
-FieldsFit (shape.Immediate operation rd rs1 n) = IsRegister rd × IsRegister rs1 × FitsImmediate operation n
+FieldsFit (shape.Immediate operation rd rs1 n) =
+    IsRegister rd × IsRegister rs1 × FitsImmediate operation n
 FieldsFit (shape.Upper operation rd n) = IsRegister rd × (n < 2 ^ 20)
 FieldsFit (shape.Load operation rd rs1 n) = IsRegister rd × IsRegister rs1 × IsSigned 12 n
 FieldsFit (shape.Store operation rs1 rs2 n) = IsRegister rs1 × IsRegister rs2 × IsSigned 12 n
-FieldsFit (shape.Branch operation rs1 rs2 offset) = IsRegister rs1 × IsRegister rs2 × IsOffset 13 offset
+FieldsFit (shape.Branch operation rs1 rs2 offset) =
+    IsRegister rs1 × IsRegister rs2 × IsOffset 13 offset
 FieldsFit (shape.Jump rd offset) = IsRegister rd × IsOffset 21 offset
 FieldsFit (shape.RegisterJump rd rs1 n) = IsRegister rd × IsRegister rs1 × IsSigned 12 n
 FieldsFit (shape.OneSource operation rd rs1) = IsRegister rd × IsRegister rs1
@@ -203,19 +217,25 @@ source_number sources.CGetTop = 0x18
 
 -- the word of a shape: opcode, funct3 and funct7 where the format has them, and the fields
 abbrev pub shape_word : Shape → ℕ
-shape_word (shape.Registers (registers.Integer operation) rd rs1 rs2) = format_r 0x33 (integer_code operation).funct3 (integer_code operation).funct7 rd rs1 rs2
-shape_word (shape.Registers (registers.Capability operation) rd rs1 rs2) = format_r 0x5B 0 (capability_funct7 operation) rd rs1 rs2
-shape_word (shape.Immediate (immediates.Signed operation) rd rs1 n) = format_i 0x13 (signed_funct3 operation) rd rs1 n
-shape_word (shape.Immediate (immediates.Shift operation) rd rs1 n) = format_r 0x13 (shift_code operation).funct3 (shift_code operation).funct7 rd rs1 n
+shape_word (shape.Registers (registers.Integer operation) rd rs1 rs2) =
+    format_r 0x33 (integer_code operation).funct3 (integer_code operation).funct7 rd rs1 rs2
+shape_word (shape.Registers (registers.Capability operation) rd rs1 rs2) =
+    format_r 0x5B 0 (capability_funct7 operation) rd rs1 rs2
+shape_word (shape.Immediate (immediates.Signed operation) rd rs1 n) =
+    format_i 0x13 (signed_funct3 operation) rd rs1 n
+shape_word (shape.Immediate (immediates.Shift operation) rd rs1 n) =
+    format_r 0x13 (shift_code operation).funct3 (shift_code operation).funct7 rd rs1 n
 shape_word (shape.Immediate immediates.CIncAddrImm rd rs1 n) = format_i 0x5B 1 rd rs1 n
 shape_word (shape.Immediate immediates.CSetBoundsImm rd rs1 n) = format_i 0x5B 2 rd rs1 n
 shape_word (shape.Upper operation rd n) = format_u (upper_opcode operation) rd n
 shape_word (shape.Load operation rd rs1 n) = format_i 0x03 (load_funct3 operation) rd rs1 n
 shape_word (shape.Store operation rs1 rs2 n) = format_s 0x23 (store_funct3 operation) rs1 rs2 n
-shape_word (shape.Branch operation rs1 rs2 offset) = format_b 0x63 (branch_funct3 operation) rs1 rs2 offset
+shape_word (shape.Branch operation rs1 rs2 offset) =
+    format_b 0x63 (branch_funct3 operation) rs1 rs2 offset
 shape_word (shape.Jump rd offset) = format_j 0x6F rd offset
 shape_word (shape.RegisterJump rd rs1 n) = format_i 0x67 0 rd rs1 n
-shape_word (shape.OneSource operation rd rs1) = format_r 0x5B 0 0x7F rd rs1 (source_number operation)
+shape_word (shape.OneSource operation rd rs1) =
+    format_r 0x5B 0 0x7F rd rs1 (source_number operation)
 shape_word (shape.Fence n) = format_i 0x0F 0 0 0 n
 shape_word shape.Call = 0x00000073
 shape_word shape.Break = 0x00100073

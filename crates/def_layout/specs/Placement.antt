@@ -53,4 +53,5 @@ pub record IsLeastBase (end size base : ℕ) : Type 0 where
   pub even : base % REGION_UNIT ≡ 0
   pub aligned : base % alignment_of (whole_size size) ≡ 0
   pub after : end ≤ base
-  pub least : (b : ℕ) → end ≤ b → b % REGION_UNIT ≡ 0 → b % alignment_of (whole_size size) ≡ 0 → base ≤ b
+  pub least : (b : ℕ) → end ≤ b → b % REGION_UNIT ≡ 0 → b % alignment_of (whole_size size) ≡ 0
+      → base ≤ b

@@ -92,10 +92,12 @@ compartment_part d entry regions x = record {
 abbrev pub compartment_entries : BuiltCompartment → ℕ
 compartment_entries x = 2 + compartment_slot_count x.row + length x.row.exports
 
-unfoldable pub compartment_parts : DescRow → ℕ → List Region → List BuiltCompartment → List CompartmentPart
+unfoldable pub compartment_parts : DescRow → ℕ → List Region → List BuiltCompartment
+    → List CompartmentPart
 compartment_parts d entry regions [] = []
 compartment_parts d entry regions (x ∷ xs) =
-    compartment_part d entry regions x ∷ compartment_parts d (entry + compartment_entries x) (drop 3 regions) xs
+    compartment_part d entry regions x
+        ∷ compartment_parts d (entry + compartment_entries x) (drop 3 regions) xs
 
 -- code, slots, exports
 abbrev pub library_part : DescRow → ℕ → List Region → BuiltLibrary → CodePart
@@ -119,12 +121,19 @@ library_parts d entry regions (x ∷ xs) =
 unfoldable pub shared_parts : List Region → List SharedRow → List SharedPart
 shared_parts regions [] = []
 shared_parts regions (s ∷ ss) =
-    record { name = s.name; base = base_at regions 0; length = length_at regions 0 } ∷ shared_parts (drop 1 regions) ss
+    record { name = s.name; base = base_at regions 0; length = length_at regions 0 }
+        ∷ shared_parts (drop 1 regions) ss
 
 unfoldable pub sealed_parts : List Region → List SealedRow → List SealedPart
 sealed_parts regions [] = []
 sealed_parts regions (s ∷ ss) =
-    record { name = s.name; base = base_at regions 0; length = length_at regions 0; seal = s.seal; bytes = s.bytes }
+    record {
+      name = s.name;
+      base = base_at regions 0;
+      length = length_at regions 0;
+      seal = s.seal;
+      bytes = s.bytes;
+    }
     ∷ sealed_parts (drop 1 regions) ss
 
 abbrev pub thread_part : List Region → Exported → ThreadRow → ThreadPart
@@ -140,11 +149,13 @@ thread_part regions x t = record {
 
 unfoldable pub thread_parts : DescRow → List Region → List ThreadRow → List ThreadPart
 thread_parts d regions [] = []
-thread_parts d regions (t ∷ ts) = thread_part regions (called d t.entry) t ∷ thread_parts d (drop 1 regions) ts
+thread_parts d regions (t ∷ ts) =
+    thread_part regions (called d t.entry) t ∷ thread_parts d (drop 1 regions) ts
 
 -- the parts over all regions: those of compartments stand first, then of libraries, shared and
 -- sealed objects, stacks, and the trusted region
-unfoldable pub parts_of : DescRow → List BuiltCompartment → List BuiltLibrary → List Region → ℕ → PartsRow
+unfoldable pub parts_of : DescRow → List BuiltCompartment → List BuiltLibrary → List Region → ℕ
+    → PartsRow
 parts_of d cs ls regions heap =
     let libraries = 3 * length cs in
     let shared = libraries + length ls in
@@ -170,13 +181,15 @@ parts_of d cs ls regions heap =
 
 -- ---- the answer
 
-abbrev pub laid : DescRow → List BuiltCompartment → List BuiltLibrary → List ℕ → Result PartsRow LinkFault
+abbrev pub laid : DescRow → List BuiltCompartment → List BuiltLibrary → List ℕ
+    → Result PartsRow LinkFault
 laid d cs ls sizes =
     if nat_lt d.ram.size (needed d.ram.base sizes)
     then Err (fault.NoRoom (needed d.ram.base sizes) d.ram.size)
     else Ok (parts_of d cs ls (placed d.ram.base sizes) (last_end d.ram.base sizes))
 
-abbrev pub laid_with : DescRow → List BuiltCompartment → List BuiltLibrary → Result PartsRow LinkFault
+abbrev pub laid_with : DescRow → List BuiltCompartment → List BuiltLibrary
+    → Result PartsRow LinkFault
 laid_with d cs ls = laid d cs ls (sizes_of d cs ls)
 
 abbrev pub linked_with : DescRow → Result (List Built) LinkFault → Result PartsRow LinkFault

@@ -61,10 +61,12 @@ abbrev pub words_built : List ℕ → Built
 words_built words = record { text = flat_map word_bytes words; initial = []; labels = λ name. None }
 
 -- of statements: L3, then a fault of the assembly, else the object
-abbrev pub assembled_or : Owner → List (List ℕ) → Statements → Option ℕ → Option Fault → Result Built LinkFault
+abbrev pub assembled_or : Owner → List (List ℕ) → Statements → Option ℕ → Option Fault
+    → Result Built LinkFault
 assembled_or owner slots ss (Some line) faulty = Err (fault.Import owner line)
 assembled_or owner slots ss None (Some f) = Err (fault.Asm owner f.number f.line)
-assembled_or owner slots ss None None = Ok (record { text = text_of ss slots; initial = initial_of ss slots; labels = label_in ss })
+assembled_or owner slots ss None None =
+    Ok (record { text = text_of ss slots; initial = initial_of ss slots; labels = label_in ss })
 
 abbrev pub assembled : Owner → List (List ℕ) → Statements → Result Built LinkFault
 assembled owner slots ss = assembled_or owner slots ss (undeclared_in slots ss) (fault_in ss)
@@ -75,7 +77,8 @@ read_or owner slots (Ok ss) = assembled owner slots ss
 read_or owner slots (Err (asm.At number line)) = Err (fault.Asm owner number line)
 read_or owner slots (Err asm.NoMemory) = Err fault.NoMemory
 
-abbrev pub built_by : Owner → List (List ℕ) → List ℕ → List ℕ → Option (List ℕ) → Result Built LinkFault
+abbrev pub built_by : Owner → List (List ℕ) → List ℕ → List ℕ → Option (List ℕ)
+    → Result Built LinkFault
 built_by owner slots words source None = Ok (words_built words)
 built_by owner slots words source (Some name) = read_or owner slots (program_of source)
 
@@ -98,7 +101,9 @@ abbrev pub is_begin : Built → ℕ → Bool
 is_begin b offset = offset % 4 == 0 && nat_lt offset (length b.text)
 
 abbrev pub begin_of : Built → AtRow → Option ℕ
-begin_of b at = option_and_then (λ offset. if is_begin b offset then Some offset else None) (label_or b at.label at.offset)
+begin_of b at =
+    option_and_then (λ offset. if is_begin b offset then Some offset else None)
+    (label_or b at.label at.offset)
 
 -- L1: the first export, counted from n, that has no such place
 abbrev pub first_lost : Built → ℕ → List AtRow → Option ℕ
@@ -126,7 +131,8 @@ checked u (Ok b) = placed_or u.owner b (first_lost b 0 u.exports)
 abbrev pub unit_built : Unit → List ℕ → Result Built LinkFault
 unit_built u source = checked u (built u.owner u.slots u.code source)
 
-abbrev pub with_front : Result Built LinkFault → Result (List Built) LinkFault → Result (List Built) LinkFault
+abbrev pub with_front : Result Built LinkFault → Result (List Built) LinkFault
+    → Result (List Built) LinkFault
 with_front (Err e) rest = Err e
 with_front (Ok b) (Err e) = Err e
 with_front (Ok b) (Ok bs) = Ok (b ∷ bs)
@@ -147,4 +153,5 @@ rest_of (Some name) sources = drop 1 sources
 unfoldable pub all_built : List Unit → List (List ℕ) → Result (List Built) LinkFault
 all_built [] sources = Ok []
 all_built (u ∷ us) sources =
-    with_front (unit_built u (source_for u.code.file sources)) (all_built us (rest_of u.code.file sources))
+    with_front (unit_built u (source_for u.code.file sources))
+        (all_built us (rest_of u.code.file sources))

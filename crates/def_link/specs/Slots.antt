@@ -53,10 +53,12 @@ export_from name n (x ∷ xs) =
     if nat_lt i (length x.exports) then exported n i else export_from name (n + 1) xs
 
 abbrev pub compartment_exporters : DescRow → List Exporter
-compartment_exporters d = map (λ (c : CompartmentRow). record { name = c.name; exports = export_names c }) d.compartments
+compartment_exporters d =
+    map (λ (c : CompartmentRow). record { name = c.name; exports = export_names c }) d.compartments
 
 abbrev pub library_exporters : DescRow → List Exporter
-library_exporters d = map (λ (l : LibraryRow). record { name = l.name; exports = library_export_names l }) d.libraries
+library_exporters d =
+    map (λ (l : LibraryRow). record { name = l.name; exports = library_export_names l }) d.libraries
 
 abbrev pub called : DescRow → List ℕ → Exported
 called d name = export_from name 0 (compartment_exporters d)
@@ -78,7 +80,12 @@ claimed x = packed (granted (rights_of (unwrap_or x.rights [])))
 -- ---- slots
 
 abbrev pub slot_row : SlotKind → ℕ → ℕ → ℕ → SlotImport
-slot_row kind rights first second = record { kind = kind; rights = rights; first = first; second = second }
+slot_row kind rights first second = record {
+  kind = kind;
+  rights = rights;
+  first = first;
+  second = second;
+}
 
 abbrev pub slot : List ℕ → SlotImport → SlotRow
 slot name row = record { row = row; name = name }
@@ -89,9 +96,11 @@ exported_row kind rights x = slot_row kind rights x.owner x.export
 abbrev pub form_row : DescRow → ℕ → Form → List ℕ → SlotImport
 form_row d rights form.Device name = slot_row kind.Device rights (index_of name (device_names d)) 0
 form_row d rights form.Shared name = slot_row kind.Shared rights (index_of name (shared_names d)) 0
-form_row d rights form.Sealed name = slot_row kind.Sealed (packed SEALED_RIGHTS) (index_of name (sealed_names d)) 0
+form_row d rights form.Sealed name =
+    slot_row kind.Sealed (packed SEALED_RIGHTS) (index_of name (sealed_names d)) 0
 form_row d rights form.Call name = exported_row kind.Call (packed EXPORT_RIGHTS) (called d name)
-form_row d rights form.Service name = slot_row kind.Service (packed SERVICE_RIGHTS) (unwrap_or (service_of name) 0) 0
+form_row d rights form.Service name =
+    slot_row kind.Service (packed SERVICE_RIGHTS) (unwrap_or (service_of name) 0) 0
 form_row d rights form.Library name = exported_row kind.Library (packed CODE_RIGHTS) (lent d name)
 
 abbrev pub switch_row : SlotImport
@@ -115,7 +124,8 @@ compartment_slots d c =
     slot (codes "switch") switch_row ∷ map (import_slot d) c.imports ++ map quota_slot c.quotas ++ map key_slot c.keys
 
 abbrev pub library_slots : DescRow → LibraryRow → List SlotRow
-library_slots d l = map (λ (x : LimportRow). slot x.alias (form_row d 0 form.Library x.library)) l.imports
+library_slots d l =
+    map (λ (x : LimportRow). slot x.alias (form_row d 0 form.Library x.library)) l.imports
 
 -- ---- exports
 

@@ -38,7 +38,9 @@ abbrev pub given : Image → Thread → ℕ → ℕ → ℕ → ℕ → Given
 given i old t callee export high = record {
   pcc = with_address (made_cap i (code_entry i callee)) (gate_for i.entries.gates export).code;
   back = made_cap i 0;
-  stack = derive memory_root (stack_base i t) (high - stack_base i t) STACK_RIGHTS high 0 (register old 2).shadow;
+  stack =
+      derive memory_root (stack_base i t) (high - stack_base i t) STACK_RIGHTS high 0
+      (register old 2).shadow;
   globals = made_cap i (globals_entry i callee);
 }
 
@@ -64,14 +66,17 @@ passed i export c = passed_by i.entries export c
 
 -- an argument register that the export declares is the caller's; the others are zero
 abbrev pub argument_by : Listed → Thread → ℕ → ℕ → Cap
-argument_by e old export n = cond (nat_lt n (gate_for e.gates export).args) (passed_by e export (register old (10 + n))) (plain 0)
+argument_by e old export n =
+    cond (nat_lt n (gate_for e.gates export).args) (passed_by e export (register old (10 + n)))
+    (plain 0)
 
 abbrev pub argument : Image → Thread → ℕ → ℕ → Cap
 argument i old export n = argument_by i.entries old export n
 
 -- the export's posture; a compartment's export doesn't inherit
 abbrev pub entry_posture : Listed → ℕ → Posture
-entry_posture e export = cond (root_of e export).disabled (record { off = true; source = export }) interrupts_on
+entry_posture e export =
+    cond (root_of e export).disabled (record { off = true; source = export }) interrupts_on
 
 abbrev pub posture_of_call : Image → ℕ → Posture
 posture_of_call i export = entry_posture i.entries export
@@ -79,8 +84,11 @@ posture_of_call i export = entry_posture i.entries export
 abbrev pub entered_by : Listed → Thread → ℕ → ℕ → ℕ → Given → Thread
 entered_by e old callee export high g = record {
   pcc = g.pcc;
-  registers = plain 0 ∷ g.back ∷ g.stack ∷ g.globals ∷ plain 0 ∷ plain 0 ∷ plain 0 ∷ plain 0 ∷ plain 0 ∷ plain 0
-      ∷ argument_by e old export 0 ∷ argument_by e old export 1 ∷ argument_by e old export 2 ∷ argument_by e old export 3 ∷ argument_by e old export 4 ∷ argument_by e old export 5 ∷ [];
+  registers =
+      plain 0 ∷ g.back ∷ g.stack ∷ g.globals ∷ plain 0 ∷ plain 0 ∷ plain 0 ∷ plain 0 ∷ plain 0
+      ∷ plain 0
+      ∷ argument_by e old export 0 ∷ argument_by e old export 1 ∷ argument_by e old export 2
+      ∷ argument_by e old export 3 ∷ argument_by e old export 4 ∷ argument_by e old export 5 ∷ [];
   frames = pushed_frame old callee export high ∷ old.frames;
   status = old.status;
   posture = entry_posture e export;
@@ -103,7 +111,9 @@ answer i old f n = answer_by i.entries old f n
 abbrev pub left_with : (Cap → Cap) → Thread → Frame → List Frame → Cap → Cap → Thread
 left_with keep old f fs first second = record {
   pcc = opened (keep f.c1);
-  registers = plain 0 ∷ plain 0 ∷ keep f.c2 ∷ keep f.c3 ∷ plain 0 ∷ plain 0 ∷ plain 0 ∷ plain 0 ∷ keep f.c8 ∷ keep f.c9
+  registers =
+      plain 0 ∷ plain 0 ∷ keep f.c2 ∷ keep f.c3 ∷ plain 0 ∷ plain 0 ∷ plain 0 ∷ plain 0 ∷ keep f.c8
+      ∷ keep f.c9
       ∷ first ∷ second ∷ plain 0 ∷ plain 0 ∷ plain 0 ∷ plain 0 ∷ [];
   frames = fs;
   status = old.status;
@@ -117,10 +127,15 @@ left_by i s old f fs first second = left_with (filtered i s) old f fs first seco
 abbrev pub returned : Image → State → ℕ → List Frame → State
 returned i s t [] = s
 returned i s t (f ∷ []) = switched i s t f.top nobody Option.None
-returned i s t (f ∷ g ∷ gs) = switched i s t f.top (left_by i s (thread s t) f (g ∷ gs) (answer i (thread s t) f 10) (answer i (thread s t) f 11)) s.running
+returned i s t (f ∷ g ∷ gs) =
+    switched i s t f.top
+    (left_by i s (thread s t) f (g ∷ gs) (answer i (thread s t) f 10) (answer i (thread s t) f 11))
+    s.running
 
 -- the unwind: the return with -1 and 0
 abbrev pub unwound : Image → State → ℕ → List Frame → State
 unwound i s t [] = s
 unwound i s t (f ∷ []) = switched i s t f.top nobody Option.None
-unwound i s t (f ∷ g ∷ gs) = switched i s t f.top (left_by i s (thread s t) f (g ∷ gs) (plain 0xFFFFFFFF) (plain 0)) s.running
+unwound i s t (f ∷ g ∷ gs) =
+    switched i s t f.top (left_by i s (thread s t) f (g ∷ gs) (plain 0xFFFFFFFF) (plain 0))
+    s.running

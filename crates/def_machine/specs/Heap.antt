@@ -27,7 +27,20 @@ pub record Fits (i : Image) (objects : List Object) (length base : ℕ) : Type 0
   pub aligned : base % alignment_of length ≡ 0
   pub low : i.heap_base + CHUNK_HEAD ≤ base
   pub high : base + length ≤ i.heap_end
-  pub apart : Each (λ q. ApartFrom (record { number = 0; quota = 0; base = base; length = length; charge = 0; live = true; painted = false }) q) objects
+  pub apart : Each
+      (λ q.
+          ApartFrom
+          (record {
+            number = 0;
+            quota = 0;
+            base = base;
+            length = length;
+            charge = 0;
+            live = true;
+            painted = false;
+          })
+          q)
+      objects
 
 -- the least lawful place
 pub record IsPlaceFor (i : Image) (objects : List Object) (length base : ℕ) : Type 0 where
@@ -36,22 +49,35 @@ pub record IsPlaceFor (i : Image) (objects : List Object) (length base : ℕ) : 
 
 -- the same as tests: the chunk of an object of this length at this base meets none of these
 abbrev pub is_apart : ℕ → ℕ → Object → Bool
-is_apart length base q = nat_le (base + length + CHUNK_HEAD) q.base || nat_le (q.base + q.length + CHUNK_HEAD) base
+is_apart length base q =
+    nat_le (base + length + CHUNK_HEAD) q.base || nat_le (q.base + q.length + CHUNK_HEAD) base
 
 abbrev pub is_place : Image → List Object → ℕ → ℕ → Bool
 is_place i objects length base =
-    (base % 8 == 0) && (base % alignment_of length == 0) && nat_le (i.heap_base + CHUNK_HEAD) base && nat_le (base + length) i.heap_end && list_all (is_apart length base) objects
+    (base % 8 == 0) && (base % alignment_of length == 0) && nat_le (i.heap_base + CHUNK_HEAD) base
+        && nat_le (base + length) i.heap_end && list_all (is_apart length base) objects
 
 abbrev pub place_of : Image → List Object → ℕ → Option ℕ
-place_of i objects length = find (is_place i objects length) (range_with_len i.heap_base (i.heap_end - i.heap_base))
+place_of i objects length =
+    find (is_place i objects length) (range_with_len i.heap_base (i.heap_end - i.heap_base))
 
 -- a new object of this size at this place, charged to this quota
 abbrev pub new_object : State → ℕ → ℕ → ℕ → Object
-new_object s quota size base = record { number = s.next; quota = quota; base = base; length = length_for size; charge = charge_for size; live = true; painted = false }
+new_object s quota size base = record {
+  number = s.next;
+  quota = quota;
+  base = base;
+  length = length_for size;
+  charge = charge_for size;
+  live = true;
+  painted = false;
+}
 
 -- the capability of an object: its quota's root, its number as source
 abbrev pub object_cap : Object → Cap
-object_cap r = derive memory_root r.base r.length HEAP_RIGHTS r.base 0 (record { root = r.quota; source = r.number })
+object_cap r =
+    derive memory_root r.base r.length HEAP_RIGHTS r.base 0
+    (record { root = r.quota; source = r.number })
 
 abbrev pub with_object : State → Object → State
 with_object s r = record s { objects = placed_among r s.objects; next = s.next + 1 }
@@ -61,13 +87,17 @@ with_object s r = record s { objects = placed_among r s.objects; next = s.next +
 -- the object is zeroed, its chunk marked, and it is quarantined
 abbrev pub quarantined : Image → State → Object → State
 quarantined i s r = record s {
-  granules = marked_from (r.base - CHUNK_HEAD) (r.base + r.length) true i.ram (zeroed_from r.base (r.base + r.length) i.ram s.granules);
+  granules =
+      marked_from (r.base - CHUNK_HEAD) (r.base + r.length) true i.ram
+      (zeroed_from r.base (r.base + r.length) i.ram s.granules);
   objects = quarantine r.number s.objects;
 }
 
 -- and the running thread's registers pass the load filter
 abbrev pub freed : Image → State → ℕ → Object → State
-freed i s t r = with_registers (quarantined i s r) t (map (filtered i (quarantined i s r)) (thread s t).registers)
+freed i s t r =
+    with_registers (quarantined i s r) t
+    (map (filtered i (quarantined i s r)) (thread s t).registers)
 
 -- ---- the sweep, a slice at a time
 
@@ -81,7 +111,9 @@ sliced i s low high offset c = cond (nat_le low offset && nat_lt offset high) (f
 
 abbrev pub sliced_granules : Image → State → ℕ → ℕ → ℕ → List Granule → List Granule
 sliced_granules i s low high offset [] = []
-sliced_granules i s low high offset (g ∷ gs) = record g { cap = sliced i s low high offset g.cap } ∷ sliced_granules i s low high (offset + 8) gs
+sliced_granules i s low high offset (g ∷ gs) =
+    record g { cap = sliced i s low high offset g.cap }
+    ∷ sliced_granules i s low high (offset + 8) gs
 
 -- the capabilities that a frame saved, which begins at an offset
 abbrev pub sliced_frame : Image → State → ℕ → ℕ → ℕ → Frame → Frame
@@ -96,11 +128,13 @@ sliced_frame i s low high at f = record f {
 -- a frame stands over those that it was pushed on
 abbrev pub sliced_frames : Image → State → ℕ → ℕ → ℕ → List Frame → List Frame
 sliced_frames i s low high area [] = []
-sliced_frames i s low high area (f ∷ fs) = sliced_frame i s low high (area + 160 + 64 * length fs) f ∷ sliced_frames i s low high area fs
+sliced_frames i s low high area (f ∷ fs) =
+    sliced_frame i s low high (area + 160 + 64 * length fs) f ∷ sliced_frames i s low high area fs
 
 abbrev pub sliced_registers : Image → State → ℕ → ℕ → ℕ → List Cap → List Cap
 sliced_registers i s low high at [] = []
-sliced_registers i s low high at (c ∷ cs) = sliced i s low high at c ∷ sliced_registers i s low high (at + 8) cs
+sliced_registers i s low high at (c ∷ cs) =
+    sliced i s low high at c ∷ sliced_registers i s low high (at + 8) cs
 
 -- registers and program counter of the running thread have no place: its area begins with where they would stand
 abbrev pub sliced_thread : Image → State → ℕ → ℕ → ℕ → Bool → Thread → Thread
@@ -112,7 +146,9 @@ sliced_thread i s low high area runs t = record t {
 
 abbrev pub sliced_threads : Image → State → ℕ → ℕ → ℕ → List Thread → List Thread
 sliced_threads i s low high t [] = []
-sliced_threads i s low high t (x ∷ xs) = sliced_thread i s low high (area_of i t - i.ram) (is_number s.running t) x ∷ sliced_threads i s low high (t + 1) xs
+sliced_threads i s low high t (x ∷ xs) =
+    sliced_thread i s low high (area_of i t - i.ram) (is_number s.running t) x
+    ∷ sliced_threads i s low high (t + 1) xs
 
 abbrev pub with_slice : Image → State → ℕ → ℕ → State
 with_slice i s low high = record s {
@@ -123,7 +159,8 @@ with_slice i s low high = record s {
 
 -- where none runs and something is quarantined, a sweep begins
 abbrev pub begun_sweep : State → State
-begun_sweep s = cond (has_quarantined s.objects) (record s { objects = painted s.objects; front = Some 0 }) s
+begun_sweep s =
+    cond (has_quarantined s.objects) (record s { objects = painted s.objects; front = Some 0 }) s
 
 abbrev pub sweep_began : State → Option ℕ → State
 sweep_began s None = begun_sweep s
@@ -132,10 +169,16 @@ sweep_began s (Some front) = s
 -- the painted leave, and their marks are cleared
 abbrev pub unmarked : Image → List Object → ℕ → List Granule → List Granule
 unmarked i rs x [] = []
-unmarked i rs x (g ∷ gs) = record g { mark = cond (is_painted_at rs x) false g.mark } ∷ unmarked i rs (x + 8) gs
+unmarked i rs x (g ∷ gs) =
+    record g { mark = cond (is_painted_at rs x) false g.mark } ∷ unmarked i rs (x + 8) gs
 
 abbrev pub sweep_over : Image → State → State
-sweep_over i s = record s { granules = unmarked i s.objects i.ram s.granules; objects = unpainted s.objects; front = None }
+sweep_over i s =
+    record s {
+      granules = unmarked i s.objects i.ram s.granules;
+      objects = unpainted s.objects;
+      front = None;
+    }
 
 abbrev pub ram_size : State → ℕ
 ram_size s = 8 * length s.granules
@@ -148,7 +191,8 @@ slice_end i s front = min (front + 8 * i.sweep) (ram_size s)
 
 abbrev pub sweep_on : Image → State → Option ℕ → State
 sweep_on i s None = s
-sweep_on i s (Some front) = ended_sweep i (with_slice i s front (slice_end i s front)) (slice_end i s front)
+sweep_on i s (Some front) =
+    ended_sweep i (with_slice i s front (slice_end i s front)) (slice_end i s front)
 
 -- one Sweep event
 abbrev pub swept : Image → State → State

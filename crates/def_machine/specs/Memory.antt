@@ -12,7 +12,8 @@ use Rattle.def_machine.specs.State.{State, granule}
 
 -- a capability is stored at an address of RAM: what is stored is what `by` lets through
 abbrev pub cap_stored : Image → State → ℕ → Cap → Cap → State
-cap_stored i s x by c = record s { granules = stored_cap s.granules (x - i.ram) (stored_through by c) }
+cap_stored i s x by c =
+    record s { granules = stored_cap s.granules (x - i.ram) (stored_through by c) }
 
 -- plain bytes are stored at an address of RAM
 abbrev pub bytes_stored : Image → State → ℕ → ℕ → ℕ → State

@@ -19,7 +19,8 @@ InChunk r x = (r.base ≤ x + CHUNK_HEAD) × (x < r.base + r.length)
 
 -- chunks that don't meet
 abbrev pub ApartFrom : Object → Object → Type 0
-ApartFrom r q = (r.base + r.length + CHUNK_HEAD ≤ q.base) ⊎ (q.base + q.length + CHUNK_HEAD ≤ r.base)
+ApartFrom r q =
+    (r.base + r.length + CHUNK_HEAD ≤ q.base) ⊎ (q.base + q.length + CHUNK_HEAD ≤ r.base)
 
 -- the live charges on a quota
 abbrev pub charges : ℕ → List Object → ℕ
@@ -53,4 +54,5 @@ unpainted (r ∷ rs) = cond r.painted (unpainted rs) (r ∷ unpainted rs)
 -- an address of a painted chunk
 abbrev pub is_painted_at : List Object → ℕ → Bool
 is_painted_at [] x = false
-is_painted_at (r ∷ rs) x = (r.painted && nat_le r.base (x + 8) && nat_lt x (r.base + r.length)) || is_painted_at rs x
+is_painted_at (r ∷ rs) x =
+    (r.painted && nat_le r.base (x + 8) && nat_lt x (r.base + r.length)) || is_painted_at rs x

@@ -87,7 +87,13 @@ interrupts_on = record { off = false; source = 0 }
 
 -- an ended thread holds nothing
 abbrev pub nobody : Thread
-nobody = record { pcc = plain 0; registers = []; frames = []; status = Ended; posture = interrupts_on }
+nobody = record {
+  pcc = plain 0;
+  registers = [];
+  frames = [];
+  status = Ended;
+  posture = interrupts_on;
+}
 
 abbrev pub thread : State → ℕ → Thread
 thread s t = slice_index_or s.threads t nobody

@@ -58,11 +58,16 @@ timed t = with_status t (after_tick t.status)
 
 -- a jump: the program counter capability, the posture, and the link in register `to`
 abbrev pub jumped : Thread → Cap → Posture → ℕ → Cap → Thread
-jumped t pcc posture to link = record t { pcc = pcc; registers = written t.registers to link; posture = posture }
+jumped t pcc posture to link =
+    record t { pcc = pcc; registers = written t.registers to link; posture = posture }
 
 -- a jump without a link, to what a return sentry seals
 abbrev pub resumed : Thread → Cap → Thread
-resumed t sentry = record t { pcc = opened sentry; posture = posture_through t.posture (cap_seal sentry) 0 sentry.shadow.source }
+resumed t sentry =
+    record t {
+      pcc = opened sentry;
+      posture = posture_through t.posture (cap_seal sentry) 0 sentry.shadow.source;
+    }
 
 -- the program counter capability moves on
 abbrev pub advanced : Thread → Cap → Thread

@@ -30,7 +30,8 @@ part_of word from width = word / 2 ^ (8 * from) % 2 ^ (8 * width)
 -- the word with the low bytes of a value in their place: the bytes above, the part, the bytes below
 abbrev pub with_part : ℕ → ℕ → ℕ → ℕ → ℕ
 with_part word from width value =
-    word / 2 ^ (8 * (from + width)) * 2 ^ (8 * (from + width)) + value % 2 ^ (8 * width) * 2 ^ (8 * from) + word % 2 ^ (8 * from)
+    word / 2 ^ (8 * (from + width)) * 2 ^ (8 * (from + width))
+        + value % 2 ^ (8 * width) * 2 ^ (8 * from) + word % 2 ^ (8 * from)
 
 abbrev pub loaded : List Granule → ℕ → ℕ → ℕ
 loaded gs at width = part_of (granule_at gs (at / 8)).cap.word (at % 8) width
@@ -38,13 +39,18 @@ loaded gs at width = part_of (granule_at gs (at / 8)).cap.word (at % 8) width
 -- a store of plain bytes: the granule loses its tag and its shadow, and keeps its mark
 abbrev pub stored : List Granule → ℕ → ℕ → ℕ → List Granule
 stored gs at width value =
-    slice_set gs (at / 8) (record { cap = plain (with_part (granule_at gs (at / 8)).cap.word (at % 8) width value); mark = (granule_at gs (at / 8)).mark })
+    slice_set gs (at / 8)
+        (record {
+          cap = plain (with_part (granule_at gs (at / 8)).cap.word (at % 8) width value);
+          mark = (granule_at gs (at / 8)).mark;
+        })
 
 abbrev pub loaded_cap : List Granule → ℕ → Cap
 loaded_cap gs at = (granule_at gs (at / 8)).cap
 
 abbrev pub stored_cap : List Granule → ℕ → Cap → List Granule
-stored_cap gs at c = slice_set gs (at / 8) (record { cap = c; mark = (granule_at gs (at / 8)).mark })
+stored_cap gs at c =
+    slice_set gs (at / 8) (record { cap = c; mark = (granule_at gs (at / 8)).mark })
 
 -- two accesses that share no byte
 abbrev pub Disjoint : ℕ → ℕ → ℕ → ℕ → Type 0

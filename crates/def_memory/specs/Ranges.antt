@@ -26,7 +26,8 @@ pub record IsZeroed (from to : ℕ) (old new : List Granule) : Type 0 where
 -- the range is marked, or not; bytes, tags and shadows, and all other granules, are as they were
 pub record IsMarked (from to : ℕ) (on : Bool) (old new : List Granule) : Type 0 where
   pub size : length new ≡ length old
-  pub marks : (k : ℕ) → k < length old → Inside from to k → granule_at new k ≡ record (granule_at old k) { mark = on }
+  pub marks : (k : ℕ) → k < length old → Inside from to k
+      → granule_at new k ≡ record (granule_at old k) { mark = on }
   pub rest : (k : ℕ) → Outside from to k → granule_at new k ≡ granule_at old k
 
 abbrev pub is_tagged : List Granule → ℕ → Bool
@@ -46,14 +47,17 @@ NoneTagged gs from = (k : ℕ) → from ≤ 8 * k → is_tagged gs k ≡ false
 -- the same changes as functions, for definitions that compute: the first granule stands at `place`
 abbrev pub zeroed_from : ℕ → ℕ → ℕ → List Granule → List Granule
 zeroed_from from to place [] = []
-zeroed_from from to place (g ∷ gs) = cond (nat_le from place && nat_lt place to) (blank g) g ∷ zeroed_from from to (place + 8) gs
+zeroed_from from to place (g ∷ gs) =
+    cond (nat_le from place && nat_lt place to) (blank g) g ∷ zeroed_from from to (place + 8) gs
 
 abbrev pub zeroed : ℕ → ℕ → List Granule → List Granule
 zeroed from to gs = zeroed_from from to 0 gs
 
 abbrev pub marked_from : ℕ → ℕ → Bool → ℕ → List Granule → List Granule
 marked_from from to on place [] = []
-marked_from from to on place (g ∷ gs) = cond (nat_le from place && nat_lt place to) (record g { mark = on }) g ∷ marked_from from to on (place + 8) gs
+marked_from from to on place (g ∷ gs) =
+    cond (nat_le from place && nat_lt place to) (record g { mark = on }) g
+    ∷ marked_from from to on (place + 8) gs
 
 abbrev pub mark_range : ℕ → ℕ → Bool → List Granule → List Granule
 mark_range from to on gs = marked_from from to on 0 gs

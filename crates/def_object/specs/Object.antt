@@ -31,7 +31,8 @@ use Rattle.def_object.specs.declared.Fault.{Fault}
 
 -- the 32-bit word of a number that is written
 abbrev pub number_word : Number → ℕ
-number_word n = if n.negative then (2 ^ 32 - n.magnitude % 2 ^ 32) % 2 ^ 32 else n.magnitude % 2 ^ 32
+number_word n =
+    if n.negative then (2 ^ 32 - n.magnitude % 2 ^ 32) % 2 ^ 32 else n.magnitude % 2 ^ 32
 
 -- a word that stands for -2048 to 2047
 abbrev pub is_short : ℕ → Bool
@@ -59,7 +60,9 @@ abbrev pub offset : Place → ℕ
 offset p = if is_text p.section then p.text else p.initial
 
 abbrev pub grown : Place → ℕ → Place
-grown p n = if is_text p.section then record p { text = p.text + n } else record p { initial = p.initial + n }
+grown p n =
+    if is_text p.section then record p { text = p.text + n }
+    else record p { initial = p.initial + n }
 
 -- the place after a statement
 abbrev pub advanced : Place → Part Name → Place
@@ -79,7 +82,9 @@ is_label name _ = false
 -- the first label of that name in statements from a place on, of which the first is number k
 abbrev pub label_from : Name → Place → ℕ → Statements → Option Label
 label_from name p k [] = None
-label_from name p k (s ∷ ss) = if is_label name s.part then Some (record { section = p.section; offset = offset p; index = k }) else label_from name (advanced p s.part) (k + 1) ss
+label_from name p k (s ∷ ss) =
+    if is_label name s.part then Some (record { section = p.section; offset = offset p; index = k })
+    else label_from name (advanced p s.part) (k + 1) ss
 
 unfoldable pub label_in : Statements → Name → Option Label
 label_in all name = label_from name start 0 all
@@ -92,12 +97,15 @@ Labels = Name → Option Label
 
 -- whether a label lies within a reach that is even, backwards by at most so many bytes and forwards by two less
 abbrev pub is_near : ℕ → ℕ → ℕ → Bool
-is_near reach at to = (if nat_lt to at then nat_le (at - to) reach else nat_le (to - at) (reach - 2)) && at % 2 == to % 2
+is_near reach at to =
+    (if nat_lt to at then nat_le (at - to) reach else nat_le (to - at) (reach - 2))
+    && at % 2 == to % 2
 
 -- A label out of a branch's reach, or one that isn't defined in the text.
 abbrev pub reach_fault : ℕ → ℕ → Option Label → Option ℕ
 reach_fault reach at None = Some 6
-reach_fault reach at (Some l) = if is_data l.section then Some 6 else if is_near reach at l.offset then None else Some 4
+reach_fault reach at (Some l) =
+    if is_data l.section then Some 6 else if is_near reach at l.offset then None else Some 4
 
 abbrev pub target_fault : Labels → ℕ → ℕ → Target Name → Option ℕ
 target_fault labels reach at (target.Offset n) = None
@@ -119,7 +127,8 @@ second_fault k (Some l) = if l.index == k then None else Some 5
 -- what a statement at a place of its section refers to, or what it defines again; it is number k
 abbrev pub reference_fault : Labels → ℕ → ℕ → Part Name → Option ℕ
 reference_fault labels k at (part.Label name) = second_fault k (labels name)
-reference_fault labels k at (part.Branch operation rs1 rs2 target) = target_fault labels BRANCH_REACH at target
+reference_fault labels k at (part.Branch operation rs1 rs2 target) =
+    target_fault labels BRANCH_REACH at target
 reference_fault labels k at (part.IfZero rs target) = target_fault labels BRANCH_REACH at target
 reference_fault labels k at (part.IfNotZero rs target) = target_fault labels BRANCH_REACH at target
 reference_fault labels k at (part.Jal rd target) = target_fault labels JUMP_REACH at target
@@ -138,7 +147,8 @@ size_fault at q = if nat_lt limit (at + size_at q at) then Some 8 else None
 
 -- the least number of what a statement breaks
 abbrev pub statement_fault : Labels → Place → ℕ → Part Name → Option ℕ
-statement_fault labels p k q = or_else (reference_fault labels k (offset p) q) (size_fault (offset p) q)
+statement_fault labels p k q =
+    or_else (reference_fault labels k (offset p) q) (size_fault (offset p) q)
 
 -- the lesser line, and on one line the lesser number
 abbrev pub is_least : Fault → Fault → Bool
@@ -156,7 +166,9 @@ on_line line o = option_map (λ n. record { number = n; line = line }) o
 -- the least fault of statements from a place on, of which the first is number k
 abbrev pub fault_from : Labels → Place → ℕ → Statements → Option Fault
 fault_from labels p k [] = None
-fault_from labels p k (s ∷ ss) = lesser (on_line s.line (statement_fault labels p k s.part)) (fault_from labels (advanced p s.part) (k + 1) ss)
+fault_from labels p k (s ∷ ss) =
+    lesser (on_line s.line (statement_fault labels p k s.part))
+    (fault_from labels (advanced p s.part) (k + 1) ss)
 
 unfoldable pub fault_in : Statements → Option Fault
 fault_in all = fault_from (label_in all) start 0 all
@@ -176,7 +188,8 @@ is_undeclared slots _ = false
 
 abbrev pub undeclared_in : List Name → Statements → Option ℕ
 undeclared_in slots [] = None
-undeclared_in slots (s ∷ ss) = if is_undeclared slots s.part then Some s.line else undeclared_in slots ss
+undeclared_in slots (s ∷ ss) =
+    if is_undeclared slots s.part then Some s.line else undeclared_in slots ss
 
 -- ---- instructions
 
@@ -199,10 +212,13 @@ target_word labels at (target.Offset n) = number_word n
 
 -- a way in two pieces, each rounded toward zero: 2048 times the first, a field of twenty bits, and the second, a 32-bit word
 abbrev pub high_piece : ℕ → ℕ → ℕ
-high_piece at to = if nat_lt to at then (2 ^ 20 - (at - to) / 2 ^ 11 % 2 ^ 20) % 2 ^ 20 else (to - at) / 2 ^ 11 % 2 ^ 20
+high_piece at to =
+    if nat_lt to at then (2 ^ 20 - (at - to) / 2 ^ 11 % 2 ^ 20) % 2 ^ 20
+    else (to - at) / 2 ^ 11 % 2 ^ 20
 
 abbrev pub low_piece : ℕ → ℕ → ℕ
-low_piece at to = if nat_lt to at then (2 ^ 32 - (at - to) % 2 ^ 11) % 2 ^ 32 else (to - at) % 2 ^ 11
+low_piece at to =
+    if nat_lt to at then (2 ^ 32 - (at - to) % 2 ^ 11) % 2 ^ 32 else (to - at) % 2 ^ 11
 
 -- a word as upper bits and a signed rest of twelve bits
 abbrev pub upper_part : ℕ → ℕ
@@ -212,7 +228,9 @@ abbrev pub rest_part : ℕ → ℕ
 rest_part word = extended 12 (word % 2 ^ 12)
 
 abbrev pub number_instructions : ℕ → ℕ → List Instr
-number_instructions rd word = if is_short word then instr.Addi rd 0 word ∷ [] else instr.Lui rd (upper_part word) ∷ instr.Addi rd rd (rest_part word) ∷ []
+number_instructions rd word =
+    if is_short word then instr.Addi rd 0 word ∷ []
+    else instr.Lui rd (upper_part word) ∷ instr.Addi rd rd (rest_part word) ∷ []
 
 abbrev pub slot_number : Option ℕ → ℕ
 slot_number None = 0
@@ -226,36 +244,53 @@ import_instructions slots at rd name =
     instr.AuiPcc rd (high_piece from to) ∷ instr.Clc rd rd (low_piece from to) ∷ []
 
 abbrev pub text_instructions : ℕ → ℕ → ℕ → List Instr
-text_instructions at rd to = instr.AuiPcc rd (high_piece at to) ∷ instr.CIncAddrImm rd rd (low_piece at to) ∷ []
+text_instructions at rd to =
+    instr.AuiPcc rd (high_piece at to) ∷ instr.CIncAddrImm rd rd (low_piece at to) ∷ []
 
 abbrev pub global_instructions : ℕ → ℕ → List Instr
-global_instructions rd to = instr.AuiCgp rd (high_piece 0 to) ∷ instr.CIncAddrImm rd rd (low_piece 0 to) ∷ []
+global_instructions rd to =
+    instr.AuiCgp rd (high_piece 0 to) ∷ instr.CIncAddrImm rd rd (low_piece 0 to) ∷ []
 
 -- the instructions of a statement at a place of the text
 abbrev pub instructions_at : Labels → List Name → ℕ → Part Name → List Instr
-instructions_at labels slots at (part.Registers operation rd rs1 rs2) = shaped (shape.Registers operation rd rs1 rs2) ∷ []
-instructions_at labels slots at (part.Immediate operation rd rs1 number) = shaped (shape.Immediate operation rd rs1 (number_word number)) ∷ []
-instructions_at labels slots at (part.Upper operation rd number) = shaped (shape.Upper operation rd (number_word number % 2 ^ 20)) ∷ []
-instructions_at labels slots at (part.Load operation rd number rs1) = shaped (shape.Load operation rd rs1 (number_word number)) ∷ []
-instructions_at labels slots at (part.RegisterJump rd number rs1) = instr.CJalr rd rs1 (number_word number) ∷ []
+instructions_at labels slots at (part.Registers operation rd rs1 rs2) =
+    shaped (shape.Registers operation rd rs1 rs2) ∷ []
+instructions_at labels slots at (part.Immediate operation rd rs1 number) =
+    shaped (shape.Immediate operation rd rs1 (number_word number)) ∷ []
+instructions_at labels slots at (part.Upper operation rd number) =
+    shaped (shape.Upper operation rd (number_word number % 2 ^ 20)) ∷ []
+instructions_at labels slots at (part.Load operation rd number rs1) =
+    shaped (shape.Load operation rd rs1 (number_word number)) ∷ []
+instructions_at labels slots at (part.RegisterJump rd number rs1) =
+    instr.CJalr rd rs1 (number_word number) ∷ []
 instructions_at labels slots at (part.JumpCapability rd rs1) = instr.CJalr rd rs1 0 ∷ []
-instructions_at labels slots at (part.Store operation rs2 number rs1) = shaped (shape.Store operation rs1 rs2 (number_word number)) ∷ []
-instructions_at labels slots at (part.Branch operation rs1 rs2 target) = shaped (shape.Branch operation rs1 rs2 (target_word labels at target)) ∷ []
-instructions_at labels slots at (part.Jal rd target) = instr.Jal rd (target_word labels at target) ∷ []
-instructions_at labels slots at (part.Source operation rd rs1) = shaped (shape.OneSource operation rd rs1) ∷ []
+instructions_at labels slots at (part.Store operation rs2 number rs1) =
+    shaped (shape.Store operation rs1 rs2 (number_word number)) ∷ []
+instructions_at labels slots at (part.Branch operation rs1 rs2 target) =
+    shaped (shape.Branch operation rs1 rs2 (target_word labels at target)) ∷ []
+instructions_at labels slots at (part.Jal rd target) =
+    instr.Jal rd (target_word labels at target) ∷ []
+instructions_at labels slots at (part.Source operation rd rs1) =
+    shaped (shape.OneSource operation rd rs1) ∷ []
 instructions_at labels slots at (part.Bare operation) = bare_instruction operation ∷ []
 instructions_at labels slots at part.Nop = instr.Addi 0 0 0 ∷ []
 instructions_at labels slots at (part.Move rd rs) = instr.Addi rd rs 0 ∷ []
 instructions_at labels slots at (part.Jump target) = instr.Jal 0 (target_word labels at target) ∷ []
-instructions_at labels slots at (part.JumpAndLink rd target) = instr.Jal rd (target_word labels at target) ∷ []
+instructions_at labels slots at (part.JumpAndLink rd target) =
+    instr.Jal rd (target_word labels at target) ∷ []
 instructions_at labels slots at part.Return = instr.CJalr 0 1 0 ∷ []
 instructions_at labels slots at (part.JumpRegister rs) = instr.CJalr 0 rs 0 ∷ []
-instructions_at labels slots at (part.IfZero rs target) = instr.Beq rs 0 (target_word labels at target) ∷ []
-instructions_at labels slots at (part.IfNotZero rs target) = instr.Bne rs 0 (target_word labels at target) ∷ []
-instructions_at labels slots at (part.LoadImmediate rd number) = number_instructions rd (number_word number)
+instructions_at labels slots at (part.IfZero rs target) =
+    instr.Beq rs 0 (target_word labels at target) ∷ []
+instructions_at labels slots at (part.IfNotZero rs target) =
+    instr.Bne rs 0 (target_word labels at target) ∷ []
+instructions_at labels slots at (part.LoadImmediate rd number) =
+    number_instructions rd (number_word number)
 instructions_at labels slots at (part.Import rd name) = import_instructions slots at rd name
-instructions_at labels slots at (part.TextAddress rd label) = text_instructions at rd (label_offset (labels label))
-instructions_at labels slots at (part.GlobalAddress rd label) = global_instructions rd (label_offset (labels label))
+instructions_at labels slots at (part.TextAddress rd label) =
+    text_instructions at rd (label_offset (labels label))
+instructions_at labels slots at (part.GlobalAddress rd label) =
+    global_instructions rd (label_offset (labels label))
 instructions_at labels slots at _ = []
 
 -- ---- bytes
@@ -280,12 +315,15 @@ same_section section.Data s = is_data s
 
 -- the bytes of a statement, if it stands in the wanted section
 abbrev pub section_bytes : Section → Labels → List Name → Place → Part Name → List ℕ
-section_bytes wanted labels slots p q = if same_section p.section wanted then bytes_at labels slots (offset p) q else []
+section_bytes wanted labels slots p q =
+    if same_section p.section wanted then bytes_at labels slots (offset p) q else []
 
 -- the bytes of a section, of statements from a place on
 abbrev pub bytes_from : Section → Labels → List Name → Place → Statements → List ℕ
 bytes_from wanted labels slots p [] = []
-bytes_from wanted labels slots p (s ∷ ss) = section_bytes wanted labels slots p s.part ++ bytes_from wanted labels slots (advanced p s.part) ss
+bytes_from wanted labels slots p (s ∷ ss) =
+    section_bytes wanted labels slots p s.part
+    ++ bytes_from wanted labels slots (advanced p s.part) ss
 
 unfoldable pub text_of : Statements → List Name → List ℕ
 text_of all slots = bytes_from section.Text (label_in all) slots start all

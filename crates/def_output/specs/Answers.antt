@@ -27,7 +27,8 @@ pub record Ends : Type 0 where
 
 -- The ends of a call over a folder and a sink of any types: what they tell and count, each of them
 -- before and after.
-abbrev pub ends : {F S : Type 0} → (F → List ℕ → Told) → (F → List Call) → (F → ℕ) → (S → Option (List ℕ)) → (S → ℕ) → List (List ℕ) → F → F → S → S → Ends
+abbrev pub ends : {F S : Type 0} → (F → List ℕ → Told) → (F → List Call) → (F → ℕ)
+    → (S → Option (List ℕ)) → (S → ℕ) → List (List ℕ) → F → F → S → S → Ends
 ends file calls read_faults bytes write_faults words folder folder_after sink sink_after = record {
   words = words;
   told = file folder;

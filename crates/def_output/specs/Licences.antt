@@ -11,7 +11,8 @@ use Rattle.def_output.specs.Runs.{steps_until}
 
 -- what the steps of a machine tell, up to its end or so many of them, is licensed by the report's entries
 abbrev pub TellsLicensed : DescRow → MachineRow → ℕ → Type 0
-TellsLicensed r m limit = AllLicensed (entries_of r) (told m.board m.state (steps_until m.board m.state limit))
+TellsLicensed r m limit =
+    AllLicensed (entries_of r) (told m.board m.state (steps_until m.board m.state limit))
 
 -- each deed and each span with interrupts off of the run that a command asks for
 abbrev pub IsLicensedCommand : Command → DescRow → Type 0

@@ -96,10 +96,16 @@ fits s piece = nat_le (length s.bytes + length piece) s.room
 abbrev pub taken : SinkRow → List ℕ → SinkRow
 taken s piece = if fits s piece
     then record s { bytes = s.bytes ++ piece; calls = raised s.calls }
-    else record s { bytes = s.bytes ++ take (s.room - length s.bytes) piece; calls = raised s.calls; faults = raised s.faults }
+    else record s {
+      bytes = s.bytes ++ take (s.room - length s.bytes) piece;
+      calls = raised s.calls;
+      faults = raised s.faults;
+    }
 
 abbrev pub written : SinkRow → List ℕ → SinkRow
-written s piece = if is_told_to_fail s then record s { calls = raised s.calls; faults = raised s.faults } else taken s piece
+written s piece =
+    if is_told_to_fail s then record s { calls = raised s.calls; faults = raised s.faults }
+    else taken s piece
 
 -- no other write fails
 abbrev pub succeeds : SinkRow → List ℕ → Bool

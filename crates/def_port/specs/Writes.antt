@@ -14,5 +14,8 @@ pub record WriteFails (old new : Option (List ℕ)) (faults now : ℕ) (piece : 
 
 -- A write answers Ok where it took the whole piece, and fails where it took its beginning. Several
 -- writes are one where all of them succeed, and fail where one does.
-abbrev pub WriteAnswers : {A B : Type 0} → Option (List ℕ) → Option (List ℕ) → ℕ → ℕ → List ℕ → Result A B → Type 0
-WriteAnswers old new faults now piece result = MatchResult result (λ _. Writes old new faults now piece) (λ _. WriteFails old new faults now piece)
+abbrev pub WriteAnswers : {A B : Type 0} → Option (List ℕ) → Option (List ℕ) → ℕ → ℕ → List ℕ
+    → Result A B → Type 0
+WriteAnswers old new faults now piece result =
+    MatchResult result (λ _. Writes old new faults now piece)
+    (λ _. WriteFails old new faults now piece)

@@ -33,15 +33,42 @@ pub record Root : Type 0 where
 
 -- no entry has this number
 abbrev pub no_root : Root
-no_root = record { origin = Unknown; owner = Trusted; base = 0; top = 0; rights = 0; of = 0; limit = 0; passes = false; disabled = false }
+no_root = record {
+  origin = Unknown;
+  owner = Trusted;
+  base = 0;
+  top = 0;
+  rights = 0;
+  of = 0;
+  limit = 0;
+  passes = false;
+  disabled = false;
+}
 
 -- The trusted part has number 0. The one capability of it that running code holds is the return sentry,
 -- so it has the range of the return's native entry, and the rights of one.
 abbrev pub trusted_root : Root
-trusted_root = record { origin = TrustedPart; owner = Trusted; base = RETURN_ENTRY; top = RETURN_ENTRY + NATIVE_LENGTH; rights = SERVICE_RIGHTS; of = 0; limit = 0; passes = false; disabled = false }
+trusted_root = record {
+  origin = TrustedPart;
+  owner = Trusted;
+  base = RETURN_ENTRY;
+  top = RETURN_ENTRY + NATIVE_LENGTH;
+  rights = SERVICE_RIGHTS;
+  of = 0;
+  limit = 0;
+  passes = false;
+  disabled = false;
+}
 
 abbrev pub no_gate : Gate
-no_gate = record { entry = 0; code = 0; stack = 0; args = 0; posture = Inherit; capabilities = false }
+no_gate = record {
+  entry = 0;
+  code = 0;
+  stack = 0;
+  args = 0;
+  posture = Inherit;
+  capabilities = false;
+}
 
 -- the gate of the export with this entry number
 unfoldable pub gate_for : List Gate → ℕ → Gate

@@ -25,16 +25,29 @@ pub record LineRow : Type 0 where
   pub of : List ℕ
 
 abbrev pub entry_of : Owner → Kind → ℕ → ℕ → ℕ → ℕ → Entry
-entry_of owner kind base length rights of = record { owner = owner; kind = kind; base = base; length = length; rights = rights; of = of; limit = 0 }
+entry_of owner kind base length rights of = record {
+  owner = owner;
+  kind = kind;
+  base = base;
+  length = length;
+  rights = rights;
+  of = of;
+  limit = 0;
+}
 
 abbrev pub line_of : Entry → List ℕ → List ℕ → List ℕ → LineRow
 line_of entry owner name of = record { entry = entry; owner = owner; name = name; of = of }
 
 abbrev pub code_line : ℕ → CompartmentRow → LineRow
-code_line i c = line_of (entry_of (owner.Compartment i) kind.Code c.codebase (code_size c) code_rights 0) c.name [] []
+code_line i c =
+    line_of (entry_of (owner.Compartment i) kind.Code c.codebase (code_size c) code_rights 0) c.name
+    [] []
 
 abbrev pub globals_line : ℕ → CompartmentRow → LineRow
-globals_line i c = line_of (entry_of (owner.Compartment i) kind.Globals c.globalsbase (globals_size c) globals_rights 0) c.name [] []
+globals_line i c =
+    line_of
+    (entry_of (owner.Compartment i) kind.Globals c.globalsbase (globals_size c) globals_rights 0)
+    c.name [] []
 
 -- slot 0 is the service `switch`, number 0, whose native entry of 8 bytes stands at 0x00010000
 abbrev pub switch_line : ℕ → CompartmentRow → LineRow
@@ -45,15 +58,25 @@ abbrev pub device_index : List DeviceRow → List ℕ → ℕ
 device_index devices name = position_or_len (λ (x : DeviceRow). bytes_eq name x.name) devices
 
 abbrev pub device_base : List DeviceRow → List ℕ → ℕ
-device_base devices name = unwrap_or (option_map (λ (x : DeviceRow). x.base) (find (λ (x : DeviceRow). bytes_eq name x.name) devices)) 0
+device_base devices name =
+    unwrap_or
+    (option_map (λ (x : DeviceRow). x.base) (find (λ (x : DeviceRow). bytes_eq name x.name) devices))
+    0
 
 -- an import of a device gives its 16 bytes
 abbrev pub import_line : List DeviceRow → ℕ → CompartmentRow → ImportRow → LineRow
-import_line devices i c x = line_of (entry_of (owner.Compartment i) kind.Device (device_base devices x.device) 16 (device_rights x.rights) (device_index devices x.device)) c.name x.alias x.device
+import_line devices i c x =
+    line_of
+    (entry_of (owner.Compartment i) kind.Device (device_base devices x.device) 16
+        (device_rights x.rights) (device_index devices x.device))
+    c.name x.alias x.device
 
 -- an export gives its row of 16 bytes in the export table, after the table's head
 abbrev pub export_line : ℕ → CompartmentRow → ℕ → ExportRow → LineRow
-export_line i c j x = line_of (entry_of (owner.Compartment i) kind.Export (c.tablebase + 16 + 16 * j) 16 export_rights 0) c.name x.name []
+export_line i c j x =
+    line_of
+    (entry_of (owner.Compartment i) kind.Export (c.tablebase + 16 + 16 * j) 16 export_rights 0)
+    c.name x.name []
 
 abbrev pub exports_from : ℕ → CompartmentRow → ℕ → List ExportRow → List LineRow
 exports_from i c j [] = []
@@ -61,14 +84,17 @@ exports_from i c j (x ∷ xs) = export_line i c j x ∷ exports_from i c (j + 1)
 
 abbrev pub compartment_lines : List DeviceRow → ℕ → CompartmentRow → List LineRow
 compartment_lines devices i c =
-    code_line i c ∷ globals_line i c ∷ switch_line i c ∷ map (import_line devices i c) c.imports ++ exports_from i c 0 c.exports
+    code_line i c ∷ globals_line i c ∷ switch_line i c ∷ map (import_line devices i c) c.imports
+        ++ exports_from i c 0 c.exports
 
 abbrev pub compartments_from : List DeviceRow → ℕ → List CompartmentRow → List LineRow
 compartments_from devices i [] = []
-compartments_from devices i (c ∷ cs) = compartment_lines devices i c ++ compartments_from devices (i + 1) cs
+compartments_from devices i (c ∷ cs) =
+    compartment_lines devices i c ++ compartments_from devices (i + 1) cs
 
 abbrev pub stack_line : ℕ → ThreadRow → LineRow
-stack_line i t = line_of (entry_of (owner.Thread i) kind.Stack t.stackbase t.stack stack_rights 0) t.name [] []
+stack_line i t =
+    line_of (entry_of (owner.Thread i) kind.Stack t.stackbase t.stack stack_rights 0) t.name [] []
 
 abbrev pub stacks_from : ℕ → List ThreadRow → List LineRow
 stacks_from i [] = []
@@ -93,7 +119,14 @@ entries_in c = before_exports c + length c.exports
 -- descriptions say more, an export takes six arguments, asks for no stack, runs with interrupts
 -- enabled and passes capabilities
 abbrev pub gate_of : ℕ → CompartmentRow → ExportRow → Gate
-gate_of number c x = record { entry = number; code = c.codebase + 8 * slots_of c + x.at; stack = 0; args = 6; posture = mode.Enabled; capabilities = true }
+gate_of number c x = record {
+  entry = number;
+  code = c.codebase + 8 * slots_of c + x.at;
+  stack = 0;
+  args = 6;
+  posture = mode.Enabled;
+  capabilities = true;
+}
 
 abbrev pub gates_in : ℕ → CompartmentRow → List ExportRow → List Gate
 gates_in number c [] = []
@@ -102,7 +135,8 @@ gates_in number c (x ∷ xs) = gate_of number c x ∷ gates_in (number + 1) c xs
 -- the gates of compartments whose first entry has this number
 abbrev pub gates_from : ℕ → List CompartmentRow → List Gate
 gates_from number [] = []
-gates_from number (c ∷ cs) = gates_in (number + before_exports c) c c.exports ++ gates_from (number + entries_in c) cs
+gates_from number (c ∷ cs) =
+    gates_in (number + before_exports c) c c.exports ++ gates_from (number + entries_in c) cs
 
 abbrev pub entries_of : DescRow → Listed
 entries_of r = record { rows = rows_of r; gates = gates_from 1 r.compartments }
@@ -112,7 +146,8 @@ entries_of r = record { rows = rows_of r; gates = gates_from 1 r.compartments }
 -- the number of the export of this name, or 0 where there is none
 abbrev pub number_in : ℕ → List ℕ → CompartmentRow → List ExportRow → Option ℕ
 number_in number entry c [] = None
-number_in number entry c (x ∷ xs) = if is_call entry c.name x.name then Some number else number_in (number + 1) entry c xs
+number_in number entry c (x ∷ xs) =
+    if is_call entry c.name x.name then Some number else number_in (number + 1) entry c xs
 
 abbrev pub number_or_next : Option ℕ → Option ℕ → Option ℕ
 number_or_next (Some n) next = Some n
@@ -120,7 +155,9 @@ number_or_next None next = next
 
 abbrev pub number_from : ℕ → List ℕ → List CompartmentRow → Option ℕ
 number_from number entry [] = None
-number_from number entry (c ∷ cs) = number_or_next (number_in (number + before_exports c) entry c c.exports) (number_from (number + entries_in c) entry cs)
+number_from number entry (c ∷ cs) =
+    number_or_next (number_in (number + before_exports c) entry c c.exports)
+    (number_from (number + entries_in c) entry cs)
 
 abbrev pub number_of : List ℕ → List CompartmentRow → ℕ
 number_of entry cs = unwrap_or (number_from 1 entry cs) 0

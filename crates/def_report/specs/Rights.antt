@@ -8,13 +8,19 @@ abbrev pub only : ℕ → ℕ
 only p = 2 ^ p
 
 abbrev pub code_rights : ℕ
-code_rights = only global + only load_global + only load_mutable + only load_data + only memory_capability + only execute
+code_rights =
+    only global + only load_global + only load_mutable + only load_data + only memory_capability
+    + only execute
 
 abbrev pub globals_rights : ℕ
-globals_rights = only global + only load_global + only store_data + only load_mutable + only load_data + only memory_capability
+globals_rights =
+    only global + only load_global + only store_data + only load_mutable + only load_data
+    + only memory_capability
 
 abbrev pub stack_rights : ℕ
-stack_rights = only load_global + only store_data + only load_mutable + only store_local + only load_data + only memory_capability
+stack_rights =
+    only load_global + only store_data + only load_mutable + only store_local + only load_data
+    + only memory_capability
 
 abbrev pub service_rights : ℕ
 service_rights = only global + only load_data + only memory_capability + only execute
@@ -41,7 +47,8 @@ with_word (b ∷ bs) word = (b ∷ bs) ++ 32 ∷ word
 -- a text goes on with the names of those bits of a set, from bit 0 up, that are set
 abbrev pub with_names : List ℕ → ℕ → List (List ℕ) → List ℕ
 with_names text set [] = text
-with_names text set (name ∷ names) = with_names (if set % 2 == 1 then with_word text name else text) (set / 2) names
+with_names text set (name ∷ names) =
+    with_names (if set % 2 == 1 then with_word text name else text) (set / 2) names
 
 -- the names of a set's permissions in bit order, joined by a space
 unfoldable pub rights_text : ℕ → List ℕ

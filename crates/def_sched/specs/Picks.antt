@@ -26,11 +26,14 @@ priority_of priorities t = slice_index_or priorities t 0
 
 -- thread u doesn't come before thread t by priority
 abbrev pub gives_way : List ℕ → List Status → ℕ → ℕ → Bool
-gives_way priorities statuses t u = not (is_ready (status_of statuses u)) || nat_le (priority_of priorities u) (priority_of priorities t)
+gives_way priorities statuses t u =
+    not (is_ready (status_of statuses u))
+    || nat_le (priority_of priorities u) (priority_of priorities t)
 
 -- thread t is ready, and no ready thread has a greater priority
 abbrev pub is_foremost : List ℕ → List Status → List ℕ → ℕ → Bool
-is_foremost priorities statuses order t = is_ready (status_of statuses t) && list_all (gives_way priorities statuses t) order
+is_foremost priorities statuses order t =
+    is_ready (status_of statuses t) && list_all (gives_way priorities statuses t) order
 
 -- among the ready threads of greatest priority the one picked least recently; none where none is ready
 abbrev pub pick : List ℕ → List Status → List ℕ → Option ℕ

@@ -65,14 +65,17 @@ waiting_below address statuses t = count_by (waits_for address) (take t statuses
 
 -- of those that wait for the word, so many wake: the ones with the lowest numbers
 abbrev pub wakes : ℕ → ℕ → List Status → ℕ → Bool
-wakes address most statuses t = waits_for address (status_of statuses t) && nat_lt (waiting_below address statuses t) most
+wakes address most statuses t =
+    waits_for address (status_of statuses t) && nat_lt (waiting_below address statuses t) most
 
 -- what a wake leaves of the status of thread t
 abbrev pub after_wake : ℕ → ℕ → List Status → ℕ → Status
-after_wake address most statuses t = if wakes address most statuses t then Ready else status_of statuses t
+after_wake address most statuses t =
+    if wakes address most statuses t then Ready else status_of statuses t
 
 abbrev pub woken : ℕ → ℕ → List Status → List Status
-woken address most statuses = map (after_wake address most statuses) (range_with_len 0 (length statuses))
+woken address most statuses =
+    map (after_wake address most statuses) (range_with_len 0 (length statuses))
 
 -- how many wake
 abbrev pub woken_count : ℕ → ℕ → List Status → ℕ

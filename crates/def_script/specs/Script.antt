@@ -63,7 +63,10 @@ pub record Due : Type 0 where
   pub given : Given
 
 abbrev pub due : List DeviceRow → Row → Due
-due devices r = record { step = r.step; given = record { device = unwrap_or (device_named devices r.name) 0; byte = r.byte } }
+due devices r = record {
+  step = r.step;
+  given = record { device = unwrap_or (device_named devices r.name) 0; byte = r.byte };
+}
 
 -- the text spells a script, and this comes of it
 pub record Reads (devices : List DeviceRow) (text : List ℕ) (dues : List Due) : Type 0 where
@@ -90,7 +93,8 @@ pub record NoLine (text : List ℕ) : Type 0 where
 
 -- the step of the last line, 0 before the first
 abbrev pub last_step : List Row → ℕ
-last_step rows = (slice_index_or rows (length rows - 1) (record { step = 0; name = []; byte = 0 })).step
+last_step rows =
+    (slice_index_or rows (length rows - 1) (record { step = 0; name = []; byte = 0 })).step
 
 -- a line follows these whose step is less than the last one's
 pub record Falls (rows : List Row) (text : List ℕ) : Type 0 where
@@ -110,7 +114,8 @@ pub record Nameless (devices : List DeviceRow) (rows : List Row) (text : List �
 -- what is wrong with the line at a text's front, after these lines
 abbrev pub Breaks : List DeviceRow → List Row → List ℕ → ℕ → Type 0
 Breaks devices rows text number =
-    ((number ≡ 1) × NoLine text) ⊎ ((number ≡ 2) × Falls rows text) ⊎ ((number ≡ 3) × Nameless devices rows text)
+    ((number ≡ 1) × NoLine text) ⊎ ((number ≡ 2) × Falls rows text)
+        ⊎ ((number ≡ 3) × Nameless devices rows text)
 
 -- the lines before this one are a script, and this one breaks a rule: the least line, on it the least number
 pub record IsFault (devices : List DeviceRow) (text : List ℕ) (number line : ℕ) : Type 0 where

@@ -73,7 +73,9 @@ begins_inner (c ∷ cs) = is_inner c
 -- a text cut at blanks, with each mark a piece of its own: its pieces are marks and longest runs of other bytes
 abbrev pub pieces : List ℕ → List (List ℕ)
 pieces [] = []
-pieces (c ∷ cs) = if is_blank c then pieces cs else if is_inner c && begins_inner cs then before c (pieces cs) else (c ∷ []) ∷ pieces cs
+pieces (c ∷ cs) =
+    if is_blank c then pieces cs else if is_inner c && begins_inner cs then before c (pieces cs)
+    else (c ∷ []) ∷ pieces cs
 
 abbrev pub is_name : List ℕ → Bool
 is_name [] = false
@@ -87,7 +89,10 @@ value_from base n (c ∷ cs) = value_from base (n * base + digit c) cs
 -- digits, at least one, whose value is at most so large
 abbrev pub digits_of : (ℕ → Bool) → ℕ → ℕ → List ℕ → Option ℕ
 digits_of test base most [] = None
-digits_of test base most (c ∷ cs) = if list_all test (c ∷ cs) && nat_le (value_from base 0 (c ∷ cs)) most then Some (value_from base 0 (c ∷ cs)) else None
+digits_of test base most (c ∷ cs) =
+    if list_all test (c ∷ cs) && nat_le (value_from base 0 (c ∷ cs)) most
+      then Some (value_from base 0 (c ∷ cs))
+    else None
 
 abbrev pub positive : ℕ → Number
 positive n = record { negative = false; magnitude = n }
@@ -99,12 +104,14 @@ negative n = record { negative = true; magnitude = n }
 abbrev pub number_of : List ℕ → Option Number
 number_of [] = None
 number_of (c ∷ cs) =
-    if c == 45 then option_map negative (digits_of is_digit 10 (2 ^ 127) cs) else hexadecimal_or_decimal c cs
+    if c == 45 then option_map negative (digits_of is_digit 10 (2 ^ 127) cs)
+        else hexadecimal_or_decimal c cs
   where
     hexadecimal_or_decimal : ℕ → List ℕ → Option Number
     hexadecimal_or_decimal c [] = option_map positive (digits_of is_digit 10 (2 ^ 128 - 1) (c ∷ []))
     hexadecimal_or_decimal c (d ∷ ds) =
-        if c == 48 && d == 120 then option_map positive (digits_of is_hexadecimal 16 (2 ^ 128 - 1) ds)
+        if c == 48 && d == 120
+            then option_map positive (digits_of is_hexadecimal 16 (2 ^ 128 - 1) ds)
         else option_map positive (digits_of is_digit 10 (2 ^ 128 - 1) (c ∷ d ∷ ds))
 
 -- the token that a piece is: a mark, a directive word, a name or a number
@@ -141,7 +148,8 @@ line_tokens line = if list_all is_ascii line then row_of (pieces (before_comment
 -- what the first row of that name says, in a table of rows
 abbrev pub first_named : {R A : Type 0} → (R → Name) → (R → A) → Name → List R → Option A
 first_named named says name [] = None
-first_named named says name (row ∷ rows) = if bytes_eq name (named row) then Some (says row) else first_named named says name rows
+first_named named says name (row ∷ rows) =
+    if bytes_eq name (named row) then Some (says row) else first_named named says name rows
 
 unfoldable pub head_of : Name → Option Head
 head_of name = first_named (λ row. row.0.now) (λ row. row.1) name HEADS
@@ -298,13 +306,20 @@ register_jump_form ts = or_else
 
 -- the statement of a word and the tokens after it, if they are one of its operand forms
 abbrev pub form_of : Head → Row → Option (Part Name)
-form_of (head.Registers operation) ts = option_map (λ o. part.Registers operation o.0 o.1 o.2) (three_registers ts)
-form_of (head.Immediate operation) ts = option_map (λ o. part.Immediate operation o.0 o.1 o.2) (two_registers_number ts)
-form_of (head.Upper operation) ts = option_map (λ o. part.Upper operation o.0 o.1) (register_number ts)
-form_of (head.Load operation) ts = option_map (λ o. part.Load operation o.0 o.1 o.2) (register_address ts)
-form_of (head.Store operation) ts = option_map (λ o. part.Store operation o.0 o.1 o.2) (register_address ts)
-form_of (head.Branch operation) ts = option_map (λ o. part.Branch operation o.0 o.1 o.2) (two_registers_target ts)
-form_of (head.Source operation) ts = option_map (λ o. part.Source operation o.0 o.1) (two_registers ts)
+form_of (head.Registers operation) ts =
+    option_map (λ o. part.Registers operation o.0 o.1 o.2) (three_registers ts)
+form_of (head.Immediate operation) ts =
+    option_map (λ o. part.Immediate operation o.0 o.1 o.2) (two_registers_number ts)
+form_of (head.Upper operation) ts =
+    option_map (λ o. part.Upper operation o.0 o.1) (register_number ts)
+form_of (head.Load operation) ts =
+    option_map (λ o. part.Load operation o.0 o.1 o.2) (register_address ts)
+form_of (head.Store operation) ts =
+    option_map (λ o. part.Store operation o.0 o.1 o.2) (register_address ts)
+form_of (head.Branch operation) ts =
+    option_map (λ o. part.Branch operation o.0 o.1 o.2) (two_registers_target ts)
+form_of (head.Source operation) ts =
+    option_map (λ o. part.Source operation o.0 o.1) (two_registers ts)
 form_of (head.Bare operation) ts = ended ts (part.Bare operation)
 form_of head.Jal ts = option_map (λ o. part.Jal o.0 o.1) (register_target ts)
 form_of head.RegisterJump ts = register_jump_form ts
@@ -369,7 +384,9 @@ abbrev pub numbers_fit : Part Name → Bool
 numbers_fit (part.Word number) = within (2 ^ 31) (2 ^ 32 - 1) number
 numbers_fit (part.Byte number) = within 128 255 number
 numbers_fit (part.Zero number) = within 0 MOST_BYTES number
-numbers_fit (part.Align number) = within 0 MOST_ALIGNMENT number && nat_lt 0 number.magnitude && MOST_ALIGNMENT % number.magnitude == 0
+numbers_fit (part.Align number) =
+    within 0 MOST_ALIGNMENT number && nat_lt 0 number.magnitude
+    && MOST_ALIGNMENT % number.magnitude == 0
 numbers_fit (part.Immediate operation rd rs1 number) = fits_immediate operation number
 numbers_fit (part.Upper operation rd number) = within 524288 1048575 number
 numbers_fit (part.Load operation rd number rs1) = within 2048 2047 number
@@ -452,7 +469,8 @@ after_label (token.Name n ∷ token.Colon ∷ ts) = ts
 after_label ts = ts
 
 unfoldable pub row_line : Section → Row → Result (Line Name) ℕ
-row_line s ts = result_map (λ p. record { label = label_of ts; part = p }) (statement_of s (after_label ts))
+row_line s ts =
+    result_map (λ p. record { label = label_of ts; part = p }) (statement_of s (after_label ts))
 
 abbrev pub tokens_line : Section → Option Row → Result (Line Name) ℕ
 tokens_line s None = Err 1
@@ -493,7 +511,8 @@ with_front front (Ok rest) = Ok (front ++ rest)
 with_front front (Err e) = Err e
 
 -- a line's statements before those of the lines after it, or its fault
-abbrev pub goes_on : ℕ → Section → Result (Line Name) ℕ → (Section → Result Statements AsmFault) → Result Statements AsmFault
+abbrev pub goes_on : ℕ → Section → Result (Line Name) ℕ → (Section → Result Statements AsmFault)
+    → Result Statements AsmFault
 goes_on n s (Err number) rest = Err (At number n)
 goes_on n s (Ok l) rest = with_front (line_statements n l) (rest (section_after s l.part))
 

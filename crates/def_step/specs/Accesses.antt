@@ -24,10 +24,24 @@ use Rattle.def_step.specs.Devices.{Bank, found, bank_value, bank_read, bank_writ
 -- ---- the instructions
 
 abbrev pub load_of : ℕ → Bool → Bool → ℕ → ℕ → Access
-load_of width signed whole by n = record { loads = true; width = width; signed = signed; whole = whole; by = by; immediate = n }
+load_of width signed whole by n = record {
+  loads = true;
+  width = width;
+  signed = signed;
+  whole = whole;
+  by = by;
+  immediate = n;
+}
 
 abbrev pub store_of : ℕ → Bool → ℕ → ℕ → Access
-store_of width whole by n = record { loads = false; width = width; signed = false; whole = whole; by = by; immediate = n }
+store_of width whole by n = record {
+  loads = false;
+  width = width;
+  signed = false;
+  whole = whole;
+  by = by;
+  immediate = n;
+}
 
 -- widths in bytes; of any other instruction the last row means nothing
 abbrev pub access_of : Instr → Access
@@ -67,7 +81,8 @@ store_checks a x at carries =
     ∷ []
 
 abbrev pub access_checks : Access → Cap → Cap → ℕ → List Check
-access_checks a x y at = if a.loads then load_checks a x at else store_checks a x at (a.whole && y.tag)
+access_checks a x y at =
+    if a.loads then load_checks a x at else store_checks a x at (a.whole && y.tag)
 
 -- ---- effects
 
@@ -116,8 +131,18 @@ ram_stored a x y at ram gs =
 abbrev pub in_ram : Access → Cap → Cap → ℕ → Space → Accessed
 in_ram a x y at p =
     if a.loads
-    then record { value = Some (ram_value a x at p.ram p.granules); act = None; granules = p.granules; bank = p.bank }
-    else record { value = None; act = None; granules = ram_stored a x y at p.ram p.granules; bank = p.bank }
+    then record {
+      value = Some (ram_value a x at p.ram p.granules);
+      act = None;
+      granules = p.granules;
+      bank = p.bank;
+    }
+    else record {
+      value = None;
+      act = None;
+      granules = ram_stored a x y at p.ram p.granules;
+      bank = p.bank;
+    }
 
 -- An access that reaches a device is a deed. One that reached neither RAM nor a device would give 0 and
 -- leave all as it is: no capability of the machine has such an authority.

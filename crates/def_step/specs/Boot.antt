@@ -98,8 +98,10 @@ abbrev pub made_by : ℕ → Entry → Kind → Cap
 made_by n r kind.Code = derive executable_root r.base r.length r.rights r.base 0 (from_entry n)
 made_by n r kind.Globals = derive memory_root r.base r.length r.rights r.base 0 (from_entry n)
 made_by n r kind.Device = derive memory_root r.base r.length r.rights r.base 0 (from_entry n)
-made_by n r kind.Stack = derive memory_root r.base r.length r.rights (r.base + r.length) 0 (from_entry n)
-made_by n r kind.Service = derive executable_root r.base r.length r.rights r.base SENTRY_INHERIT (from_entry n)
+made_by n r kind.Stack =
+    derive memory_root r.base r.length r.rights (r.base + r.length) 0 (from_entry n)
+made_by n r kind.Service =
+    derive executable_root r.base r.length r.rights r.base SENTRY_INHERIT (from_entry n)
 made_by n r _ = plain 0
 
 abbrev pub made_from : ℕ → List Entry → List Cap
@@ -108,7 +110,9 @@ made_from n (r ∷ rs) = made_by n r r.kind ∷ made_from (n + 1) rs
 
 -- the return sentry: of the return's native entry, of type 5, with the trusted part's number
 abbrev pub return_sentry : Cap
-return_sentry = derive executable_root RETURN_ENTRY NATIVE_LENGTH SERVICE_RIGHTS RETURN_ENTRY RETURN_ENABLE (from_entry 0)
+return_sentry =
+    derive executable_root RETURN_ENTRY NATIVE_LENGTH SERVICE_RIGHTS RETURN_ENTRY RETURN_ENABLE
+    (from_entry 0)
 
 abbrev pub made_caps : FirmwareRow → List Cap
 made_caps f = return_sentry ∷ made_from 1 f.entries.rows
@@ -121,7 +125,8 @@ made_for f n = slice_index_or (made_caps f) n (plain 0)
 -- a slot of the import table, which begins the code region: the slots are numbered after code and globals
 abbrev pub is_slot_at : FirmwareRow → ℕ → ℕ → Owner → Bool
 is_slot_at f x n Trusted = false
-is_slot_at f x n (Compartment b) = (root_of f.entries (code_number f b)).base + SLOT_SIZE * (n - (code_number f b + 2)) == x
+is_slot_at f x n (Compartment b) =
+    (root_of f.entries (code_number f b)).base + SLOT_SIZE * (n - (code_number f b + 2)) == x
 is_slot_at f x n (Library l) = false
 is_slot_at f x n (Thread t) = false
 
@@ -143,7 +148,8 @@ head_number f x = head_from f x 0 f.tables
 -- how many slots a compartment has
 abbrev pub slots_from : ℕ → List Entry → ℕ
 slots_from b [] = 0
-slots_from b (r ∷ rs) = (if is_slot_kind r.kind && is_compartment b r.owner then 1 else 0) + slots_from b rs
+slots_from b (r ∷ rs) =
+    (if is_slot_kind r.kind && is_compartment b r.owner then 1 else 0) + slots_from b rs
 
 abbrev pub text_base : FirmwareRow → ℕ → ℕ
 text_base f b = (root_of f.entries (code_number f b)).base + SLOT_SIZE * slots_from b f.entries.rows
@@ -159,7 +165,9 @@ abbrev pub export_first : FirmwareRow → Gate → Owner → ℕ
 export_first f g o = g.code - text_base f (compartment_of o) + g.stack * 2 ^ 32
 
 abbrev pub export_second : Gate → ℕ
-export_second g = g.args + posture_byte g.posture * 2 ^ 8 + (if g.capabilities then 1 else 2) * 2 ^ 16 + g.entry * 2 ^ 32
+export_second g =
+    g.args + posture_byte g.posture * 2 ^ 8 + (if g.capabilities then 1 else 2) * 2 ^ 16
+    + g.entry * 2 ^ 32
 
 abbrev pub export_at : FirmwareRow → ℕ → ℕ
 export_at f x = number_of f (λ n r. is_export_kind r.kind && (r.base == x))
@@ -170,8 +178,10 @@ text_byte text at = get_or text at 0
 
 abbrev pub text_word : List ℕ → ℕ → ℕ
 text_word text at =
-    text_byte text at + text_byte text (at + 1) * 2 ^ 8 + text_byte text (at + 2) * 2 ^ 16 + text_byte text (at + 3) * 2 ^ 24
-    + text_byte text (at + 4) * 2 ^ 32 + text_byte text (at + 5) * 2 ^ 40 + text_byte text (at + 6) * 2 ^ 48 + text_byte text (at + 7) * 2 ^ 56
+    text_byte text at + text_byte text (at + 1) * 2 ^ 8 + text_byte text (at + 2) * 2 ^ 16
+    + text_byte text (at + 3) * 2 ^ 24
+    + text_byte text (at + 4) * 2 ^ 32 + text_byte text (at + 5) * 2 ^ 40
+    + text_byte text (at + 6) * 2 ^ 48 + text_byte text (at + 7) * 2 ^ 56
 
 -- the word of the text that covers an address, 0 where none does
 abbrev pub text_from : FirmwareRow → ℕ → ℕ → List (List ℕ) → ℕ
@@ -183,8 +193,11 @@ text_from f x b (text ∷ texts) =
 
 abbrev pub boot_word : FirmwareRow → ℕ → ℕ
 boot_word f x =
-    if not (export_at f x == 0) then export_first f (gate_for f.entries.gates (export_at f x)) (root_of f.entries (export_at f x)).owner
-    else if nat_le 8 x && not (export_at f (x - 8) == 0) then export_second (gate_for f.entries.gates (export_at f (x - 8)))
+    if not (export_at f x == 0)
+        then export_first f (gate_for f.entries.gates (export_at f x))
+          (root_of f.entries (export_at f x)).owner
+    else if nat_le 8 x && not (export_at f (x - 8) == 0)
+        then export_second (gate_for f.entries.gates (export_at f (x - 8)))
     else text_from f x 0 f.texts
 
 -- Tagged are the slots, the heads of export tables, and the return sentry in the trusted region's first
@@ -221,21 +234,27 @@ region_by r _ o rest = rest
 -- by the rows of code, globals and stacks; other rows cover no region
 abbrev pub region_in : List Entry → ℕ → Region → Region
 region_in [] x rest = rest
-region_in (r ∷ rs) x rest = if is_covered r.base r.length x then region_by r r.kind r.owner (region_in rs x rest) else region_in rs x rest
+region_in (r ∷ rs) x rest =
+    if is_covered r.base r.length x then region_by r r.kind r.owner (region_in rs x rest)
+    else region_in rs x rest
 
 -- how many exports a compartment has
 abbrev pub exports_from : ℕ → List Entry → ℕ
 exports_from b [] = 0
-exports_from b (r ∷ rs) = (if is_export_kind r.kind && is_compartment b r.owner then 1 else 0) + exports_from b rs
+exports_from b (r ∷ rs) =
+    (if is_export_kind r.kind && is_compartment b r.owner then 1 else 0) + exports_from b rs
 
 abbrev pub is_table_from : FirmwareRow → ℕ → ℕ → List ℕ → Bool
 is_table_from f x b [] = false
-is_table_from f x b (table ∷ tables) = is_covered table (TABLE_HEAD + TABLE_ROW * exports_from b f.entries.rows) x || is_table_from f x (b + 1) tables
+is_table_from f x b (table ∷ tables) =
+    is_covered table (TABLE_HEAD + TABLE_ROW * exports_from b f.entries.rows) x
+    || is_table_from f x (b + 1) tables
 
 abbrev pub region_at : FirmwareRow → ℕ → Region
 region_at f x =
     if (f.trusted == x) || is_table_from f x 0 f.tables then Fixed
-    else region_in f.entries.rows x (if is_covered f.heap (f.ram + f.size - f.heap) x then HeapRam else Bare)
+    else region_in f.entries.rows x
+        (if is_covered f.heap (f.ram + f.size - f.heap) x then HeapRam else Bare)
 
 abbrev pub regions_from : FirmwareRow → ℕ → ℕ → List Region
 regions_from f x zero = []
@@ -284,7 +303,9 @@ abbrev pub home_of : FirmwareRow → ℕ → ℕ
 home_of f export = compartment_of (root_of f.entries export).owner
 
 abbrev pub first_posture : FirmwareRow → ℕ → Posture
-first_posture f export = if (root_of f.entries export).disabled then record { off = true; source = export } else interrupts_on
+first_posture f export =
+    if (root_of f.entries export).disabled then record { off = true; source = export }
+    else interrupts_on
 
 abbrev pub stack_top_of : FirmwareRow → ℕ → ℕ
 stack_top_of f t = (root_of f.entries (stack_number f t)).top
@@ -292,15 +313,29 @@ stack_top_of f t = (root_of f.entries (stack_number f t)).top
 -- A thread starts at its export, with the return sentry in c1, its stack at the top in c2 and the globals in
 -- c3, and one frame.
 abbrev pub first_frame : FirmwareRow → ℕ → ℕ → Frame
-first_frame f t export = record { actor = home_of f export; export = export; top = stack_top_of f t; handling = false; c1 = plain 0; c2 = plain 0; c3 = plain 0; c8 = plain 0; c9 = plain 0 }
+first_frame f t export = record {
+  actor = home_of f export;
+  export = export;
+  top = stack_top_of f t;
+  handling = false;
+  c1 = plain 0;
+  c2 = plain 0;
+  c3 = plain 0;
+  c8 = plain 0;
+  c9 = plain 0;
+}
 
 abbrev pub first_pcc : FirmwareRow → ℕ → Cap
-first_pcc f export = with_address (made_for f (code_number f (home_of f export))) (gate_for f.entries.gates export).code
+first_pcc f export =
+    with_address (made_for f (code_number f (home_of f export)))
+    (gate_for f.entries.gates export).code
 
 abbrev pub first_registers : FirmwareRow → ℕ → ℕ → List Cap
 first_registers f t export =
-    plain 0 ∷ return_sentry ∷ made_for f (stack_number f t) ∷ made_for f (globals_number f (home_of f export))
-    ∷ plain 0 ∷ plain 0 ∷ plain 0 ∷ plain 0 ∷ plain 0 ∷ plain 0 ∷ plain 0 ∷ plain 0 ∷ plain 0 ∷ plain 0 ∷ plain 0 ∷ plain 0 ∷ []
+    plain 0 ∷ return_sentry ∷ made_for f (stack_number f t)
+    ∷ made_for f (globals_number f (home_of f export))
+    ∷ plain 0 ∷ plain 0 ∷ plain 0 ∷ plain 0 ∷ plain 0 ∷ plain 0 ∷ plain 0 ∷ plain 0 ∷ plain 0
+    ∷ plain 0 ∷ plain 0 ∷ plain 0 ∷ []
 
 abbrev pub first_thread : FirmwareRow → ℕ → Starter → st.Thread
 first_thread f t s = record {
@@ -316,7 +351,17 @@ first_threads f t [] = []
 first_threads f t (s ∷ ss) = first_thread f t s ∷ first_threads f (t + 1) ss
 
 abbrev pub no_counts : Counts
-no_counts = record { steps = 0; ticks = 0; sweeps = 0; inputs = 0; calls = 0; loads = 0; stores = 0; frees = 0; traps = 0 }
+no_counts = record {
+  steps = 0;
+  ticks = 0;
+  sweeps = 0;
+  inputs = 0;
+  calls = 0;
+  loads = 0;
+  stores = 0;
+  frees = 0;
+  traps = 0;
+}
 
 unfoldable pub boot_state : FirmwareRow → State
 boot_state f = record {

@@ -12,7 +12,8 @@ oldest q = slice_index_or q 0 0
 
 abbrev pub register_value : DeviceState → ℕ → ℕ → ℕ
 register_value (Serial q) n time = if n == 0 then oldest q else if n == 1 then length q else 0
-register_value Clock n time = if n == 0 then time % 2 ^ 32 else if n == 1 then time / 2 ^ 32 % 2 ^ 32 else 0
+register_value Clock n time =
+    if n == 0 then time % 2 ^ 32 else if n == 1 then time / 2 ^ 32 % 2 ^ 32 else 0
 register_value (Pins output input) n time = if n == 0 then output else if n == 1 then input else 0
 
 -- reading register 0 of a serial port takes the oldest byte; no other reading changes anything
@@ -45,17 +46,20 @@ IsWidth width = (width ≡ 1) ⊎ (width ≡ 2) ⊎ (width ≡ 4) ⊎ (width ≡
 
 -- a load of 1, 2 or 4 bytes at an offset: the register of the offset, shifted and cut to the width
 abbrev pub part_read : DeviceState → ℕ → ℕ → ℕ → ℕ
-part_read d offset width time = register_value d (offset / 4) time / 2 ^ (8 * (offset % 4)) % 2 ^ (8 * width)
+part_read d offset width time =
+    register_value d (offset / 4) time / 2 ^ (8 * (offset % 4)) % 2 ^ (8 * width)
 
 -- a store of 1, 2 or 4 bytes counts only at a multiple of 4, with zeros above the bytes that are stored
 abbrev pub part_written : DeviceState → ℕ → ℕ → ℕ → DeviceState
-part_written d offset width value = if offset % 4 == 0 then after_write d (offset / 4) (value % 2 ^ (8 * width)) else d
+part_written d offset width value =
+    if offset % 4 == 0 then after_write d (offset / 4) (value % 2 ^ (8 * width)) else d
 
 -- an access of 8 bytes is the one at its offset, then the one at its offset + 4
 abbrev pub value_read : DeviceState → ℕ → ℕ → ℕ → ℕ
 value_read d offset width time =
     if width == 8
-    then part_read d offset 4 time + part_read (after_read d (offset / 4)) (offset + 4) 4 time * 2 ^ 32
+    then part_read d offset 4 time
+        + part_read (after_read d (offset / 4)) (offset + 4) 4 time * 2 ^ 32
     else part_read d offset width time
 
 abbrev pub left_by_read : DeviceState → ℕ → ℕ → DeviceState
@@ -102,24 +106,35 @@ base_of bases n = slice_index_or bases n 0
 -- a load and what it leaves; where no device has the address, 0 and nothing
 abbrev pub bank_value_at : Bank → Option ℕ → ℕ → ℕ → ℕ → ℕ
 bank_value_at k None address width time = 0
-bank_value_at k (Some n) address width time = value_read (device k.states n) (address - base_of k.bases n) width time
+bank_value_at k (Some n) address width time =
+    value_read (device k.states n) (address - base_of k.bases n) width time
 
 abbrev pub bank_value : Bank → ℕ → ℕ → ℕ → ℕ
 bank_value k address width time = bank_value_at k (found k.bases address) address width time
 
 abbrev pub bank_read_at : Bank → Option ℕ → ℕ → ℕ → Bank
 bank_read_at k None address width = k
-bank_read_at k (Some n) address width = record k { states = slice_set k.states n (left_by_read (device k.states n) (address - base_of k.bases n) width) }
+bank_read_at k (Some n) address width =
+    record k {
+      states =
+        slice_set k.states n (left_by_read (device k.states n) (address - base_of k.bases n) width);
+    }
 
 abbrev pub bank_read : Bank → ℕ → ℕ → Bank
 bank_read k address width = bank_read_at k (found k.bases address) address width
 
 abbrev pub bank_written_at : Bank → Option ℕ → ℕ → ℕ → ℕ → Bank
 bank_written_at k None address width value = k
-bank_written_at k (Some n) address width value = record k { states = slice_set k.states n (left_by_write (device k.states n) (address - base_of k.bases n) width value) }
+bank_written_at k (Some n) address width value =
+    record k {
+      states =
+        slice_set k.states n
+        (left_by_write (device k.states n) (address - base_of k.bases n) width value);
+    }
 
 abbrev pub bank_written : Bank → ℕ → ℕ → ℕ → Bank
 bank_written k address width value = bank_written_at k (found k.bases address) address width value
 
 abbrev pub bank_input : Bank → ℕ → ℕ → Bank
-bank_input k n byte = record k { states = slice_set k.states n (after_input (device k.states n) byte) }
+bank_input k n byte =
+    record k { states = slice_set k.states n (after_input (device k.states n) byte) }

@@ -46,7 +46,9 @@ noted r = (record r.0 { counts = with_deed r.0.counts r.1 }, r.1)
 -- A thread that runs with interrupts on stops where a tick is pending, which is then cleared.
 abbrev pub preempted_from : State → Option ℕ → State
 preempted_from s None = s
-preempted_from s (Some t) = if s.pending && not (thread s t).posture.off then record s { running = None; pending = false } else s
+preempted_from s (Some t) =
+    if s.pending && not (thread s t).posture.off then record s { running = None; pending = false }
+    else s
 
 abbrev pub preempted : State → State
 preempted s = preempted_from s s.running
@@ -55,7 +57,12 @@ preempted s = preempted_from s s.running
 -- recently. Its registers and pcc pass the load filter, and in the order of last picks it stands last.
 abbrev pub picked_as : Board → State → Option ℕ → State
 picked_as b s None = s
-picked_as b s (Some t) = record s { running = Some t; threads = slice_set s.threads t (picked b.image s (thread s t)); picks = moved_last t s.picks }
+picked_as b s (Some t) =
+    record s {
+      running = Some t;
+      threads = slice_set s.threads t (picked b.image s (thread s t));
+      picks = moved_last t s.picks;
+    }
 
 abbrev pub picked_from : Board → State → Option ℕ → State
 picked_from b s (Some t) = s
@@ -84,15 +91,24 @@ stepped b s = run_on b (scheduled b (preempted (one_more_step s)))
 -- sleep ends is ready.
 abbrev pub interrupted : State → Option ℕ → State
 interrupted s None = s
-interrupted s (Some t) = if (thread s t).posture.off then record s { pending = true } else record s { running = None }
+interrupted s (Some t) =
+    if (thread s t).posture.off then record s { pending = true } else record s { running = None }
 
 abbrev pub ticked : State → State
-ticked s = interrupted (record s { threads = map timed s.threads; time = s.time + 1; counts = record s.counts { ticks = s.counts.ticks + 1 } }) s.running
+ticked s =
+    interrupted
+    (record s {
+      threads = map timed s.threads;
+      time = s.time + 1;
+      counts = record s.counts { ticks = s.counts.ticks + 1 };
+    })
+    s.running
 
 -- ---- Sweep
 
 abbrev pub swept_on : Board → State → State
-swept_on b s = swept b.image (record s { counts = record s.counts { sweeps = s.counts.sweeps + 1 } })
+swept_on b s =
+    swept b.image (record s { counts = record s.counts { sweeps = s.counts.sweeps + 1 } })
 
 -- ---- Input
 
@@ -107,7 +123,8 @@ received s n byte = record s {
 -- the running thread where it holds interrupts off, and the source by which it does
 abbrev pub holder_by : State → Option ℕ → Option (ℕ × ℕ)
 holder_by s None = None
-holder_by s (Some t) = if (thread s t).posture.off then Some (t, (thread s t).posture.source) else None
+holder_by s (Some t) =
+    if (thread s t).posture.off then Some (t, (thread s t).posture.source) else None
 
 abbrev pub holder : State → Option (ℕ × ℕ)
 holder s = holder_by s s.running
@@ -120,7 +137,9 @@ is_holder (Some h) t source = (h.0 == t) && (h.1 == source)
 -- another thread ran, or none, or they were on, or the source was another.
 abbrev pub begun_since : Option (ℕ × ℕ) → State → Option (ℕ × ℕ) → Option Owned
 begun_since before after None = None
-begun_since before after (Some h) = if is_holder before h.0 h.1 then None else Some (record { thread = h.0; actor = actor_of (thread after h.0).frames; export = h.1 })
+begun_since before after (Some h) =
+    if is_holder before h.0 h.1 then None
+    else Some (record { thread = h.0; actor = actor_of (thread after h.0).frames; export = h.1 })
 
 abbrev pub begun : State → State → Option Owned
 begun before after = begun_since (holder before) after (holder after)
@@ -173,7 +192,9 @@ none_goes_on (t ∷ ts) = (is_ended t.status || is_waiting t.status) && none_goe
 
 -- Finished where every thread has ended; Idle where one waits and none is ready or sleeping
 abbrev pub end_of : State → Option End
-end_of s = if all_ended s.threads then Some Finished else if one_waits s.threads && none_goes_on s.threads then Some Idle else None
+end_of s =
+    if all_ended s.threads then Some Finished
+    else if one_waits s.threads && none_goes_on s.threads then Some Idle else None
 
 -- the totals of a run that ended so; an allocation's number counts from 1
 abbrev pub totals_of : State → End → Totals

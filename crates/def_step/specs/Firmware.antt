@@ -53,31 +53,83 @@ table_length c = TABLE_HEAD + TABLE_ROW * length c.exports
 -- ---- rows: code, globals, slots and exports of each compartment, then the stack of each thread
 
 abbrev pub code_row : ℕ → Share → Entry
-code_row b c = record { owner = owner.Compartment b; kind = kind.Code; base = c.code; length = code_length c; rights = CODE_RIGHTS; of = 0; limit = 0 }
+code_row b c = record {
+  owner = owner.Compartment b;
+  kind = kind.Code;
+  base = c.code;
+  length = code_length c;
+  rights = CODE_RIGHTS;
+  of = 0;
+  limit = 0;
+}
 
 abbrev pub globals_row : ℕ → Share → Entry
-globals_row b c = record { owner = owner.Compartment b; kind = kind.Globals; base = c.globals; length = c.globals_length; rights = GLOBALS_RIGHTS; of = 0; limit = 0 }
+globals_row b c = record {
+  owner = owner.Compartment b;
+  kind = kind.Globals;
+  base = c.globals;
+  length = c.globals_length;
+  rights = GLOBALS_RIGHTS;
+  of = 0;
+  limit = 0;
+}
 
 -- the service that compartments call by stands at native entry 0
 abbrev pub switch_row : ℕ → Entry
-switch_row b = record { owner = owner.Compartment b; kind = kind.Service; base = NATIVE_BASE; length = NATIVE_LENGTH; rights = SERVICE_RIGHTS; of = 0; limit = 0 }
+switch_row b = record {
+  owner = owner.Compartment b;
+  kind = kind.Service;
+  base = NATIVE_BASE;
+  length = NATIVE_LENGTH;
+  rights = SERVICE_RIGHTS;
+  of = 0;
+  limit = 0;
+}
 
 abbrev pub device_row : ℕ → DeviceImport → Entry
-device_row b d = record { owner = owner.Compartment b; kind = kind.Device; base = d.base; length = DEVICE_SIZE; rights = d.rights; of = d.of; limit = 0 }
+device_row b d = record {
+  owner = owner.Compartment b;
+  kind = kind.Device;
+  base = d.base;
+  length = DEVICE_SIZE;
+  rights = d.rights;
+  of = d.of;
+  limit = 0;
+}
 
 abbrev pub export_rows : ℕ → ℕ → List ℕ → List Entry
 export_rows b at [] = []
-export_rows b at (x ∷ xs) = record { owner = owner.Compartment b; kind = kind.Export; base = at; length = TABLE_ROW; rights = EXPORT_RIGHTS; of = 0; limit = 0 } ∷ export_rows b (at + TABLE_ROW) xs
+export_rows b at (x ∷ xs) =
+    record {
+      owner = owner.Compartment b;
+      kind = kind.Export;
+      base = at;
+      length = TABLE_ROW;
+      rights = EXPORT_RIGHTS;
+      of = 0;
+      limit = 0;
+    }
+    ∷ export_rows b (at + TABLE_ROW) xs
 
 abbrev pub share_rows : ℕ → Share → List Entry
-share_rows b c = code_row b c ∷ globals_row b c ∷ switch_row b ∷ map (device_row b) c.imports ++ export_rows b (c.table + TABLE_HEAD) c.exports
+share_rows b c =
+    code_row b c ∷ globals_row b c ∷ switch_row b ∷ map (device_row b) c.imports
+    ++ export_rows b (c.table + TABLE_HEAD) c.exports
 
 abbrev pub all_share_rows : ℕ → List Share → List Entry
 all_share_rows b [] = []
 all_share_rows b (c ∷ cs) = share_rows b c ++ all_share_rows (b + 1) cs
 
 abbrev pub stack_row : ℕ → StackRange → Entry
-stack_row t s = record { owner = owner.Thread t; kind = kind.Stack; base = s.base; length = s.size; rights = STACK_RIGHTS; of = 0; limit = 0 }
+stack_row t s = record {
+  owner = owner.Thread t;
+  kind = kind.Stack;
+  base = s.base;
+  length = s.size;
+  rights = STACK_RIGHTS;
+  of = 0;
+  limit = 0;
+}
 
 abbrev pub stack_rows : ℕ → List StackRange → List Entry
 stack_rows t [] = []
@@ -87,7 +139,16 @@ stack_rows t (s ∷ ss) = stack_row t s ∷ stack_rows (t + 1) ss
 
 abbrev pub gates_from : ℕ → ℕ → List ℕ → List Gate
 gates_from n text [] = []
-gates_from n text (x ∷ xs) = record { entry = n; code = text + x; stack = 0; args = 6; posture = Enabled; capabilities = true } ∷ gates_from (n + 1) text xs
+gates_from n text (x ∷ xs) =
+    record {
+      entry = n;
+      code = text + x;
+      stack = 0;
+      args = 6;
+      posture = Enabled;
+      capabilities = true;
+    }
+    ∷ gates_from (n + 1) text xs
 
 -- the number of the first export of a share whose code has number n
 abbrev pub first_export : ℕ → Share → ℕ
@@ -95,7 +156,9 @@ first_export n c = n + 3 + length c.imports
 
 abbrev pub all_gates : ℕ → List Share → List Gate
 all_gates n [] = []
-all_gates n (c ∷ cs) = gates_from (first_export n c) (c.code + text_offset c) c.exports ++ all_gates (first_export n c + length c.exports) cs
+all_gates n (c ∷ cs) =
+    gates_from (first_export n c) (c.code + text_offset c) c.exports
+    ++ all_gates (first_export n c + length c.exports) cs
 
 -- ---- regions
 
@@ -108,7 +171,9 @@ range base size = record { base = base; size = size }
 
 abbrev pub share_ranges : List Share → List RegionRange
 share_ranges [] = []
-share_ranges (c ∷ cs) = range c.code (code_length c) ∷ range c.table (table_length c) ∷ range c.globals c.globals_length ∷ share_ranges cs
+share_ranges (c ∷ cs) =
+    range c.code (code_length c) ∷ range c.table (table_length c) ∷ range c.globals c.globals_length
+    ∷ share_ranges cs
 
 abbrev pub stack_ranges : List StackRange → List RegionRange
 stack_ranges [] = []
@@ -120,7 +185,8 @@ trusted_length [] = TRUSTED_HEAD
 trusted_length (t ∷ ts) = AREA_HEAD + FRAME_SIZE * t.frames + trusted_length ts
 
 abbrev pub all_ranges : FirmwareRow → List Share → List StackRange → List RegionRange
-all_ranges f cs ss = share_ranges cs ++ stack_ranges ss ++ range f.trusted (trusted_length f.threads) ∷ []
+all_ranges f cs ss =
+    share_ranges cs ++ stack_ranges ss ++ range f.trusted (trusted_length f.threads) ∷ []
 
 abbrev pub AreApart : RegionRange → RegionRange → Type 0
 AreApart r q = (r.base + r.size ≤ q.base) ⊎ (q.base + q.size ≤ r.base)
@@ -155,7 +221,8 @@ pub record IsDevice (f : FirmwareRow) (d : DeviceRow) : Type 0 where
 
 abbrev pub DeviceAt : List DeviceRow → ℕ → ℕ → Type 0
 DeviceAt [] n base = ⊥
-DeviceAt (d ∷ ds) n base = ((n ≡ 0) × (base ≡ d.base)) ⊎ ((m : ℕ) × (n ≡ m + 1) × DeviceAt ds m base)
+DeviceAt (d ∷ ds) n base =
+    ((n ≡ 0) × (base ≡ d.base)) ⊎ ((m : ℕ) × (n ≡ m + 1) × DeviceAt ds m base)
 
 pub record IsImport (f : FirmwareRow) (d : DeviceImport) : Type 0 where
   pub device : DeviceAt f.devices d.of d.base
@@ -166,7 +233,8 @@ pub record IsShare (f : FirmwareRow) (c : Share) : Type 0 where
   pub bytes : Each (λ x. x < 256) c.text
   pub globals : (c.globals_length % 16 ≡ 0) × (16 ≤ c.globals_length) × (c.globals_length ≤ 8176)
   pub imports : Each (IsImport f) c.imports × (length c.imports ≤ MOST_IMPORTS)
-  pub exports : Each (λ x. (x % 4 ≡ 0) × (x < length c.text)) c.exports × (length c.exports ≤ MOST_EXPORTS)
+  pub exports : Each (λ x. (x % 4 ≡ 0) × (x < length c.text)) c.exports
+      × (length c.exports ≤ MOST_EXPORTS)
   pub fits : (0 < code_length c) × (code_length c ≤ 8176)
 
 pub record IsStack (s : StackRange) : Type 0 where
@@ -187,7 +255,8 @@ pub record IsStarter (f : FirmwareRow) (t : Starter) : Type 0 where
 -- ---- whole
 
 pub record IsLawfulFirmware (f : FirmwareRow) : Type 0 where
-  pub ram : (f.ram % 16 ≡ 0) × (f.size % 16 ≡ 0) × (LEAST_RAM ≤ f.size) × (f.size ≤ MOST_RAM) × (f.ram + f.size ≤ RAM_END)
+  pub ram : (f.ram % 16 ≡ 0) × (f.size % 16 ≡ 0) × (LEAST_RAM ≤ f.size) × (f.size ≤ MOST_RAM)
+      × (f.ram + f.size ≤ RAM_END)
   pub ram_not_native : AreApart (range f.ram f.size) native_range
   pub shares : List Share
   pub stacks : List StackRange
@@ -195,7 +264,8 @@ pub record IsLawfulFirmware (f : FirmwareRow) : Type 0 where
   pub gates : f.entries.gates ≡ all_gates 1 shares
   pub tables : f.tables ≡ map (λ c. c.table) shares
   pub texts : f.texts ≡ map (λ c. c.text) shares
-  pub few : (length shares ≤ MOST_COMPARTMENTS) × (length f.devices ≤ MOST_DEVICES) × (length f.threads ≤ 1)
+  pub few : (length shares ≤ MOST_COMPARTMENTS) × (length f.devices ≤ MOST_DEVICES)
+      × (length f.threads ≤ 1)
   pub each_share : Each (IsShare f) shares
   pub one_stack_each : length stacks ≡ length f.threads
   pub each_stack : Each IsStack stacks

@@ -31,10 +31,12 @@ record_end c = cap_address c / 16 * 16
 
 -- there is room for the record below c2, which passes the switch's checks
 abbrev pub has_room : ℕ → ℕ → Cap → Bool
-has_room base top c = is_none (first_failed (stack_checks base top c)) && nat_le (base + record_size) (record_end c)
+has_room base top c =
+    is_none (first_failed (stack_checks base top c)) && nat_le (base + record_size) (record_end c)
 
 abbrev pub is_handled : Image → ℕ → Thread → Frame → Bool
-is_handled i base old f = not (handler_entry i f.actor == 0) && not f.handling && has_room base f.top (register old 2)
+is_handled i base old f =
+    not (handler_entry i f.actor == 0) && not f.handling && has_room base f.top (register old 2)
 
 -- ---- entry
 
@@ -45,19 +47,28 @@ pair low high = low + high * 2 ^ 32
 -- addresses of c0 to c15, then pcc's; cause, code and register
 abbrev pub record_words : Thread → Trap → List ℕ
 record_words old why =
-    map (λ n. pair (cap_address (register old (2 * n))) (cap_address (register old (2 * n + 1)))) (range_with_len 0 8)
+    map (λ n. pair (cap_address (register old (2 * n))) (cap_address (register old (2 * n + 1))))
+        (range_with_len 0 8)
     ++ pair (cap_address old.pcc) why.cause ∷ pair why.code why.register ∷ []
 
 -- plain words one after another, from a granule on
 abbrev pub words_written : List Granule → ℕ → List ℕ → List Granule
 words_written gs k [] = gs
-words_written gs k (w ∷ ws) = words_written (slice_set gs k (record { cap = plain w; mark = (granule_at gs k).mark })) (k + 1) ws
+words_written gs k (w ∷ ws) =
+    words_written (slice_set gs k (record { cap = plain w; mark = (granule_at gs k).mark })) (k + 1)
+    ws
 
 abbrev pub handled : Image → Thread → Trap → Frame → List Frame → Thread
 handled i old why f fs = record {
-  pcc = with_address (made_cap i (code_entry i f.actor)) (gate_for i.entries.gates (handler_entry i f.actor)).code;
-  registers = plain 0 ∷ made_cap i 0 ∷ with_address (register old 2) (record_end (register old 2) - record_size) ∷ made_cap i (globals_entry i f.actor)
-      ∷ plain 0 ∷ plain 0 ∷ plain 0 ∷ plain 0 ∷ plain 0 ∷ plain 0 ∷ integer why.cause ∷ integer why.code ∷ integer why.register ∷ plain 0 ∷ plain 0 ∷ plain 0 ∷ [];
+  pcc =
+      with_address (made_cap i (code_entry i f.actor))
+      (gate_for i.entries.gates (handler_entry i f.actor)).code;
+  registers =
+      plain 0 ∷ made_cap i 0
+      ∷ with_address (register old 2) (record_end (register old 2) - record_size)
+      ∷ made_cap i (globals_entry i f.actor)
+      ∷ plain 0 ∷ plain 0 ∷ plain 0 ∷ plain 0 ∷ plain 0 ∷ plain 0 ∷ integer why.cause
+      ∷ integer why.code ∷ integer why.register ∷ plain 0 ∷ plain 0 ∷ plain 0 ∷ [];
   frames = record f { handling = Bool.true } ∷ fs;
   status = old.status;
   posture = interrupts_on;
@@ -65,7 +76,9 @@ handled i old why f fs = record {
 
 abbrev pub handler_entered : Image → State → ℕ → Trap → Frame → List Frame → State
 handler_entered i s t why f fs = record (with_thread s t (handled i (thread s t) why f fs)) {
-  granules = words_written s.granules ((record_end (register (thread s t) 2) - record_size - i.ram) / 8) (record_words (thread s t) why);
+  granules =
+      words_written s.granules ((record_end (register (thread s t) 2) - record_size - i.ram) / 8)
+      (record_words (thread s t) why);
 }
 
 -- ---- its end
@@ -76,18 +89,22 @@ handler_answers old = cap_address (register old 10) == 1
 
 -- what its caller gets in c10; c11 is zero
 abbrev pub handler_answer : Thread → Cap
-handler_answer old = if handler_answers old then integer (cap_address (register old 11)) else integer 4294967295
+handler_answer old =
+    if handler_answers old then integer (cap_address (register old 11)) else integer 4294967295
 
 -- the frame ends, as by a return, with these results
 abbrev pub handler_left : Image → State → ℕ → List Frame → State
 handler_left i s t [] = s
 handler_left i s t (f ∷ []) = switched i s t f.top nobody None
-handler_left i s t (f ∷ g ∷ gs) = switched i s t f.top (left_by i s (thread s t) f (g ∷ gs) (handler_answer (thread s t)) (plain 0)) s.running
+handler_left i s t (f ∷ g ∷ gs) =
+    switched i s t f.top
+    (left_by i s (thread s t) f (g ∷ gs) (handler_answer (thread s t)) (plain 0)) s.running
 
 -- the return of the innermost frame, whether it is handling or not; a trap, handled or not
 abbrev pub trap_taken : Image → State → ℕ → Trap → List Frame → State → State
 trap_taken i s t why [] unwound = unwound
-trap_taken i s t why (f ∷ fs) unwound = if is_handled i (stack_base i t) (thread s t) f then handler_entered i s t why f fs else unwound
+trap_taken i s t why (f ∷ fs) unwound =
+    if is_handled i (stack_base i t) (thread s t) f then handler_entered i s t why f fs else unwound
 
 abbrev pub return_taken : Image → State → ℕ → List Frame → State → State
 return_taken i s t [] returned = returned

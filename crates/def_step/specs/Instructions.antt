@@ -60,20 +60,47 @@ pub record Around : Type 0 where
 
 -- a register gets a value, and execution goes on after the instruction
 abbrev pub gives : Around → ℕ → Cap → Done
-gives a to value = record { to = to; value = value; pcc = raised a.pcc 4; posture = a.posture; granules = a.space.granules; bank = a.space.bank; act = None }
+gives a to value = record {
+  to = to;
+  value = value;
+  pcc = raised a.pcc 4;
+  posture = a.posture;
+  granules = a.space.granules;
+  bank = a.space.bank;
+  act = None;
+}
 
 abbrev pub flows : Around → ℕ → Result Flowed trap_words.Trap → Result Done trap_words.Trap
 flows a to (Err t) = Err t
-flows a to (Ok f) = Ok (record { to = to; value = unwrap_or f.link (plain 0); pcc = f.pcc; posture = f.posture; granules = a.space.granules; bank = a.space.bank; act = None })
+flows a to (Ok f) =
+    Ok (record {
+      to = to;
+      value = unwrap_or f.link (plain 0);
+      pcc = f.pcc;
+      posture = f.posture;
+      granules = a.space.granules;
+      bank = a.space.bank;
+      act = None;
+    })
 
 abbrev pub accesses : Around → ℕ → Result Accessed trap_words.Trap → Result Done trap_words.Trap
 accesses a to (Err t) = Err t
-accesses a to (Ok m) = Ok (record { to = to; value = unwrap_or m.value (plain 0); pcc = raised a.pcc 4; posture = a.posture; granules = m.granules; bank = m.bank; act = m.act })
+accesses a to (Ok m) =
+    Ok (record {
+      to = to;
+      value = unwrap_or m.value (plain 0);
+      pcc = raised a.pcc 4;
+      posture = a.posture;
+      granules = m.granules;
+      bank = m.bank;
+      act = m.act;
+    })
 
 -- x and y are the values of the first and second source. No jump that is carried out goes through a type 2
 -- sentry, so that none names an export.
 abbrev pub carried_out : Class → Instr → ℕ → Cap → Cap → Around → Result Done trap_words.Trap
-carried_out class.Integer i to x y a = Ok (gives a to (integer (integer_result i (cap_address x) (cap_address y))))
+carried_out class.Integer i to x y a =
+    Ok (gives a to (integer (integer_result i (cap_address x) (cap_address y))))
 carried_out class.Capability i to x y a = Ok (gives a to (capability_result i x y a.pcc))
 carried_out class.System i to x y a = Err (capability_trap SYSTEM_REGISTER_CODE PCC_REGISTER)
 carried_out class.Jump i to x y a = flows a to (flow_result i x y a.pcc a.posture 0)
@@ -90,16 +117,22 @@ fetch_checks pcc =
     (pcc.tag, capability_trap TAG_CODE PCC_REGISTER)
     ∷ (is_unsealed pcc, capability_trap SEAL_CODE PCC_REGISTER)
     ∷ (has pcc execute, capability_trap EXECUTE_CODE PCC_REGISTER)
-    ∷ (is_range_inside pcc (cap_address pcc) (cap_address pcc + 4), capability_trap BOUNDS_CODE PCC_REGISTER)
+    ∷ (is_range_inside pcc (cap_address pcc) (cap_address pcc + 4), capability_trap BOUNDS_CODE
+          PCC_REGISTER)
     ∷ []
 
 -- the word at an address; what isn't an aligned word of RAM is no instruction, and no pcc leads there
 abbrev pub fetched : Space → ℕ → ℕ
-fetched p at = if nat_le p.ram at && nat_le (at + 4) (p.ram + 8 * length p.granules) && (at % 4 == 0) then loaded p.granules (at - p.ram) 4 else 0
+fetched p at =
+    if nat_le p.ram at && nat_le (at + 4) (p.ram + 8 * length p.granules) && (at % 4 == 0)
+      then loaded p.granules (at - p.ram) 4
+    else 0
 
 -- the entry of a native routine that a slot may name, or of the return
 abbrev pub is_native_entry : ℕ → Bool
-is_native_entry x = nat_le NATIVE_BASE x && nat_lt x (NATIVE_BASE + NATIVE_UNIT * (REMAINING + 1)) && (x % NATIVE_UNIT == 0)
+is_native_entry x =
+    nat_le NATIVE_BASE x && nat_lt x (NATIVE_BASE + NATIVE_UNIT * (REMAINING + 1))
+    && (x % NATIVE_UNIT == 0)
 
 -- what stands at the program counter: the return, an instruction, or nothing that is carried out
 abbrev pub next_word : Option Instr → Next
@@ -118,10 +151,19 @@ abbrev pub bank_of : Board → State → Bank
 bank_of b s = record { bases = b.bases; states = s.devices }
 
 abbrev pub space_of : Board → State → Space
-space_of b s = record { ram = b.image.ram; granules = s.granules; bank = bank_of b s; time = s.time }
+space_of b s = record {
+  ram = b.image.ram;
+  granules = s.granules;
+  bank = bank_of b s;
+  time = s.time;
+}
 
 abbrev pub around : Board → State → ℕ → Around
-around b s t = record { pcc = (thread s t).pcc; posture = (thread s t).posture; space = space_of b s }
+around b s t = record {
+  pcc = (thread s t).pcc;
+  posture = (thread s t).posture;
+  space = space_of b s;
+}
 
 -- the compartment of the top frame
 abbrev pub actor_of : List Frame → ℕ
@@ -129,11 +171,18 @@ actor_of [] = 0
 actor_of (f ∷ fs) = f.actor
 
 abbrev pub deed : State → ℕ → ℕ → Act → Deed
-deed s t entry act = record { thread = t; actor = actor_of (thread s t).frames; entry = entry; act = act }
+deed s t entry act = record {
+  thread = t;
+  actor = actor_of (thread s t).frames;
+  entry = entry;
+  act = act;
+}
 
 -- a trap unwinds, in the same step
 abbrev pub trapped : Board → State → ℕ → trap_words.Trap → State × Option Deed
-trapped b s t why = (unwound b.image s t (thread s t).frames, Some (deed s t 0 (Trap why.cause why.code why.register)))
+trapped b s t why =
+    (unwound b.image s t (thread s t).frames, Some
+      (deed s t 0 (Trap why.cause why.code why.register)))
 
 abbrev pub put_done : State → ℕ → Done → State
 put_done s t d = record s {
@@ -153,7 +202,8 @@ operand s t n = register (thread s t) n
 abbrev pub instructed : Board → State → ℕ → Instr → State × Option Deed
 instructed b s t i =
     ends b s t (operand s t (operands_of i).first)
-    (carried_out (class_of i) i (operands_of i).to (operand s t (operands_of i).first) (operand s t (operands_of i).second) (around b s t))
+    (carried_out (class_of i) i (operands_of i).to (operand s t (operands_of i).first)
+          (operand s t (operands_of i).second) (around b s t))
 
 abbrev pub goes_on : Board → State → ℕ → Next → State × Option Deed
 goes_on b s t Returning = (returned b.image s t (thread s t).frames, None)

@@ -43,13 +43,16 @@ target_checks target = (target % 4 == 0, plain_trap MISALIGNED_FETCH) ∷ []
 
 -- pcc's address is set by the address rule; its bounds are checked by the next fetch
 abbrev pub jumped_to : Cap → Posture → ℕ → Option Cap → Result Flowed Trap
-jumped_to pcc posture target link = unless (first_failed (target_checks target)) (record { link = link; pcc = with_address pcc target; posture = posture })
+jumped_to pcc posture target link =
+    unless (first_failed (target_checks target))
+    (record { link = link; pcc = with_address pcc target; posture = posture })
 
 abbrev pub passed_over : Cap → Posture → Result Flowed Trap
 passed_over pcc posture = Ok (record { link = None; pcc = raised pcc 4; posture = posture })
 
 abbrev pub branched : Bool → Cap → Posture → ℕ → Result Flowed Trap
-branched taken pcc posture offset = if taken then jumped_to pcc posture (target_at pcc offset) None else passed_over pcc posture
+branched taken pcc posture offset =
+    if taken then jumped_to pcc posture (target_at pcc offset) None else passed_over pcc posture
 
 -- ---- the register jump
 
@@ -81,12 +84,19 @@ register_jumped to at x n pcc posture named =
 
 -- x and y are the values of the registers; a write of the link to c0 is dropped
 unfoldable pub flow_result : Instr → Cap → Cap → Cap → Posture → ℕ → Result Flowed Trap
-flow_result (Jal rd offset) x y pcc posture named = jumped_to pcc posture (target_at pcc offset) (Some (linked pcc posture))
+flow_result (Jal rd offset) x y pcc posture named =
+    jumped_to pcc posture (target_at pcc offset) (Some (linked pcc posture))
 flow_result (CJalr rd rs1 n) x y pcc posture named = register_jumped rd rs1 x n pcc posture named
-flow_result (Beq rs1 rs2 offset) x y pcc posture named = branched (is_taken (Beq rs1 rs2 offset) (cap_address x) (cap_address y)) pcc posture offset
-flow_result (Bne rs1 rs2 offset) x y pcc posture named = branched (is_taken (Bne rs1 rs2 offset) (cap_address x) (cap_address y)) pcc posture offset
-flow_result (Blt rs1 rs2 offset) x y pcc posture named = branched (is_taken (Blt rs1 rs2 offset) (cap_address x) (cap_address y)) pcc posture offset
-flow_result (Bge rs1 rs2 offset) x y pcc posture named = branched (is_taken (Bge rs1 rs2 offset) (cap_address x) (cap_address y)) pcc posture offset
-flow_result (Bltu rs1 rs2 offset) x y pcc posture named = branched (is_taken (Bltu rs1 rs2 offset) (cap_address x) (cap_address y)) pcc posture offset
-flow_result (Bgeu rs1 rs2 offset) x y pcc posture named = branched (is_taken (Bgeu rs1 rs2 offset) (cap_address x) (cap_address y)) pcc posture offset
+flow_result (Beq rs1 rs2 offset) x y pcc posture named =
+    branched (is_taken (Beq rs1 rs2 offset) (cap_address x) (cap_address y)) pcc posture offset
+flow_result (Bne rs1 rs2 offset) x y pcc posture named =
+    branched (is_taken (Bne rs1 rs2 offset) (cap_address x) (cap_address y)) pcc posture offset
+flow_result (Blt rs1 rs2 offset) x y pcc posture named =
+    branched (is_taken (Blt rs1 rs2 offset) (cap_address x) (cap_address y)) pcc posture offset
+flow_result (Bge rs1 rs2 offset) x y pcc posture named =
+    branched (is_taken (Bge rs1 rs2 offset) (cap_address x) (cap_address y)) pcc posture offset
+flow_result (Bltu rs1 rs2 offset) x y pcc posture named =
+    branched (is_taken (Bltu rs1 rs2 offset) (cap_address x) (cap_address y)) pcc posture offset
+flow_result (Bgeu rs1 rs2 offset) x y pcc posture named =
+    branched (is_taken (Bgeu rs1 rs2 offset) (cap_address x) (cap_address y)) pcc posture offset
 flow_result _ x y pcc posture named = passed_over pcc posture

@@ -13,7 +13,8 @@ abbrev pub entry_address : ℕ → ℕ
 entry_address number = NATIVE_BASE + NATIVE_UNIT * number
 
 abbrev pub native_return : Image → State → ℕ → Ran
-native_return i s t = Leaves (return_taken i s t (thread s t).frames (returned i s t (thread s t).frames)) None
+native_return i s t =
+    Leaves (return_taken i s t (thread s t).frames (returned i s t (thread s t).frames)) None
 
 -- what a routine does that thread t runs, by its number; none has another
 abbrev pub native : Image → State → ℕ → ℕ → Option Ran

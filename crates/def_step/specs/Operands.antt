@@ -44,7 +44,8 @@ shape_class (shape.Load operation rd rs1 n) = class.Access
 shape_class (shape.Store operation rs1 rs2 n) = class.Access
 shape_class (shape.Branch operation rs1 rs2 offset) = class.Jump
 shape_class (shape.Jump rd offset) = class.Jump
-shape_class (shape.RegisterJump rd rs1 n) = if (rd == 0) && (rs1 == 1) && (n == 0) then class.Jump else class.Absent
+shape_class (shape.RegisterJump rd rs1 n) =
+    if (rd == 0) && (rs1 == 1) && (n == 0) then class.Jump else class.Absent
 shape_class (shape.OneSource operation rd rs1) = class.Capability
 shape_class (shape.Fence n) = class.Fence
 shape_class shape.Call = class.Call

@@ -35,7 +35,9 @@ is_quota_cap c = c.tag && (cap_seal c == QUOTA_TYPE)
 
 -- -1 where c10 is no quota; else what comes by it
 abbrev pub by_quota : State → ℕ → Ran → Ran
-by_quota s t ran = checked (return_checks (register (thread s t) 1)) (if is_quota_cap (register (thread s t) 10) then ran else tells s t (code 1))
+by_quota s t ran =
+    checked (return_checks (register (thread s t) 1))
+    (if is_quota_cap (register (thread s t) 10) then ran else tells s t (code 1))
 
 -- the entry of the quota
 abbrev pub quota_in : State → ℕ → ℕ
@@ -53,13 +55,16 @@ allocated s t (Refused n) = tells s t (code n)
 allocated s t (Made r) = hands_out s t r (object_cap r)
 
 abbrev pub allocate : Image → State → ℕ → Ran
-allocate i s t = by_quota s t (allocated s t (allocation i s (quota_in s t) (cap_address (register (thread s t) 11))))
+allocate i s t =
+    by_quota s t
+    (allocated s t (allocation i s (quota_in s t) (cap_address (register (thread s t) 11))))
 
 -- ---- 7, free
 
 -- a live object of this quota with exactly these bounds
 abbrev pub is_whole : ℕ → Cap → Object → Bool
-is_whole quota c r = r.live && (r.quota == quota) && (r.base == cap_base c) && (r.base + r.length == cap_top c)
+is_whole quota c r =
+    r.live && (r.quota == quota) && (r.base == cap_base c) && (r.base + r.length == cap_top c)
 
 abbrev pub whole_of : List Object → ℕ → Cap → Option Object
 whole_of objects quota c = if c.tag && is_unsealed c then find (is_whole quota c) objects else None
@@ -80,9 +85,12 @@ freed_as i s t None = tells s t (code 6)
 freed_as i s t (Some r) = gives_back i s t r
 
 abbrev pub free : Image → State → ℕ → Ran
-free i s t = by_quota s t (freed_as i s t (whole_of s.objects (quota_in s t) (register (thread s t) 11)))
+free i s t =
+    by_quota s t (freed_as i s t (whole_of s.objects (quota_in s t) (register (thread s t) 11)))
 
 -- ---- 8, remaining
 
 abbrev pub remaining : Image → State → ℕ → Ran
-remaining i s t = by_quota s t (tells s t (integer ((root i (quota_in s t)).limit - charges (quota_in s t) s.objects)))
+remaining i s t =
+    by_quota s t
+    (tells s t (integer ((root i (quota_in s t)).limit - charges (quota_in s t) s.objects)))

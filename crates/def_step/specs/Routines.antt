@@ -32,7 +32,10 @@ pub data Ran : Type 0 where
 
 -- c10 is the result, c11 zero, the other registers as they were, and the thread goes on where c1 leads
 abbrev pub answered : Thread → Cap → Thread
-answered t value = record (resumed t (register t 1)) { registers = written (written t.registers 10 value) 11 (plain 0) }
+answered t value =
+    record (resumed t (register t 1)) {
+      registers = written (written t.registers 10 value) 11 (plain 0);
+    }
 
 -- a negative code as a word
 abbrev pub code : ℕ → Cap
@@ -57,29 +60,42 @@ checked cs ran = by_failed (first_failed cs) ran
 
 abbrev pub enters : Image → State → ℕ → ℕ → ℕ → ℕ → Ran
 enters i s t callee export high = Leaves
-    (switched i s t high (entered i (thread s t) callee export high (given i (thread s t) t callee export high)) s.running)
+    (switched i s t high
+          (entered i (thread s t) callee export high (given i (thread s t) t callee export high))
+          s.running)
     (Some ((register (thread s t) 6).shadow.root, Call export))
 
 abbrev pub switched_to : Image → State → ℕ → Switched → Ran
 switched_to i s t (Trapped why) = Traps why
 switched_to i s t TooDeep = tells s t (code 12)
 switched_to i s t NoStack = tells s t (code 11)
-switched_to i s t (Enters export high) = enters i s t (compartment_of (root i export).owner) export high
+switched_to i s t (Enters export high) =
+    enters i s t (compartment_of (root i export).owner) export high
 
 abbrev pub switch : Image → State → ℕ → Ran
-switch i s t = switched_to i s t (switch_of i.entries (stack_base i t) (frame_top (thread s t).frames) (frames_most i t) (thread s t))
+switch i s t =
+    switched_to i s t
+    (switch_of i.entries (stack_base i t) (frame_top (thread s t).frames) (frames_most i t)
+        (thread s t))
 
 -- ---- 2 and 3, yield and sleep
 
 -- the thread stops running with this status
 abbrev pub stops : State → ℕ → Status → Ran
-stops s t status = Leaves (record (with_thread s t (with_status (answered (thread s t) (integer 0)) status)) { running = None }) None
+stops s t status =
+    Leaves
+    (record (with_thread s t (with_status (answered (thread s t) (integer 0)) status)) {
+      running = None;
+    })
+    None
 
 abbrev pub yield : State → ℕ → Ran
 yield s t = checked (return_checks (register (thread s t) 1)) (stops s t (asleep 0))
 
 abbrev pub sleep : State → ℕ → Ran
-sleep s t = checked (return_checks (register (thread s t) 1)) (stops s t (asleep (cap_address (register (thread s t) 10))))
+sleep s t =
+    checked (return_checks (register (thread s t) 1))
+    (stops s t (asleep (cap_address (register (thread s t) 10))))
 
 -- ---- 4 and 5, wait and wake
 
@@ -92,24 +108,37 @@ word_checks i s c =
     (c.tag, capability_trap TAG_CODE 10)
     ∷ (is_unsealed c, capability_trap SEAL_CODE 10)
     ∷ (has c load_data, capability_trap LOAD_CODE 10)
-    ∷ (is_range_inside c (cap_address c) (cap_address c + 4) && lies_in_ram i s (cap_address c) 4, capability_trap BOUNDS_CODE 10)
+    ∷ (is_range_inside c (cap_address c) (cap_address c + 4)
+          && lies_in_ram i s (cap_address c) 4, capability_trap BOUNDS_CODE 10)
     ∷ (cap_address c % 4 == 0, plain_trap MISALIGNED_LOAD)
     ∷ []
 
 -- it waits where the word holds the value; else it goes on with -21
 abbrev pub waits : State → ℕ → ℕ → ℕ → ℕ → Ran
-waits s t address held wanted = if held == wanted then stops s t (awaiting address held wanted) else tells s t (code 21)
+waits s t address held wanted =
+    if held == wanted then stops s t (awaiting address held wanted) else tells s t (code 21)
 
 abbrev pub wait : Image → State → ℕ → Ran
-wait i s t = checked (return_checks (register (thread s t) 1)) (checked (word_checks i s (register (thread s t) 10))
-    (waits s t (cap_address (register (thread s t) 10)) (loaded s.granules (cap_address (register (thread s t) 10) - i.ram) 4) (cap_address (register (thread s t) 11))))
+wait i s t =
+    checked (return_checks (register (thread s t) 1))
+    (checked (word_checks i s (register (thread s t) 10))
+    (waits s t (cap_address (register (thread s t) 10))
+          (loaded s.granules (cap_address (register (thread s t) 10) - i.ram) 4)
+          (cap_address (register (thread s t) 11))))
 
 -- so many threads are woken, and the answer is how many
 abbrev pub wakes : State → ℕ → ℕ → ℕ → State
 wakes s t address most =
     let after = answers s t (integer (woken_count address most (statuses_of s.threads))) in
-    record after { threads = with_statuses after.threads (woken address most (statuses_of s.threads)) }
+    record after {
+      threads = with_statuses after.threads (woken address most (statuses_of s.threads));
+    }
 
 abbrev pub wake : Image → State → ℕ → Ran
-wake i s t = checked (return_checks (register (thread s t) 1)) (checked (word_checks i s (register (thread s t) 10))
-    (Leaves (wakes s t (cap_address (register (thread s t) 10)) (cap_address (register (thread s t) 11))) None))
+wake i s t =
+    checked (return_checks (register (thread s t) 1))
+    (checked (word_checks i s (register (thread s t) 10))
+    (Leaves
+          (wakes s t (cap_address (register (thread s t) 10))
+              (cap_address (register (thread s t) 11)))
+          None))

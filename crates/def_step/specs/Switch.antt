@@ -40,7 +40,9 @@ stack_checks base top c =
     ∷ []
 
 abbrev pub switch_checks : ℕ → ℕ → Thread → List Check
-switch_checks base top caller = return_checks (register caller 1) ++ gate_checks (register caller 6) ++ stack_checks base top (register caller 2)
+switch_checks base top caller =
+    return_checks (register caller 1) ++ gate_checks (register caller 6)
+    ++ stack_checks base top (register caller 2)
 
 -- ---- the room
 
@@ -70,7 +72,8 @@ abbrev pub called : Listed → Thread → ℕ
 called e caller = (root_of e (register caller 6).shadow.root).of
 
 abbrev pub with_room : Listed → ℕ → ℕ → ℕ → Switched
-with_room e base high export = if nat_lt (high - base) (gate_for e.gates export).stack then NoStack else Enters export high
+with_room e base high export =
+    if nat_lt (high - base) (gate_for e.gates export).stack then NoStack else Enters export high
 
 abbrev pub with_depth : Listed → ℕ → ℕ → Thread → Switched
 with_depth e base most caller =
@@ -83,7 +86,8 @@ past_checks e base most caller None = with_depth e base most caller
 
 -- of a thread whose stack has this base, which may have so many frames, and whose top frame has this top
 abbrev pub switch_of : Listed → ℕ → ℕ → ℕ → Thread → Switched
-switch_of e base top most caller = past_checks e base most caller (first_failed (switch_checks base top caller))
+switch_of e base top most caller =
+    past_checks e base most caller (first_failed (switch_checks base top caller))
 
 -- the top of the innermost frame
 abbrev pub frame_top : List Frame → ℕ

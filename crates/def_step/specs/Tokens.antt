@@ -45,7 +45,8 @@ abbrev pub is_all_of : Cap → Object → Bool
 is_all_of c r = r.live && (r.base == cap_base c) && (r.base + r.length == cap_top c)
 
 abbrev pub sealed_object : List Object → Cap → Option Object
-sealed_object objects c = if c.tag && (cap_seal c == TOKEN_TYPE) then find (is_all_of c) objects else None
+sealed_object objects c =
+    if c.tag && (cap_seal c == TOKEN_TYPE) then find (is_all_of c) objects else None
 
 -- the live key of a capability, and the live token of it that was made with this key
 abbrev pub as_key : List Token → Option Object → Option Object
@@ -82,7 +83,9 @@ by_key s t (Some key) ran = ran key.number
 
 abbrev pub token_new : Image → State → ℕ → Ran
 token_new i s t = by_quota s t (by_key s t (key_of s (register (thread s t) 12))
-    (λ key. made_token s t (Some key) (allocation i s (quota_in s t) (cap_address (register (thread s t) 11)))))
+    (λ key.
+          made_token s t (Some key)
+          (allocation i s (quota_in s t) (cap_address (register (thread s t) 11)))))
 
 -- ---- 11, token_open
 
@@ -92,7 +95,9 @@ opens s t c None = tells s t (code 8)
 opens s t c (Some r) = tells s t (opened_token c)
 
 abbrev pub token_open : State → ℕ → Ran
-token_open s t = checked (return_checks (register (thread s t) 1)) (by_key s t (key_of s (register (thread s t) 10))
+token_open s t =
+    checked (return_checks (register (thread s t) 1))
+    (by_key s t (key_of s (register (thread s t) 10))
     (λ key. opens s t (register (thread s t) 11) (token_of s key (register (thread s t) 11))))
 
 -- ---- 12, token_free
@@ -100,7 +105,8 @@ token_open s t = checked (return_checks (register (thread s t) 1)) (by_key s t (
 -- -6 where the token isn't charged to this quota
 abbrev pub frees_token : Image → State → ℕ → ℕ → Option Object → Ran
 frees_token i s t quota None = tells s t (code 8)
-frees_token i s t quota (Some r) = if r.quota == quota then gives_back i s t r else tells s t (code 6)
+frees_token i s t quota (Some r) =
+    if r.quota == quota then gives_back i s t r else tells s t (code 6)
 
 abbrev pub token_free : Image → State → ℕ → Ran
 token_free i s t = by_quota s t (by_key s t (key_of s (register (thread s t) 11))

@@ -44,16 +44,26 @@ middle address exponent = address / 2 ^ exponent % 512
 -- unit that the field names. The 2^24 blocks more are a multiple of 2^33 and vanish under either modulus;
 -- they keep the difference from falling below zero.
 abbrev pub corner_of : ℕ → ℕ → ℕ → ℕ → ℕ → ℕ
-corner_of address exponent field up down = (address / 2 ^ (exponent + 9) + 2 ^ 24 + up - down) * 2 ^ (exponent + 9) + field * 2 ^ exponent
+corner_of address exponent field up down =
+    (address / 2 ^ (exponent + 9) + 2 ^ 24 + up - down) * 2 ^ (exponent + 9) + field * 2 ^ exponent
 
 abbrev pub base_of : ℕ → ℕ → ℕ
-base_of high address = corner_of address (exponent_of high) (base_field high) 0 (one_if_less (middle address (exponent_of high)) (base_field high)) % 2 ^ 32
+base_of high address =
+    corner_of address (exponent_of high) (base_field high) 0
+    (one_if_less (middle address (exponent_of high)) (base_field high)) % 2 ^ 32
 
 abbrev pub top_of : ℕ → ℕ → ℕ
-top_of high address = corner_of address (exponent_of high) (top_field high) (one_if_less (top_field high) (base_field high)) (one_if_less (middle address (exponent_of high)) (base_field high)) % 2 ^ 33
+top_of high address =
+    corner_of address (exponent_of high) (top_field high)
+    (one_if_less (top_field high) (base_field high))
+    (one_if_less (middle address (exponent_of high)) (base_field high)) % 2 ^ 33
 
 abbrev pub bounds_of : ℕ → ℕ → Bounds
-bounds_of high address = record { exponent = exponent_of high; base = base_of high address; top = top_of high address }
+bounds_of high address = record {
+  exponent = exponent_of high;
+  base = base_of high address;
+  top = top_of high address;
+}
 
 -- ---- of a capability
 

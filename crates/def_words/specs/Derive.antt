@@ -28,4 +28,7 @@ sealed_as c kind = if kind == 0 then c else cap_of c.tag (word_sealed c (kind % 
 -- set the address to base, set exact bounds, keep the set, set the address, and seal where a type is given
 unfoldable pub derive : ℕ → ℕ → ℕ → ℕ → ℕ → ℕ → Shadow → Cap
 derive high base length set address kind from =
-    sealed_as (with_address (masked (with_exact_bounds (with_address (root_cap high from) base) length) set) address) kind
+    sealed_as
+        (with_address
+            (masked (with_exact_bounds (with_address (root_cap high from) base) length) set) address)
+        kind

@@ -21,7 +21,8 @@ pub record IsLeastExponent (base top e : ℕ) : Type 0 where
 -- the first of e to e + n - 1 that serves, or else 24
 abbrev pub first_from : ℕ → ℕ → ℕ → ℕ → ℕ
 first_from base top e zero = 24
-first_from base top e (suc n) = if nat_le (units base top e) 511 then e else first_from base top (e + 1) n
+first_from base top e (suc n) =
+    if nat_le (units base top e) 511 then e else first_from base top (e + 1) n
 
 -- the number that IsLeastExponent determines
 unfoldable pub exponent_for : ℕ → ℕ → ℕ
@@ -61,11 +62,15 @@ IsInside address r = (r.base ≤ address) × (address ≤ r.top)
 
 -- of any word with these fields, whatever stands above them
 abbrev pub GivesBack : ℕ → ℕ → Type 0
-GivesBack base top = (rest address : ℕ) → address < 2 ^ 32 → IsInside address (rounded_of base top) →
+GivesBack base top =
+    (rest address : ℕ) → address < 2 ^ 32 → IsInside address (rounded_of base top) →
     (base_of (rest * 2 ^ 22 + (rounded_of base top).fields) address ≡ (rounded_of base top).base)
     × (top_of (rest * 2 ^ 22 + (rounded_of base top).fields) address ≡ (rounded_of base top).top)
 
 -- in whatever bounds of a word the range lies, lawful or not, its rounded bounds lie in them too
 abbrev pub StaysInside : ℕ → ℕ → Type 0
-StaysInside base top = (high address : ℕ) → address < 2 ^ 32 → base_of high address ≤ base → top ≤ top_of high address →
-    (base_of high address ≤ (rounded_of base top).base) × ((rounded_of base top).top ≤ top_of high address)
+StaysInside base top =
+    (high address : ℕ) → address < 2 ^ 32 → base_of high address ≤ base → top ≤ top_of high address
+    →
+    (base_of high address ≤ (rounded_of base top).base)
+        × ((rounded_of base top).top ≤ top_of high address)

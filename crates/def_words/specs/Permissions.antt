@@ -86,22 +86,52 @@ pub record Form : Type 0 where
   pub spelled : List ℕ
 
 abbrev pub executable_form : Form
-executable_form = record { prefix = 1; needed = execute ∷ load_data ∷ memory_capability ∷ []; one_of = []; spelled = system_registers ∷ load_mutable ∷ load_global ∷ [] }
+executable_form = record {
+  prefix = 1;
+  needed = execute ∷ load_data ∷ memory_capability ∷ [];
+  one_of = [];
+  spelled = system_registers ∷ load_mutable ∷ load_global ∷ [];
+}
 
 abbrev pub read_write_form : Form
-read_write_form = record { prefix = 3; needed = load_data ∷ memory_capability ∷ store_data ∷ []; one_of = []; spelled = store_local ∷ load_mutable ∷ load_global ∷ [] }
+read_write_form = record {
+  prefix = 3;
+  needed = load_data ∷ memory_capability ∷ store_data ∷ [];
+  one_of = [];
+  spelled = store_local ∷ load_mutable ∷ load_global ∷ [];
+}
 
 abbrev pub read_only_form : Form
-read_only_form = record { prefix = 5; needed = load_data ∷ memory_capability ∷ []; one_of = []; spelled = load_mutable ∷ load_global ∷ [] }
+read_only_form = record {
+  prefix = 5;
+  needed = load_data ∷ memory_capability ∷ [];
+  one_of = [];
+  spelled = load_mutable ∷ load_global ∷ [];
+}
 
 abbrev pub write_only_form : Form
-write_only_form = record { prefix = 16; needed = store_data ∷ memory_capability ∷ []; one_of = []; spelled = [] }
+write_only_form = record {
+  prefix = 16;
+  needed = store_data ∷ memory_capability ∷ [];
+  one_of = [];
+  spelled = [];
+}
 
 abbrev pub plain_form : Form
-plain_form = record { prefix = 4; needed = []; one_of = load_data ∷ store_data ∷ []; spelled = load_data ∷ store_data ∷ [] }
+plain_form = record {
+  prefix = 4;
+  needed = [];
+  one_of = load_data ∷ store_data ∷ [];
+  spelled = load_data ∷ store_data ∷ [];
+}
 
 abbrev pub sealing_form : Form
-sealing_form = record { prefix = 0; needed = []; one_of = []; spelled = user ∷ sealing ∷ unsealing ∷ [] }
+sealing_form = record {
+  prefix = 0;
+  needed = [];
+  one_of = [];
+  spelled = user ∷ sealing ∷ unsealing ∷ [];
+}
 
 -- in order of preference, and last the one that takes what no other takes
 abbrev pub forms : List Form
@@ -116,7 +146,8 @@ has_one set [] = false
 has_one set (p ∷ ps) = bit set p || has_one set ps
 
 abbrev pub is_taken : ℕ → Form → Bool
-is_taken set form = has_each set form.needed && (has_one set form.one_of || (length form.one_of == 0))
+is_taken set form =
+    has_each set form.needed && (has_one set form.one_of || (length form.one_of == 0))
 
 abbrev pub first_taken : ℕ → List Form → Form
 first_taken set [] = sealing_form
@@ -144,21 +175,25 @@ spelling set (p ∷ ps) = (if bit set p then 2 ^ length ps else 0) + spelling se
 
 -- the six bits of a set
 unfoldable pub packed : ℕ → ℕ
-packed set = (if bit set global then 32 else 0) + (form_of set).prefix * 2 ^ length (form_of set).spelled + spelling set (form_of set).spelled
+packed set =
+    (if bit set global then 32 else 0) + (form_of set).prefix * 2 ^ length (form_of set).spelled
+    + spelling set (form_of set).spelled
 
 abbrev pub is_spelled_by : ℕ → Form → Bool
 is_spelled_by bits form = bits % 32 / 2 ^ length form.spelled == form.prefix
 
 abbrev pub first_spelling : ℕ → List Form → Form
 first_spelling bits [] = sealing_form
-first_spelling bits (form ∷ rest) = if is_spelled_by bits form then form else first_spelling bits rest
+first_spelling bits (form ∷ rest) =
+    if is_spelled_by bits form then form else first_spelling bits rest
 
 abbrev pub is_flagged : ℕ → ℕ → List ℕ → Bool
 is_flagged bits p [] = false
 is_flagged bits p (q ∷ qs) = ((p == q) && bit bits (length qs)) || is_flagged bits p qs
 
 abbrev pub is_told : ℕ → Form → ℕ → Bool
-is_told bits form p = ((p == global) && bit bits 5) || among p form.needed || is_flagged bits p form.spelled
+is_told bits form p =
+    ((p == global) && bit bits 5) || among p form.needed || is_flagged bits p form.spelled
 
 -- the set that six bits spell
 unfoldable pub unpacked : ℕ → ℕ

@@ -39,9 +39,12 @@ abbrev pub posture_through : Posture → ℕ → ℕ → ℕ → Posture
 posture_through before kind named kept =
     if kind == SENTRY_DISABLE then record { off = true; source = named }
     else if kind == RETURN_DISABLE then record { off = true; source = kept }
-    else if (kind == SENTRY_ENABLE) || (kind == RETURN_ENABLE) then record { off = false; source = 0 }
+    else if (kind == SENTRY_ENABLE) || (kind == RETURN_ENABLE)
+        then record { off = false; source = 0 }
     else before
 
 -- Which key addresses are types of a value's kind: these seal. A key opens the type that its address is.
 abbrev pub is_key_type : Bool → ℕ → Bool
-is_key_type executes n = if executes then is_between SENTRY_INHERIT RETURN_ENABLE n else is_between EXPORT_TYPE LAST_KEY_TYPE n
+is_key_type executes n =
+    if executes then is_between SENTRY_INHERIT RETURN_ENABLE n
+    else is_between EXPORT_TYPE LAST_KEY_TYPE n

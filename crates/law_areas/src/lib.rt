@@ -17,10 +17,13 @@ pub fn written_frames()
     ensures same { (gs hs : List Granule) (area actor top : ℕ) (handling : Bool) (depth : ℕ)
         → ((k : ℕ) → frame_place area 0 ≤ k → k < frame_place area depth → held hs k ≡ held gs k)
         → frames_in hs area actor top handling depth ≡ frames_in gs area actor top handling depth }
-    ensures written { (gs : List Granule) (area actor top : ℕ) (handling : Bool) (depth own export high : ℕ)
-        (c1 c2 c3 c8 c9 : Cap) → export < 2 ^ 32 → top < 2 ^ 32 → frame_place area (depth + 1) ≤ length gs
+    ensures written { (gs : List Granule) (area actor top : ℕ) (handling : Bool)
+        (depth own export high : ℕ)
+        (c1 c2 c3 c8 c9 : Cap) → export < 2 ^ 32 → top < 2 ^ 32
+        → frame_place area (depth + 1) ≤ length gs
         → frames_in (holding_all gs (frame_place area depth)
-        (frame_words (c1 ∷ c2 ∷ c3 ∷ c8 ∷ c9 ∷ []) export actor top handling)) area own high false (depth + 1)
+        (frame_words (c1 ∷ c2 ∷ c3 ∷ c8 ∷ c9 ∷ []) export actor top handling)) area own high false (depth
+          + 1)
         ≡ record { actor = own; export = export; top = high; handling = false; c1 = c1; c2 = c2; c3 = c3; c8 = c8; c9 = c9 }
         ∷ frames_in gs area actor top handling depth }
 {}
@@ -29,16 +32,20 @@ pub fn written_frames()
 pub fn written_registers()
     ensures back { (gs : List Granule) (k : ℕ) (cs : List Cap) → k + length cs ≤ length gs
         → held_from (holding_all gs k cs) k (length cs) ≡ cs }
-    ensures same { (gs hs : List Granule) (k n : ℕ) → ((m : ℕ) → k ≤ m → m < k + n → held hs m ≡ held gs m)
+    ensures same { (gs hs : List Granule) (k n : ℕ)
+        → ((m : ℕ) → k ≤ m → m < k + n → held hs m ≡ held gs m)
         → held_from hs k n ≡ held_from gs k n }
 {}
 
 /// Stores and clearings touch the granules that they name, and leave every other granule and every mark.
 pub fn touched_granules()
-    ensures written { (gs : List Granule) (k : ℕ) (cs : List Cap) → Touches k (k + length cs) gs (holding_all gs k cs) }
+    ensures written { (gs : List Granule) (k : ℕ) (cs : List Cap)
+        → Touches k (k + length cs) gs (holding_all gs k cs) }
     ensures stored { (gs : List Granule) (at width value : ℕ)
         → Touches (at / 8) (at / 8 + 1) gs (stored gs at width value) }
-    ensures capability { (gs : List Granule) (at : ℕ) (c : Cap) → Touches (at / 8) (at / 8 + 1) gs (stored_cap gs at c) }
-    ensures cleared { (gs : List Granule) (ram from to : ℕ) → ram ≤ from → from % 8 ≡ ram % 8 → to % 8 ≡ ram % 8
+    ensures capability { (gs : List Granule) (at : ℕ) (c : Cap)
+        → Touches (at / 8) (at / 8 + 1) gs (stored_cap gs at c) }
+    ensures cleared { (gs : List Granule) (ram from to : ℕ) → ram ≤ from → from % 8 ≡ ram % 8
+        → to % 8 ≡ ram % 8
         → Touches ((from - ram) / 8) ((to - ram) / 8) gs (zeroed_from from to ram gs) }
 {}

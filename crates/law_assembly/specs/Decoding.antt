@@ -11,7 +11,10 @@ use Rattle.def_object.specs.Object.{Labels, word_bytes, instructions_at, bytes_a
 -- the bytes are the words of these instructions in order, and each word decodes to its instruction
 abbrev pub Decodes : List Instr → List ℕ → Type 0
 Decodes [] bytes = bytes ≡ []
-Decodes (i ∷ is) bytes = (w : ℕ) × ((rest : List ℕ) × ((bytes ≡ word_bytes w ++ rest) × (instruction_in w ≡ Some i) × Decodes is rest))
+Decodes (i ∷ is) bytes =
+    (w : ℕ)
+    × ((rest : List ℕ)
+        × ((bytes ≡ word_bytes w ++ rest) × (instruction_in w ≡ Some i) × Decodes is rest))
 
 -- a statement that is an instruction or a pseudo instruction: no label, no section, no plain bytes
 abbrev pub is_instruction : Part Name → Bool
@@ -25,9 +28,12 @@ is_instruction (part.Align number) = false
 is_instruction _ = true
 
 abbrev pub Says : Labels → List Name → ℕ → Part Name → Type 0
-Says labels slots at q = is_instruction q ≡ true → Decodes (instructions_at labels slots at q) (bytes_at labels slots at q)
+Says labels slots at q =
+    is_instruction q ≡ true
+    → Decodes (instructions_at labels slots at q) (bytes_at labels slots at q)
 
 -- each statement from a place on
 abbrev pub AllSay : Labels → List Name → Place → Statements → Type 0
 AllSay labels slots p [] = Unit {0}
-AllSay labels slots p (s ∷ ss) = Says labels slots (offset p) s.part × AllSay labels slots (advanced p s.part) ss
+AllSay labels slots p (s ∷ ss) =
+    Says labels slots (offset p) s.part × AllSay labels slots (advanced p s.part) ss

@@ -19,7 +19,8 @@ use Rattle.def_object.specs.Object.{high_piece, low_piece, way}
 -- what an instruction does to the thread; one that traps leaves it
 abbrev pub effect : Space → Thread → Instr → Result Done Trap
 effect p w i =
-    carried_out (class_of i) i (operands_of i).to (register w (operands_of i).first) (register w (operands_of i).second)
+    carried_out (class_of i) i (operands_of i).to (register w (operands_of i).first)
+        (register w (operands_of i).second)
     (record { pcc = w.pcc; posture = w.posture; space = p })
 
 abbrev pub onward : Thread → Result Done Trap → Thread
@@ -77,6 +78,8 @@ to_slot rd at to = AuiPcc rd (high_piece at to) ∷ Clc rd rd (low_piece at to) 
 
 -- the first raises the program counter capability's address, and the second loads from the slot's
 pub record LeadsToSlot (p : Space) (w : Thread) (rd : ℕ) (at to : ℕ) : Type 0 where
-  pub first : Gives w (onward w (effect p w (AuiPcc rd (high_piece at to)))) rd (raised w.pcc (upper_offset (high_piece at to)))
-  pub address : access_address (access_of (Clc rd rd (low_piece at to))) (register (onward w (effect p w (AuiPcc rd (high_piece at to)))) rd)
+  pub first : Gives w (onward w (effect p w (AuiPcc rd (high_piece at to)))) rd
+      (raised w.pcc (upper_offset (high_piece at to)))
+  pub address : access_address (access_of (Clc rd rd (low_piece at to)))
+      (register (onward w (effect p w (AuiPcc rd (high_piece at to)))) rd)
       ≡ (cap_address w.pcc + way at to) % 2 ^ 32

@@ -23,13 +23,15 @@ pub fn forms_are_written()
 
 /// The same of directives.
 pub fn directives_are_written()
-    ensures { (d : Directive) (ts : Row) (p : Part Name) → (directive_form d ts ≡ Some p) ↔ WritesDirective d ts p }
+    ensures { (d : Directive) (ts : Row) (p : Part Name)
+        → (directive_form d ts ≡ Some p) ↔ WritesDirective d ts p }
 {}
 
 /// The words of each statement of lawful statements that have no fault decode, one after another, to
 /// the instructions that the statement stands for; no word of it is another instruction.
 pub fn words_decode()
-    ensures { (all : Statements) (slots : List Name) → IsLawful all → fault_in all ≡ None → AllSay (label_in all) slots start all }
+    ensures { (all : Statements) (slots : List Name) → IsLawful all → fault_in all ≡ None
+        → AllSay (label_in all) slots start all }
 {}
 
 /// The pseudo `li` loads its number: after its instructions the register holds the 32-bit word, and
@@ -51,5 +53,6 @@ pub fn ways_lead_there()
     ensures slot { (p : Space) (w : Thread) (rd at to : ℕ) → MayWrite w rd → AreApart at to
         → LeadsToSlot p w rd at to }
     ensures import { (slots : List Name) (at rd : ℕ) (name : Name)
-        → import_instructions slots at rd name ≡ to_slot rd (8 * length slots + at) (8 * slot_number (slot_of slots name)) }
+        → import_instructions slots at rd name
+          ≡ to_slot rd (8 * length slots + at) (8 * slot_number (slot_of slots name)) }
 {}

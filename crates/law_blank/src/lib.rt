@@ -40,7 +40,8 @@ pub fn heap_reads_zero()
 
 /// An object more, and an object that is freed, leave what is hidden zero: the native routines of the heap will do both.
 pub fn objects_blank()
-    ensures allocate { (i : Image) (s : State) (r : Object) → Blank i s → Blank i (with_object s r) }
+    ensures allocate { (i : Image) (s : State) (r : Object) → Blank i s
+        → Blank i (with_object s r) }
     ensures free { (i : Image) (s : State) (t : ℕ) (r : Object)
         → Confined i s → Frees s t r → Blank i s → Blank i (freed i s t r) }
 {}

@@ -15,11 +15,21 @@ use Rattle.def_step.specs.declared.Event.{Event}
 use Rattle.def_step.specs.declared.Event.TheVariants.{Step}
 
 abbrev pub row : Owner → Kind → ℕ → ℕ → ℕ → Entry
-row o k base size rights = record { owner = o; kind = k; base = base; length = size; rights = rights; of = 0; limit = 0 }
+row o k base size rights = record {
+  owner = o;
+  kind = k;
+  base = base;
+  length = size;
+  rights = rights;
+  of = 0;
+  limit = 0;
+}
 
 -- auipcc c5, 0; clc c5, -8(c5); addi c10, c0, 65; csw c10, 0(c5); cjalr c0, 0(c1)
 abbrev pub tiny_text : List ℕ
-tiny_text = 0x97 ∷ 0x02 ∷ 0x00 ∷ 0x00 ∷ 0x83 ∷ 0xb2 ∷ 0x82 ∷ 0xff ∷ 0x13 ∷ 0x05 ∷ 0x10 ∷ 0x04 ∷ 0x23 ∷ 0xa0 ∷ 0xa2 ∷ 0x00 ∷ 0x67 ∷ 0x80 ∷ 0x00 ∷ 0x00 ∷ []
+tiny_text =
+    0x97 ∷ 0x02 ∷ 0x00 ∷ 0x00 ∷ 0x83 ∷ 0xb2 ∷ 0x82 ∷ 0xff ∷ 0x13 ∷ 0x05 ∷ 0x10 ∷ 0x04 ∷ 0x23 ∷ 0xa0
+    ∷ 0xa2 ∷ 0x00 ∷ 0x67 ∷ 0x80 ∷ 0x00 ∷ 0x00 ∷ []
 
 -- one compartment with one device, one export and one thread
 abbrev pub tiny : FirmwareRow
@@ -32,7 +42,16 @@ tiny = record {
         ∷ row (Compartment 0) kind.Export 2147483712 16 33
         ∷ row (Thread 0) kind.Stack 2147483744 256 126
         ∷ [];
-    gates = record { entry = 5; code = 2147483664; stack = 0; args = 6; posture = Enabled; capabilities = true } ∷ [];
+    gates =
+        record {
+          entry = 5;
+          code = 2147483664;
+          stack = 0;
+          args = 6;
+          posture = Enabled;
+          capabilities = true;
+        }
+        ∷ [];
   };
   ram = 2147483648;
   size = 4096;
@@ -58,5 +77,8 @@ nothing_happened = record { deed = None; off = None }
 abbrev pub tiny_trace : List Happened
 tiny_trace =
     nothing_happened ∷ nothing_happened ∷ nothing_happened
-    ∷ record { deed = Some (record { thread = 0; actor = 0; entry = 4; act = Store 268435456 4 65 }); off = None }
+    ∷ record {
+      deed = Some (record { thread = 0; actor = 0; entry = 4; act = Store 268435456 4 65 });
+      off = None;
+    }
     ∷ nothing_happened ∷ nothing_happened ∷ []

@@ -25,5 +25,6 @@ pub fn lawful_runs()
     ensures keeps { (f : FirmwareRow) (es : List Event)
         → IsLawfulFirmware f → Keeps (image_of f) (run (board_of f) (boot_state f) es) }
     ensures licensed { (f : FirmwareRow) (es : List Event)
-        → IsLawfulFirmware f → AllLicensed (image_of f).entries (told (board_of f) (boot_state f) es) }
+        → IsLawfulFirmware f
+        → AllLicensed (image_of f).entries (told (board_of f) (boot_state f) es) }
 {}

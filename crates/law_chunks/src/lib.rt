@@ -31,6 +31,7 @@ pub fn writes_keep()
 pub fn heads_hidden()
     ensures objects { (h : HeapRow) (gs : List Granule) (p : ℕ) → Laid h gs → IsHead h.range gs p
         → is_live_at (objects_of h gs) p ≡ false }
-    ensures hidden { (i : Image) (h : HeapRow) (gs : List Granule) (p : ℕ) → IsHeapOf i h.range → Laid h gs
+    ensures hidden { (i : Image) (h : HeapRow) (gs : List Granule) (p : ℕ) → IsHeapOf i h.range
+        → Laid h gs
         → IsHead h.range gs p → is_hidden_at i (objects_of h gs) p ≡ true }
 {}

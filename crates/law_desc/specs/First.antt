@@ -15,7 +15,8 @@ NoRuleFails fails [] ps = Unit {0}
 NoRuleFails fails (r ∷ rs) ps = NoneFails (fails r) ps × NoRuleFails fails rs ps
 
 -- the first rule of a list that fails at some place, with the first place where it does
-pub record IsFirstRule (fails : Rule → Place → Bool) (rs : List Rule) (ps : List Place) (f : Fault) : Type 0 where
+pub record IsFirstRule (fails : Rule → Place → Bool) (rs : List Rule) (ps : List Place)
+    (f : Fault) : Type 0 where
   pub before : List Rule
   pub after : List Rule
   pub order : rs ≡ before ++ f.rule ∷ after
@@ -23,4 +24,5 @@ pub record IsFirstRule (fails : Rule → Place → Bool) (rs : List Rule) (ps : 
   pub place : IsFirst (fails f.rule) ps f.place
 
 abbrev pub FindsFirstRule : (Rule → Place → Bool) → List Rule → List Place → Type 0
-FindsFirstRule fails rs ps = MatchOption (first_fault fails rs ps) (NoRuleFails fails rs ps) (λ f. IsFirstRule fails rs ps f)
+FindsFirstRule fails rs ps =
+    MatchOption (first_fault fails rs ps) (NoRuleFails fails rs ps) (λ f. IsFirstRule fails rs ps f)

@@ -24,12 +24,14 @@ pub fn finds_first()
 
 /// A fault is the first rule that fails at some place, with the first place where it does.
 pub fn finds_first_rule()
-    ensures { (fails : RuleRow → PlaceRow → Bool) (rs : List RuleRow) (ps : List PlaceRow) → FindsFirstRule fails rs ps }
+    ensures { (fails : RuleRow → PlaceRow → Bool) (rs : List RuleRow) (ps : List PlaceRow)
+        → FindsFirstRule fails rs ps }
 {}
 
 /// A name is marked where it stands among the names before it.
 pub fn marks_what_stands_before()
-    ensures { (names : List (List ℕ)) (i : ℕ) (name : List ℕ) → slice_get names i ≡ Some name → flag (repeated [] names) i ≡ among name (take i names) }
+    ensures { (names : List (List ℕ)) (i : ℕ) (name : List ℕ) → slice_get names i ≡ Some name
+        → flag (repeated [] names) i ≡ among name (take i names) }
 {}
 
 /// The regions of a description without a fault lie where they may.
@@ -41,7 +43,8 @@ pub fn places_regions()
 /// description stands for one list of rows (`same_rows`).
 pub fn one_or_the_other()
     ensures one { (bytes : List ℕ) → Described bytes ⊎ Malformed bytes }
-    ensures not_both { (bytes : List ℕ) (rows : DescRow) → WellFormed bytes rows → Malformed bytes → ⊥ }
+    ensures not_both { (bytes : List ℕ) (rows : DescRow) → WellFormed bytes rows → Malformed bytes
+        → ⊥ }
     ensures same_rows { (bytes : List ℕ) (rows others : DescRow)
         → WellFormed bytes rows → WellFormed bytes others → rows ≡ others }
 {}

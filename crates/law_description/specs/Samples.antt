@@ -27,7 +27,8 @@ with d key e = d
 
 abbrev pub without_in : List ℕ → Members → Members
 without_in key no_members = no_members
-without_in key (member k d ms) = if bytes_eq k key then without_in key ms else member k d (without_in key ms)
+without_in key (member k d ms) =
+    if bytes_eq k key then without_in key ms else member k d (without_in key ms)
 
 -- an object with another value of a member
 abbrev pub altered : Data → List ℕ → Data → Data

@@ -15,7 +15,15 @@ use Rattle.def_step.specs.Firmware.{Share, DeviceImport, StackRange, code_row, g
 
 -- the row of a share's export, by the address of its 16 bytes in the export table
 abbrev pub export_row : ℕ → ℕ → Entry
-export_row b at = record { owner = owner.Compartment b; kind = kind.Export; base = at; length = 16; rights = EXPORT_RIGHTS; of = 0; limit = 0 }
+export_row b at = record {
+  owner = owner.Compartment b;
+  kind = kind.Export;
+  base = at;
+  length = 16;
+  rights = EXPORT_RIGHTS;
+  of = 0;
+  limit = 0;
+}
 
 -- where the j-th export of a share has its 16 bytes
 abbrev pub export_place : Share → ℕ → ℕ
@@ -23,7 +31,14 @@ export_place c j = c.table + 16 + 16 * j
 
 -- the gate of an export with number n, at offset x of its share's text
 abbrev pub export_gate : ℕ → Share → ℕ → Gate
-export_gate n c x = record { entry = n; code = c.code + text_offset c + x; stack = 0; args = 6; posture = Enabled; capabilities = true }
+export_gate n c x = record {
+  entry = n;
+  code = c.code + text_offset c + x;
+  stack = 0;
+  args = 6;
+  posture = Enabled;
+  capabilities = true;
+}
 
 -- entry n has this row, and boot made what the row says
 pub record HasRow (f : FirmwareRow) (n : ℕ) (r : Entry) : Type 0 where
@@ -61,11 +76,17 @@ pub record IsExportOf (f : FirmwareRow) (cs : List Share) (n : ℕ) : Type 0 whe
 -- After code and globals come the slots, the switch first, then the exports.
 pub data EntryIs (f : FirmwareRow) (cs : List Share) (ss : List StackRange) (n : ℕ) : Type 0 where
   is_nothing : root_of f.entries n ≡ no_root → made_for f n ≡ plain 0 → EntryIs f cs ss n
-  is_trusted : n ≡ 0 → root_of f.entries n ≡ trusted_root → made_for f n ≡ return_sentry → EntryIs f cs ss n
-  is_code : (b : ℕ) (c : Share) → HasShare f cs b c → n ≡ code_number f b → HasRow f n (code_row b c) → EntryIs f cs ss n
-  is_globals : (b : ℕ) (c : Share) → HasShare f cs b c → n ≡ code_number f b + 1 → HasRow f n (globals_row b c) → EntryIs f cs ss n
-  is_switch : (b : ℕ) (c : Share) → HasShare f cs b c → n ≡ code_number f b + 2 → HasRow f n (switch_row b) → EntryIs f cs ss n
-  is_import : (b : ℕ) (c : Share) (j : ℕ) (d : DeviceImport) → HasShare f cs b c → slice_get c.imports j ≡ Some d → n ≡ code_number f b + 3 + j
+  is_trusted : n ≡ 0 → root_of f.entries n ≡ trusted_root → made_for f n ≡ return_sentry
+      → EntryIs f cs ss n
+  is_code : (b : ℕ) (c : Share) → HasShare f cs b c → n ≡ code_number f b
+      → HasRow f n (code_row b c) → EntryIs f cs ss n
+  is_globals : (b : ℕ) (c : Share) → HasShare f cs b c → n ≡ code_number f b + 1
+      → HasRow f n (globals_row b c) → EntryIs f cs ss n
+  is_switch : (b : ℕ) (c : Share) → HasShare f cs b c → n ≡ code_number f b + 2
+      → HasRow f n (switch_row b) → EntryIs f cs ss n
+  is_import : (b : ℕ) (c : Share) (j : ℕ) (d : DeviceImport) → HasShare f cs b c
+  → slice_get c.imports j ≡ Some d → n ≡ code_number f b + 3 + j
       → HasRow f n (device_row b d) → EntryIs f cs ss n
   is_export : IsExportOf f cs n → EntryIs f cs ss n
-  is_stack : (t : ℕ) (s : StackRange) → HasStack f ss t s → n ≡ stack_number f t → HasRow f n (stack_row t s) → EntryIs f cs ss n
+  is_stack : (t : ℕ) (s : StackRange) → HasStack f ss t s → n ≡ stack_number f t
+      → HasRow f n (stack_row t s) → EntryIs f cs ss n

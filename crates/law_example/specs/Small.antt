@@ -17,10 +17,25 @@ use Rattle.ct_entry.specs.Listed.{Listed}
 use Rattle.def_machine.specs.Image.{Image, Fixed, Globals, Shared, HeapRam, Stack, Bare}
 
 abbrev pub row : Owner → Kind → ℕ → ℕ → ℕ → ℕ → ℕ → Entry
-row owner kind base length rights of limit = record { owner = owner; kind = kind; base = base; length = length; rights = rights; of = of; limit = limit }
+row owner kind base length rights of limit = record {
+  owner = owner;
+  kind = kind;
+  base = base;
+  length = length;
+  rights = rights;
+  of = of;
+  limit = limit;
+}
 
 abbrev pub gate : ℕ → ℕ → Gate
-gate entry code = record { entry = entry; code = code; stack = 0; args = 0; posture = Enabled; capabilities = false }
+gate entry code = record {
+  entry = entry;
+  code = code;
+  stack = 0;
+  args = 0;
+  posture = Enabled;
+  capabilities = false;
+}
 
 -- the library's export disables interrupts; the second compartment's passes capabilities
 abbrev pub entries : Listed
@@ -43,11 +58,14 @@ entries = record {
       ∷ row (Library 0) kinds.Code 2147483840 16 363 0 0
       ∷ row (Library 0) kinds.Export 2147483840 16 363 0 0
       ∷ row (Thread 0) kinds.Stack 2147483872 32 126 0 0 ∷ [];
-  gates = gate 10 2147483704 ∷ record (gate 15 2147483776) { capabilities = true } ∷ record (gate 17 2147483840) { posture = Disabled; capabilities = true } ∷ [];
+  gates =
+      gate 10 2147483704 ∷ record (gate 15 2147483776) { capabilities = true }
+      ∷ record (gate 17 2147483840) { posture = Disabled; capabilities = true } ∷ [];
 }
 
 abbrev pub made : ℕ → ℕ → ℕ → ℕ → ℕ → ℕ → ℕ → Cap
-made n high base length set address type_is = derive high base length set address type_is (record { root = n; source = 0 })
+made n high base length set address type_is =
+    derive high base length set address type_is (record { root = n; source = 0 })
 
 abbrev pub made_0 : Cap
 made_0 = made 0 executable_root 65552 8 353 65552 5
@@ -100,10 +118,25 @@ held c = record { cap = c; mark = false }
 abbrev pub small : Image
 small = record {
   entries = entries;
-  made = made_0 ∷ made_1 ∷ made_2 ∷ made_3 ∷ made_4 ∷ made_5 ∷ made_6 ∷ made_7 ∷ made_8 ∷ made_9 ∷ plain 0 ∷ made_11 ∷ made_12 ∷ made_13 ∷ made_14 ∷ plain 0 ∷ plain 0 ∷ plain 0 ∷ made_18 ∷ [];
+  made =
+      made_0 ∷ made_1 ∷ made_2 ∷ made_3 ∷ made_4 ∷ made_5 ∷ made_6 ∷ made_7 ∷ made_8 ∷ made_9
+      ∷ plain 0 ∷ made_11 ∷ made_12 ∷ made_13 ∷ made_14 ∷ plain 0 ∷ plain 0 ∷ plain 0 ∷ made_18
+      ∷ [];
   ram = 2147483648;
-  regions = Fixed ∷ Fixed ∷ Fixed ∷ Fixed ∷ Fixed ∷ Fixed ∷ Fixed ∷ Fixed ∷ Fixed ∷ Fixed ∷ Fixed ∷ Fixed ∷ Globals 0 ∷ Globals 0 ∷ Fixed ∷ Fixed ∷ Fixed ∷ Fixed ∷ Fixed ∷ Fixed ∷ Fixed ∷ Fixed ∷ Globals 1 ∷ Globals 1 ∷ Fixed ∷ Fixed ∷ Shared 0 ∷ Shared 0 ∷ Stack 0 ∷ Stack 0 ∷ Stack 0 ∷ Stack 0 ∷ Fixed ∷ Bare ∷ HeapRam ∷ HeapRam ∷ HeapRam ∷ HeapRam ∷ HeapRam ∷ HeapRam ∷ HeapRam ∷ HeapRam ∷ [];
-  boot = held made_3 ∷ held made_4 ∷ held made_5 ∷ held made_6 ∷ held made_7 ∷ held made_8 ∷ held made_9 ∷ held (plain 0) ∷ held made_1 ∷ held made_2 ∷ held (plain 0) ∷ held (plain 0) ∷ held (plain 0) ∷ held (plain 0) ∷ held made_13 ∷ held made_14 ∷ held (plain 0) ∷ held (plain 0) ∷ held made_11 ∷ held made_12 ∷ held (plain 0) ∷ held (plain 0) ∷ held (plain 0) ∷ held (plain 0) ∷ held (plain 0) ∷ held (plain 0) ∷ held (plain 0) ∷ held (plain 0) ∷ held (plain 0) ∷ held (plain 0) ∷ held (plain 0) ∷ held (plain 0) ∷ held made_0 ∷ [];
+  regions =
+      Fixed ∷ Fixed ∷ Fixed ∷ Fixed ∷ Fixed ∷ Fixed ∷ Fixed ∷ Fixed ∷ Fixed ∷ Fixed ∷ Fixed ∷ Fixed
+      ∷ Globals 0 ∷ Globals 0 ∷ Fixed ∷ Fixed ∷ Fixed ∷ Fixed ∷ Fixed ∷ Fixed ∷ Fixed ∷ Fixed
+      ∷ Globals 1 ∷ Globals 1 ∷ Fixed ∷ Fixed ∷ Shared 0 ∷ Shared 0 ∷ Stack 0 ∷ Stack 0 ∷ Stack 0
+      ∷ Stack 0 ∷ Fixed ∷ Bare ∷ HeapRam ∷ HeapRam ∷ HeapRam ∷ HeapRam ∷ HeapRam ∷ HeapRam ∷ HeapRam
+      ∷ HeapRam ∷ [];
+  boot =
+      held made_3 ∷ held made_4 ∷ held made_5 ∷ held made_6 ∷ held made_7 ∷ held made_8
+      ∷ held made_9 ∷ held (plain 0) ∷ held made_1 ∷ held made_2 ∷ held (plain 0) ∷ held (plain 0)
+      ∷ held (plain 0) ∷ held (plain 0) ∷ held made_13 ∷ held made_14 ∷ held (plain 0)
+      ∷ held (plain 0) ∷ held made_11 ∷ held made_12 ∷ held (plain 0) ∷ held (plain 0)
+      ∷ held (plain 0) ∷ held (plain 0) ∷ held (plain 0) ∷ held (plain 0) ∷ held (plain 0)
+      ∷ held (plain 0) ∷ held (plain 0) ∷ held (plain 0) ∷ held (plain 0) ∷ held (plain 0)
+      ∷ held made_0 ∷ [];
   codes = 1 ∷ 11 ∷ [];
   globals = 2 ∷ 12 ∷ [];
   handlers = [];

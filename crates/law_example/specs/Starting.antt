@@ -11,12 +11,24 @@ abbrev pub first_pcc : Cap
 first_pcc = made 1 executable_root 2147483648 64 363 2147483704 0
 
 abbrev pub first_frame : Frame
-first_frame = record { actor = 0; export = 10; top = 2147483904; handling = false; c1 = plain 0; c2 = plain 0; c3 = plain 0; c8 = plain 0; c9 = plain 0 }
+first_frame = record {
+  actor = 0;
+  export = 10;
+  top = 2147483904;
+  handling = false;
+  c1 = plain 0;
+  c2 = plain 0;
+  c3 = plain 0;
+  c8 = plain 0;
+  c9 = plain 0;
+}
 
 abbrev pub first_thread : Thread
 first_thread = record {
   pcc = first_pcc;
-  registers = plain 0 ∷ made_0 ∷ made_18 ∷ made_2 ∷ plain 0 ∷ plain 0 ∷ plain 0 ∷ plain 0 ∷ plain 0 ∷ plain 0 ∷ plain 0 ∷ plain 0 ∷ plain 0 ∷ plain 0 ∷ plain 0 ∷ plain 0 ∷ [];
+  registers =
+      plain 0 ∷ made_0 ∷ made_18 ∷ made_2 ∷ plain 0 ∷ plain 0 ∷ plain 0 ∷ plain 0 ∷ plain 0
+      ∷ plain 0 ∷ plain 0 ∷ plain 0 ∷ plain 0 ∷ plain 0 ∷ plain 0 ∷ plain 0 ∷ [];
   frames = first_frame ∷ [];
   status = Ready;
   posture = interrupts_on;
@@ -24,7 +36,15 @@ first_thread = record {
 
 abbrev pub starting : State
 starting = record {
-  granules = held made_3 ∷ held made_4 ∷ held made_5 ∷ held made_6 ∷ held made_7 ∷ held made_8 ∷ held made_9 ∷ held (plain 0) ∷ held made_1 ∷ held made_2 ∷ held (plain 0) ∷ held (plain 0) ∷ held (plain 0) ∷ held (plain 0) ∷ held made_13 ∷ held made_14 ∷ held (plain 0) ∷ held (plain 0) ∷ held made_11 ∷ held made_12 ∷ held (plain 0) ∷ held (plain 0) ∷ held (plain 0) ∷ held (plain 0) ∷ held (plain 0) ∷ held (plain 0) ∷ held (plain 0) ∷ held (plain 0) ∷ held (plain 0) ∷ held (plain 0) ∷ held (plain 0) ∷ held (plain 0) ∷ held made_0 ∷ held (plain 0) ∷ held (plain 0) ∷ held (plain 0) ∷ held (plain 0) ∷ held (plain 0) ∷ held (plain 0) ∷ held (plain 0) ∷ held (plain 0) ∷ held (plain 0) ∷ [];
+  granules =
+      held made_3 ∷ held made_4 ∷ held made_5 ∷ held made_6 ∷ held made_7 ∷ held made_8
+      ∷ held made_9 ∷ held (plain 0) ∷ held made_1 ∷ held made_2 ∷ held (plain 0) ∷ held (plain 0)
+      ∷ held (plain 0) ∷ held (plain 0) ∷ held made_13 ∷ held made_14 ∷ held (plain 0)
+      ∷ held (plain 0) ∷ held made_11 ∷ held made_12 ∷ held (plain 0) ∷ held (plain 0)
+      ∷ held (plain 0) ∷ held (plain 0) ∷ held (plain 0) ∷ held (plain 0) ∷ held (plain 0)
+      ∷ held (plain 0) ∷ held (plain 0) ∷ held (plain 0) ∷ held (plain 0) ∷ held (plain 0)
+      ∷ held made_0 ∷ held (plain 0) ∷ held (plain 0) ∷ held (plain 0) ∷ held (plain 0)
+      ∷ held (plain 0) ∷ held (plain 0) ∷ held (plain 0) ∷ held (plain 0) ∷ held (plain 0) ∷ [];
   threads = first_thread ∷ [];
   running = None;
   pending = false;
@@ -35,5 +55,15 @@ starting = record {
   devices = Serial [] ∷ [];
   time = 0;
   picks = 0 ∷ [];
-  counts = record { steps = 0; ticks = 0; sweeps = 0; inputs = 0; calls = 0; loads = 0; stores = 0; frees = 0; traps = 0 };
+  counts = record {
+    steps = 0;
+    ticks = 0;
+    sweeps = 0;
+    inputs = 0;
+    calls = 0;
+    loads = 0;
+    stores = 0;
+    frees = 0;
+    traps = 0;
+  };
 }

@@ -9,7 +9,11 @@ use Rattle.def_firmware.specs.Firmware.{text_of}
 use Rattle.def_step.specs.Firmware.{DeviceImport, Share, StackRange}
 
 abbrev pub import_of : List DeviceRow → ImportRow → DeviceImport
-import_of devices x = record { of = device_index devices x.device; base = device_base devices x.device; rights = device_rights x.rights }
+import_of devices x = record {
+  of = device_index devices x.device;
+  base = device_base devices x.device;
+  rights = device_rights x.rights;
+}
 
 abbrev pub share_of : List DeviceRow → CompartmentRow → Share
 share_of devices c = record {

@@ -10,5 +10,6 @@ ghost use Rattle.def_step.specs.Firmware.{IsLawfulFirmware};
 
 /// The firmware of every well-formed description is lawful.
 pub fn descriptions_are_lawful()
-    ensures { (bytes : List ℕ) (r : DescRow) → WellFormed bytes r → IsLawfulFirmware (firmware_of r) }
+    ensures { (bytes : List ℕ) (r : DescRow) → WellFormed bytes r
+        → IsLawfulFirmware (firmware_of r) }
 {}

@@ -8,11 +8,14 @@ use Rattle.def_machine.specs.State.{Frame, Object}
 
 -- no root's range meets the heap
 abbrev pub RootsAway : Image → Type 0
-RootsAway i = (n : ℕ) → is_root (root i n).origin ≡ true → ((root i n).top ≤ i.heap_base) ⊎ (i.heap_end ≤ (root i n).base)
+RootsAway i =
+    (n : ℕ) → is_root (root i n).origin ≡ true
+    → ((root i n).top ≤ i.heap_base) ⊎ (i.heap_end ≤ (root i n).base)
 
 -- a tagged capability whose authority isn't empty has none of an object's addresses
 abbrev pub Misses : Object → Cap → Type 0
-Misses r c = c.tag ≡ true → cap_base c < cap_top c → (cap_top c ≤ r.base) ⊎ (r.base + r.length ≤ cap_base c)
+Misses r c =
+    c.tag ≡ true → cap_base c < cap_top c → (cap_top c ≤ r.base) ⊎ (r.base + r.length ≤ cap_base c)
 
 pub record SavedMiss (r : Object) (f : Frame) : Type 0 where
   pub c1 : Misses r f.c1

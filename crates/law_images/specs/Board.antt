@@ -32,7 +32,14 @@ board_app = record {
 
 abbrev pub put_at : ℕ → GateRow
 put_at n = record {
-  row = record { offset = 0; stack = 0; args = 1; posture = Enabled; capabilities = false; entry = n };
+  row = record {
+    offset = 0;
+    stack = 0;
+    args = 1;
+    posture = Enabled;
+    capabilities = false;
+    entry = n;
+  };
   name = codes "put";
 }
 
@@ -54,7 +61,14 @@ driver = record {
 
 abbrev pub digit_at : ℕ → GateRow
 digit_at n = record {
-  row = record { offset = 0; stack = 0; args = 0; posture = Inherit; capabilities = true; entry = n };
+  row = record {
+    offset = 0;
+    stack = 0;
+    args = 0;
+    posture = Inherit;
+    capabilities = true;
+    entry = n;
+  };
   name = codes "digit";
 }
 

@@ -33,7 +33,14 @@ the_uart = slot_of slot.Device 49 0 0 (codes "uart")
 
 abbrev pub the_main : GateRow
 the_main = record {
-  row = record { offset = 0; stack = 0; args = 6; posture = Enabled; capabilities = true; entry = 5 };
+  row = record {
+    offset = 0;
+    stack = 0;
+    args = 6;
+    posture = Enabled;
+    capabilities = true;
+    entry = 5;
+  };
   name = codes "main";
 }
 
@@ -48,7 +55,13 @@ app_code = record {
 }
 
 abbrev pub app : CompartmentRow
-app = record { code = app_code; table = 0x80000030; globals = 0x80000050; globals_length = 16; initial = [] }
+app = record {
+  code = app_code;
+  table = 0x80000030;
+  globals = 0x80000050;
+  globals_length = 16;
+  initial = [];
+}
 
 abbrev pub the_thread : ThreadRow
 the_thread = record {
@@ -97,7 +110,10 @@ abbrev pub with_uart : ImportRow → PartsRow
 with_uart row = with_slots (the_switch ∷ record the_uart { row = row } ∷ [])
 
 abbrev pub with_main : ExportRow → PartsRow
-with_main row = with_app (record app { code = record app_code { exports = record the_main { row = row } ∷ [] } })
+with_main row =
+    with_app (record app {
+      code = record app_code { exports = record the_main { row = row } ∷ [] };
+    })
 
 abbrev pub with_thread : ThreadRow → PartsRow
 with_thread t = record tiny { threads = t ∷ [] }
@@ -125,18 +141,28 @@ raw_with c = record raw_tiny { compartments = c ∷ [] }
 -- byte k of slot j's row, or of export j's, is b
 abbrev pub slot_byte : ℕ → ℕ → ℕ → RawImage
 slot_byte j k b = raw_with (record raw_app {
-  code = record raw_app.code { slots = slice_set raw_app.code.slots j (with_byte k b (member raw_app.code.slots j)) };
+  code =
+      record raw_app.code {
+        slots = slice_set raw_app.code.slots j (with_byte k b (member raw_app.code.slots j));
+      };
 })
 
 abbrev pub export_byte : ℕ → ℕ → ℕ → RawImage
 export_byte j k b = raw_with (record raw_app {
-  code = record raw_app.code { exports = slice_set raw_app.code.exports j (with_byte k b (member raw_app.code.exports j)) };
+  code =
+      record raw_app.code {
+        exports = slice_set raw_app.code.exports j (with_byte k b (member raw_app.code.exports j));
+      };
 })
 
 -- slot j has these bytes as its name's field
 abbrev pub slot_named : ℕ → List ℕ → RawImage
 slot_named j field = raw_with (record raw_app {
-  code = record raw_app.code { slots = slice_set raw_app.code.slots j (record (member raw_app.code.slots j) { name = field }) };
+  code =
+      record raw_app.code {
+        slots =
+          slice_set raw_app.code.slots j (record (member raw_app.code.slots j) { name = field });
+      };
 })
 
 -- a tagged capability of this entry, by its word

@@ -26,7 +26,14 @@ all = record {
     length = 96;
     slots = all_slots;
     exports = record {
-      row = record { offset = 4; stack = 32752; args = 6; posture = Disabled; capabilities = false; entry = 13 };
+      row = record {
+        offset = 4;
+        stack = 32752;
+        args = 6;
+        posture = Disabled;
+        capabilities = false;
+        entry = 13;
+      };
       name = codes "handler";
     } ∷ [];
     text = replicate 8 255;
@@ -39,7 +46,14 @@ all = record {
 
 abbrev pub label_of : ℕ → GateRow
 label_of n = record {
-  row = record { offset = 0; stack = 0; args = 0; posture = Enabled; capabilities = true; entry = n };
+  row = record {
+    offset = 0;
+    stack = 0;
+    args = 0;
+    posture = Enabled;
+    capabilities = true;
+    entry = n;
+  };
   name = codes "f";
 }
 
@@ -96,15 +110,21 @@ whole = record {
 -- ---- what alters it
 
 abbrev pub whole_slots : List SlotRow → PartsRow
-whole_slots slots = record whole { compartments = record all { code = record all.code { slots = slots } } ∷ [] }
+whole_slots slots =
+    record whole { compartments = record all { code = record all.code { slots = slots } } ∷ [] }
 
 -- slot j has another row
 abbrev pub with_row : ℕ → ImportRow → PartsRow
-with_row j row = whole_slots (slice_set all_slots j (record (unwrap_or (slice_get all_slots j) no_slot) { row = row }))
+with_row j row =
+    whole_slots
+    (slice_set all_slots j (record (unwrap_or (slice_get all_slots j) no_slot) { row = row }))
 
 -- the first library's slot has another row
 abbrev pub with_lib : ImportRow → PartsRow
-with_lib row = record whole { libraries = record one { slots = record lib_slot { row = row } ∷ [] } ∷ two ∷ [] }
+with_lib row =
+    record whole {
+      libraries = record one { slots = record lib_slot { row = row } ∷ [] } ∷ two ∷ [];
+    }
 
 abbrev pub with_shared : SharedRow → PartsRow
 with_shared s = record whole { shared = s ∷ [] }

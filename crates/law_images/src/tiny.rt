@@ -15,10 +15,12 @@ pub fn tiny_spelled()
     ensures size { length (image_bytes tiny) ≡ 412 }
     ensures begins { take 8 (image_bytes tiny) ≡ 67 ∷ 84 ∷ 70 ∷ 87 ∷ 1 ∷ 0 ∷ 0 ∷ 0 ∷ [] }
     ensures slot { take 8 (drop 192 (image_bytes tiny)) ≡ 1 ∷ 40 ∷ 0 ∷ 0 ∷ 0 ∷ 0 ∷ 0 ∷ 0 ∷ [] }
-    ensures export { take 16 (drop 288 (image_bytes tiny)) ≡ 0 ∷ 0 ∷ 0 ∷ 0 ∷ 0 ∷ 0 ∷ 0 ∷ 0 ∷ 6 ∷ 3 ∷ 1 ∷ 0 ∷ 5 ∷ 0 ∷ 0 ∷ 0 ∷ [] }
+    ensures export { take 16 (drop 288 (image_bytes tiny)) ≡ 0 ∷ 0 ∷ 0 ∷ 0 ∷ 0 ∷ 0 ∷ 0 ∷ 0 ∷ 6 ∷ 3
+        ∷ 1 ∷ 0 ∷ 5 ∷ 0 ∷ 0 ∷ 0 ∷ [] }
     ensures begun { is_begun (image_bytes tiny) ≡ true }
     ensures short { is_begun (take 7 (image_bytes tiny)) ≡ false }
-    ensures version { is_begun (take 4 (image_bytes tiny) ++ 9 ∷ drop 5 (image_bytes tiny)) ≡ false }
+    ensures version { is_begun (take 4 (image_bytes tiny) ++ 9 ∷ drop 5 (image_bytes tiny))
+        ≡ false }
     ensures magic { is_begun (0 ∷ drop 1 (image_bytes tiny)) ≡ false }
 {}
 

@@ -31,7 +31,8 @@ pub fn jump_move()
 /// a jump, where the fetch found the program counter's bounds not empty.
 pub fn code_jumps()
     ensures onward { (i : Image) (s : State) (t : ℕ) (p l : Cap)
-        → Partitioned i → Confined i s → is_native (root i (thread s t).pcc.shadow.root).origin ≡ false
+        → Partitioned i → Confined i s
+        → is_native (root i (thread s t).pcc.shadow.root).origin ≡ false
         → Derived (thread s t).pcc p → IsRunnable p → Puts i s t l
         → Jumps i s t p (thread s t).posture l }
     ensures link { (i : Image) (s : State) (t : ℕ) (l : Cap)

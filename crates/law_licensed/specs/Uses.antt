@@ -49,7 +49,8 @@ pub record Holds (s : State) (t n : ℕ) (f : Frame) (fs : List Frame) : Type 0 
   pub tagged : (register (thread s t) n).tag ≡ true
 
 -- and authorises an access of a device, with this right
-pub record Accesses (i : Image) (s : State) (t n right address width : ℕ) (f : Frame) (fs : List Frame) : Type 0 where
+pub record Accesses (i : Image) (s : State) (t n right address width : ℕ) (f : Frame)
+    (fs : List Frame) : Type 0 where
   pub holds : Holds s t n f fs
   pub device : (root i (register (thread s t) n).shadow.root).origin ≡ Listing Device
   pub may : has (register (thread s t) n) right ≡ true

@@ -13,11 +13,13 @@ use Rattle.def_confined.specs.Capabilities.{IsReturnType}
 
 -- a thread's stack from its base up to an address
 abbrev pub stack_up_to : Image → ℕ → ℕ → Shadow → Cap
-stack_up_to i t high from = derive memory_root (stack_base i t) (high - stack_base i t) STACK_RIGHTS high 0 from
+stack_up_to i t high from =
+    derive memory_root (stack_base i t) (high - stack_base i t) STACK_RIGHTS high 0 from
 
 -- c1 is a return sentry, c6 a call import of an export, c2 may store what is local; the callee's stack ends at a multiple
 -- of 16, no further than the caller's top
-pub record PassesChecks (i : Image) (s : State) (t : ℕ) (g : Frame) (gs : List Frame) (callee export high : ℕ) : Type 0 where
+pub record PassesChecks (i : Image) (s : State) (t : ℕ) (g : Frame) (gs : List Frame)
+    (callee export high : ℕ) : Type 0 where
   pub running : s.running ≡ Some t
   pub caller : (thread s t).frames ≡ g ∷ gs
   pub return_tagged : (register (thread s t) 1).tag ≡ true

@@ -21,7 +21,8 @@ pub record Allocates (i : Image) (s : State) (t : ℕ) (r : Object) (c : Cap) : 
   pub made : c.tag ≡ true → IsObjectCap i r c
 
 -- the checks of a call passed, and the thread may have a frame more
-pub record HasRoom (i : Image) (s : State) (t : ℕ) (g : Frame) (gs : List Frame) (callee export high : ℕ) (w : Given) : Type 0 where
+pub record HasRoom (i : Image) (s : State) (t : ℕ) (g : Frame) (gs : List Frame)
+    (callee export high : ℕ) (w : Given) : Type 0 where
   pub enters : Enters i s t g gs callee export high w
   pub room : length (thread s t).frames < frames_most i t
 

@@ -28,7 +28,8 @@ pub fn objects_move()
 
 /// A call whose checks passed enters its callee.
 pub fn push_move()
-    ensures { (i : Image) (s : State) (t : ℕ) (g : Frame) (gs : List Frame) (callee export high : ℕ) (w : Given)
+    ensures { (i : Image) (s : State) (t : ℕ) (g : Frame) (gs : List Frame) (callee export high : ℕ)
+        (w : Given)
         → Partitioned i → Keeps i s → HasRoom i s t g gs callee export high w
         → Keeps i (switched i s t high (entered i (thread s t) callee export high w) s.running) }
 {}

@@ -15,13 +15,18 @@ use Rattle.law_made.specs.Calling.{stack_up_to}
 -- address is tagged, and so are its globals and the return sentry. A stack begins at a multiple of 16, and as much of it
 -- as a call gives to a callee is tagged, up to whatever address the caller's c2 has.
 pub record Callable (i : Image) : Type 0 where
-  pub exports : (n : ℕ) → (root i n).origin ≡ Listing Call → (b : ℕ) × ((root i (root i n).of).owner ≡ Compartment b)
-  pub code : (n b : ℕ) → (root i n).origin ≡ Listing Call → (root i (root i n).of).owner ≡ Compartment b
-      → (with_address (made_cap i (code_entry i b)) (gate_for i.entries.gates (root i n).of).code).tag ≡ true
-  pub globals : (n b : ℕ) → (root i n).origin ≡ Listing Call → (root i (root i n).of).owner ≡ Compartment b
+  pub exports : (n : ℕ) → (root i n).origin ≡ Listing Call
+      → (b : ℕ) × ((root i (root i n).of).owner ≡ Compartment b)
+  pub code : (n b : ℕ) → (root i n).origin ≡ Listing Call
+  → (root i (root i n).of).owner ≡ Compartment b
+      → (with_address (made_cap i (code_entry i b)) (gate_for i.entries.gates (root i n).of).code).tag
+          ≡ true
+  pub globals : (n b : ℕ) → (root i n).origin ≡ Listing Call
+  → (root i (root i n).of).owner ≡ Compartment b
       → (made_cap i (globals_entry i b)).tag ≡ true
   pub sentry : (made_cap i 0).tag ≡ true
   pub even : (t : ℕ) → (root i (stack_entry i t)).origin ≡ Listing Stack → stack_base i t % 16 ≡ 0
   pub stacks : (t x : ℕ) (from : Shadow) → (root i (stack_entry i t)).origin ≡ Listing Stack
-      → stack_base i t ≤ x → x ≤ stack_top i t → (stack_up_to i t (new_top (stack_base i t) x) from).tag ≡ true
+      → stack_base i t ≤ x → x ≤ stack_top i t
+      → (stack_up_to i t (new_top (stack_base i t) x) from).tag ≡ true
   pub quotas : (n : ℕ) → cap_seal (made_cap i n) ≡ 10 → (root i n).origin ≡ Listing Quota

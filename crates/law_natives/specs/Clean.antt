@@ -16,24 +16,31 @@ abbrev pub high_of : Image → State → ℕ → ℕ
 high_of i s t = new_top (stack_base i t) (cap_address (register (thread s t) 2))
 
 abbrev pub given_to : Image → State → ℕ → ℕ → Given
-given_to i s t export = given i (thread s t) t (compartment_of (root i export).owner) export (high_of i s t)
+given_to i s t export =
+    given i (thread s t) t (compartment_of (root i export).owner) export (high_of i s t)
 
 -- the stack of a thread is zero and untagged, from its base up to an address
 abbrev pub StackZero : Image → State → State → ℕ → ℕ → Type 0
-StackZero i s after t high = (k : ℕ) → stack_base i t ≤ address_of i k → address_of i k < high → granule after k ≡ blank (granule s k)
+StackZero i s after t high =
+    (k : ℕ) → stack_base i t ≤ address_of i k → address_of i k < high
+    → granule after k ≡ blank (granule s k)
 
 -- The callee begins: tagged are the program counter, c1, c2 and c3, which are the callee's code at the export, the return
 -- sentry, the stack and the callee's globals, and no other register.
 pub record CleanEntry (i : Image) (s : State) (t export : ℕ) (after : State) : Type 0 where
   pub pcc : ((thread after t).pcc.tag ≡ true) × ((thread after t).pcc ≡ (given_to i s t export).pcc)
-  pub tagged : ((register (thread after t) 1).tag ≡ true) × ((register (thread after t) 2).tag ≡ true) × ((register (thread after t) 3).tag ≡ true)
-  pub registers : (n : ℕ) → (register (thread after t) n).tag ≡ true → IsGiven (given_to i s t export) n (register (thread after t) n)
+  pub tagged : ((register (thread after t) 1).tag ≡ true)
+      × ((register (thread after t) 2).tag ≡ true) × ((register (thread after t) 3).tag ≡ true)
+  pub registers : (n : ℕ) → (register (thread after t) n).tag ≡ true
+      → IsGiven (given_to i s t export) n (register (thread after t) n)
   pub stack : StackZero i s after t (high_of i s t)
 
 -- The caller goes on, where the frame f ended: the results are untagged, what is tagged else is what it had saved, the
 -- program counter is of the saved c1.
 pub record CleanReturn (i : Image) (s : State) (t : ℕ) (f : Frame) (after : State) : Type 0 where
-  pub results : ((register (thread after t) 10).tag ≡ false) × ((register (thread after t) 11).tag ≡ false)
+  pub results : ((register (thread after t) 10).tag ≡ false)
+      × ((register (thread after t) 11).tag ≡ false)
   pub pcc : (thread after t).pcc ≡ opened (filtered i s f.c1)
-  pub registers : (n : ℕ) → (register (thread after t) n).tag ≡ true → IsSaved i s f n (register (thread after t) n)
+  pub registers : (n : ℕ) → (register (thread after t) n).tag ≡ true
+      → IsSaved i s f n (register (thread after t) n)
   pub stack : StackZero i s after t f.top

@@ -14,7 +14,8 @@ use Rattle.law_fresh.specs.Fresh.{Misses, SavedMiss}
 pub record IsFresh (i : Image) (s : State) (r : Object) : Type 0 where
   pub object : NewObject i s r
   pub place : IsPlaceFor i s.objects r.length r.base
-  pub zero : (k : ℕ) → r.base ≤ address_of i k → address_of i k < r.base + r.length → (granule s k).cap ≡ plain 0
+  pub zero : (k : ℕ) → r.base ≤ address_of i k → address_of i k < r.base + r.length
+      → (granule s k).cap ≡ plain 0
   pub granules : (k : ℕ) → Misses r (granule s k).cap
   pub registers : (t n : ℕ) → Misses r (register (thread s t) n)
   pub counters : (t : ℕ) → Misses r (thread s t).pcc

@@ -25,7 +25,8 @@ pub fn routines_stand()
     ensures switch { (i : Image) (s : State) (t : ℕ)
         → Partitioned i → Callable i → Keeps i s → s.running ≡ Some t → Stands i (switch i s t) }
     ensures rests { (i : Image) (s : State) (t : ℕ)
-        → Partitioned i → Keeps i s → s.running ≡ Some t → Stands i (yield s t) × Stands i (sleep s t) }
+        → Partitioned i → Keeps i s → s.running ≡ Some t
+        → Stands i (yield s t) × Stands i (sleep s t) }
     ensures allocate { (i : Image) (s : State) (t : ℕ)
         → Partitioned i → Callable i → Keeps i s → s.running ≡ Some t → Stands i (allocate i s t) }
     ensures free { (i : Image) (s : State) (t : ℕ)
@@ -47,7 +48,8 @@ pub fn calls_licensed()
     ensures { (i : Image) (s after : State) (t entry export : ℕ) (f : Frame) (fs : List Frame)
         → Keeps i s → (thread s t).frames ≡ f ∷ fs
         → switch i s t ≡ Leaves after (Some (entry, Call export))
-        → Licensed i.entries (record { thread = t; actor = f.actor; entry = entry; act = Call export }) }
+        → Licensed i.entries
+          (record { thread = t; actor = f.actor; entry = entry; act = Call export }) }
 {}
 
 /// A return of a frame whose export passes plain values, and an unwind of any frame, lead to its caller clean.

@@ -39,7 +39,9 @@ two = record {
   entries = apart_entries;
   made = sentry ∷ plain 0 ∷ plain 0 ∷ plain 0 ∷ inner_globals ∷ plain 0 ∷ plain 0 ∷ [];
   ram = 0x80000000;
-  regions = Fixed ∷ Fixed ∷ Globals 0 ∷ Globals 0 ∷ Fixed ∷ Fixed ∷ Globals 1 ∷ Globals 1 ∷ Stack 0 ∷ Stack 0 ∷ Stack 0 ∷ Stack 0 ∷ Stack 0 ∷ Stack 0 ∷ Stack 0 ∷ Stack 0 ∷ [];
+  regions =
+      Fixed ∷ Fixed ∷ Globals 0 ∷ Globals 0 ∷ Fixed ∷ Fixed ∷ Globals 1 ∷ Globals 1 ∷ Stack 0
+      ∷ Stack 0 ∷ Stack 0 ∷ Stack 0 ∷ Stack 0 ∷ Stack 0 ∷ Stack 0 ∷ Stack 0 ∷ [];
   boot = [];
   codes = 1 ∷ 3 ∷ [];
   globals = 2 ∷ 4 ∷ [];
@@ -54,15 +56,37 @@ two = record {
 }
 
 abbrev pub inner : Frame
-inner = record { actor = 1; export = 5; top = 0x80000060; handling = false; c1 = sentry; c2 = plain 0; c3 = plain 0; c8 = plain 0; c9 = plain 0 }
+inner = record {
+  actor = 1;
+  export = 5;
+  top = 0x80000060;
+  handling = false;
+  c1 = sentry;
+  c2 = plain 0;
+  c3 = plain 0;
+  c8 = plain 0;
+  c9 = plain 0;
+}
 
 abbrev pub outermost : Frame
-outermost = record { actor = 0; export = 0; top = 0x80000080; handling = false; c1 = plain 0; c2 = plain 0; c3 = plain 0; c8 = plain 0; c9 = plain 0 }
+outermost = record {
+  actor = 0;
+  export = 0;
+  top = 0x80000080;
+  handling = false;
+  c1 = plain 0;
+  c2 = plain 0;
+  c3 = plain 0;
+  c8 = plain 0;
+  c9 = plain 0;
+}
 
 abbrev pub runner : state.Thread
 runner = record {
   pcc = plain 0;
-  registers = plain 0 ∷ plain 0 ∷ plain 0 ∷ plain 0 ∷ plain 0 ∷ plain 0 ∷ plain 0 ∷ plain 0 ∷ plain 0 ∷ plain 0 ∷ inner_globals ∷ [];
+  registers =
+      plain 0 ∷ plain 0 ∷ plain 0 ∷ plain 0 ∷ plain 0 ∷ plain 0 ∷ plain 0 ∷ plain 0 ∷ plain 0
+      ∷ plain 0 ∷ inner_globals ∷ [];
   frames = inner ∷ outermost ∷ [];
   status = Ready;
   posture = interrupts_on;
@@ -81,5 +105,15 @@ before = record {
   devices = [];
   time = 0;
   picks = 0 ∷ [];
-  counts = record { steps = 0; ticks = 0; sweeps = 0; inputs = 0; calls = 0; loads = 0; stores = 0; frees = 0; traps = 0 };
+  counts = record {
+    steps = 0;
+    ticks = 0;
+    sweeps = 0;
+    inputs = 0;
+    calls = 0;
+    loads = 0;
+    stores = 0;
+    frees = 0;
+    traps = 0;
+  };
 }

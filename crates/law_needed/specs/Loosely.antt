@@ -8,7 +8,8 @@ use Rattle.def_machine.specs.Objects.{Each, charges}
 use Rattle.def_confined.specs.Places.{InFrames, InRegion, HasLive}
 use Rattle.def_confined.specs.Confined.{TopUnder, HasReturn, PostureFits, IsPcc, AllKept, AllApart, ObjectFits, MarksFit}
 
-pub record LooseFrame (i : Image) (objects : List Object) (t : ℕ) (f : Frame) (fs : List Frame) : Type 0 where
+pub record LooseFrame (i : Image) (objects : List Object) (t : ℕ) (f : Frame)
+    (fs : List Frame) : Type 0 where
   pub stack : (root i (stack_entry i t)).origin ≡ Listing Stack
   pub even : f.top % 16 ≡ 0
   pub low : stack_base i t ≤ f.top

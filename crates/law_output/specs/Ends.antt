@@ -37,7 +37,9 @@ DoneOrMemory s = (s ≡ Done) ⊎ (s ≡ NoMemory)
 -- *Completeness*: where no fault is counted, and the words are a form whose file holds a well-formed
 -- description of a lawful size, the call is done or wants memory
 abbrev pub Completes : Ends → Status → Type 0
-Completes e s = (all : List ℕ) (rows : DescRow) → NoFault e → Commands e all → WellFormed all rows → DoneOrMemory s
+Completes e s =
+    (all : List ℕ) (rows : DescRow) → NoFault e → Commands e all → WellFormed all rows
+    → DoneOrMemory s
 
 -- words that aren't a form are a usage fault, unless its line could not be written
 abbrev pub RefusesMisuse : Ends → Status → Type 0

@@ -12,8 +12,11 @@ abbrev pub IsSymmetric : Listed → Type 0
 IsSymmetric e = (a b : ℕ) → Reached e (Compartment a) b → Reached e (Compartment b) a
 
 abbrev pub IsTransitive : Listed → Type 0
-IsTransitive e = (a b c : ℕ) → Reached e (Compartment a) b → Reached e (Compartment b) c → Reached e (Compartment a) c
+IsTransitive e =
+    (a b c : ℕ) → Reached e (Compartment a) b → Reached e (Compartment b) c
+    → Reached e (Compartment a) c
 
 -- whoever reaches a compartment reaches its whole component
 abbrev pub ReachesComponents : Listed → Type 0
-ReachesComponents e = (o : Owner) (a b : ℕ) → Reached e o a → Reached e (Compartment a) b → Reached e o b
+ReachesComponents e =
+    (o : Owner) (a b : ℕ) → Reached e o a → Reached e (Compartment a) b → Reached e o b

@@ -14,7 +14,8 @@ pub fn reach_goes_along_edges()
     ensures own { (e : Listed) (a : ℕ) → Joined e a a }
     ensures along { (e : Listed) (a b c : ℕ) → Joined e a b → Joined e b c → Joined e a c }
     ensures back { (e : Listed) (a b : ℕ) → Joined e a b → Joined e b a }
-    ensures owners { (e : Listed) (o : Owner) (a b : ℕ) → Reaches e o a → Joined e a b → Reaches e o b }
+    ensures owners { (e : Listed) (o : Owner) (a b : ℕ) → Reaches e o a → Joined e a b
+        → Reaches e o b }
     ensures compartments { (e : Listed) (a b : ℕ) → Reaches e (Compartment a) b → Joined e a b }
 {}
 

@@ -39,11 +39,14 @@ RowsAt f b x = (m : ℕ) × (r : Entry) × (slice_get f.entries.rows m ≡ Some 
 
 -- a word of its text, which eight bytes of the text are, fewer at its end
 abbrev pub TextAt : FirmwareRow → ℕ → ℕ → Type 0
-TextAt f b x = (t : List ℕ) × (w : ℕ) × (slice_get f.texts b ≡ Some t) × (8 * w < length t) × (x ≡ text_base f b + 8 * w)
+TextAt f b x =
+    (t : List ℕ) × (w : ℕ) × (slice_get f.texts b ≡ Some t) × (8 * w < length t)
+    × (x ≡ text_base f b + 8 * w)
 
 abbrev pub PartAt : FirmwareRow → ℕ → ℕ → Type 0
 PartAt f b x = HeadAt f b x ⊎ RowsAt f b x ⊎ TextAt f b x
 
 -- an address is of a compartment's part, or of the return sentry, or reads as zero at boot
 abbrev pub Filled : FirmwareRow → ℕ → Type 0
-Filled f x = ((b : ℕ) × (b < length f.tables) × PartAt f b x) ⊎ (f.trusted ≡ x) ⊎ (boot_cap f x ≡ plain 0)
+Filled f x =
+    ((b : ℕ) × (b < length f.tables) × PartAt f b x) ⊎ (f.trusted ≡ x) ⊎ (boot_cap f x ≡ plain 0)

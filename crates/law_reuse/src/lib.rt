@@ -26,15 +26,18 @@ pub fn sweep_before_reuse()
 pub fn sweeps_paint()
     ensures leaves { (b : Board) (s : State) (e : Event) (r : Object)
         → Any (IsRow r) s.objects → (Any (IsRow r) (happens b s e).0.objects → ⊥)
-        → (e ≡ Sweep) × ((happens b s e).0.front ≡ None) × Any (IsPainted r) (sweep_began s s.front).objects }
+        → (e ≡ Sweep) × ((happens b s e).0.front ≡ None)
+          × Any (IsPainted r) (sweep_began s s.front).objects }
     ensures paints { (b : Board) (s : State) (e : Event) (r : Object)
-        → Any (IsPainted r) (happens b s e).0.objects → (Any (IsPainted r) s.objects → ⊥) → Begins s e }
+        → Any (IsPainted r) (happens b s e).0.objects → (Any (IsPainted r) s.objects → ⊥)
+        → Begins s e }
 {}
 
 /// An allocation lets no object go and paints none; nor does a free, whose object waits from then on. No event does
 /// either yet: the native routines of the heap will.
 pub fn rows_wait()
-    ensures allocate { (s : State) (r q : Object) → Any (Waits r) s.objects → Any (Waits r) (with_object s q).objects }
+    ensures allocate { (s : State) (r q : Object) → Any (Waits r) s.objects
+        → Any (Waits r) (with_object s q).objects }
     ensures free { (i : Image) (s : State) (r q : Object)
         → Any (Waits r) s.objects → Any (Waits r) (quarantined i s q).objects }
 {}

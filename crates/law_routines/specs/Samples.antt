@@ -11,7 +11,20 @@ use Rattle.def_machine.specs.Heap.{object_cap}
 -- a heap, with one quota of so much, which is entry 1
 abbrev pub heap_of : ℕ → ℕ → ℕ → ℕ → ℕ → Image
 heap_of ram base end limit rate = record {
-  entries = record { rows = record { owner = Compartment 0; kind = Quota; base = 0; length = 8; rights = 33; of = 0; limit = limit } ∷ []; gates = [] };
+  entries = record {
+    rows =
+      record {
+        owner = Compartment 0;
+        kind = Quota;
+        base = 0;
+        length = 8;
+        rights = 33;
+        of = 0;
+        limit = limit;
+      }
+      ∷ [];
+    gates = [];
+  };
   made = [];
   ram = ram;
   regions = [];
@@ -48,7 +61,17 @@ state_of granules objects next = record {
   devices = [];
   time = 0;
   picks = [];
-  counts = record { steps = 0; ticks = 0; sweeps = 0; inputs = 0; calls = 0; loads = 0; stores = 0; frees = 0; traps = 0 };
+  counts = record {
+    steps = 0;
+    ticks = 0;
+    sweeps = 0;
+    inputs = 0;
+    calls = 0;
+    loads = 0;
+    stores = 0;
+    frees = 0;
+    traps = 0;
+  };
 }
 
 abbrev pub holding : List Object → ℕ → State
@@ -56,7 +79,15 @@ holding objects next = state_of [] objects next
 
 -- an object of the quota: live, quarantined, painted
 abbrev pub object : ℕ → ℕ → ℕ → Object
-object number base length = record { number = number; quota = 1; base = base; length = length; charge = length + 8; live = true; painted = false }
+object number base length = record {
+  number = number;
+  quota = 1;
+  base = base;
+  length = length;
+  charge = length + 8;
+  live = true;
+  painted = false;
+}
 
 abbrev pub freed_object : ℕ → ℕ → ℕ → Object
 freed_object number base length = record (object number base length) { live = false }
@@ -70,5 +101,6 @@ sliced = heap_of 0 0 24 64 1
 
 abbrev pub before : State
 before = state_of
-    (record { cap = plain 0; mark = true } ∷ record { cap = plain 0; mark = true } ∷ record { cap = object_cap (object 1 8 8); mark = false } ∷ [])
+    (record { cap = plain 0; mark = true } ∷ record { cap = plain 0; mark = true }
+          ∷ record { cap = object_cap (object 1 8 8); mark = false } ∷ [])
     (freed_object 1 8 8 ∷ []) 2

@@ -26,14 +26,19 @@ pub fn heap_computed()
     ensures first { allocation board_heap (holding [] 1) 1 24 ≡ Made (object 1 0x80000558 24) }
     ensures second { allocation board_heap (holding (object 1 0x80000558 24 ∷ []) 2) 1 24
         ≡ Made (object 2 0x80000578 24) }
-    ensures over { allocation board_heap (holding (object 1 0x80000558 24 ∷ object 2 0x80000578 24 ∷ []) 3) 1 1
+    ensures over { allocation board_heap
+        (holding (object 1 0x80000558 24 ∷ object 2 0x80000578 24 ∷ []) 3) 1 1
         ≡ Refused 2 }
-    ensures third { allocation board_heap (holding (freed_object 1 0x80000558 24 ∷ object 2 0x80000578 24 ∷ []) 3) 1 1
+    ensures third { allocation board_heap
+        (holding (freed_object 1 0x80000558 24 ∷ object 2 0x80000578 24 ∷ []) 3) 1 1
         ≡ Made (object 3 0x80000598 8) }
     ensures nothing { allocation board_heap (holding [] 1) 1 0 ≡ Refused 4 }
     ensures whole { allocation small_heap (holding [] 1) 1 40 ≡ Made (object 1 0x80000008 40) }
-    ensures quarantined { allocation small_heap (holding (freed_object 1 0x80000008 40 ∷ []) 2) 1 40 ≡ Refused 5 }
-    ensures full { allocation small_heap (holding (object 1 0x80000008 40 ∷ []) 2) 1 40 ≡ Refused 3 }
+    ensures quarantined { allocation small_heap (holding (freed_object 1 0x80000008 40 ∷ []) 2) 1
+          40
+        ≡ Refused 5 }
+    ensures full { allocation small_heap (holding (object 1 0x80000008 40 ∷ []) 2) 1 40
+        ≡ Refused 3 }
 {}
 
 /// A sweep of three granules, one in a slice: the chunk of the first two was freed, and the third holds a
@@ -45,8 +50,10 @@ pub fn sweep_computed()
     ensures stale { (granule (swept sliced (swept sliced before)) 2).cap.tag ≡ true }
     ensures over { (swept sliced (swept sliced (swept sliced before))).front ≡ None }
     ensures gone { (swept sliced (swept sliced (swept sliced before))).objects ≡ [] }
-    ensures untagged { (granule (swept sliced (swept sliced (swept sliced before))) 2).cap.tag ≡ false }
-    ensures unmarked { (granule (swept sliced (swept sliced (swept sliced before))) 1).mark ≡ false }
+    ensures untagged { (granule (swept sliced (swept sliced (swept sliced before))) 2).cap.tag
+        ≡ false }
+    ensures unmarked { (granule (swept sliced (swept sliced (swept sliced before))) 1).mark
+        ≡ false }
 {}
 
 /// The room that a caller's stack gives, and the codes that a call answers.

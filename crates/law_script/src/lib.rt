@@ -11,7 +11,8 @@ pub fn script_is_determined()
     ensures one_reading { (devices : List DeviceRow) (text : List ℕ) (first second : List Due)
         → Reads devices text first → Reads devices text second
         → first ≡ second }
-    ensures no_reading { (devices : List DeviceRow) (text : List ℕ) (dues : List Due) (number line : ℕ)
+    ensures no_reading { (devices : List DeviceRow) (text : List ℕ) (dues : List Due)
+        (number line : ℕ)
         → IsFault devices text number line → Reads devices text dues
         → ⊥ }
     ensures one_fault { (devices : List DeviceRow) (text : List ℕ) (number line other place : ℕ)

@@ -8,8 +8,10 @@ ghost use Rattle.def_words.specs.LeastBounds.{GivesBack, IsLeastExponent, StaysI
 /// top and at every address between, under any high bits; and they stay inside whatever bounds of a
 /// word the range lay in, lawful or not.
 pub fn rounding_holds()
-    ensures outwards { (base top : ℕ) → ((rounded_of base top).base ≤ base) × (top ≤ (rounded_of base top).top) }
-    ensures gives { (base top : ℕ) → base ≤ top → top ≤ 2 ^ 32 → base < 2 ^ 32 → GivesBack base top }
+    ensures outwards { (base top : ℕ)
+        → ((rounded_of base top).base ≤ base) × (top ≤ (rounded_of base top).top) }
+    ensures gives { (base top : ℕ) → base ≤ top → top ≤ 2 ^ 32 → base < 2 ^ 32
+        → GivesBack base top }
     ensures stays { (base top : ℕ) → base ≤ top → top ≤ 2 ^ 32 → StaysInside base top }
 {}
 
@@ -18,14 +20,18 @@ pub fn rounding_holds()
 pub fn least_exponent()
     ensures is { (base top : ℕ) → IsLeastExponent base top (exponent_for base top) }
     ensures only { (base top e : ℕ) → IsLeastExponent base top e → e ≡ exponent_for base top }
-    ensures no_larger { (base top e : ℕ) → e ≤ 14 → units base top e ≤ 511 → exponent_for base top ≤ e }
+    ensures no_larger { (base top e : ℕ) → e ≤ 14 → units base top e ≤ 511
+        → exponent_for base top ≤ e }
 {}
 
 /// A range of at most 511 addresses is spelled exactly.
 pub fn exact_where_short()
-    ensures base_same { (base length : ℕ) → length ≤ 511 → (rounded_of base (base + length)).base ≡ base }
-    ensures top_same { (base length : ℕ) → length ≤ 511 → (rounded_of base (base + length)).top ≡ base + length }
-    ensures exact { (base length : ℕ) → length ≤ 511 → (rounded_of base (base + length)).exact ≡ true }
+    ensures base_same { (base length : ℕ) → length ≤ 511
+        → (rounded_of base (base + length)).base ≡ base }
+    ensures top_same { (base length : ℕ) → length ≤ 511
+        → (rounded_of base (base + length)).top ≡ base + length }
+    ensures exact { (base length : ℕ) → length ≤ 511
+        → (rounded_of base (base + length)).exact ≡ true }
 {}
 
 /// The decoded bounds are the address's block of 2^(e+9), moved down by a block where the address's
@@ -33,10 +39,16 @@ pub fn exact_where_short()
 /// The base is that modulo 2^32, the top modulo 2^33.
 pub fn bounds_are_blocks()
     ensures base { (high a : ℕ)
-        → (base_of high a + one_if_less (middle a (exponent_of high)) (base_field high) * 2 ^ (exponent_of high + 9)) % 2 ^ 32
+        → (base_of high a
+              + one_if_less (middle a (exponent_of high)) (base_field high) * 2 ^
+                (exponent_of high + 9))
+          % 2 ^ 32
         ≡ (a / 2 ^ (exponent_of high + 9) * 2 ^ (exponent_of high + 9) + base_field high * 2 ^ exponent_of high) % 2 ^ 32 }
     ensures top { (high a : ℕ)
-        → (top_of high a + one_if_less (middle a (exponent_of high)) (base_field high) * 2 ^ (exponent_of high + 9)) % 2 ^ 33
+        → (top_of high a
+              + one_if_less (middle a (exponent_of high)) (base_field high) * 2 ^
+                (exponent_of high + 9))
+          % 2 ^ 33
         ≡ ((a / 2 ^ (exponent_of high + 9) + one_if_less (top_field high) (base_field high)) * 2 ^ (exponent_of high + 9)
         + top_field high * 2 ^ exponent_of high) % 2 ^ 33 }
     ensures base_small { (high a : ℕ) → base_of high a < 2 ^ 32 }
