@@ -40,7 +40,7 @@ saved_of t =
 abbrev pub with_frame : List Granule → row.Thread → ℕ → List Granule
 with_frame gs t export =
     holding_all gs (frame_place (area_begin t.area) t.depth)
-        (frame_words (saved_of t) export t.actor t.top t.handling)
+    (frame_words (saved_of t) export t.actor t.top t.handling)
 
 abbrev pub deeper : row.Thread → ℕ → ℕ → row.Thread
 deeper t actor top = record t { depth = t.depth + 1; top = top; actor = actor; handling = false }
@@ -57,7 +57,7 @@ inner_frame gs t = frame_at gs (inner_place t) t.actor t.top t.handling
 abbrev pub outer_frames : List Granule → row.Thread → List Frame
 outer_frames gs t =
     frames_in gs (area_begin t.area) (caller_actor gs (inner_place t))
-        (caller_top gs (inner_place t))
+    (caller_top gs (inner_place t))
     (caller_handling gs (inner_place t)) (t.depth - 1)
 
 abbrev pub saved_in : Frame → Saved

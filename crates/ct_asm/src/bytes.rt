@@ -32,8 +32,8 @@ fn push_in(
     requires initial { place.initial < 2 ^ 100 }
     ensures { OnOk result
         (out.new.items ≡ out.old.items
-            ++ object.section_bytes wanted (λ n. label_named n labels.now) slots.now place
-              (part_view part.entry)) }
+        ++ object.section_bytes wanted (λ n. label_named n labels.now) slots.now place
+        (part_view part.entry)) }
 {
     if place.section == wanted {
         return push_statement(out, labels, slots, offset(place), part);
@@ -51,12 +51,12 @@ pub(crate) fn section_bytes(
 ) -> Result<Vec<u8>, AllocError>
     requires lawful { source.IsLawful (statements_view statements.now) }
     requires faultless { object.fault_from (λ n. label_named n labels.now) object.start 0
-          (statements_view statements.now)
+        (statements_view statements.now)
         ≡ None }
     ensures { IfOk result
         (λ v. v.items
-            ≡ object.bytes_from wanted (λ n. label_named n labels.now) slots.now object.start
-              (statements_view statements.now)) }
+        ≡ object.bytes_from wanted (λ n. label_named n labels.now) slots.now object.start
+        (statements_view statements.now)) }
 {
     let mut out = Vec::new(alloc);
     let mut place = START;

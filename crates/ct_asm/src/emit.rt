@@ -78,7 +78,7 @@ pub(crate) fn push_statement(
     requires at { at < 2 ^ 101 }
     ensures { OnOk result
         (out.new.items ≡ out.old.items
-            ++ object.bytes_at (λ n. label_named n labels.now) slots.now at (part_view part.entry)) }
+        ++ object.bytes_at (λ n. label_named n labels.now) slots.now at (part_view part.entry)) }
 {
     match part {
         Part::Word { number } => push_word(out, number_word(number)),

@@ -187,7 +187,7 @@ pub(crate) fn least_fault(labels: &Labels, statements: &[Statement<&[u8]>]) -> O
     requires { source.IsLawful (statements_view statements.now) }
     ensures { result
         ≡ object.fault_from (λ n. label_named n labels.now) object.start 0
-          (statements_view statements.now) }
+        (statements_view statements.now) }
 {
     let mut place = START;
     let mut least = None;

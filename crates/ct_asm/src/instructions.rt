@@ -301,7 +301,7 @@ pub(crate) fn instructions(labels: &Labels, slots: &Names, at: u128, part: Part<
     requires at { at < 2 ^ 101 }
     ensures value { instructions_in result
         ≡ object.instructions_at (λ n. label_named n labels.now) slots.now at
-          (part_view part.entry) }
+        (part_view part.entry) }
     ensures range { AreInRange (instructions_in result) }
 {
     match part {

@@ -45,8 +45,8 @@ pub(crate) fn labels_of(
     requires { source.IsLawful (statements_view statements.now) }
     ensures { IfOk result
         (λ t. (name : source.Name)
-            → label_named name t
-              ≡ object.label_from name object.start 0 (statements_view statements.now)) }
+        → label_named name t
+        ≡ object.label_from name object.start 0 (statements_view statements.now)) }
 {
     let mut labels = Labels::new(alloc);
     let mut place = START;

@@ -25,7 +25,7 @@ fn way(at: u128, to: u128) -> u32
 #[tactic(auto, using(crate::proofs::Reach::branch_word))]
 fn branch_number(number: Number) -> u32
     requires { (source.within BRANCH_REACH (BRANCH_REACH - 2) number
-            && (number.magnitude % 2 == 0))
+        && (number.magnitude % 2 == 0))
         ≡ true }
     ensures value { result ≡ object.number_word number }
     ensures range { IsOffset 13 result }
@@ -118,7 +118,7 @@ pub(crate) fn label_offset(label: Option<Label>) -> u128
 pub(crate) fn branch_target(labels: &Labels, at: u128, target: Target<&[u8]>) -> u32
     requires fit { source.fits_target BRANCH_REACH (target_view target) ≡ true }
     requires found { object.target_fault (λ n. label_named n labels.now) BRANCH_REACH at
-          (target_view target)
+        (target_view target)
         ≡ None }
     ensures value { result
         ≡ object.target_word (λ n. label_named n labels.now) at (target_view target.entry) }
@@ -137,7 +137,7 @@ pub(crate) fn branch_target(labels: &Labels, at: u128, target: Target<&[u8]>) ->
 pub(crate) fn jump_target(labels: &Labels, at: u128, target: Target<&[u8]>) -> u32
     requires fit { source.fits_target JUMP_REACH (target_view target) ≡ true }
     requires found { object.target_fault (λ n. label_named n labels.now) JUMP_REACH at
-          (target_view target)
+        (target_view target)
         ≡ None }
     ensures value { result
         ≡ object.target_word (λ n. label_named n labels.now) at (target_view target.entry) }

@@ -93,8 +93,8 @@ fn put_words_of<M: Memory>(firmware: &Firmware, mem: &mut M, part: Part, number:
     requires few { number < 4294967295 }
     requires first { Puts firmware.now base
         (plain
-            ((gate_for firmware.now.entries.gates number).code - part.text
-                + (gate_for firmware.now.entries.gates number).stack * 2 ^ 32)) }
+        ((gate_for firmware.now.entries.gates number).code - part.text
+        + (gate_for firmware.now.entries.gates number).stack * 2 ^ 32)) }
     requires second { Puts firmware.now (base + 8)
         (plain (export_second (gate_for firmware.now.entries.gates number))) }
     ensures { Stage firmware.now (M.granules mem.old) (M.granules mem.new)

@@ -22,7 +22,7 @@ fn half_word(text: &[u8], at: u64) -> u64
     requires { at < 2 ^ 40 }
     ensures value { result
         ≡ text_byte text.now at + text_byte text.now (at + 1) * 2 ^ 8
-          + text_byte text.now (at + 2) * 2 ^ 16 + text_byte text.now (at + 3) * 2 ^ 24 }
+        + text_byte text.now (at + 2) * 2 ^ 16 + text_byte text.now (at + 3) * 2 ^ 24 }
     ensures small { result < 2 ^ 32 }
 {
     let low = text_byte(text, at) + text_byte(text, at + 1) * (1 << 8);

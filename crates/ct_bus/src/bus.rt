@@ -56,10 +56,10 @@ impl Bus {
     pub fn new(alloc: Global, devices: &Devices) -> Result<Bus, NoMemory>
         ensures { IfOk result
             (λ b. b
-                ≡ record {
-                  bases = map (λ d. d.base) devices.now;
-                  states = map (λ d. fresh_device d.kind) devices.now;
-                }) }
+            ≡ record {
+              bases = map (λ d. d.base) devices.now;
+              states = map (λ d. fresh_device d.kind) devices.now;
+            }) }
     {
         let mut bases = Vec::new(alloc);
         let mut units = Vec::new(alloc);

@@ -80,7 +80,7 @@ fn is_key_type(executes: bool, kind: u32) -> bool
 fn sealed_word(word: u64, lawful: bool, kind: u32) -> u64
     ensures { result
         ≡ (if lawful then word_of (with_seal_field (word / 2 ^ 32) (kind % 8)) (word % 2 ^ 32)
-            else word) }
+        else word) }
 {
     if lawful {
         words::word_of(
@@ -96,10 +96,10 @@ fn sealed_word(word: u64, lawful: bool, kind: u32) -> u64
 fn opened_word(word: u64, keeps_global: bool) -> u64
     ensures { result
         ≡ word_of
-          (with_permission_bits (with_seal_field (word / 2 ^ 32) 0)
-              (if keeps_global then permission_bits (word / 2 ^ 32)
-                  else permission_bits (word / 2 ^ 32) % 32))
-          (word % 2 ^ 32) }
+        (with_permission_bits (with_seal_field (word / 2 ^ 32) 0)
+        (if keeps_global then permission_bits (word / 2 ^ 32)
+        else permission_bits (word / 2 ^ 32) % 32))
+        (word % 2 ^ 32) }
 {
     let high = high_of(word);
     let all = field(high, 25, 6) as u8;

@@ -24,7 +24,7 @@ absorbed gs r last at size =
     cond (touches r last at)
     (stored_cap gs (r.base + last.offset - r.ram) (plain (last.size + size + NO_CHUNK * 2 ^ 32)))
     (linked (stored_cap gs (at - r.ram) (plain (size + NO_CHUNK * 2 ^ 32))) r.ram r.base last.offset
-          last.size (at - r.base))
+    last.size (at - r.base))
 
 abbrev pub last_after : Range → Last → ℕ → ℕ → Last
 last_after r last at size =

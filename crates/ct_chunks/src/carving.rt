@@ -113,7 +113,7 @@ pub fn carve<M: Memory>(range: &mut Range, mem: &mut M, gap: &Gap, length: u32, 
     ensures settled { Settled range.new (M.granules mem.new) }
     ensures chunks { chunks range.new (M.granules mem.new)
         ≡ replaced gap.now.at (carved (gap.now.base - 8 - gap.now.at) length number)
-          range.old.base (chunks range.old (M.granules mem.old)) }
+        range.old.base (chunks range.old (M.granules mem.old)) }
     ensures keeps { Keeps range.old (chunks range.old (M.granules mem.old)) (M.granules mem.old)
         (M.granules mem.new) }
     ensures range { range.new ≡ record range.old { first = range.new.first } }

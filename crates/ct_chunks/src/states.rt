@@ -37,7 +37,7 @@ fn paint_chunk<M: Memory>(range: &Range, mem: &mut M, at: u32) -> u32
     ensures tiled { Tiled range.now (M.granules mem.new) }
     ensures chunks { chunks range.now (M.granules mem.new)
         ≡ replaced at (λ c. painted_chunk c ∷ []) range.now.base
-          (chunks range.now (M.granules mem.old)) }
+        (chunks range.now (M.granules mem.old)) }
     ensures keeps { Keeps range.now (chunks range.now (M.granules mem.old)) (M.granules mem.old)
         (M.granules mem.new) }
 {

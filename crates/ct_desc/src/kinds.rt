@@ -172,7 +172,7 @@ fn is_listed(name: &str, listed: &[&str]) -> bool
 fn keys_are_listed(members: &Map<String, Value>, listed: &[&str]) -> bool
     ensures { result
         ≡ spec.all_among (map (λ n. n.now) listed.now)
-          (names_in (members_view members.now.entries)) }
+        (names_in (members_view members.now.entries)) }
 {
     for key in members.keys() {
         if !is_listed(key.as_str(), listed) {

@@ -39,7 +39,7 @@ fn add_compartment(regions: &mut Vec<Region>, compartment: &Compartment) -> Resu
     ensures value { IfOk result (λ b. b ≡ spec.compartment_is_placed compartment.now) }
     ensures added { IfOk result
         (λ b. IsTrue b
-            → regions.new.items ≡ regions.old.items ++ spec.regions_of_one compartment.now) }
+        → regions.new.items ≡ regions.old.items ++ spec.regions_of_one compartment.now) }
 {
     if !is_small(compartment) {
         return Ok(false);
@@ -87,8 +87,8 @@ fn add_stacks(regions: &mut Vec<Region>, rows: &[Thread]) -> Result<Option<u32>,
     requires { length rows.now ≤ 1 }
     ensures value { IfOk result
         (λ o.
-            MatchOption o (list_all spec.thread_is_small rows.now ≡ false)
-            (λ n. (list_all spec.thread_is_small rows.now ≡ true) × (n ≡ spec.saves_size rows.now))) }
+        MatchOption o (list_all spec.thread_is_small rows.now ≡ false)
+        (λ n. (list_all spec.thread_is_small rows.now ≡ true) × (n ≡ spec.saves_size rows.now))) }
     ensures few { IfOk result (λ o. IfSome o (λ n. n ≤ 6304)) }
     ensures added { IfOk result
         (λ o. IsSome o → regions.new.items ≡ regions.old.items ++ spec.stacks_from rows.now) }
@@ -170,8 +170,8 @@ fn regions_of(alloc: Global, desc: &Desc) -> Result<Option<Vec<Region>>, AllocEr
     ensures { IfOk result
         (λ o. MatchOption o (spec.is_placed desc.now ≡ false) (λ v. (v.items ≡ spec.regions_of desc.now)
         × (spec.is_placed desc.now
-            ≡ (list_all (spec.lies desc.now.ram desc.now.heapbase) (spec.regions_of desc.now)
-                && spec.apart (spec.regions_of desc.now))))) }
+        ≡ (list_all (spec.lies desc.now.ram desc.now.heapbase) (spec.regions_of desc.now)
+        && spec.apart (spec.regions_of desc.now))))) }
 {
     if !is_few(desc) {
         return Ok(None);

@@ -128,7 +128,7 @@ fn meets_devices(base: u32, devices: &[Device]) -> bool
 fn is_misplaced(ram: Ram, base: u32, earlier: &[Device]) -> bool
     ensures { result
         ≡ (not (base % 16 == 0) || spec.meets base 16 ram.base ram.size
-            || list_any (spec.meets_device base) earlier.now || spec.meets_native base 16) }
+        || list_any (spec.meets_device base) earlier.now || spec.meets_native base 16) }
 {
     base % 16 != 0
         || meets(base, 16, ram.base, ram.size)

@@ -177,8 +177,8 @@ fn owners_twice(
         (λ o. o.compartments.items ≡ spec.repeated [] (map (λ x. x.name) compartments.now)) }
     ensures threads { IfOk result
         (λ o. o.threads.items
-            ≡ spec.repeated (spec.with_names [] (map (λ x. x.name) compartments.now))
-              (map (λ x. x.name) threads.now)) }
+        ≡ spec.repeated (spec.with_names [] (map (λ x. x.name) compartments.now))
+        (map (λ x. x.name) threads.now)) }
 {
     let owners = compartment_names(alloc, compartments)?;
     let others = thread_names(alloc, threads)?;

@@ -72,10 +72,10 @@ HasRows n far = (length far ≡ n) × ((b : ℕ) → b < n → length (slice_ind
 
 -- an owner and a target stand at these places, and the first has a distance to the second
 pub record IsNear (ns : List Owner) (all : List (List ℕ)) (o target : Owner) (i k : ℕ) : Type 0
-    where
-  pub start : Stands ns o i
-  pub end : Stands ns target k
-  pub known : far (length ns) (slice_index_or all k []) i < length ns
+  where
+    pub start : Stands ns o i
+    pub end : Stands ns target k
+    pub known : far (length ns) (slice_index_or all k []) i < length ns
 
 -- they stand at these places, and the first has no distance to the second
 pub record IsFarOff (ns : List Owner) (all : List (List ℕ)) (o target : Owner) : Type 0 where

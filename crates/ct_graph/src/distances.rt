@@ -40,7 +40,7 @@ fn find_loose(rows: &[Vec<bool>], far: &[u32]) -> Option<Loose>
     ensures { MatchOption result
         (NoneLoose (cell (map (λ r. r.items) rows.now)) (length rows.now) far.now)
         (λ l.
-            IsLoose (cell (map (λ r. r.items) rows.now)) (length rows.now) far.now l.place l.value) }
+        IsLoose (cell (map (λ r. r.items) rows.now)) (length rows.now) far.now l.place l.value) }
 {
     for place in 0..rows.len() {
         match nearer_by(rows[place].as_slice(), far, far[place]) {

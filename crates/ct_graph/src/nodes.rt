@@ -130,8 +130,8 @@ pub(crate) fn rows(
     requires size { length links.now ≡ length nodes.now }
     ensures { IfOk result
         (λ v. map (λ r. r.items) v.items
-            ≡ rows_of nodes.now (map (λ l. l.items) links.now) nodes.now
-              (map (λ l. l.items) links.now)) }
+        ≡ rows_of nodes.now (map (λ l. l.items) links.now) nodes.now
+        (map (λ l. l.items) links.now)) }
 {
     let mut all = Vec::new(alloc);
     for place in 0..nodes.len() {

@@ -123,8 +123,8 @@ impl Graph {
         requires { o ≢ Trusted }
         ensures { IfOk result
             (λ found.
-                MatchOption found (Reached self.now o c.0 → ⊥)
-                (λ p. Reached self.now o c.0 × IsPath self.now o c.0 p)) }
+            MatchOption found (Reached self.now o c.0 → ⊥)
+            (λ p. Reached self.now o c.0 × IsPath self.now o c.0 p)) }
     {
         if !has_slots(o) {
             return Ok(None);
@@ -159,8 +159,8 @@ fn route(
     ensures { IfOk result (λ found. MatchOption found
         (NotNear nodes.now (map (λ d. d.items) far.now) o target)
         (λ v.
-            IsRoute nodes.now (map (λ r. r.items) steps.now) (map (λ d. d.items) far.now) o target
-            v.items)) }
+        IsRoute nodes.now (map (λ r. r.items) steps.now) (map (λ d. d.items) far.now) o target
+        v.items)) }
 {
     match find(nodes, far, o, target) {
         None => Ok(None),

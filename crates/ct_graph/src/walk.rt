@@ -19,7 +19,7 @@ pub(crate) fn walk(
     requires reached { slice_index_or far.now start (length rows.now) < length rows.now }
     ensures { IfOk result
         (λ v.
-            Walks (cell (map (λ r. r.items) rows.now)) (length rows.now) far.now start v.items end) }
+        Walks (cell (map (λ r. r.items) rows.now)) (length rows.now) far.now start v.items end) }
 {
     let mut places = Vec::new(alloc);
     let mut here = start;

@@ -89,7 +89,7 @@ pub(crate) fn jump_offset(f: Fields) -> u32
     ensures range { IsOffset 21 result }
     ensures middle { result / 2 ^ 12 % 2 ^ 8 * 2 ^ 12 ≡ f.funct3 * 2 ^ 12 + f.rs1 * 2 ^ 15 }
     ensures low { result / 2 ^ 11 % 2 * 2 ^ 20 + result / 2 % 2 ^ 10 * 2 ^ 21
-          + result / 2 ^ 20 % 2 * 2 ^ 31
+        + result / 2 ^ 20 % 2 * 2 ^ 31
         ≡ f.rs2 * 2 ^ 20 + f.funct7 * 2 ^ 25 }
 {
     let low = f.rs2 / 2 * 2 + ((f.funct7 % (1 << 6)) << 5) + ((f.rs2 % 2) << 11);

@@ -115,17 +115,17 @@ pub fn loadstore<M: Memory>(
     requires map { IsMap map.now (8 * length (M.granules mem.old)) }
     ensures is { MatchResult result
         (λ m. access_result instruction x y (space_of map.now.ram (M.granules mem.old) bus.old time)
-            ≡ Ok (record {
-              value = m.value;
-              act = m.device;
-              granules = M.granules mem.new;
-              bank = bus.new;
-            }))
+        ≡ Ok (record {
+          value = m.value;
+          act = m.device;
+          granules = M.granules mem.new;
+          bank = bus.new;
+        }))
         (λ t.
-              (access_result instruction x y
-                  (space_of map.now.ram (M.granules mem.old) bus.old time)
-                ≡ Err t)
-            × (M.granules mem.new ≡ M.granules mem.old) × (bus.new ≡ bus.old)) }
+        (access_result instruction x y
+        (space_of map.now.ram (M.granules mem.old) bus.old time)
+        ≡ Err t)
+        × (M.granules mem.new ≡ M.granules mem.old) × (bus.new ≡ bus.old)) }
     ensures size { length (M.granules mem.new) ≡ length (M.granules mem.old) }
     ensures bases { bus.new.bases ≡ bus.old.bases }
 {

@@ -42,7 +42,7 @@ abbrev pub decide_instruction : Thread → Space → Instr → Decision
 decide_instruction w p i =
     by_result (register w (operands_of i).first).shadow.root
     (carried_out (class_of i) i (operands_of i).to (register w (operands_of i).first)
-          (register w (operands_of i).second) (around_of w p))
+    (register w (operands_of i).second) (around_of w p))
 
 abbrev pub decide_next : Thread → Space → Next → Decision
 decide_next w p Returning = Returns

@@ -16,9 +16,9 @@ bank_of f = record { bases = bases_of f; states = map (λ d. fresh_device d.kind
 
 -- the thread that a firmware has, if it has one, and the base of its stack
 pub record Launched (f : FirmwareRow) (presence : Presence) (active : Thread) (base : ℕ) : Type 0
-    where
-  pub threads : threads_by presence active ≡ first_threads f 0 f.threads
-  pub picks : picks_by presence ≡ first_order (length f.threads)
-  pub running : running_by presence false ≡ None
-  pub base_is : presence ≡ Alive → base ≡ stack_base (image_of f) 0
-  pub stack : presence ≡ Alive → IsStackPlaced f.ram base (top_of active) (f.size / 8)
+  where
+    pub threads : threads_by presence active ≡ first_threads f 0 f.threads
+    pub picks : picks_by presence ≡ first_order (length f.threads)
+    pub running : running_by presence false ≡ None
+    pub base_is : presence ≡ Alive → base ≡ stack_base (image_of f) 0
+    pub stack : presence ≡ Alive → IsStackPlaced f.ram base (top_of active) (f.size / 8)

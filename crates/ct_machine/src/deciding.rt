@@ -119,7 +119,7 @@ fn carry_jump<M: Memory>(
     requires jump { is_jump instruction ≡ true }
     ensures is { Decided
         (decide_instruction active.old (space_by ram (M.granules mem.now) bus.now time)
-            instruction)
+        instruction)
         active.old (space_by ram (M.granules mem.now) bus.now time) active.new
         (M.granules mem.now) bus.now result }
     ensures frames { active.new.frames ≡ active.old.frames }
@@ -159,7 +159,7 @@ fn carry_access<M: Memory>(
     requires heap { IsHeapPlaced ram heap (length (M.granules mem.old)) }
     ensures is { Decided
         (decide_instruction active.old (space_by ram (M.granules mem.old) bus.old time)
-            instruction)
+        instruction)
         active.old (space_by ram (M.granules mem.old) bus.old time) active.new
         (M.granules mem.new) bus.new result }
     ensures frames { active.new.frames ≡ active.old.frames }
@@ -212,7 +212,7 @@ fn carry_value<M: Memory>(
         → (is_capability instruction ≡ true) × (is_system instruction ≡ false) }
     ensures is { Decided
         (decide_instruction active.old (space_by ram (M.granules mem.now) bus.now time)
-            instruction)
+        instruction)
         active.old (space_by ram (M.granules mem.now) bus.now time) active.new
         (M.granules mem.now) bus.now result }
     ensures frames { active.new.frames ≡ active.old.frames }
@@ -273,7 +273,7 @@ fn carry_out<M: Memory>(
     requires heap { IsHeapPlaced ram heap (length (M.granules mem.old)) }
     ensures is { Decided
         (decide_instruction active.old (space_by ram (M.granules mem.old) bus.old time)
-            instruction)
+        instruction)
         active.old (space_by ram (M.granules mem.old) bus.old time) active.new
         (M.granules mem.new) bus.new result }
     ensures frames { active.new.frames ≡ active.old.frames }

@@ -45,7 +45,7 @@ begin version = magic ++ number version
 abbrev pub counts : PartsRow → List ℕ
 counts p =
     count p.devices ++ count p.shared ++ count p.sealed ++ count p.compartments ++ count p.libraries
-        ++ count p.threads
+    ++ count p.threads
 
 abbrev pub bases : PartsRow → List ℕ
 bases p = number p.quantum ++ number p.ram ++ number p.size ++ number p.trusted ++ number p.heap

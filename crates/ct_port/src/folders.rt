@@ -80,10 +80,10 @@ impl Folder for FolderMem {
         requires { limit ≤ 2 ^ 32 }
         ensures answer { MatchResult result
             (λ v.
-                Reads name.now limit (told_as (file_of self.old.files name.now)) self.old.calls
-                self.new.calls self.old.faults self.new.faults v.items)
+            Reads name.now limit (told_as (file_of self.old.files name.now)) self.old.calls
+            self.new.calls self.old.faults self.new.faults v.items)
             (λ e.
-                ReadFails name.now self.old.calls self.new.calls self.old.faults self.new.faults e) }
+            ReadFails name.now self.old.calls self.new.calls self.old.faults self.new.faults e) }
         ensures same { (n : List ℕ)
             → told_as (file_of self.new.files n) ≡ told_as (file_of self.old.files n) }
         ensures cause { FailsAsTold self.old name.now result }

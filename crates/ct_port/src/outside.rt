@@ -29,11 +29,11 @@ pub trait Folder {
         requires { limit ≤ 2 ^ 32 }
         ensures answer { MatchResult result
             (λ v.
-                Reads name.now limit (file self.old name.now) (calls self.old) (calls self.new)
-                (faults self.old) (faults self.new) v.items)
+            Reads name.now limit (file self.old name.now) (calls self.old) (calls self.new)
+            (faults self.old) (faults self.new) v.items)
             (λ e.
-                ReadFails name.now (calls self.old) (calls self.new) (faults self.old)
-                (faults self.new) e) }
+            ReadFails name.now (calls self.old) (calls self.new) (faults self.old)
+            (faults self.new) e) }
         ensures same { (n : List ℕ) → file self.new n ≡ file self.old n };
 }
 
@@ -50,10 +50,9 @@ pub trait Sink {
     fn write(&mut self, piece: &[u8]) -> Result<(), WriteFailed>
         ensures { MatchResult result
             (λ _.
-                Writes (bytes self.old) (bytes self.new) (faults self.old) (faults self.new)
-                piece.now)
+            Writes (bytes self.old) (bytes self.new) (faults self.old) (faults self.new)
+            piece.now)
             (λ _.
-                  WriteFails (bytes self.old) (bytes self.new) (faults self.old) (faults self.new)
-                  piece.now)
-              };
+            WriteFails (bytes self.old) (bytes self.new) (faults self.old) (faults self.new)
+            piece.now) };
 }

@@ -83,11 +83,11 @@ impl Sink for SinkMem {
     fn write(&mut self, piece: &[u8]) -> Result<(), WriteFailed>
         ensures answer { MatchResult result
             (λ _.
-                Writes (Some self.old.bytes) (Some self.new.bytes) self.old.faults self.new.faults
-                piece.now)
+            Writes (Some self.old.bytes) (Some self.new.bytes) self.old.faults self.new.faults
+            piece.now)
             (λ _.
-                WriteFails (Some self.old.bytes) (Some self.new.bytes) self.old.faults
-                self.new.faults piece.now) }
+            WriteFails (Some self.old.bytes) (Some self.new.bytes) self.old.faults
+            self.new.faults piece.now) }
         ensures state { self.new ≡ written self.old piece.now }
         ensures cause { IsOk result ↔ (succeeds self.old piece.now ≡ true) }
     {

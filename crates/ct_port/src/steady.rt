@@ -64,12 +64,12 @@ impl Folder for SteadyFolder {
         requires { limit ≤ 2 ^ 32 }
         ensures answer { MatchResult result
             (λ v.
-                Reads name.now limit (File (steady_as (file_of self.old.files name.now)))
-                self.old.calls self.new.calls 0 0 v.items)
+            Reads name.now limit (File (steady_as (file_of self.old.files name.now)))
+            self.old.calls self.new.calls 0 0 v.items)
             (λ e. ReadFails name.now self.old.calls self.new.calls 0 0 e) }
         ensures same { (n : List ℕ)
             → File (steady_as (file_of self.new.files n))
-              ≡ File (steady_as (file_of self.old.files n)) }
+            ≡ File (steady_as (file_of self.old.files n)) }
         ensures never { NeverFails result }
         ensures files { self.new.files ≡ self.old.files }
     {

@@ -65,8 +65,10 @@ sealed_at bytes = do
   count ← number_at seal.1
   held ← field_at count.0 count.1
   padding ← field_at (padding_after count.0) held.1
-  Some (record { name = name.0; base = base.0; length = size.0; seal = seal.0; bytes = held.0; padding = padding.0 },
-        padding.1)
+  Some (
+    record { name = name.0; base = base.0; length = size.0; seal = seal.0; bytes = held.0; padding = padding.0 },
+    padding.1,
+  )
 
 unfoldable pub code_head_at : List ℕ → Option (CodeHead × List ℕ)
 code_head_at bytes = do
@@ -82,8 +84,10 @@ globals_head_at bytes = do
   globals ← number_at table.1
   size ← number_at globals.1
   initial ← number_at size.1
-  Some (record { table = table.0; globals = globals.0; length = size.0; initial = initial.0 },
-        initial.1)
+  Some (
+    record { table = table.0; globals = globals.0; length = size.0; initial = initial.0 },
+    initial.1,
+  )
 
 -- slots, exports and text after their counts
 unfoldable pub code_at : CodeHead → ℕ → ℕ → List ℕ → Option (RawCode × List ℕ)
@@ -91,8 +95,10 @@ code_at head slots exports bytes = do
   imported ← many_at entry_at slots bytes
   exported ← many_at entry_at exports imported.1
   text ← field_at head.text exported.1
-  Some (record { name = head.name; base = head.base; length = head.length; slots = imported.0; exports = exported.0; text = text.0 },
-        text.1)
+  Some (
+    record { name = head.name; base = head.base; length = head.length; slots = imported.0; exports = exported.0; text = text.0 },
+    text.1,
+  )
 
 unfoldable pub compartment_at : List ℕ → Option (RawCompartment × List ℕ)
 compartment_at bytes = do
@@ -103,8 +109,10 @@ compartment_at bytes = do
   code ← code_at head.0 slots.0 exports.0 exports.1
   initial ← field_at own.0.initial code.1
   padding ← field_at (padding_after own.0.initial) initial.1
-  Some (record { code = code.0; table = own.0.table; globals = own.0.globals; globals_length = own.0.length; initial = initial.0; padding = padding.0 },
-        padding.1)
+  Some (
+    record { code = code.0; table = own.0.table; globals = own.0.globals; globals_length = own.0.length; initial = initial.0; padding = padding.0 },
+    padding.1,
+  )
 
 unfoldable pub library_at : List ℕ → Option (RawCode × List ℕ)
 library_at bytes = do
@@ -122,8 +130,10 @@ thread_at bytes = do
   export ← number_at compartment.1
   priority ← number_at export.1
   frames ← number_at priority.1
-  Some (record { name = name.0; stack = stack.0; stack_length = size.0; compartment = compartment.0; export = export.0; priority = priority.0; frames = frames.0 },
-        frames.1)
+  Some (
+    record { name = name.0; stack = stack.0; stack_length = size.0; compartment = compartment.0; export = export.0; priority = priority.0; frames = frames.0 },
+    frames.1,
+  )
 
 -- ---- the whole
 
@@ -135,8 +145,10 @@ counts_at bytes = do
   compartments ← number_at sealed.1
   libraries ← number_at compartments.1
   threads ← number_at libraries.1
-  Some (record { devices = devices.0; shared = shared.0; sealed = sealed.0; compartments = compartments.0; libraries = libraries.0; threads = threads.0 },
-        threads.1)
+  Some (
+    record { devices = devices.0; shared = shared.0; sealed = sealed.0; compartments = compartments.0; libraries = libraries.0; threads = threads.0 },
+    threads.1,
+  )
 
 unfoldable pub bases_at : List ℕ → Option (Bases × List ℕ)
 bases_at bytes = do
@@ -145,8 +157,10 @@ bases_at bytes = do
   size ← number_at ram.1
   trusted ← number_at size.1
   heap ← number_at trusted.1
-  Some (record { quantum = quantum.0; ram = ram.0; size = size.0; trusted = trusted.0; heap = heap.0 },
-        heap.1)
+  Some (
+    record { quantum = quantum.0; ram = ram.0; size = size.0; trusted = trusted.0; heap = heap.0 },
+    heap.1,
+  )
 
 -- the sweep rate is a field from version 2 on
 unfoldable pub sweep_at : ℕ → List ℕ → Option (ℕ × List ℕ)
@@ -161,8 +175,10 @@ lists_at version bases sweep name counts bytes = do
   compartments ← many_at compartment_at counts.compartments sealed.1
   libraries ← many_at library_at counts.libraries compartments.1
   threads ← many_at thread_at counts.threads libraries.1
-  Some (record { version = version; quantum = bases.quantum; ram = bases.ram; size = bases.size; trusted = bases.trusted; heap = bases.heap; sweep = sweep; name = name; devices = devices.0; shared = shared.0; sealed = sealed.0; compartments = compartments.0; libraries = libraries.0; threads = threads.0 },
-        threads.1)
+  Some (
+    record { version = version; quantum = bases.quantum; ram = bases.ram; size = bases.size; trusted = bases.trusted; heap = bases.heap; sweep = sweep; name = name; devices = devices.0; shared = shared.0; sealed = sealed.0; compartments = compartments.0; libraries = libraries.0; threads = threads.0 },
+    threads.1,
+  )
 
 unfoldable pub image_at : List ℕ → Option (RawImage × List ℕ)
 image_at bytes = do

@@ -34,7 +34,7 @@ fn add_gates(
     requires number { number ≤ 65536 }
     ensures { OnOk result
         (gates.new.items ≡ gates.old.items
-            ++ spec.gates_in number compartment.now compartment.now.exports) }
+        ++ spec.gates_in number compartment.now compartment.now.exports) }
 {
     let exports = compartment.exports.as_slice();
     for (item, export) in exports.iter().enumerate() {

@@ -147,7 +147,7 @@ fn add_imports<'a>(
     requires { length devices.now ≤ 16 }
     ensures { OnOk result
         (shown lines.new.items ≡ shown lines.old.items
-            ++ map (spec.import_line devices.now index compartment.now) imports.now) }
+        ++ map (spec.import_line devices.now index compartment.now) imports.now) }
 {
     for import in imports {
         lines.push(import_line(devices, index, compartment, import))?;
@@ -183,7 +183,7 @@ fn add_exports<'a>(
     requires { Fits compartment.now }
     ensures { OnOk result
         (shown lines.new.items ≡ shown lines.old.items
-            ++ spec.exports_from index compartment.now 0 compartment.now.exports) }
+        ++ spec.exports_from index compartment.now 0 compartment.now.exports) }
 {
     let exports = compartment.exports.as_slice();
     for (item, export) in exports.iter().enumerate() {
@@ -202,7 +202,7 @@ fn add_compartment<'a>(
     requires few { length devices.now ≤ 16 }
     ensures { OnOk result
         (shown lines.new.items ≡ shown lines.old.items
-            ++ spec.compartment_lines devices.now index compartment.now) }
+        ++ spec.compartment_lines devices.now index compartment.now) }
 {
     lines.push(code_line(index, compartment))?;
     lines.push(globals_line(index, compartment))?;
@@ -227,7 +227,7 @@ fn add_compartments<'a>(
     requires count { length compartments.now ≤ 64 }
     ensures { OnOk result
         (shown lines.new.items ≡ shown lines.old.items
-            ++ spec.compartments_from devices.now 0 compartments.now) }
+        ++ spec.compartments_from devices.now 0 compartments.now) }
 {
     for (index, compartment) in compartments.iter().enumerate() {
         add_compartment(lines, devices, index as u32, compartment)?;

@@ -63,8 +63,8 @@ fn value_of(
 ) -> Result<Value, AllocError>
     ensures { IfOk result
         (λ v. view v
-            ≡ spec.object_of desc.now (view names) (view devices) (view entries) (view heap)
-              (view threads)) }
+        ≡ spec.object_of desc.now (view names) (view devices) (view entries) (view heap)
+        (view threads)) }
 {
     json!(in alloc; {
         "compartments": names,

@@ -23,8 +23,8 @@ fn add_word(text: &mut String, word: &str) -> Result<(), AllocError>
 fn add_if(text: &mut String, has: bool, word: &str) -> Result<(), AllocError>
     ensures { OnOk result
         (string_bytes text.new
-            ≡ (if has then spec.with_word (string_bytes text.old) word.now
-                else string_bytes text.old)) }
+        ≡ (if has then spec.with_word (string_bytes text.old) word.now
+        else string_bytes text.old)) }
 {
     if has { add_word(text, word) } else { Ok(()) }
 }
@@ -32,7 +32,7 @@ fn add_if(text: &mut String, has: bool, word: &str) -> Result<(), AllocError>
 fn add_names(text: &mut String, rights: u32, names: &[&str]) -> Result<(), AllocError>
     ensures { OnOk result
         (string_bytes text.new
-            ≡ spec.with_names (string_bytes text.old) rights (map (λ n. n.now) names.now)) }
+        ≡ spec.with_names (string_bytes text.old) rights (map (λ n. n.now) names.now)) }
 {
     let mut left = rights;
     for name in names {

@@ -40,11 +40,11 @@ impl Sched {
         requires { length priorities.now < 2 ^ 32 }
         ensures { IfOk result
             (λ s. s
-                ≡ record {
-                  priorities = priorities.now;
-                  statuses = replicate (length priorities.now) Ready;
-                  order = first_order (length priorities.now);
-                }) }
+            ≡ record {
+              priorities = priorities.now;
+              statuses = replicate (length priorities.now) Ready;
+              order = first_order (length priorities.now);
+            }) }
     {
         Ok(Sched {
             priorities: Vec::from_slice(alloc, priorities)?,
@@ -96,7 +96,7 @@ impl Sched {
         ensures waits { IsTrue result ↔ (held ≡ wanted) }
         ensures row { self.new
             ≡ with_statuses self.old
-              (slice_set self.old.statuses t (awaiting address held wanted)) }
+            (slice_set self.old.statuses t (awaiting address held wanted)) }
         ensures stays { (held ≡ wanted → ⊥) → self.new ≡ self.old }
     {
         if held != wanted {

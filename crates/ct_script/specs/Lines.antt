@@ -68,16 +68,16 @@ pub record Lost (devices : List DeviceRow) (steps left : List ℕ) : Type 0 wher
 abbrev pub IsRefusal : List DeviceRow → LinesRow → List ℕ → ScriptFault → Type 0
 IsRefusal devices old left (At number line) =
     (line ≡ length old.steps + 1)
-        × (((number ≡ 1) × NoLine left) ⊎ ((number ≡ 2) × Late old.steps left)
-            ⊎ ((number ≡ 3) × Lost devices old.steps left))
+    × (((number ≡ 1) × NoLine left) ⊎ ((number ≡ 2) × Late old.steps left)
+    ⊎ ((number ≡ 3) × Lost devices old.steps left))
 IsRefusal devices old left NoMemory = Unit {0}
 
 -- the lines kept are those of a script that the text before what is left spells
 pub record Going (devices : List DeviceRow) (text : List ℕ) (l : LinesRow) (left : List ℕ) : Type 0
-    where
-  pub rows : List Row
-  pub script : IsScript devices rows
-  pub text_is : text ≡ flat_map spelled rows ++ left
-  pub steps : l.steps ≡ map step_of rows
-  pub givens : l.givens ≡ map (given_of devices) rows
-  pub short : length rows + length left ≤ length text
+  where
+    pub rows : List Row
+    pub script : IsScript devices rows
+    pub text_is : text ≡ flat_map spelled rows ++ left
+    pub steps : l.steps ≡ map step_of rows
+    pub givens : l.givens ≡ map (given_of devices) rows
+    pub short : length rows + length left ≤ length text

@@ -191,7 +191,7 @@ fn load<'a>(operation: LoadOperation, row: &[Token<&'a [u8]>]) -> Option<Part<&'
 fn jump_address<'a>(row: &[Token<&'a [u8]>]) -> Option<Part<&'a [u8]>>
     ensures { option_map part_view result
         ≡ option_map (λ o. part.RegisterJump o.0 o.1 o.2)
-          (source.register_address (row_view row.now)) }
+        (source.register_address (row_view row.now)) }
 {
     let (rd, number, rs1) = register_address(row)?;
     Some(Part::RegisterJump { rd, number, rs1 })

@@ -82,7 +82,7 @@ fn add<'a>(
 ) -> Result<(), AllocError>
     ensures { OnOk result
         (statements_view all.new.items ≡ statements_view all.old.items
-            ++ source.line_statements line (line_view read.entry)) }
+        ++ source.line_statements line (line_view read.entry)) }
 {
     if let Some(name) = read.label {
         all.push(Statement {

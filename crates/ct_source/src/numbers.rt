@@ -10,8 +10,8 @@ use def_source::parts::Number;
 fn with_digit(base: u8, value: u128, c: u8) -> Option<u128>
     ensures { result
         ≡ (if nat_lt (value * base + source.digit c) (2 ^ 128)
-              then Some (value * base + source.digit c)
-            else None) }
+        then Some (value * base + source.digit c)
+        else None) }
 {
     match value.checked_mul(base as u128) {
         Some(more) => more.checked_add(digit(c) as u128),
@@ -24,8 +24,8 @@ fn value(base: u8, digits: &[u8]) -> Option<u128>
     requires { 1 ≤ base }
     ensures { result
         ≡ (if nat_le (source.value_from base 0 digits.now) (2 ^ 128 - 1)
-              then Some (source.value_from base 0 digits.now)
-            else None) }
+        then Some (source.value_from base 0 digits.now)
+        else None) }
 {
     let mut value: u128 = 0;
     for c in digits {

@@ -61,7 +61,7 @@ fn fits_target(reach: u128, target: Target<&[u8]>) -> bool
 fn fits_align(number: Number) -> bool
     ensures { result
         ≡ (source.within 0 MOST_ALIGNMENT number && nat_lt 0 number.magnitude
-            && MOST_ALIGNMENT % number.magnitude == 0) }
+        && MOST_ALIGNMENT % number.magnitude == 0) }
 {
     within(0, MOST_ALIGNMENT, number)
         && 0 < number.magnitude

@@ -51,7 +51,7 @@ Stopped name told before after faults now NoMemory =
 abbrev pub Closes : Option (List ℕ) → Option (List ℕ) → ℕ → ℕ → List ℕ → Status → Status → Type 0
 Closes old new faults now text status result =
     ((result ≡ status) × Writes old new faults now text)
-        ⊎ ((result ≡ WriteFault) × WriteFails old new faults now text)
+    ⊎ ((result ≡ WriteFault) × WriteFails old new faults now text)
 
 -- nothing was written
 pub record Silent (old new : Option (List ℕ)) (faults now : ℕ) (result : Status) : Type 0 where

@@ -76,7 +76,7 @@ fn finish<S: Sink>(alloc: Global, task: Task, desc: &Desc, sink: &mut S) -> Stat
     requires short { IsShort task }
     ensures { (name : List ℕ)
         → Settles (S.bytes sink.old) (S.bytes sink.new) (S.faults sink.old) (S.faults sink.new)
-          (due_text (command_for name task) desc.now) result }
+        (due_text (command_for name task) desc.now) result }
 {
     match task {
         Task::Audit => audit(alloc, desc, sink),

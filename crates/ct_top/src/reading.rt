@@ -40,11 +40,11 @@ fn description_of(alloc: Global, bytes: &[u8]) -> Result<Desc, Stop>
 pub fn read_description<F: Folder>(alloc: Global, name: &str, folder: &mut F) -> Result<Desc, Stop>
     ensures { MatchResult result
         (λ d.
-            Described name.now (F.file folder.old name.now) (F.calls folder.old)
-            (F.calls folder.new) (F.faults folder.old) (F.faults folder.new) d)
+        Described name.now (F.file folder.old name.now) (F.calls folder.old)
+        (F.calls folder.new) (F.faults folder.old) (F.faults folder.new) d)
         (λ stop.
-            Stopped name.now (F.file folder.old name.now) (F.calls folder.old)
-            (F.calls folder.new) (F.faults folder.old) (F.faults folder.new) stop) }
+        Stopped name.now (F.file folder.old name.now) (F.calls folder.old)
+        (F.calls folder.new) (F.faults folder.old) (F.faults folder.new) stop) }
 {
     let bytes = match folder.read(alloc, name, MOST) {
         Ok(bytes) => bytes,

@@ -22,11 +22,11 @@ use ct_trace::{Line, line_of, summary_of};
 fn write_line<S: Sink>(line: &Line, sink: &mut S) -> Result<(), WriteFailed>
     ensures { MatchResult result
         (λ _.
-            Writes (S.bytes sink.old) (S.bytes sink.new) (S.faults sink.old) (S.faults sink.new)
-            line.now.bytes)
+        Writes (S.bytes sink.old) (S.bytes sink.new) (S.faults sink.old) (S.faults sink.new)
+        line.now.bytes)
         (λ _.
-            WriteFails (S.bytes sink.old) (S.bytes sink.new) (S.faults sink.old)
-            (S.faults sink.new) line.now.bytes) }
+        WriteFails (S.bytes sink.old) (S.bytes sink.new) (S.faults sink.old)
+        (S.faults sink.new) line.now.bytes) }
 {
     if line.is_empty() {
         return Ok(());
@@ -39,11 +39,11 @@ fn write_line<S: Sink>(line: &Line, sink: &mut S) -> Result<(), WriteFailed>
 fn write_lines<S: Sink>(happened: &Happened, number: u32, sink: &mut S) -> Result<(), WriteFailed>
     ensures { MatchResult result
         (λ _.
-            Writes (S.bytes sink.old) (S.bytes sink.new) (S.faults sink.old) (S.faults sink.new)
-            (trace_line number happened.now))
+        Writes (S.bytes sink.old) (S.bytes sink.new) (S.faults sink.old) (S.faults sink.new)
+        (trace_line number happened.now))
         (λ _.
-            WriteFails (S.bytes sink.old) (S.bytes sink.new) (S.faults sink.old)
-            (S.faults sink.new) (trace_line number happened.now)) }
+        WriteFails (S.bytes sink.old) (S.bytes sink.new) (S.faults sink.old)
+        (S.faults sink.new) (trace_line number happened.now)) }
 {
     write_line(&line_of(happened, number), sink)
 }
@@ -60,12 +60,12 @@ fn write_step<M: Memory + Drop, S: Sink>(
     ensures board { machine.new.board ≡ machine.old.board }
     ensures written { MatchResult result
         (λ _.
-            Writes (S.bytes sink.old) (S.bytes sink.new) (S.faults sink.old) (S.faults sink.new)
-            (trace_line number (happens machine.old.board machine.old.state Step).1))
+        Writes (S.bytes sink.old) (S.bytes sink.new) (S.faults sink.old) (S.faults sink.new)
+        (trace_line number (happens machine.old.board machine.old.state Step).1))
         (λ _.
-            WriteFails (S.bytes sink.old) (S.bytes sink.new) (S.faults sink.old)
-            (S.faults sink.new)
-            (trace_line number (happens machine.old.board machine.old.state Step).1)) }
+        WriteFails (S.bytes sink.old) (S.bytes sink.new) (S.faults sink.old)
+        (S.faults sink.new)
+        (trace_line number (happens machine.old.board machine.old.state Step).1)) }
 {
     let happened = machine.advance(Event::Step);
     match happened.deed {
@@ -86,11 +86,11 @@ fn write_trace<M: Memory + Drop, S: Sink>(
     requires { machine.old.state.counts.steps + limit ≤ MOST_STEPS }
     ensures { MatchResult result
         (λ _.
-            Traced machine.old machine.new limit (S.bytes sink.old) (S.bytes sink.new)
-            (S.faults sink.old) (S.faults sink.new))
+        Traced machine.old machine.new limit (S.bytes sink.old) (S.bytes sink.new)
+        (S.faults sink.old) (S.faults sink.new))
         (λ _.
-            WriteFails (S.bytes sink.old) (S.bytes sink.new) (S.faults sink.old)
-            (S.faults sink.new) (lines_left machine.old.board machine.old.state 1 limit)) }
+        WriteFails (S.bytes sink.old) (S.bytes sink.new) (S.faults sink.old)
+        (S.faults sink.new) (lines_left machine.old.board machine.old.state 1 limit)) }
 {
     for done in 0..limit {
         match machine.ended() {
@@ -122,11 +122,11 @@ fn write_last<M: Memory + Drop, S: Sink>(
 ) -> Result<(), WriteFailed>
     ensures { MatchResult result
         (λ _.
-            Writes (S.bytes sink.old) (S.bytes sink.new) (S.faults sink.old) (S.faults sink.new)
-            (last_line machine.now.state))
+        Writes (S.bytes sink.old) (S.bytes sink.new) (S.faults sink.old) (S.faults sink.new)
+        (last_line machine.now.state))
         (λ _.
-            WriteFails (S.bytes sink.old) (S.bytes sink.new) (S.faults sink.old)
-            (S.faults sink.new) (last_line machine.now.state)) }
+        WriteFails (S.bytes sink.old) (S.bytes sink.new) (S.faults sink.old)
+        (S.faults sink.new) (last_line machine.now.state)) }
 {
     let totals = machine.totals(end_here(machine));
     let line = summary_of(&totals);
@@ -142,11 +142,11 @@ fn write_run<M: Memory + Drop, S: Sink>(
     requires { machine.old.state.counts.steps + limit ≤ MOST_STEPS }
     ensures { MatchResult result
         (λ _.
-            Writes (S.bytes sink.old) (S.bytes sink.new) (S.faults sink.old) (S.faults sink.new)
-            (run_lines machine.old limit))
+        Writes (S.bytes sink.old) (S.bytes sink.new) (S.faults sink.old) (S.faults sink.new)
+        (run_lines machine.old limit))
         (λ _.
-            WriteFails (S.bytes sink.old) (S.bytes sink.new) (S.faults sink.old)
-            (S.faults sink.new) (run_lines machine.old limit)) }
+        WriteFails (S.bytes sink.old) (S.bytes sink.new) (S.faults sink.old)
+        (S.faults sink.new) (run_lines machine.old limit)) }
 {
     match write_trace(machine, limit, sink) {
         Ok(()) => write_last(machine, sink),
@@ -164,11 +164,11 @@ pub fn write_whole<M: Memory + Drop, S: Sink>(
     requires { machine.old.state.counts.steps + limit ≤ MOST_STEPS }
     ensures { MatchResult result
         (λ _.
-            Writes (S.bytes sink.old) (S.bytes sink.new) (S.faults sink.old) (S.faults sink.new)
-            (report.now ++ run_lines machine.old limit))
+        Writes (S.bytes sink.old) (S.bytes sink.new) (S.faults sink.old) (S.faults sink.new)
+        (report.now ++ run_lines machine.old limit))
         (λ _.
-            WriteFails (S.bytes sink.old) (S.bytes sink.new) (S.faults sink.old)
-            (S.faults sink.new) (report.now ++ run_lines machine.old limit)) }
+        WriteFails (S.bytes sink.old) (S.bytes sink.new) (S.faults sink.old)
+        (S.faults sink.new) (report.now ++ run_lines machine.old limit)) }
 {
     match sink.write(report.as_bytes()) {
         Ok(()) => write_run(machine, limit, sink),

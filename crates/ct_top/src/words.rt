@@ -35,7 +35,7 @@ fn value_of(digits: &[u8]) -> Option<u32>
     ensures small { IfSome result (λ n. n ≤ MOST_STEPS) }
     ensures value { result
         ≡ (if nat_le (spec.value_of digits.now) MOST_STEPS then Some (spec.value_of digits.now)
-            else None) }
+        else None) }
 {
     let mut value: u64 = 0;
     for c in digits {

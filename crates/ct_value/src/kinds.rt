@@ -82,7 +82,7 @@ fn has_member(value: &Value, name: &str, shape: Shape, needed: bool) -> bool
 fn has_each(value: &Value, members: &[Member]) -> bool
     ensures { result
         ≡ list_all (spec.has_member (view value.now))
-          (map (λ r. table.row r.0.now r.1 r.2) members.now) }
+        (map (λ r. table.row r.0.now r.1 r.2) members.now) }
 {
     for (name, shape, needed) in members {
         if !has_member(value, *name, *shape, *needed) {

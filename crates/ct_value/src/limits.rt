@@ -89,7 +89,7 @@ fn keeps_member(value: &Value, name: &str, shape: Shape) -> bool
 fn keeps_each(value: &Value, members: &[Member]) -> bool
     ensures { result
         ≡ list_all (spec.keeps_member (view value.now))
-          (map (λ r. table.row r.0.now r.1 r.2) members.now) }
+        (map (λ r. table.row r.0.now r.1 r.2) members.now) }
 {
     for (name, shape, _) in members {
         if !keeps_member(value, *name, *shape) {

@@ -20,7 +20,7 @@ use serde_json::{Map, Value};
 fn is_among(name: &str, members: &[Member]) -> bool
     ensures { result
         ≡ list_any (λ m. bytes_eq name.now m.name)
-          (map (λ r. table.row r.0.now r.1 r.2) members.now) }
+        (map (λ r. table.row r.0.now r.1 r.2) members.now) }
 {
     for member in members {
         if name == member.0 {
@@ -55,7 +55,7 @@ fn is_listed(part: PartWord, value: &Value, name: &str) -> bool
 fn are_listed(keys: &Map<String, Value>, part: PartWord, value: &Value) -> bool
     ensures { result
         ≡ list_all (spec.is_listed part (view value.now))
-          (names_in (members_view keys.now.entries)) }
+        (names_in (members_view keys.now.entries)) }
 {
     for key in keys.keys() {
         if !is_listed(part, value, key.as_str()) {

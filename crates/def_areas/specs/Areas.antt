@@ -74,7 +74,7 @@ frames_from gs area actor top handling zero = []
 frames_from gs area actor top handling (suc j) =
     frame_at gs (frame_place area j) actor top handling
     ∷ frames_from gs area (caller_actor gs (frame_place area j))
-        (caller_top gs (frame_place area j)) (caller_handling gs (frame_place area j)) j
+    (caller_top gs (frame_place area j)) (caller_handling gs (frame_place area j)) j
 
 unfoldable pub frames_in : List Granule → ℕ → ℕ → ℕ → Bool → ℕ → List Frame
 frames_in gs area actor top handling depth = frames_from gs area actor top handling depth

@@ -9,7 +9,7 @@ field_of word low width = word / 2 ^ low % 2 ^ width
 abbrev pub signed_of : ℕ → ℕ → ℤ
 signed_of value width =
     if nat_lt (value % 2 ^ width) (2 ^ (width - 1)) then pos (value % 2 ^ width)
-        else negsuc (2 ^ width - value % 2 ^ width - 1)
+    else negsuc (2 ^ width - value % 2 ^ width - 1)
 
 -- a field of so many bits as the 32-bit word of the signed number
 abbrev pub extended : ℕ → ℕ → ℕ

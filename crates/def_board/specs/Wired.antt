@@ -16,7 +16,7 @@ pub record Wired (b : Board) : Type 0 where
       → is_native_entry (cap_address (made_cap b.image n)) ≡ true
   pub devices : (n x : ℕ)
       → (bit (root b.image n).rights load_data ≡ true)
-        ⊎ (bit (root b.image n).rights store_data ≡ true)
+      ⊎ (bit (root b.image n).rights store_data ≡ true)
       → (root b.image n).base ≤ x → x < (root b.image n).top → is_some (found b.bases x) ≡ true
       → (root b.image n).origin ≡ Listing Device
   pub apart : (x : ℕ) → b.image.heap_base ≤ x → x < b.image.heap_end

@@ -43,8 +43,8 @@ table_content p b k =
     if k == 0 then made_for p (code_number p b)
     else if k == GRANULE then made_for p (globals_number p b)
     else plain
-        (gate_word (slice_get (compartment p b).code.exports ((k - TABLE_HEAD) / TABLE_ROW))
-            ((k - TABLE_HEAD) % TABLE_ROW))
+    (gate_word (slice_get (compartment p b).code.exports ((k - TABLE_HEAD) / TABLE_ROW))
+    ((k - TABLE_HEAD) % TABLE_ROW))
 
 -- a compartment's slots are numbered after its code and globals, a library's after its code
 abbrev pub owned_content : PartsRow → Owner → ℕ → Cap

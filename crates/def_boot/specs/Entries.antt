@@ -46,7 +46,7 @@ slot_row p o at r slot.Sealed =
     row o kind.Sealed (sealed p r.first).base (sealed p r.first).length (rights_of r) r.first
 slot_row p o at r slot.Call =
     row o kind.Call (gate_address (compartment p r.first) r.second) TABLE_ROW (rights_of r)
-        (gate_number p r.first r.second)
+    (gate_number p r.first r.second)
 slot_row p o at r slot.Library =
     row o kind.Library (library p r.first).base (library p r.first).length (rights_of r)
     (library_gate_number p r.first r.second)

@@ -28,7 +28,7 @@ abbrev pub compartment_gates : ℕ → List CompartmentRow → List Gate
 compartment_gates n [] = []
 compartment_gates n (c ∷ cs) =
     gates_in (n + 2 + length c.code.slots) c.code c.code.exports
-        ++ compartment_gates (n + compartment_entries c) cs
+    ++ compartment_gates (n + compartment_entries c) cs
 
 abbrev pub library_gates : ℕ → List CodeRow → List Gate
 library_gates n [] = []

@@ -66,7 +66,7 @@ made_from p n (r ∷ rs) = made_by p n r r.kind ∷ made_from p (n + 1) rs
 abbrev pub return_sentry : Cap
 return_sentry =
     derive executable_root RETURN_ENTRY NATIVE_LENGTH SERVICE_RIGHTS RETURN_ENTRY RETURN_ENABLE
-        (from_entry 0)
+    (from_entry 0)
 
 -- by number; number 0 is the trusted part's
 unfoldable pub made_caps : PartsRow → List Cap

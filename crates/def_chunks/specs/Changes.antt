@@ -36,7 +36,7 @@ all_painted cs = map painted_chunk cs
 abbrev pub linked : List Granule → ℕ → ℕ → ℕ → ℕ → ℕ → List Granule
 linked gs ram base before size next =
     cond (nat_eq before NO_CHUNK) gs
-        (stored_cap gs (base + before - ram) (plain (size + next * 2 ^ 32)))
+    (stored_cap gs (base + before - ram) (plain (size + next * 2 ^ 32)))
 
 -- ---- what a sweep lets go
 

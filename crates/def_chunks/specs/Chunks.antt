@@ -48,7 +48,7 @@ abbrev pub Lays : List Granule → ℕ → ℕ → ℕ → List Chunk → ℕ �
 Lays gs ram base at [] next = Unit {0}
 Lays gs ram base at (c ∷ cs) next =
     (head_at gs ram at ≡ head_of c (first_free base (at + c.size) cs next))
-        × Lays gs ram base (at + c.size) cs next
+    × Lays gs ram base (at + c.size) cs next
 
 -- an address at which a chunk begins
 abbrev pub Starts : ℕ → ℕ → List Chunk → Type 0

@@ -14,7 +14,7 @@ abbrev pub Holds : ℕ → ℕ → ℕ → List Chunk → Type 0
 Holds base length at [] = ⊥
 Holds base length at (c ∷ cs) =
     ((is_free c ≡ true) × (at + CHUNK_HEAD ≤ base) × (base + length ≤ at + c.size))
-        ⊎ Holds base length (at + c.size) cs
+    ⊎ Holds base length (at + c.size) cs
 
 -- none of them is free
 abbrev pub NoFree : List Chunk → Type 0
@@ -60,9 +60,9 @@ pub record UsedStands (r : Range) (gs : List Granule) (at size number : ℕ) : T
 
 -- and this is the last free one before it
 pub record FreeLinked (r : Range) (gs : List Granule) (at size next before before_size : ℕ) : Type 0
-    where
-  pub free_stands : FreeStands r gs at size next
-  pub last : LastFree free_stands.stands.above before before_size
+  where
+    pub free_stands : FreeStands r gs at size next
+    pub last : LastFree free_stands.stands.above before before_size
 
 -- a free chunk with room: the least aligned place in it, and none before it
 pub record IsGap (r : Range) (gs : List Granule) (unit length : ℕ) (g : Gap) : Type 0 where

@@ -19,8 +19,8 @@ abbrev pub read : List Granule → ℕ → ℕ → ℕ → ℕ → List Chunk
 read gs ram end zero at = []
 read gs ram end (suc n) at =
     cond (nat_lt at end)
-        (chunk_of (head_at gs ram at) ∷ read gs ram end n (at + (chunk_of (head_at gs ram at)).size))
-        []
+    (chunk_of (head_at gs ram at) ∷ read gs ram end n (at + (chunk_of (head_at gs ram at)).size))
+    []
 
 -- the chunks of a heap
 unfoldable pub chunks : Range → List Granule → List Chunk

@@ -70,4 +70,4 @@ abbrev pub Kept : Image → Cap → Type 0
 Kept i c =
     c.tag ≡ true
     → ((root i c.shadow.root).origin ≡ Listing Service → cap_seal c ≡ 1)
-      × ((root i c.shadow.root).origin ≡ TrustedPart → cap_seal c ≡ 5)
+    × ((root i c.shadow.root).origin ≡ TrustedPart → cap_seal c ≡ 5)

@@ -44,19 +44,19 @@ pub record Changes (i : Image) (s : State) (t : ℕ) (new : Thread) (run : Optio
 
 -- a thread's new self whose stack was zeroed up to `high`
 pub record Turned (i : Image) (s : State) (t high : ℕ) (new : Thread) (run : Option ℕ) : Type 0
-    where
-  pub stack : (root i (stack_entry i t)).origin ≡ Listing Stack
-  pub inside : high ≤ stack_top i t
-  pub outers : (x : ℕ) → high ≤ x → outer new.frames x ≡ outer (thread s t).frames x
-  pub pcc : InFrames i s.objects t new.frames new.pcc
-  pub registers : (n : ℕ) → InFrames i s.objects t new.frames (register new n)
-  pub frames : FramesHold i s.objects t new.frames
-  pub kept : (n : ℕ) → Kept i (register new n)
-  pub kept_frames : Each (SavedKept i) new.frames
-  pub posture : PostureFits i new new.frames
-  pub runs : new.pcc.tag ≡ true → IsPcc i new.pcc
-  pub live : run ≡ Some t → (n : ℕ) → HasLive i s.objects (register new n)
-  pub stays : (u : ℕ) → run ≡ Some u → s.running ≡ Some u
+  where
+    pub stack : (root i (stack_entry i t)).origin ≡ Listing Stack
+    pub inside : high ≤ stack_top i t
+    pub outers : (x : ℕ) → high ≤ x → outer new.frames x ≡ outer (thread s t).frames x
+    pub pcc : InFrames i s.objects t new.frames new.pcc
+    pub registers : (n : ℕ) → InFrames i s.objects t new.frames (register new n)
+    pub frames : FramesHold i s.objects t new.frames
+    pub kept : (n : ℕ) → Kept i (register new n)
+    pub kept_frames : Each (SavedKept i) new.frames
+    pub posture : PostureFits i new new.frames
+    pub runs : new.pcc.tag ≡ true → IsPcc i new.pcc
+    pub live : run ≡ Some t → (n : ℕ) → HasLive i s.objects (register new n)
+    pub stays : (u : ℕ) → run ≡ Some u → s.running ≡ Some u
 
 -- a call whose checks passed: the caller's top frame is g
 pub record Enters (i : Image) (s : State) (t : ℕ) (g : Frame) (gs : List Frame)
@@ -111,7 +111,7 @@ pub record StateFades (i : Image) (s new : State) : Type 0 where
       → (granule new k).cap ≡ (granule s k).cap
   pub domains : (k : ℕ) → (granule new k).cap.tag ≡ true → (d : ℕ)
       → (HeapDomain i s.objects (address_of i k) d → HeapDomain i new.objects (address_of i k) d)
-        × (HeapDomain i new.objects (address_of i k) d → HeapDomain i s.objects (address_of i k) d)
+      × (HeapDomain i new.objects (address_of i k) d → HeapDomain i s.objects (address_of i k) d)
   pub threads : (t : ℕ) → ThreadFades i s.objects new.objects (thread s t) (thread new t)
   pub live : (t : ℕ) → new.running ≡ Some t → (n : ℕ)
       → HasLive i new.objects (register (thread new t) n)

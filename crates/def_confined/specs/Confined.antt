@@ -50,7 +50,7 @@ PostureFits i t [] = Unit {0}
 PostureFits i t (f ∷ fs) =
     t.posture.off ≡ true
     → ((root i t.posture.source).disabled ≡ true)
-      × Reaches i.entries (root i t.posture.source).owner f.actor
+    × Reaches i.entries (root i t.posture.source).owner f.actor
 
 -- part 7, of a program counter
 pub record IsPcc (i : Image) (c : Cap) : Type 0 where

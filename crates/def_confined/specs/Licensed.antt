@@ -15,12 +15,12 @@ use Rattle.def_reach.specs.Sharing.{Reaches}
 abbrev pub IsTrap : ℕ → ℕ → ℕ → Type 0
 IsTrap cause code register =
     (((cause ≡ 0) ⊎ (cause ≡ 2) ⊎ (cause ≡ 3) ⊎ (cause ≡ 4) ⊎ (cause ≡ 6) ⊎ (cause ≡ 11))
-          × (code ≡ 0) × (register ≡ 0))
+    × (code ≡ 0) × (register ≡ 0))
     ⊎ ((cause ≡ 28) × (register ≡ 16)
-          × ((code ≡ 1) ⊎ (code ≡ 2) ⊎ (code ≡ 3) ⊎ (code ≡ 17) ⊎ (code ≡ 24)))
+    × ((code ≡ 1) ⊎ (code ≡ 2) ⊎ (code ≡ 3) ⊎ (code ≡ 17) ⊎ (code ≡ 24)))
     ⊎ ((cause ≡ 28) × (register < 16)
-          × ((code ≡ 1) ⊎ (code ≡ 2) ⊎ (code ≡ 3) ⊎ (code ≡ 17) ⊎ (code ≡ 18) ⊎ (code ≡ 19)
-              ⊎ (code ≡ 21)))
+    × ((code ≡ 1) ⊎ (code ≡ 2) ⊎ (code ≡ 3) ⊎ (code ≡ 17) ⊎ (code ≡ 18) ⊎ (code ≡ 19)
+    ⊎ (code ≡ 21)))
 
 -- a device import that the actor is reached through, with this right, and the access in its range
 abbrev pub IsDeviceAccess : Listed → Deed → ℕ → ℕ → ℕ → Type 0

@@ -106,17 +106,17 @@ pub record Partitioned (i : Image) : Type 0 where
       → x < (root i n).top → AwayFromHeap i x
   pub forwards : (n : ℕ)
       → (cap_seal (made_cap i n) ≡ 1) ⊎ (cap_seal (made_cap i n) ≡ 2)
-        ⊎ (cap_seal (made_cap i n) ≡ 3)
+      ⊎ (cap_seal (made_cap i n) ≡ 3)
       → ((root i n).origin ≡ Listing kind.Library) ⊎ ((root i n).origin ≡ Listing kind.Service)
   pub disables : (n : ℕ) → cap_seal (made_cap i n) ≡ 2
       → ((root i (root i n).of).disabled ≡ true)
-        × ((d : ℕ) → Reaches i.entries (root i n).owner d
-            → Reaches i.entries (root i (root i n).of).owner d)
+      × ((d : ℕ) → Reaches i.entries (root i n).owner d
+      → Reaches i.entries (root i (root i n).of).owner d)
   pub made : (n : ℕ) → is_root (root i n).origin ≡ true → (made_cap i n).tag ≡ true
       → BootMade i n (made_cap i n)
   pub own_code : (b n : ℕ) → (root i n).owner ≡ Compartment b
       → IsOwnEntry i b (code_entry i b) kind.Code
-        × (has (made_cap i (code_entry i b)) execute ≡ true)
+      × (has (made_cap i (code_entry i b)) execute ≡ true)
   pub own_globals : (b n : ℕ) → (root i n).owner ≡ Compartment b
       → IsOwnEntry i b (globals_entry i b) kind.Globals
   pub stacks_are : (n : ℕ) → (root i n).origin ≡ Listing kind.Stack

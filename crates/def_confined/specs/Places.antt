@@ -88,7 +88,7 @@ InRegion i s k (Shared n) g =
 InRegion i s k HeapRam g =
     g.cap.tag ≡ true
     → ((d : ℕ) × HeapDomain i s.objects (address_of i k) d)
-      × Placed i s.objects (HeapDomain i s.objects (address_of i k)) NoStack g.cap
+    × Placed i s.objects (HeapDomain i s.objects (address_of i k)) NoStack g.cap
 InRegion i s k (Stack t) g =
     InFrames i s.objects t (outer (thread s t).frames (address_of i k)) g.cap
 InRegion i s k Bare g = g.cap.tag ≡ false

@@ -28,7 +28,7 @@ abbrev pub target_of : ImportRow → Option Target
 target_of x =
     target_or form.Device x.device (target_or form.Shared x.shared (target_or form.Sealed x.sealed
     (target_or form.Call x.call
-          (target_or form.Service x.service (target_or form.Library x.library None)))))
+    (target_or form.Service x.service (target_or form.Library x.library None)))))
 
 abbrev pub import_of : Data → ImportRow
 import_of d = record {

@@ -15,7 +15,7 @@ is_live_at (r ∷ rs) x =
 abbrev pub is_hidden_at : Image → List Object → ℕ → Bool
 is_hidden_at i objects x =
     (nat_le i.trusted x && nat_lt x (trusted_end i))
-        || (nat_le i.heap_base x && nat_lt x i.heap_end && not (is_live_at objects x))
+    || (nat_le i.heap_base x && nat_lt x i.heap_end && not (is_live_at objects x))
 
 -- a granule that is hidden
 abbrev pub is_hidden : Image → List Object → ℕ → Bool

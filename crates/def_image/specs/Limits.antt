@@ -178,7 +178,7 @@ is_misnamed earlier s =
 unfoldable pub own_slot_limits : ℕ → List RawEntry → RawEntry → List Check
 own_slot_limits at earlier s =
     row_limits at s.row
-        ++ name_checks (at + ROW) (is_misnamed earlier s) (map entry_name earlier) s.name
+    ++ name_checks (at + ROW) (is_misnamed earlier s) (map entry_name earlier) s.name
 
 -- in a library
 unfoldable pub slot_limits : ℕ → List RawEntry → RawEntry → List Check
@@ -189,7 +189,7 @@ slot_limits at earlier s =
 unfoldable pub export_limits : Bounds → ℕ → ℕ → ℕ → List RawEntry → RawEntry → List Check
 export_limits b text entry at earlier x =
     gate_limits b text (entry + length earlier) at x.row
-        ++ name_checks (at + ROW) false (map entry_name earlier) x.name
+    ++ name_checks (at + ROW) false (map entry_name earlier) x.name
 
 -- ---- compartments and libraries
 
@@ -229,20 +229,20 @@ compartment_limits_by entry at seen c =
     ++ code_limits at c.code
     ++ check (at + 52) (outside REGION_UNIT most.MOST_BYTES c.globals_length)
     ∷ check (at + 56)
-        (nat_lt most.MOST_BYTES (length c.initial) || nat_lt c.globals_length (length c.initial))
+    (nat_lt most.MOST_BYTES (length c.initial) || nat_lt c.globals_length (length c.initial))
     ∷ check (at + 60) (outside 1 most.MOST_SLOTS (length c.code.slots))
     ∷ check (at + 64) (nat_lt most.MOST_EXPORTS (length c.code.exports))
     ∷ own_slots_limits (at + COMPARTMENT_HEAD) c.code
     ++ exports_limits compartment_bounds (entry + 2 + length c.code.slots)
     (at + COMPARTMENT_HEAD + entries_size c.code.slots) c.code
     ++ check (at + COMPARTMENT_HEAD + tables_size c.code + length c.initial)
-        (not (are_zeros c.padding))
+    (not (are_zeros c.padding))
     ∷ []
 
 abbrev pub compartment_limits : ℕ → List RawCompartment → RawCompartment → List Check
 compartment_limits at earlier c =
     compartment_limits_by (1 + sum_of compartment_entries earlier) at (map compartment_name earlier)
-        c
+    c
 
 unfoldable pub library_limits_by : ℕ → ℕ → List (List ℕ) → RawCode → List Check
 library_limits_by entry at seen c =
@@ -252,7 +252,7 @@ library_limits_by entry at seen c =
     ∷ check (at + 48) (nat_lt most.MOST_EXPORTS (length c.exports))
     ∷ slots_limits (at + LIBRARY_HEAD) c
     ++ exports_limits library_bounds (entry + 1 + length c.slots)
-        (at + LIBRARY_HEAD + entries_size c.slots) c
+    (at + LIBRARY_HEAD + entries_size c.slots) c
 
 -- the number of the first library's first entry
 abbrev pub first_library_entry : RawImage → ℕ

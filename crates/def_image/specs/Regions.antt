@@ -66,7 +66,7 @@ abbrev pub sealed_regions : ℕ → ℕ → List SealedRow → List RegionRow
 sealed_regions at n [] = []
 sealed_regions at n (s ∷ ss) =
     region (SealedOf n) (at + 32) s.base s.length
-        ∷ sealed_regions (at + sealed_size (raw_sealed s)) (n + 1) ss
+    ∷ sealed_regions (at + sealed_size (raw_sealed s)) (n + 1) ss
 
 abbrev pub compartment_regions : ℕ → ℕ → List CompartmentRow → List RegionRow
 compartment_regions at b [] = []
@@ -80,7 +80,7 @@ abbrev pub library_regions : ℕ → ℕ → List CodeRow → List RegionRow
 library_regions at l [] = []
 library_regions at l (c ∷ cs) =
     region (CodeOf (Library l)) (at + 32) c.base c.length
-        ∷ library_regions (at + library_size (raw_code c)) (l + 1) cs
+    ∷ library_regions (at + library_size (raw_code c)) (l + 1) cs
 
 abbrev pub stack_regions : ℕ → ℕ → List ThreadRow → List RegionRow
 stack_regions at t [] = []

@@ -36,7 +36,7 @@ shared_spelled s = s.name ++ number s.base ++ number s.length
 abbrev pub sealed_spelled : RawSealed → List ℕ
 sealed_spelled s =
     s.name ++ number s.base ++ number s.length ++ number s.seal ++ count s.bytes ++ s.bytes
-        ++ s.padding
+    ++ s.padding
 
 -- slots, exports and text
 abbrev pub tables_spelled : RawCode → List ℕ

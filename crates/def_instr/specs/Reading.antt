@@ -51,7 +51,7 @@ abbrev pub jump_offset : Fields → ℕ
 jump_offset f =
     extended 21
     (f.rs2 / 2 * 2 + f.funct7 % 2 ^ 6 * 2 ^ 5 + f.rs2 % 2 * 2 ^ 11 + f.funct3 * 2 ^ 12
-        + f.rs1 * 2 ^ 15 + f.funct7 / 2 ^ 6 * 2 ^ 20)
+    + f.rs1 * 2 ^ 15 + f.funct7 / 2 ^ 6 * 2 ^ 20)
 
 abbrev pub upper_immediate : Fields → ℕ
 upper_immediate f = f.funct3 + f.rs1 * 2 ^ 3 + f.rs2 * 2 ^ 8 + f.funct7 * 2 ^ 13
@@ -189,8 +189,8 @@ system_of f =
     if f.funct3 == 0 then call_of f else
     if f.funct3 == 4 then None else
     if one_small f.rd && (nat_le 5 f.funct3 || nat_lt f.rs1 16)
-          then Some (Csr f.funct3 f.rd f.rs1 (low_immediate f))
-        else None
+    then Some (Csr f.funct3 f.rd f.rs1 (low_immediate f))
+    else None
 
 abbrev pub one_source_of : Fields → Option Instr
 one_source_of f =

@@ -78,7 +78,7 @@ abbrev pub IsCsr : ℕ → ℕ → ℕ → ℕ → Type 0
 IsCsr function rd source number =
     IsRegister rd
     × (((1 ≤ function) × (function ≤ 3) × IsRegister source)
-        ⊎ ((5 ≤ function) × (function ≤ 7) × (source < 32)))
+    ⊎ ((5 ≤ function) × (function ≤ 7) × (source < 32)))
     × (number < 2 ^ 12)
 
 -- the immediate of an operation with a number

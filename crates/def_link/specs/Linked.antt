@@ -97,7 +97,7 @@ unfoldable pub compartment_parts : DescRow → ℕ → List Region → List Buil
 compartment_parts d entry regions [] = []
 compartment_parts d entry regions (x ∷ xs) =
     compartment_part d entry regions x
-        ∷ compartment_parts d (entry + compartment_entries x) (drop 3 regions) xs
+    ∷ compartment_parts d (entry + compartment_entries x) (drop 3 regions) xs
 
 -- code, slots, exports
 abbrev pub library_part : DescRow → ℕ → List Region → BuiltLibrary → CodePart
@@ -122,7 +122,7 @@ unfoldable pub shared_parts : List Region → List SharedRow → List SharedPart
 shared_parts regions [] = []
 shared_parts regions (s ∷ ss) =
     record { name = s.name; base = base_at regions 0; length = length_at regions 0 }
-        ∷ shared_parts (drop 1 regions) ss
+    ∷ shared_parts (drop 1 regions) ss
 
 unfoldable pub sealed_parts : List Region → List SealedRow → List SealedPart
 sealed_parts regions [] = []

@@ -154,4 +154,4 @@ unfoldable pub all_built : List Unit → List (List ℕ) → Result (List Built)
 all_built [] sources = Ok []
 all_built (u ∷ us) sources =
     with_front (unit_built u (source_for u.code.file sources))
-        (all_built us (rest_of u.code.file sources))
+    (all_built us (rest_of u.code.file sources))

@@ -29,17 +29,17 @@ pub record Fits (i : Image) (objects : List Object) (length base : ℕ) : Type 0
   pub high : base + length ≤ i.heap_end
   pub apart : Each
       (λ q.
-          ApartFrom
-          (record {
-            number = 0;
-            quota = 0;
-            base = base;
-            length = length;
-            charge = 0;
-            live = true;
-            painted = false;
-          })
-          q)
+      ApartFrom
+      (record {
+        number = 0;
+        quota = 0;
+        base = base;
+        length = length;
+        charge = 0;
+        live = true;
+        painted = false;
+      })
+      q)
       objects
 
 -- the least lawful place
@@ -55,7 +55,7 @@ is_apart length base q =
 abbrev pub is_place : Image → List Object → ℕ → ℕ → Bool
 is_place i objects length base =
     (base % 8 == 0) && (base % alignment_of length == 0) && nat_le (i.heap_base + CHUNK_HEAD) base
-        && nat_le (base + length) i.heap_end && list_all (is_apart length base) objects
+    && nat_le (base + length) i.heap_end && list_all (is_apart length base) objects
 
 abbrev pub place_of : Image → List Object → ℕ → Option ℕ
 place_of i objects length =

@@ -31,7 +31,7 @@ part_of word from width = word / 2 ^ (8 * from) % 2 ^ (8 * width)
 abbrev pub with_part : ℕ → ℕ → ℕ → ℕ → ℕ
 with_part word from width value =
     word / 2 ^ (8 * (from + width)) * 2 ^ (8 * (from + width))
-        + value % 2 ^ (8 * width) * 2 ^ (8 * from) + word % 2 ^ (8 * from)
+    + value % 2 ^ (8 * width) * 2 ^ (8 * from) + word % 2 ^ (8 * from)
 
 abbrev pub loaded : List Granule → ℕ → ℕ → ℕ
 loaded gs at width = part_of (granule_at gs (at / 8)).cap.word (at % 8) width
@@ -40,10 +40,10 @@ loaded gs at width = part_of (granule_at gs (at / 8)).cap.word (at % 8) width
 abbrev pub stored : List Granule → ℕ → ℕ → ℕ → List Granule
 stored gs at width value =
     slice_set gs (at / 8)
-        (record {
-          cap = plain (with_part (granule_at gs (at / 8)).cap.word (at % 8) width value);
-          mark = (granule_at gs (at / 8)).mark;
-        })
+    (record {
+      cap = plain (with_part (granule_at gs (at / 8)).cap.word (at % 8) width value);
+      mark = (granule_at gs (at / 8)).mark;
+    })
 
 abbrev pub loaded_cap : List Granule → ℕ → Cap
 loaded_cap gs at = (granule_at gs (at / 8)).cap

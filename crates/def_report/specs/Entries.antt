@@ -68,7 +68,7 @@ abbrev pub import_line : List DeviceRow → ℕ → CompartmentRow → ImportRow
 import_line devices i c x =
     line_of
     (entry_of (owner.Compartment i) kind.Device (device_base devices x.device) 16
-        (device_rights x.rights) (device_index devices x.device))
+    (device_rights x.rights) (device_index devices x.device))
     c.name x.alias x.device
 
 -- an export gives its row of 16 bytes in the export table, after the table's head
@@ -85,7 +85,7 @@ exports_from i c j (x ∷ xs) = export_line i c j x ∷ exports_from i c (j + 1)
 abbrev pub compartment_lines : List DeviceRow → ℕ → CompartmentRow → List LineRow
 compartment_lines devices i c =
     code_line i c ∷ globals_line i c ∷ switch_line i c ∷ map (import_line devices i c) c.imports
-        ++ exports_from i c 0 c.exports
+    ++ exports_from i c 0 c.exports
 
 abbrev pub compartments_from : List DeviceRow → ℕ → List CompartmentRow → List LineRow
 compartments_from devices i [] = []

@@ -115,7 +115,7 @@ pub record Nameless (devices : List DeviceRow) (rows : List Row) (text : List �
 abbrev pub Breaks : List DeviceRow → List Row → List ℕ → ℕ → Type 0
 Breaks devices rows text number =
     ((number ≡ 1) × NoLine text) ⊎ ((number ≡ 2) × Falls rows text)
-        ⊎ ((number ≡ 3) × Nameless devices rows text)
+    ⊎ ((number ≡ 3) × Nameless devices rows text)
 
 -- the lines before this one are a script, and this one breaks a rule: the least line, on it the least number
 pub record IsFault (devices : List DeviceRow) (text : List ℕ) (number line : ℕ) : Type 0 where

@@ -91,7 +91,7 @@ abbrev pub digits_of : (ℕ → Bool) → ℕ → ℕ → List ℕ → Option �
 digits_of test base most [] = None
 digits_of test base most (c ∷ cs) =
     if list_all test (c ∷ cs) && nat_le (value_from base 0 (c ∷ cs)) most
-      then Some (value_from base 0 (c ∷ cs))
+    then Some (value_from base 0 (c ∷ cs))
     else None
 
 abbrev pub positive : ℕ → Number
@@ -105,13 +105,13 @@ abbrev pub number_of : List ℕ → Option Number
 number_of [] = None
 number_of (c ∷ cs) =
     if c == 45 then option_map negative (digits_of is_digit 10 (2 ^ 127) cs)
-        else hexadecimal_or_decimal c cs
+    else hexadecimal_or_decimal c cs
   where
     hexadecimal_or_decimal : ℕ → List ℕ → Option Number
     hexadecimal_or_decimal c [] = option_map positive (digits_of is_digit 10 (2 ^ 128 - 1) (c ∷ []))
     hexadecimal_or_decimal c (d ∷ ds) =
         if c == 48 && d == 120
-            then option_map positive (digits_of is_hexadecimal 16 (2 ^ 128 - 1) ds)
+        then option_map positive (digits_of is_hexadecimal 16 (2 ^ 128 - 1) ds)
         else option_map positive (digits_of is_digit 10 (2 ^ 128 - 1) (c ∷ d ∷ ds))
 
 -- the token that a piece is: a mark, a directive word, a name or a number

@@ -194,10 +194,10 @@ text_from f x b (text ∷ texts) =
 abbrev pub boot_word : FirmwareRow → ℕ → ℕ
 boot_word f x =
     if not (export_at f x == 0)
-        then export_first f (gate_for f.entries.gates (export_at f x))
-          (root_of f.entries (export_at f x)).owner
+    then export_first f (gate_for f.entries.gates (export_at f x))
+    (root_of f.entries (export_at f x)).owner
     else if nat_le 8 x && not (export_at f (x - 8) == 0)
-        then export_second (gate_for f.entries.gates (export_at f (x - 8)))
+    then export_second (gate_for f.entries.gates (export_at f (x - 8)))
     else text_from f x 0 f.texts
 
 -- Tagged are the slots, the heads of export tables, and the return sentry in the trusted region's first
@@ -254,7 +254,7 @@ abbrev pub region_at : FirmwareRow → ℕ → Region
 region_at f x =
     if (f.trusted == x) || is_table_from f x 0 f.tables then Fixed
     else region_in f.entries.rows x
-        (if is_covered f.heap (f.ram + f.size - f.heap) x then HeapRam else Bare)
+    (if is_covered f.heap (f.ram + f.size - f.heap) x then HeapRam else Bare)
 
 abbrev pub regions_from : FirmwareRow → ℕ → ℕ → List Region
 regions_from f x zero = []

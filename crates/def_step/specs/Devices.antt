@@ -59,7 +59,7 @@ abbrev pub value_read : DeviceState → ℕ → ℕ → ℕ → ℕ
 value_read d offset width time =
     if width == 8
     then part_read d offset 4 time
-        + part_read (after_read d (offset / 4)) (offset + 4) 4 time * 2 ^ 32
+    + part_read (after_read d (offset / 4)) (offset + 4) 4 time * 2 ^ 32
     else part_read d offset width time
 
 abbrev pub left_by_read : DeviceState → ℕ → ℕ → DeviceState
@@ -117,7 +117,7 @@ bank_read_at k None address width = k
 bank_read_at k (Some n) address width =
     record k {
       states =
-        slice_set k.states n (left_by_read (device k.states n) (address - base_of k.bases n) width);
+          slice_set k.states n (left_by_read (device k.states n) (address - base_of k.bases n) width);
     }
 
 abbrev pub bank_read : Bank → ℕ → ℕ → Bank
@@ -128,8 +128,8 @@ bank_written_at k None address width value = k
 bank_written_at k (Some n) address width value =
     record k {
       states =
-        slice_set k.states n
-        (left_by_write (device k.states n) (address - base_of k.bases n) width value);
+          slice_set k.states n
+          (left_by_write (device k.states n) (address - base_of k.bases n) width value);
     }
 
 abbrev pub bank_written : Bank → ℕ → ℕ → ℕ → Bank

@@ -48,7 +48,7 @@ pair low high = low + high * 2 ^ 32
 abbrev pub record_words : Thread → Trap → List ℕ
 record_words old why =
     map (λ n. pair (cap_address (register old (2 * n))) (cap_address (register old (2 * n + 1))))
-        (range_with_len 0 8)
+    (range_with_len 0 8)
     ++ pair (cap_address old.pcc) why.cause ∷ pair why.code why.register ∷ []
 
 -- plain words one after another, from a granule on

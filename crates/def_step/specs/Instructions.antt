@@ -117,15 +117,18 @@ fetch_checks pcc =
     (pcc.tag, capability_trap TAG_CODE PCC_REGISTER)
     ∷ (is_unsealed pcc, capability_trap SEAL_CODE PCC_REGISTER)
     ∷ (has pcc execute, capability_trap EXECUTE_CODE PCC_REGISTER)
-    ∷ (is_range_inside pcc (cap_address pcc) (cap_address pcc + 4), capability_trap BOUNDS_CODE
-          PCC_REGISTER)
+    ∷ (
+      is_range_inside pcc (cap_address pcc) (cap_address pcc + 4),
+      capability_trap BOUNDS_CODE
+          PCC_REGISTER,
+    )
     ∷ []
 
 -- the word at an address; what isn't an aligned word of RAM is no instruction, and no pcc leads there
 abbrev pub fetched : Space → ℕ → ℕ
 fetched p at =
     if nat_le p.ram at && nat_le (at + 4) (p.ram + 8 * length p.granules) && (at % 4 == 0)
-      then loaded p.granules (at - p.ram) 4
+    then loaded p.granules (at - p.ram) 4
     else 0
 
 -- the entry of a native routine that a slot may name, or of the return
@@ -180,9 +183,11 @@ deed s t entry act = record {
 
 -- a trap unwinds, in the same step
 abbrev pub trapped : Board → State → ℕ → trap_words.Trap → State × Option Deed
-trapped b s t why =
-    (unwound b.image s t (thread s t).frames, Some
-      (deed s t 0 (Trap why.cause why.code why.register)))
+trapped b s t why = (
+  unwound b.image s t (thread s t).frames,
+  Some
+      (deed s t 0 (Trap why.cause why.code why.register)),
+)
 
 abbrev pub put_done : State → ℕ → Done → State
 put_done s t d = record s {
@@ -203,7 +208,7 @@ abbrev pub instructed : Board → State → ℕ → Instr → State × Option De
 instructed b s t i =
     ends b s t (operand s t (operands_of i).first)
     (carried_out (class_of i) i (operands_of i).to (operand s t (operands_of i).first)
-          (operand s t (operands_of i).second) (around b s t))
+    (operand s t (operands_of i).second) (around b s t))
 
 abbrev pub goes_on : Board → State → ℕ → Next → State × Option Deed
 goes_on b s t Returning = (returned b.image s t (thread s t).frames, None)

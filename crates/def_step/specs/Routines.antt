@@ -61,8 +61,8 @@ checked cs ran = by_failed (first_failed cs) ran
 abbrev pub enters : Image → State → ℕ → ℕ → ℕ → ℕ → Ran
 enters i s t callee export high = Leaves
     (switched i s t high
-          (entered i (thread s t) callee export high (given i (thread s t) t callee export high))
-          s.running)
+    (entered i (thread s t) callee export high (given i (thread s t) t callee export high))
+    s.running)
     (Some ((register (thread s t) 6).shadow.root, Call export))
 
 abbrev pub switched_to : Image → State → ℕ → Switched → Ran
@@ -76,7 +76,7 @@ abbrev pub switch : Image → State → ℕ → Ran
 switch i s t =
     switched_to i s t
     (switch_of i.entries (stack_base i t) (frame_top (thread s t).frames) (frames_most i t)
-        (thread s t))
+    (thread s t))
 
 -- ---- 2 and 3, yield and sleep
 
@@ -108,8 +108,11 @@ word_checks i s c =
     (c.tag, capability_trap TAG_CODE 10)
     ∷ (is_unsealed c, capability_trap SEAL_CODE 10)
     ∷ (has c load_data, capability_trap LOAD_CODE 10)
-    ∷ (is_range_inside c (cap_address c) (cap_address c + 4)
-          && lies_in_ram i s (cap_address c) 4, capability_trap BOUNDS_CODE 10)
+    ∷ (
+      is_range_inside c (cap_address c) (cap_address c + 4)
+          && lies_in_ram i s (cap_address c) 4,
+      capability_trap BOUNDS_CODE 10,
+    )
     ∷ (cap_address c % 4 == 0, plain_trap MISALIGNED_LOAD)
     ∷ []
 
@@ -123,8 +126,8 @@ wait i s t =
     checked (return_checks (register (thread s t) 1))
     (checked (word_checks i s (register (thread s t) 10))
     (waits s t (cap_address (register (thread s t) 10))
-          (loaded s.granules (cap_address (register (thread s t) 10) - i.ram) 4)
-          (cap_address (register (thread s t) 11))))
+    (loaded s.granules (cap_address (register (thread s t) 10) - i.ram) 4)
+    (cap_address (register (thread s t) 11))))
 
 -- so many threads are woken, and the answer is how many
 abbrev pub wakes : State → ℕ → ℕ → ℕ → State
@@ -139,6 +142,6 @@ wake i s t =
     checked (return_checks (register (thread s t) 1))
     (checked (word_checks i s (register (thread s t) 10))
     (Leaves
-          (wakes s t (cap_address (register (thread s t) 10))
-              (cap_address (register (thread s t) 11)))
-          None))
+    (wakes s t (cap_address (register (thread s t) 10))
+    (cap_address (register (thread s t) 11)))
+    None))

@@ -84,8 +84,8 @@ by_key s t (Some key) ran = ran key.number
 abbrev pub token_new : Image → State → ℕ → Ran
 token_new i s t = by_quota s t (by_key s t (key_of s (register (thread s t) 12))
     (λ key.
-          made_token s t (Some key)
-          (allocation i s (quota_in s t) (cap_address (register (thread s t) 11)))))
+    made_token s t (Some key)
+    (allocation i s (quota_in s t) (cap_address (register (thread s t) 11)))))
 
 -- ---- 11, token_open
 

@@ -89,7 +89,7 @@ with_bounds c length =
 unfoldable pub with_exact_bounds : Cap → ℕ → Cap
 with_exact_bounds c length = cap_of
     (c.tag && is_unsealed c && is_range_inside c (cap_address c) (cap_address c + length)
-          && (rounded_of (cap_address c) (end_at (cap_address c) length)).exact)
+    && (rounded_of (cap_address c) (end_at (cap_address c) length)).exact)
     (word_bounded c length) c.shadow
 
 -- ---- permissions
@@ -112,9 +112,9 @@ word_sealed c field = word_of (with_seal_field (cap_high c) field) (cap_address 
 unfoldable pub sealed_by : Cap → Cap → Cap
 sealed_by c key = cap_of
     (c.tag && key.tag && is_unsealed c && is_unsealed key && has key sealing
-          && is_inside key (cap_address key) && is_key_type (has c execute) (cap_address key))
+    && is_inside key (cap_address key) && is_key_type (has c execute) (cap_address key))
     (if is_key_type (has c execute) (cap_address key) then word_sealed c (cap_address key % 8)
-          else c.word)
+    else c.word)
     c.shadow
 
 -- the six bits without `global` where the key lacks it
@@ -125,9 +125,9 @@ bits_through c key =
 unfoldable pub unsealed_by : Cap → Cap → Cap
 unsealed_by c key = cap_of
     (c.tag && key.tag && not (is_unsealed c) && is_unsealed key && has key unsealing
-          && is_inside key (cap_address key) && (cap_seal c == cap_address key))
+    && is_inside key (cap_address key) && (cap_seal c == cap_address key))
     (word_of (with_permission_bits (with_seal_field (cap_high c) 0) (bits_through c key))
-          (cap_address c))
+    (cap_address c))
     c.shadow
 
 -- ---- the rest

@@ -29,6 +29,6 @@ sealed_as c kind = if kind == 0 then c else cap_of c.tag (word_sealed c (kind % 
 unfoldable pub derive : ℕ → ℕ → ℕ → ℕ → ℕ → ℕ → Shadow → Cap
 derive high base length set address kind from =
     sealed_as
-        (with_address
-            (masked (with_exact_bounds (with_address (root_cap high from) base) length) set) address)
-        kind
+    (with_address
+    (masked (with_exact_bounds (with_address (root_cap high from) base) length) set) address)
+    kind

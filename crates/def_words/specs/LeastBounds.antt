@@ -63,14 +63,13 @@ IsInside address r = (r.base ≤ address) × (address ≤ r.top)
 -- of any word with these fields, whatever stands above them
 abbrev pub GivesBack : ℕ → ℕ → Type 0
 GivesBack base top =
-    (rest address : ℕ) → address < 2 ^ 32 → IsInside address (rounded_of base top) →
-    (base_of (rest * 2 ^ 22 + (rounded_of base top).fields) address ≡ (rounded_of base top).base)
+    (rest address : ℕ) → address < 2 ^ 32 → IsInside address (rounded_of base top)
+    → (base_of (rest * 2 ^ 22 + (rounded_of base top).fields) address ≡ (rounded_of base top).base)
     × (top_of (rest * 2 ^ 22 + (rounded_of base top).fields) address ≡ (rounded_of base top).top)
 
 -- in whatever bounds of a word the range lies, lawful or not, its rounded bounds lie in them too
 abbrev pub StaysInside : ℕ → ℕ → Type 0
 StaysInside base top =
     (high address : ℕ) → address < 2 ^ 32 → base_of high address ≤ base → top ≤ top_of high address
-    →
-    (base_of high address ≤ (rounded_of base top).base)
-        × ((rounded_of base top).top ≤ top_of high address)
+    → (base_of high address ≤ (rounded_of base top).base)
+    × ((rounded_of base top).top ≤ top_of high address)

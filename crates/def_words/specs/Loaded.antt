@@ -11,7 +11,7 @@ abbrev pub lost_through : Cap → Cap → List ℕ
 lost_through by c =
     if is_unsealed c
     then (if has by load_mutable then [] else store_data ∷ load_mutable ∷ [])
-        ++ (if has by load_global then [] else global ∷ load_global ∷ [])
+    ++ (if has by load_global then [] else global ∷ load_global ∷ [])
     else (if has by load_global then [] else global ∷ [])
 
 -- Every word that is loaded as a capability, tagged or not, is so attenuated; the tag goes where the

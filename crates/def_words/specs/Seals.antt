@@ -40,7 +40,7 @@ posture_through before kind named kept =
     if kind == SENTRY_DISABLE then record { off = true; source = named }
     else if kind == RETURN_DISABLE then record { off = true; source = kept }
     else if (kind == SENTRY_ENABLE) || (kind == RETURN_ENABLE)
-        then record { off = false; source = 0 }
+    then record { off = false; source = 0 }
     else before
 
 -- Which key addresses are types of a value's kind: these seal. A key opens the type that its address is.

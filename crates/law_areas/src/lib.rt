@@ -23,7 +23,7 @@ pub fn written_frames()
         → frame_place area (depth + 1) ≤ length gs
         → frames_in (holding_all gs (frame_place area depth)
         (frame_words (c1 ∷ c2 ∷ c3 ∷ c8 ∷ c9 ∷ []) export actor top handling)) area own high false (depth
-          + 1)
+        + 1)
         ≡ record { actor = own; export = export; top = high; handling = false; c1 = c1; c2 = c2; c3 = c3; c8 = c8; c9 = c9 }
         ∷ frames_in gs area actor top handling depth }
 {}

@@ -14,7 +14,7 @@ Decodes [] bytes = bytes ≡ []
 Decodes (i ∷ is) bytes =
     (w : ℕ)
     × ((rest : List ℕ)
-        × ((bytes ≡ word_bytes w ++ rest) × (instruction_in w ≡ Some i) × Decodes is rest))
+    × ((bytes ≡ word_bytes w ++ rest) × (instruction_in w ≡ Some i) × Decodes is rest))
 
 -- a statement that is an instruction or a pseudo instruction: no label, no section, no plain bytes
 abbrev pub is_instruction : Part Name → Bool

@@ -20,7 +20,7 @@ use Rattle.def_object.specs.Object.{high_piece, low_piece, way}
 abbrev pub effect : Space → Thread → Instr → Result Done Trap
 effect p w i =
     carried_out (class_of i) i (operands_of i).to (register w (operands_of i).first)
-        (register w (operands_of i).second)
+    (register w (operands_of i).second)
     (record { pcc = w.pcc; posture = w.posture; space = p })
 
 abbrev pub onward : Thread → Result Done Trap → Thread

@@ -31,8 +31,8 @@ IsWritten (Towards (target.Label n)) ts = ts ≡ token.Name n ∷ []
 IsWritten (Towards (target.Offset n)) ts = ts ≡ token.Number n ∷ []
 IsWritten (Address n r) ts =
     (m : Name)
-        × ((ts ≡ token.Number n ∷ token.Open ∷ token.Name m ∷ token.Close ∷ [])
-            × (register_of m ≡ Some r))
+    × ((ts ≡ token.Number n ∷ token.Open ∷ token.Name m ∷ token.Close ∷ [])
+    × (register_of m ≡ Some r))
 
 -- operands in a row, a comma between each two
 abbrev pub AreWritten : List Operand → Row → Type 0
@@ -40,8 +40,8 @@ AreWritten [] ts = ts ≡ []
 AreWritten (o ∷ []) ts = IsWritten o ts
 AreWritten (o ∷ p ∷ os) ts =
     (front : Row)
-        × ((rest : Row)
-            × ((ts ≡ front ++ token.Comma ∷ rest) × IsWritten o front × AreWritten (p ∷ os) rest))
+    × ((rest : Row)
+    × ((ts ≡ front ++ token.Comma ∷ rest) × IsWritten o front × AreWritten (p ∷ os) rest))
 
 -- the operands of a statement, in the order in which they stand
 abbrev pub operands : Part Name → List Operand

@@ -54,5 +54,5 @@ pub fn ways_lead_there()
         → LeadsToSlot p w rd at to }
     ensures import { (slots : List Name) (at rd : ℕ) (name : Name)
         → import_instructions slots at rd name
-          ≡ to_slot rd (8 * length slots + at) (8 * slot_number (slot_of slots name)) }
+        ≡ to_slot rd (8 * length slots + at) (8 * slot_number (slot_of slots name)) }
 {}

@@ -85,7 +85,7 @@ pub data EntryIs (f : FirmwareRow) (cs : List Share) (ss : List StackRange) (n :
   is_switch : (b : ℕ) (c : Share) → HasShare f cs b c → n ≡ code_number f b + 2
       → HasRow f n (switch_row b) → EntryIs f cs ss n
   is_import : (b : ℕ) (c : Share) (j : ℕ) (d : DeviceImport) → HasShare f cs b c
-  → slice_get c.imports j ≡ Some d → n ≡ code_number f b + 3 + j
+      → slice_get c.imports j ≡ Some d → n ≡ code_number f b + 3 + j
       → HasRow f n (device_row b d) → EntryIs f cs ss n
   is_export : IsExportOf f cs n → EntryIs f cs ss n
   is_stack : (t : ℕ) (s : StackRange) → HasStack f ss t s → n ≡ stack_number f t

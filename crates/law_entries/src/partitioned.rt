@@ -18,7 +18,7 @@ ghost use Rattle.def_words.specs.Seals.{cap_seal};
 pub fn rows_partition()
     ensures even { (f : FirmwareRow) → IsLawfulFirmware f
         → ((image_of f).ram % 8 ≡ 0) × ((image_of f).heap_base % 8 ≡ 0)
-          × ((image_of f).heap_end % 8 ≡ 0) }
+        × ((image_of f).heap_end % 8 ≡ 0) }
     ensures heap_small { (f : FirmwareRow) → IsLawfulFirmware f → (image_of f).heap_end ≤ 2 ^ 32 }
     ensures libraries { (f : FirmwareRow) → IsLawfulFirmware f → (n : ℕ)
         → (root (image_of f) n).origin ≡ Listing kind.Library
@@ -32,7 +32,7 @@ pub fn rows_partition()
     ensures keys { (f : FirmwareRow) → IsLawfulFirmware f → (n : ℕ)
         → is_root (root (image_of f) n).origin ≡ true
         → (bit (root (image_of f) n).rights sealing ≡ true)
-          ⊎ (bit (root (image_of f) n).rights unsealing ≡ true)
+        ⊎ (bit (root (image_of f) n).rights unsealing ≡ true)
         → 13 ≤ (root (image_of f) n).base }
     ensures executes { (f : FirmwareRow) → IsLawfulFirmware f → (n : ℕ)
         → is_root (root (image_of f) n).origin ≡ true
@@ -59,18 +59,18 @@ pub fn made_partition()
         → (made_cap (image_of f) n).tag ≡ true → BootMade (image_of f) n (made_cap (image_of f) n) }
     ensures forwards { (f : FirmwareRow) → IsLawfulFirmware f → (n : ℕ)
         → (cap_seal (made_cap (image_of f) n) ≡ 1) ⊎ (cap_seal (made_cap (image_of f) n) ≡ 2)
-          ⊎ (cap_seal (made_cap (image_of f) n) ≡ 3)
+        ⊎ (cap_seal (made_cap (image_of f) n) ≡ 3)
         → ((root (image_of f) n).origin ≡ Listing kind.Library)
-          ⊎ ((root (image_of f) n).origin ≡ Listing kind.Service) }
+        ⊎ ((root (image_of f) n).origin ≡ Listing kind.Service) }
     ensures disables { (f : FirmwareRow) → IsLawfulFirmware f → (n : ℕ)
         → cap_seal (made_cap (image_of f) n) ≡ 2
         → ((root (image_of f) (root (image_of f) n).of).disabled ≡ true)
         × ((d : ℕ) → Reaches (image_of f).entries (root (image_of f) n).owner d
-            → Reaches (image_of f).entries (root (image_of f) (root (image_of f) n).of).owner d) }
+        → Reaches (image_of f).entries (root (image_of f) (root (image_of f) n).of).owner d) }
     ensures own_code { (f : FirmwareRow) → IsLawfulFirmware f → (b n : ℕ)
         → (root (image_of f) n).owner ≡ owner.Compartment b
         → IsOwnEntry (image_of f) b (code_entry (image_of f) b) kind.Code
-          × (has (made_cap (image_of f) (code_entry (image_of f) b)) execute ≡ true) }
+        × (has (made_cap (image_of f) (code_entry (image_of f) b)) execute ≡ true) }
     ensures own_globals { (f : FirmwareRow) → IsLawfulFirmware f → (b n : ℕ)
         → (root (image_of f) n).owner ≡ owner.Compartment b
         → IsOwnEntry (image_of f) b (globals_entry (image_of f) b) kind.Globals }
@@ -83,5 +83,5 @@ pub fn roots_away()
     ensures { (f : FirmwareRow) → IsLawfulFirmware f → (n : ℕ)
         → is_root (root (image_of f) n).origin ≡ true
         → ((root (image_of f) n).top ≤ (image_of f).heap_base)
-          ⊎ ((image_of f).heap_end ≤ (root (image_of f) n).base) }
+        ⊎ ((image_of f).heap_end ≤ (root (image_of f) n).base) }
 {}

@@ -12,7 +12,7 @@ pub fn parts_fit()
     ensures share { (f : FirmwareRow) (l : IsLawfulFirmware f) (b : ℕ) (c : Share)
         → slice_get l.shares b ≡ Some c → ShareFits f c }
     ensures import { (f : FirmwareRow) (l : IsLawfulFirmware f) (b : ℕ) (c : Share) (j : ℕ)
-          (d : DeviceImport)
+        (d : DeviceImport)
         → slice_get l.shares b ≡ Some c → slice_get c.imports j ≡ Some d → ImportFits f d }
     ensures stack { (f : FirmwareRow) (l : IsLawfulFirmware f) (t : ℕ) (s : StackRange)
         → slice_get l.stacks t ≡ Some s → StackFits f s }
@@ -24,14 +24,14 @@ pub fn makes_stand()
     ensures code { (f : FirmwareRow) (l : IsLawfulFirmware f) (b : ℕ) (c : Share)
         → slice_get l.shares b ≡ Some c
         → MadeAs (code_number f b) c.code (c.code + code_length c) 363 c.code 0
-          (made_for f (code_number f b)) }
+        (made_for f (code_number f b)) }
     ensures globals { (f : FirmwareRow) (l : IsLawfulFirmware f) (b : ℕ) (c : Share)
         → slice_get l.shares b ≡ Some c
         → MadeAs (globals_number f b) c.globals (c.globals + c.globals_length) 111 c.globals 0
-          (made_for f (globals_number f b)) }
+        (made_for f (globals_number f b)) }
     ensures stack { (f : FirmwareRow) (l : IsLawfulFirmware f) (t : ℕ) (s : StackRange)
         → slice_get l.stacks t ≡ Some s
         → MadeAs (stack_number f t) s.base (s.base + s.size) 126 (s.base + s.size) 0
-          (made_for f (stack_number f t)) }
+        (made_for f (stack_number f t)) }
     ensures sentry { MadeAs 0 65552 65560 353 65552 5 return_sentry }
 {}

@@ -31,7 +31,7 @@ pub fn plain_stores()
     ensures commute { (gs : List Granule) (at width value other span more : ℕ)
         → at / 8 < length gs → Disjoint at width other span
         → stored (stored gs at width value) other span more
-          ≡ stored (stored gs other span more) at width value }
+        ≡ stored (stored gs other span more) at width value }
 {}
 
 /// A capability that was stored is loaded, its bytes are those of its word, and every other granule and
@@ -56,7 +56,7 @@ pub fn capability_stores()
         → at % 8 ≡ 0 → 0 < span
         → Disjoint at 8 other span
         → stored (stored_cap gs at c) other span more
-          ≡ stored_cap (stored gs other span more) at c }
+        ≡ stored_cap (stored gs other span more) at c }
 {}
 
 /// Bytes are little-endian: the first byte is the lowest of what is loaded.
@@ -65,8 +65,8 @@ pub fn byte_order()
         → loaded gs at 2 ≡ byte_at gs at + 256 * byte_at gs (at + 1) }
     ensures four { (gs : List Granule) (at : ℕ) → at % 4 ≡ 0
         → loaded gs at 4
-          ≡ byte_at gs at + 256 * byte_at gs (at + 1) + 65536 * byte_at gs (at + 2)
-            + 16777216 * byte_at gs (at + 3) }
+        ≡ byte_at gs at + 256 * byte_at gs (at + 1) + 65536 * byte_at gs (at + 2)
+        + 16777216 * byte_at gs (at + 3) }
 {}
 
 /// What clearing and marking a range must leave is one list; of the next tagged granule there is

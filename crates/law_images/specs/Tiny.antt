@@ -161,7 +161,7 @@ slot_named j field = raw_with (record raw_app {
   code =
       record raw_app.code {
         slots =
-          slice_set raw_app.code.slots j (record (member raw_app.code.slots j) { name = field });
+            slice_set raw_app.code.slots j (record (member raw_app.code.slots j) { name = field });
       };
 })
 

@@ -30,13 +30,13 @@ pub fn upgraded_fail()
     ensures wider_rate { first (limit_checks (raw_of (record (upgraded tiny) { sweep = 65537 })))
         ≡ Some 52 }
     ensures widest_ram { first
-          (limit_checks (raw_of (record (upgraded tiny) { ram = 0x80000000; size = 0x4000000 })))
+        (limit_checks (raw_of (record (upgraded tiny) { ram = 0x80000000; size = 0x4000000 })))
         ≡ None }
     ensures wider_ram { first
-          (limit_checks (raw_of (record (upgraded tiny) { size = 0x4000010 })))
+        (limit_checks (raw_of (record (upgraded tiny) { size = 0x4000010 })))
         ≡ Some 40 }
     ensures first_ram { first (limit_checks (raw_of (record tiny { size = 0x800010 }))) ≡ Some 40 }
     ensures globals { first
-          (region_checks (upgraded (with_app (record app { globals = 0x80000030 }))))
+        (region_checks (upgraded (with_app (record app { globals = 0x80000030 }))))
         ≡ Some 176 }
 {}

@@ -18,13 +18,13 @@ IsRunnable p = p.tag ≡ true → (cap_seal p ≡ 0) × (has p execute ≡ true)
 
 -- a capability of thread t, held by the first of these frames, that is tagged and executable
 pub record MayJump (i : Image) (objects : List Object) (t : ℕ) (fs : List Frame) (x : Cap) : Type 0
-    where
-  pub there : InFrames i objects t fs x
-  pub tagged : x.tag ≡ true
-  pub executes : has x execute ≡ true
+  where
+    pub there : InFrames i objects t fs x
+    pub tagged : x.tag ≡ true
+    pub executes : has x execute ≡ true
 
 -- a program counter of thread t, held by the first of these frames
 pub record Lands (i : Image) (objects : List Object) (t : ℕ) (fs : List Frame) (p : Cap) : Type 0
-    where
-  pub there : InFrames i objects t fs p
-  pub runs : p.tag ≡ true → IsPcc i p
+  where
+    pub there : InFrames i objects t fs p
+    pub runs : p.tag ≡ true → IsPcc i p

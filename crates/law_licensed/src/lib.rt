@@ -31,7 +31,7 @@ pub fn deeds_licensed()
     ensures call { (i : Image) (s : State) (t n : ℕ) (f : Frame) (fs : List Frame)
         → Confined i s → Holds s t n f fs → cap_seal (register (thread s t) n) ≡ 9
         → Licensed i.entries (deed_by s t n f
-          (Call (root i (register (thread s t) n).shadow.root).of)) }
+        (Call (root i (register (thread s t) n).shadow.root).of)) }
     ensures load { (i : Image) (s : State) (t n address width value : ℕ)
         (f : Frame) (fs : List Frame)
         → Confined i s → Accesses i s t n load_data address width f fs
@@ -44,12 +44,12 @@ pub fn deeds_licensed()
         (f : Frame) (fs : List Frame)
         → Confined i s → Confined i after → Charges i s t n f fs
         → Licensed i.entries (deed_by s t n f (Allocate number base long
-          (charges (register (thread s t) n).shadow.root after.objects))) }
+        (charges (register (thread s t) n).shadow.root after.objects))) }
     ensures free { (i : Image) (s after : State) (t n number base long : ℕ)
         (f : Frame) (fs : List Frame)
         → Confined i s → Confined i after → Charges i s t n f fs
         → Licensed i.entries (deed_by s t n f (Free number base long
-          (charges (register (thread s t) n).shadow.root after.objects))) }
+        (charges (register (thread s t) n).shadow.root after.objects))) }
 {}
 
 /// A thread whose interrupts are off holds them by an export that may.

@@ -11,6 +11,6 @@ use Rattle.def_machine.specs.Memory.{is_marked}
 abbrev pub heap_filtered : Image → State → Cap → Cap
 heap_filtered i s c =
     if c.tag && nat_le i.heap_base (cap_base c) && nat_lt (cap_base c) i.heap_end
-        && is_marked i s (cap_base c)
+    && is_marked i s (cap_base c)
     then untagged c
     else c

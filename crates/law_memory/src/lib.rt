@@ -21,7 +21,7 @@ pub fn store_moves()
     ensures capability { (i : Image) (s : State) (t at from x : ℕ)
         → Partitioned i → Confined i s → Authorises i s t at store_data x → x % 8 ≡ 0
         → ((register (thread s t) from).tag ≡ true
-            → has (register (thread s t) at) memory_capability ≡ true)
+        → has (register (thread s t) at) memory_capability ≡ true)
         → Confined i (cap_stored i s x (register (thread s t) at) (register (thread s t) from)) }
     ensures bytes { (i : Image) (s : State) (t at x width value : ℕ)
         → Partitioned i → Confined i s → Authorises i s t at store_data x

@@ -18,11 +18,11 @@ pub record Callable (i : Image) : Type 0 where
   pub exports : (n : ℕ) → (root i n).origin ≡ Listing Call
       → (b : ℕ) × ((root i (root i n).of).owner ≡ Compartment b)
   pub code : (n b : ℕ) → (root i n).origin ≡ Listing Call
-  → (root i (root i n).of).owner ≡ Compartment b
+      → (root i (root i n).of).owner ≡ Compartment b
       → (with_address (made_cap i (code_entry i b)) (gate_for i.entries.gates (root i n).of).code).tag
-          ≡ true
+      ≡ true
   pub globals : (n b : ℕ) → (root i n).origin ≡ Listing Call
-  → (root i (root i n).of).owner ≡ Compartment b
+      → (root i (root i n).of).owner ≡ Compartment b
       → (made_cap i (globals_entry i b)).tag ≡ true
   pub sentry : (made_cap i 0).tag ≡ true
   pub even : (t : ℕ) → (root i (stack_entry i t)).origin ≡ Listing Stack → stack_base i t % 16 ≡ 0

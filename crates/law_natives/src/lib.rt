@@ -49,7 +49,7 @@ pub fn calls_licensed()
         → Keeps i s → (thread s t).frames ≡ f ∷ fs
         → switch i s t ≡ Leaves after (Some (entry, Call export))
         → Licensed i.entries
-          (record { thread = t; actor = f.actor; entry = entry; act = Call export }) }
+        (record { thread = t; actor = f.actor; entry = entry; act = Call export }) }
 {}
 
 /// A return of a frame whose export passes plain values, and an unwind of any frame, lead to its caller clean.

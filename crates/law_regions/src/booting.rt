@@ -40,7 +40,7 @@ pub fn boot_exact()
     ensures switch { (f : FirmwareRow) (l : IsLawfulFirmware f) (b : ℕ) (c : Share)
         → slice_get l.shares b ≡ Some c → boot_cap f c.code ≡ made_for f (code_number f b + 2) }
     ensures import { (f : FirmwareRow) (l : IsLawfulFirmware f) (b : ℕ) (c : Share) (j : ℕ)
-          (d : DeviceImport)
+        (d : DeviceImport)
         → slice_get l.shares b ≡ Some c → slice_get c.imports j ≡ Some d
         → boot_cap f (c.code + 8 * (1 + j)) ≡ made_for f (code_number f b + 3 + j) }
     ensures code { (f : FirmwareRow) (l : IsLawfulFirmware f) (b : ℕ) (c : Share)
@@ -67,8 +67,8 @@ pub fn boot_words()
     ensures first { (f : FirmwareRow) → IsLawfulFirmware f → (m : ℕ) (r : Entry)
         → slice_get f.entries.rows m ≡ Some r → is_export_kind r.kind ≡ true
         → Puts f r.base
-          (plain
-              (export_first f (gate_for f.entries.gates (1 + m)) (root_of f.entries (1 + m)).owner)) }
+        (plain
+        (export_first f (gate_for f.entries.gates (1 + m)) (root_of f.entries (1 + m)).owner)) }
     ensures second { (f : FirmwareRow) → IsLawfulFirmware f → (m : ℕ) (r : Entry)
         → slice_get f.entries.rows m ≡ Some r → is_export_kind r.kind ≡ true
         → Puts f (r.base + 8) (plain (export_second (gate_for f.entries.gates (1 + m)))) }

@@ -40,13 +40,13 @@ pub fn regions_partition()
         → bit (root (image_of f) n).rights memory_capability ≡ true
         → (root (image_of f) n).base ≤ x → x < (root (image_of f) n).top
         → ((image_of f).ram ≤ x)
-          × Carries (image_of f) n (region (image_of f) (granule_of (image_of f) x)) }
+        × Carries (image_of f) n (region (image_of f) (granule_of (image_of f) x)) }
     ensures loads { (f : FirmwareRow) → IsLawfulFirmware f → (n x : ℕ) → (image_of f).ram ≤ x
         → bit (root (image_of f) n).rights load_data ≡ true
         → bit (root (image_of f) n).rights memory_capability ≡ true
         → (root (image_of f) n).base ≤ x → x < (root (image_of f) n).top
         → Loads (image_of f) n (booted (image_of f) (granule_of (image_of f) x)).cap
-          (region (image_of f) (granule_of (image_of f) x)) }
+        (region (image_of f) (granule_of (image_of f) x)) }
     ensures heap { (f : FirmwareRow) → IsLawfulFirmware f → (x : ℕ) → (image_of f).heap_base ≤ x
         → x < (image_of f).heap_end
         → ((image_of f).ram ≤ x) × (region (image_of f) (granule_of (image_of f) x) ≡ HeapRam) }

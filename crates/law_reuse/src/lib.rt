@@ -27,7 +27,7 @@ pub fn sweeps_paint()
     ensures leaves { (b : Board) (s : State) (e : Event) (r : Object)
         → Any (IsRow r) s.objects → (Any (IsRow r) (happens b s e).0.objects → ⊥)
         → (e ≡ Sweep) × ((happens b s e).0.front ≡ None)
-          × Any (IsPainted r) (sweep_began s s.front).objects }
+        × Any (IsPainted r) (sweep_began s s.front).objects }
     ensures paints { (b : Board) (s : State) (e : Event) (r : Object)
         → Any (IsPainted r) (happens b s e).0.objects → (Any (IsPainted r) s.objects → ⊥)
         → Begins s e }

@@ -13,16 +13,16 @@ abbrev pub heap_of : ℕ → ℕ → ℕ → ℕ → ℕ → Image
 heap_of ram base end limit rate = record {
   entries = record {
     rows =
-      record {
-        owner = Compartment 0;
-        kind = Quota;
-        base = 0;
-        length = 8;
-        rights = 33;
-        of = 0;
-        limit = limit;
-      }
-      ∷ [];
+        record {
+          owner = Compartment 0;
+          kind = Quota;
+          base = 0;
+          length = 8;
+          rights = 33;
+          of = 0;
+          limit = limit;
+        }
+        ∷ [];
     gates = [];
   };
   made = [];
@@ -102,5 +102,5 @@ sliced = heap_of 0 0 24 64 1
 abbrev pub before : State
 before = state_of
     (record { cap = plain 0; mark = true } ∷ record { cap = plain 0; mark = true }
-          ∷ record { cap = object_cap (object 1 8 8); mark = false } ∷ [])
+    ∷ record { cap = object_cap (object 1 8 8); mark = false } ∷ [])
     (freed_object 1 8 8 ∷ []) 2

@@ -35,7 +35,7 @@ pub fn heap_computed()
     ensures nothing { allocation board_heap (holding [] 1) 1 0 ≡ Refused 4 }
     ensures whole { allocation small_heap (holding [] 1) 1 40 ≡ Made (object 1 0x80000008 40) }
     ensures quarantined { allocation small_heap (holding (freed_object 1 0x80000008 40 ∷ []) 2) 1
-          40
+        40
         ≡ Refused 5 }
     ensures full { allocation small_heap (holding (object 1 0x80000008 40 ∷ []) 2) 1 40
         ≡ Refused 3 }

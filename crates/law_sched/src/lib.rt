@@ -18,9 +18,9 @@ pub fn picks_are_fair()
     ensures fair { (count t : ℕ) (priorities : List ℕ) (statuses : List Status) (picks : List ℕ)
         → All (λ t. t < count) picks
         → (pick priorities statuses (order_after count picks) ≡ Some t) ↔ IsFairPick count
-          priorities statuses picks t }
+        priorities statuses picks t }
     ensures none { (priorities : List ℕ) (statuses : List Status) (picks : List ℕ)
         → All (λ t. t < length statuses) picks
         → (pick priorities statuses (order_after (length statuses) picks) ≡ None) ↔ All
-          (λ s. is_ready s ≡ false) statuses }
+        (λ s. is_ready s ≡ false) statuses }
 {}

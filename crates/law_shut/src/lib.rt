@@ -25,7 +25,7 @@ pub fn accesses_seen()
         → Shut i → Confined i s → s.running ≡ Some t → i.ram ≤ x
         → (register (thread s t) n).tag ≡ true
         → (has (register (thread s t) n) load_data ≡ true)
-          ⊎ (has (register (thread s t) n) store_data ≡ true)
+        ⊎ (has (register (thread s t) n) store_data ≡ true)
         → cap_base (register (thread s t) n) ≤ x → x < cap_top (register (thread s t) n)
         → is_hidden i s.objects (granule_of i x) ≡ false }
     ensures fetches { (i : Image) (s : State) (t x : ℕ)

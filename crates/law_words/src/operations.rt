@@ -97,7 +97,7 @@ pub fn derivation_makes()
     ensures made { (high base length set address kind : ℕ) (from : Shadow)
         → Derives high base length set address kind
         → IsMade base (base + length) (normal_set (bit_and (unpacked (permission_bits high)) set))
-          address kind (derive high base length set address kind from) }
+        address kind (derive high base length set address kind from) }
     ensures shadows { (high base length set address kind : ℕ) (from : Shadow)
         → Derives high base length set address kind
         → (derive high base length set address kind from).shadow ≡ from }

@@ -82,23 +82,23 @@ pub fn removing_load_data()
 /// with field 6.
 pub fn sealing_rows()
     ensures inside { (sealed_by (derive memory_root 64 32 EXPORT_RIGHTS 64 0 nowhere)
-            (derive sealing_root 13 1 KEY_RIGHTS 13 0 nowhere)).tag
+        (derive sealing_root 13 1 KEY_RIGHTS 13 0 nowhere)).tag
         ≡ true }
     ensures thirteen { cap_seal
-          (sealed_by (derive memory_root 64 32 EXPORT_RIGHTS 64 0 nowhere)
-              (derive sealing_root 13 1 KEY_RIGHTS 13 0 nowhere))
+        (sealed_by (derive memory_root 64 32 EXPORT_RIGHTS 64 0 nowhere)
+        (derive sealing_root 13 1 KEY_RIGHTS 13 0 nowhere))
         ≡ 13 }
     ensures at_top { (derive sealing_root 13 1 KEY_RIGHTS 14 0 nowhere).tag ≡ true }
     ensures outside { (sealed_by (derive memory_root 64 32 EXPORT_RIGHTS 64 0 nowhere)
-            (derive sealing_root 13 1 KEY_RIGHTS 14 0 nowhere)).tag
+        (derive sealing_root 13 1 KEY_RIGHTS 14 0 nowhere)).tag
         ≡ false }
     ensures fourteen { cap_seal
-          (sealed_by (derive memory_root 64 32 EXPORT_RIGHTS 64 0 nowhere)
-              (derive sealing_root 13 1 KEY_RIGHTS 14 0 nowhere))
+        (sealed_by (derive memory_root 64 32 EXPORT_RIGHTS 64 0 nowhere)
+        (derive sealing_root 13 1 KEY_RIGHTS 14 0 nowhere))
         ≡ 14 }
     ensures opens { unsealed_by
-          (sealed_by (derive memory_root 64 32 EXPORT_RIGHTS 64 0 nowhere)
-              (derive sealing_root 13 1 KEY_RIGHTS 13 0 nowhere))
-          (derive sealing_root 13 1 KEY_RIGHTS 13 0 nowhere)
+        (sealed_by (derive memory_root 64 32 EXPORT_RIGHTS 64 0 nowhere)
+        (derive sealing_root 13 1 KEY_RIGHTS 13 0 nowhere))
+        (derive sealing_root 13 1 KEY_RIGHTS 13 0 nowhere)
         ≡ derive memory_root 64 32 EXPORT_RIGHTS 64 0 nowhere }
 {}
