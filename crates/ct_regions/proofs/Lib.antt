@@ -1,0 +1,4 @@
+pub mod Spanned
+pub mod Asked
+pub mod Adding
+pub mod Firsts

@@ -1,0 +1,3 @@
+pub mod Sized
+pub mod Walked
+pub mod Ones
