@@ -1,0 +1,4 @@
+pub mod Tags
+pub mod Threads
+pub mod Granules
+pub mod Whole
