@@ -1,7 +1,8 @@
-//! A law of the machine that a sound image boots: its state is confined, with what stands beside. A
-//! function with an empty body whose contract is the law.
+//! Laws of the machine that a sound image boots: its state is confined, with what stands beside, and
+//! so is every state after any list of events, which tell only what is licensed. Functions with empty
+//! bodies whose contracts are the laws.
 #![tactic(auto)]
 
 mod started;
 
-pub use started::boots_confined;
+pub use started::{boots_confined, lawful_runs};
