@@ -8,12 +8,15 @@ ghost use Rattle.def_confined.specs.Confined.{Confined};
 ghost use Rattle.def_confined.specs.Partitioned.{Partitioned};
 ghost use Rattle.def_confined.specs.Telling.{AllLicensed};
 ghost use Rattle.def_description.specs.Rows.{DescRow};
-ghost use Rattle.def_image.specs.Accepted.{IsImage};
+ghost use Rattle.def_image.specs.Accepted.{IsFaultless, IsImage};
 ghost use Rattle.def_image.specs.Parts.{PartsRow};
 ghost use Rattle.def_step.specs.Events.{run, told};
 ghost use Rattle.def_step.specs.declared.Event.{Event};
 ghost use Rattle.law_grants.specs.Fits.{AreServed};
+ghost use Rattle.law_images.specs.Tiny.{tiny};
 ghost use Rattle.law_link.specs.Links.{Links};
+
+use law_link_samples::samples_link;
 
 /// Of any bytes that are an image: the machine's image of its parts is partitioned; and where its slots
 /// name no token routine, the machine is confined after any list of events from its boot, and each deed
@@ -40,3 +43,11 @@ pub fn linked_images_run()
         → Links d sources p → AreServed (image_of p)
         → AllLicensed (image_of p).entries (told (board_of p) (boot_state p) es) }
 {}
+
+/// The premises are met: the smallest sample's parts have no fault, and its slots name no token routine.
+pub fn smallest_image_is_one()
+    ensures faultless { IsFaultless tiny }
+    ensures served { AreServed (image_of tiny) }
+{
+    samples_link();
+}
