@@ -2,3 +2,4 @@ pub mod Tags
 pub mod Threads
 pub mod Granules
 pub mod Whole
+pub mod Shutting

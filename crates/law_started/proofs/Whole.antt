@@ -49,7 +49,7 @@ first_ends p t (x ∷ xs) zero = record {
 }
 first_ends p t (x ∷ xs) (suc u) = first_ends p (t + 1) xs u
 
-areas_are : (xs : List ThreadRow) → sum_of area_size xs ≡ areas_size (map (λ (x : ThreadRow). x.frames) xs)
+pub areas_are : (xs : List ThreadRow) → sum_of area_size xs ≡ areas_size (map (λ (x : ThreadRow). x.frames) xs)
 areas_are [] = refl
 areas_are (x ∷ xs) = let rest = areas_are xs in omega (arith, rest)
 
@@ -77,7 +77,7 @@ module _ (p : PartsRow) (s : Sound p) where
   unfolding image_of
   heap_fits = let all = granules_end p s in omega (arith, all)
 
-  areas_fit : p.trusted + TRUSTED_HEAD + areas_size (map (λ (x : ThreadRow). x.frames) p.threads) ≤ p.ram + p.size
+  pub areas_fit : p.trusted + TRUSTED_HEAD + areas_size (map (λ (x : ThreadRow). x.frames) p.threads) ≤ p.ram + p.size
   areas_fit =
       let long = length_above (trusted_size p.threads) in
       let after = s.heap.after in

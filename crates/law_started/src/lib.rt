@@ -1,8 +1,10 @@
 //! Laws of the machine that a sound image boots: its state is confined, with what stands beside, and
-//! so is every state after any list of events, which tell only what is licensed. Functions with empty
-//! bodies whose contracts are the laws.
+//! so is every state after any list of events, which tell only what is licensed; and no entry reaches
+//! the threads' areas or the heap. Functions with empty bodies whose contracts are the laws.
 #![tactic(auto)]
 
+mod shut;
 mod started;
 
+pub use shut::images_shut;
 pub use started::{boots_confined, lawful_runs};

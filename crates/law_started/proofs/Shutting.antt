@@ -1,0 +1,210 @@
+-- No entry of a sound image reaches the threads' areas or the heap.
+use Rattle.std.proofs.Common.{ℕ, zero, suc, ◌≡◌, ◌+◌, ◌%◌, ◌<◌, ◌≤◌, ◌⊎◌, inl, inr, Bool, true, false, List, [], ◌∷◌, ◌++◌, map, length, Some, unwrap_or, slice_get, refl, sym, ap, ◌∙◌, subst, arith}
+use Rattle.std.proofs.lemmas.Option.{slice_get_within}
+use Rattle.law_lists.proofs.Tests.{lt_tells}
+use Rattle.ct_entry.specs.declared.rows.Owner.{Owner}
+use Rattle.ct_entry.specs.declared.rows.Owner.TheVariants.{Compartment, Library}
+use Rattle.def_profile.specs.declared.layout.TheConstants.{TRUSTED_HEAD, SLOT_SIZE}
+use Rattle.def_reach.specs.Roots.{Root, root_of, listed_root, no_gate}
+use Rattle.def_machine.specs.Image.{areas_size}
+use Rattle.def_hidden.specs.Hidden.{Shut}
+use Rattle.def_image.specs.declared.ImportRow.{ImportRow}
+use Rattle.def_image.specs.declared.SlotKind.{SlotKind}
+use Rattle.def_image.specs.declared.SlotKind.TheVariants as slot
+use Rattle.def_image.specs.Parts.{SharedRow, SealedRow, CodeRow, CompartmentRow, ThreadRow, PartsRow}
+use Rattle.def_image.specs.Members.{no_code, no_compartment, no_shared, no_sealed, compartment, library, shared, sealed}
+use Rattle.def_image.specs.Sizes.{shared_at, sealed_at, compartments_at, compartment_size, libraries_at, threads_at}
+use Rattle.def_image.specs.Spelling.{raw_of, raw_compartment}
+use Rattle.def_image.specs.Regions.{Holder, CodeOf, TableOf, GlobalsOf, SharedOf, SealedOf, StackOf, RegionRow, region, trusted_region, trusted_size, table_length, table_size, shared_regions, sealed_regions, compartment_regions, library_regions, stack_regions, regions_of}
+use Rattle.def_image.specs.Regions as regions
+use Rattle.def_image.specs.Laid.{IsRegion}
+use Rattle.def_image.specs.Sound.{Sound, Names}
+use Rattle.def_boot.specs.Entries.{slot_row}
+use Rattle.def_boot.specs.Gates.{entries_of}
+use Rattle.def_boot.specs.Boot.{image_of}
+use Rattle.law_listed.specs.Rows.{EntryIs, is_nothing, is_trusted, is_code, is_globals, is_slot, is_export, is_library, is_library_slot, is_library_export, is_stack}
+use Rattle.law_listed.proofs.Blocks.{before, further}
+use Rattle.law_listed.proofs.Listing.{entry_of}
+use Rattle.law_grants.proofs.Lying.{trusted_there}
+use Rattle.law_grants.proofs.Making.{length_above, device_base_is}
+use Rattle.law_grants.proofs.Sets.{no_way}
+use Rattle.law_grants.proofs.Clauses.{told_at, away_of}
+use Rattle.law_laid.proofs.Lists.{Among, shared_there, sealed_there, globals_there, stack_there}
+use Rattle.law_booted.proofs.Codes.{code_there, library_there}
+use Rattle.law_started.proofs.Whole.{areas_are, areas_fit}
+
+-- ---- the export tables among the regions
+
+table_in : (at n : ℕ) (cs : List CompartmentRow) (k : ℕ) (c : CompartmentRow) → slice_get cs k ≡ Some c → Among (compartment_regions at n cs) (TableOf (n + k)) c.table (table_length c)
+table_in at n [] k c is = cc
+table_in at n (d ∷ ds) zero c is =
+    let same : d ≡ c = cc in
+    let index : n ≡ n + 0 = omega arith in
+    let one : Among (compartment_regions at n (d ∷ ds)) (TableOf n) d.table (table_length d) = record { index = 1; place = at + 44; is = refl } in
+    subst (λ (z : CompartmentRow). Among (compartment_regions at n (d ∷ ds)) (TableOf (n + 0)) z.table (table_length z)) same
+    (subst (λ m. Among (compartment_regions at n (d ∷ ds)) (TableOf m) d.table (table_length d)) index one)
+table_in at n (d ∷ ds) (suc k) c is =
+    let index : n + 1 + k ≡ n + suc k = omega arith in
+    let more = table_in (at + compartment_size (raw_compartment d)) (n + 1) ds k c is in
+    subst (λ m. Among (compartment_regions at n (d ∷ ds)) (TableOf m) c.table (table_length c)) index
+    (record { index = suc (suc (suc more.index)); place = more.place; is = more.is })
+
+left : (xs ys : List RegionRow) (h : Holder) (base size : ℕ) → Among xs h base size → Among (xs ++ ys) h base size
+left xs ys h base size a = record { index = a.index; place = a.place; is = before xs ys a.index (slice_get_within xs a.index (region h a.place base size) a.is) ∙ a.is }
+
+right : (xs ys : List RegionRow) (h : Holder) (base size : ℕ) → Among ys h base size → Among (xs ++ ys) h base size
+right xs ys h base size a = record { index = length xs + a.index; place = a.place; is = further xs ys a.index ∙ a.is }
+
+next : (x : RegionRow) (xs : List RegionRow) (h : Holder) (base size : ℕ) → Among xs h base size → Among (x ∷ xs) h base size
+next x xs h base size a = record { index = suc a.index; place = a.place; is = a.is }
+
+abbrev objects : PartsRow → List RegionRow
+objects p = shared_regions (shared_at (raw_of p)) 0 p.shared ++ sealed_regions (sealed_at (raw_of p)) 0 p.sealed
+
+abbrev own_part : PartsRow → List RegionRow
+own_part p = compartment_regions (compartments_at (raw_of p)) 0 p.compartments
+
+abbrev library_part : PartsRow → List RegionRow
+library_part p = library_regions (libraries_at (raw_of p)) 0 p.libraries
+
+abbrev stack_part : PartsRow → List RegionRow
+stack_part p = stack_regions (threads_at (raw_of p)) 0 p.threads
+
+table_there : (p : PartsRow) (b : ℕ) (c : CompartmentRow) → slice_get p.compartments b ≡ Some c → Among (regions_of p) (TableOf b) c.table (table_length c)
+unfolding regions_of
+table_there p b c is =
+    let same : 0 + b ≡ b = omega arith in
+    let one = subst (λ m. Among (own_part p) (TableOf m) c.table (table_length c)) same (table_in (compartments_at (raw_of p)) 0 p.compartments b c is) in
+    next _ (objects p ++ own_part p ++ library_part p ++ stack_part p) _ _ _
+    (left (objects p ++ own_part p ++ library_part p) (stack_part p) _ _ _ (left (objects p ++ own_part p) (library_part p) _ _ _ (right (objects p) (own_part p) _ _ _ one)))
+
+-- ---- apart from the areas
+
+abbrev Ends : PartsRow → ℕ
+Ends p = p.trusted + TRUSTED_HEAD + areas_size (map (λ (x : ThreadRow). x.frames) p.threads)
+
+pub record Clear (p : PartsRow) (z : Root) : Type 0 where
+  pub away : (x : ℕ) → z.base ≤ x → x < z.top → (x < p.trusted + TRUSTED_HEAD) ⊎ (Ends p ≤ x)
+
+abbrev is_trusted_holder : Holder → Bool
+is_trusted_holder regions.TrustedPart = true
+is_trusted_holder _ = false
+
+areas_even : (ns : List ℕ) → areas_size ns % 8 ≡ 0
+areas_even [] = refl
+areas_even (n ∷ ns) = let rest = areas_even ns in omega (arith, rest)
+
+module _ (p : PartsRow) (s : Sound p) where
+  first_region : IsRegion p 0 (trusted_region p)
+  unfolding regions_of
+  first_region = refl
+
+  ends_in : Ends p ≤ p.trusted + regions.trusted_length p
+  ends_in = let long = length_above (trusted_size p.threads) in let same = areas_are p.threads in omega (arith, long, same)
+
+  not_both : (h : Holder) (place base size x : ℕ) → (i : ℕ) → IsRegion p i (region h place base size) → is_trusted_holder h ≡ false → base ≤ x → x < base + size → p.trusted ≤ x → x < Ends p → ⊥
+  not_both h place base size x i is other low high from to =
+      let long = ends_in in
+      let index : i ≡ 0 = s.laid.one i 0 x (region h place base size) (trusted_region p) is first_region (low, high) (from, omega (arith, to, long)) in
+      let both : Some (region h place base size) ≡ Some (trusted_region p) = sym is ∙ ap (λ k. slice_get (regions_of p) k) index ∙ first_region in
+      let same : region h place base size ≡ trusted_region p = cc in
+      no_way (sym other ∙ ap (λ (r : RegionRow). is_trusted_holder r.holder) same)
+
+  in_region : (z : Root) (h : Holder) (base size : ℕ) → Among (regions_of p) h base size → is_trusted_holder h ≡ false → base ≤ z.base → z.top ≤ base + size → Clear p z
+  in_region z h base size a other starts stops = record {
+    away = λ x low high. elim (lt_tells x (p.trusted + TRUSTED_HEAD)) [
+      | inl lt ↦ inl lt.1
+      | inr past ↦ elim (lt_tells x (Ends p)) [
+        | inl to ↦ let gone = past.1 in absurd (not_both h a.place base size x a.index a.is other (omega (arith, starts, low)) (omega (arith, stops, high)) (omega (arith, gone)) to.1)
+        | inr after ↦ inr after.1
+      ]
+    ];
+  }
+
+  -- out of RAM, or below its first granule's end
+  out_of_ram : (z : Root) → (z.top ≤ p.ram + 16) ⊎ (p.ram + p.size ≤ z.base) → Clear p z
+  out_of_ram z any = record {
+    away = λ x low high.
+        let start = (trusted_there p s).low in
+        let stop = areas_fit p s in
+        elim any [ inl a ↦ inl (omega (arith, a, high, start)) | inr a ↦ inr (omega (arith, a, low, stop)) ];
+  }
+
+  slot_clear : (o : Owner) (at : ℕ) (r : ImportRow) (k : SlotKind) (h : Holder) (base size : ℕ) → Among (regions_of p) h base size → is_trusted_holder h ≡ false → base ≤ at → at + SLOT_SIZE ≤ base + size → Names p r k
+      → Clear p (listed_root (Some (slot_row p o at r k)) no_gate)
+  slot_clear o at r slot.Service h base size a other low high names = out_of_ram _ (elim s.ram.native [ inl b ↦ inr (omega (arith, b)) | inr b ↦ inl (omega (arith, b, names)) ])
+  slot_clear o at r slot.Device h base size a other low high names =
+      let same = device_base_is p s r.first names.0 names.1 in
+      out_of_ram _ (elim (s.device r.first names.0 names.1).ram [ inl b ↦ inl (omega (arith, b, same)) | inr b ↦ inr (omega (arith, b, same)) ])
+  slot_clear o at r slot.Shared h base size a other low high names =
+      let same : shared p r.first ≡ names.0 = ap (λ z. unwrap_or z no_shared) names.1 in
+      let from = ap (λ (c : SharedRow). c.base) same in
+      let long = ap (λ (c : SharedRow). c.length) same in
+      in_region _ (SharedOf r.first) _ _ (shared_there p r.first names.0 names.1) refl (omega (arith, from)) (omega (arith, from, long))
+  slot_clear o at r slot.Sealed h base size a other low high names =
+      let same : sealed p r.first ≡ names.0 = ap (λ z. unwrap_or z no_sealed) names.1 in
+      let from = ap (λ (c : SealedRow). c.base) same in
+      let long = ap (λ (c : SealedRow). c.length) same in
+      in_region _ (SealedOf r.first) _ _ (sealed_there p r.first names.0 names.1) refl (omega (arith, from)) (omega (arith, from, long))
+  slot_clear o at r slot.Call h base size a other low high names =
+      let same : compartment p r.first ≡ names.0 = ap (λ z. unwrap_or z no_compartment) names.2 in
+      let from = ap (λ (c : CompartmentRow). c.table) same in
+      let few = slice_get_within names.0.code.exports r.second names.1 names.3 in
+      let long = length_above (table_size names.0.code) in
+      in_region _ (TableOf r.first) _ _ (table_there p r.first names.0 names.2) refl (omega (arith, from)) (omega (arith, from, few, long))
+  slot_clear o at r slot.Library h base size a other low high names =
+      let same : library p r.first ≡ names.0 = ap (λ z. unwrap_or z no_code) names.2 in
+      let from = ap (λ (c : CodeRow). c.base) same in
+      let long = ap (λ (c : CodeRow). c.length) same in
+      in_region _ (CodeOf (Library r.first)) _ _ (library_there p r.first names.0 names.2) refl (omega (arith, from)) (omega (arith, from, long))
+  slot_clear o at r slot.Quota h base size a other low high names = in_region _ h base size a other low high
+  slot_clear o at r slot.Key h base size a other low high names = let most = names.1 in out_of_ram _ (inl (omega (arith, most)))
+
+  abbrev ClearAt : ℕ → Type 0
+  ClearAt n = Clear p (root_of (entries_of p) n)
+
+  at : (n m : ℕ) (z : Root) → n ≡ m → root_of (entries_of p) m ≡ z → Clear p z → ClearAt n
+  at n m z same is clear = subst ClearAt (sym same) (subst (λ (y : Root). Clear p y) (sym is) clear)
+
+  in_case : (n : ℕ) → EntryIs p n → ClearAt n
+  in_case n (is_nothing root_is gate_is made_is) = at n n _ refl root_is (out_of_ram _ (inl (omega arith)))
+  in_case n (is_trusted number root_is gate_is made_is) = at n n _ refl root_is (out_of_ram _ (elim s.ram.native [ inl b ↦ inr (omega (arith, b)) | inr b ↦ inl (omega (arith, b)) ]))
+  in_case n (is_code b c h number) = at n _ _ number h.code.root_is (in_region _ (CodeOf (Compartment b)) _ _ (code_there p b c h.there) refl (omega arith) (omega arith))
+  in_case n (is_globals b c h number) = at n _ _ number h.globals.root_is (in_region _ (GlobalsOf b) _ _ (globals_there p b c h.there) refl (omega arith) (omega arith))
+  in_case n (is_slot b c j x h is number) =
+      let fits = s.compartment b c h.there in
+      let few = slice_get_within c.code.slots j x is in
+      let size = fits.code.fits in
+      at n _ _ number (h.slot j x is).root_is
+      (slot_clear (Compartment b) _ x.row x.row.kind (CodeOf (Compartment b)) _ _ (code_there p b c h.there) refl (omega arith) (omega (arith, few, size)) (fits.slot j x is).fits.names)
+  in_case n (is_export b c j x h is number) =
+      let few = slice_get_within c.code.exports j x is in
+      let long = length_above (table_size c.code) in
+      at n _ _ number (h.export j x is).root_is (in_region _ (TableOf b) _ _ (table_there p b c h.there) refl (omega arith) (omega (arith, few, long)))
+  in_case n (is_library l c h number) = at n _ _ number h.code.root_is (in_region _ (CodeOf (Library l)) _ _ (library_there p l c h.there) refl (omega arith) (omega arith))
+  in_case n (is_library_slot l c j x h is number) =
+      let fits = s.library l c h.there in
+      let few = slice_get_within c.slots j x is in
+      let size = fits.code.fits in
+      at n _ _ number (h.slot j x is).root_is
+      (slot_clear (Library l) _ x.row x.row.kind (CodeOf (Library l)) _ _ (library_there p l c h.there) refl (omega arith) (omega (arith, few, size)) (fits.slot j x is).fits.names)
+  in_case n (is_library_export l c j x h is number) = at n _ _ number (h.export j x is).root_is (in_region _ (CodeOf (Library l)) _ _ (library_there p l c h.there) refl (omega arith) (omega arith))
+  in_case n (is_stack t x h number) = at n _ _ number h.row.root_is (in_region _ (StackOf t) _ _ (stack_there p t x h.there) refl (omega arith) (omega arith))
+
+  pub shut : Shut (image_of p)
+  unfolding image_of
+  shut =
+      let here = trusted_there p s in
+      let trusted = here.even in
+      let areas = areas_even (map (λ (x : ThreadRow). x.frames) p.threads) in
+      let start = s.ram.base in
+      let size = s.ram.size in
+      let heap = s.heap.even in
+      let in_it = ends_in in
+      let after = s.heap.after in
+      record {
+        trusted = λ n x may low high. (in_case n (entry_of p n)).away x low high;
+        heap = λ n x may low high. elim (away_of p s _ _ _ (told_at p s n).lies) [ inl a ↦ inl (omega (arith, a, high)) | inr a ↦ inr (omega (arith, a, low)) ];
+        even = (omega (arith, start), omega (arith, trusted), omega (arith, trusted, areas), omega (arith, heap), omega (arith, start, size));
+        below = omega (arith, in_it, after);
+      }
