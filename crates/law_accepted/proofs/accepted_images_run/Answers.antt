@@ -1,0 +1,9 @@
+use Rattle.law_accepted.proofs.Running.{partitioned, confined, licensed}
+use Rattle.law_accepted.proofs.accepted_images_run.Goals as goal
+
+pub returns : goal.returns
+returns c = record {
+  partitioned = λ bytes p i. partitioned p i.0;
+  confined = λ bytes p es i served. confined p es i.0 served;
+  licensed = λ bytes p es i served. licensed p es i.0 served;
+}

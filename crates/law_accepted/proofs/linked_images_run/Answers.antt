@@ -1,0 +1,10 @@
+use Rattle.law_link_limits.proofs.Whole.{faultless}
+use Rattle.law_accepted.proofs.Running.{partitioned, confined, licensed}
+use Rattle.law_accepted.proofs.linked_images_run.Goals as goal
+
+pub returns : goal.returns
+returns c = record {
+  partitioned = λ d sources p l. partitioned p (faultless d sources p l);
+  confined = λ d sources p es l served. confined p es (faultless d sources p l) served;
+  licensed = λ d sources p es l served. licensed p es (faultless d sources p l) served;
+}
