@@ -7,7 +7,7 @@ use Rattle.def_words.specs.Authority.{cap_base}
 use Rattle.def_words.specs.Capability.{untagged}
 use Rattle.def_memory.specs.declared.Granule.{Granule}
 use Rattle.def_memory.specs.Granules.{granule_at}
-use Rattle.def_step.specs.Accesses.{filtered_in, is_marked_in}
+use Rattle.def_machine.specs.Memory.{filtered_in, is_marked_in}
 
 -- two lists of granules have the same marks
 abbrev pub SameMarks : List Granule → List Granule → Type 0

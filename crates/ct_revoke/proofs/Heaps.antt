@@ -9,7 +9,7 @@ use Rattle.def_machine.specs.Image.{Image}
 use Rattle.def_machine.specs.State.{State}
 use Rattle.def_machine.specs.Memory.{filtered}
 use Rattle.def_machine.specs.Heap.{sliced_granules}
-use Rattle.def_step.specs.Accesses.{filtered_in}
+use Rattle.def_machine.specs.Memory.{filtered_in}
 use Rattle.ct_revoke.specs.Slices.{IsSliced, SlicesHeap}
 
 sliced_length : (i : Image) (s : State) (low high place : ℕ) (gs : List Granule) → length (sliced_granules i s low high place gs) ≡ length gs

@@ -9,7 +9,7 @@ use Rattle.def_memory.specs.declared.Granule.{Granule}
 use Rattle.def_memory.specs.Granules.{nothing, granule_at}
 use Rattle.def_memory.specs.Accesses.{loaded_cap, stored_cap}
 use Rattle.def_memory.specs.Ranges.{Inside, Outside, IsNextTagged, NoneTagged, is_tagged}
-use Rattle.def_step.specs.Accesses.{filtered_in, is_marked_in}
+use Rattle.def_machine.specs.Memory.{filtered_in, is_marked_in}
 use Rattle.law_granules.proofs.Lists.{cap_rest}
 use Rattle.ct_revoke.specs.Slices.{CleanFrom, IsSliced}
 use Rattle.ct_revoke.proofs.Filters.{SameMarks, filters_alike, marked_alike, untagged_passes, passes_clean}

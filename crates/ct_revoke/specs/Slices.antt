@@ -7,7 +7,7 @@ use Rattle.def_memory.specs.Ranges.{Inside, Outside, is_tagged}
 use Rattle.def_machine.specs.Image.{Image}
 use Rattle.def_machine.specs.State.{State}
 use Rattle.def_machine.specs.Heap.{sliced_granules}
-use Rattle.def_step.specs.Accesses.{filtered_in, is_marked_in}
+use Rattle.def_machine.specs.Memory.{filtered_in, is_marked_in}
 
 -- *Heap*'s slice from one offset to another, of every image and state that have this RAM
 abbrev pub SlicesHeap : ℕ → ℕ → ℕ → List Granule → List Granule → Type 0

@@ -2,7 +2,7 @@
 
 ghost use Rattle.std.specs.Prelude.{ℕ, ◌≡◌, ◌+◌, ◌*◌, ◌≤◌, ◌<◌, length};
 ghost use Rattle.def_memory.specs.Accesses.{IsPlace, loaded_cap, stored_cap};
-ghost use Rattle.def_step.specs.Accesses.{filtered_in};
+ghost use Rattle.def_machine.specs.Memory.{filtered_in};
 ghost use Rattle.ct_revoke.specs.Slices.{CleanFrom, IsSliced, SlicesHeap};
 
 use ct_cap::{expand, shrink};
