@@ -1,7 +1,6 @@
 -- The load filter over memory whose marks are the same.
-use Rattle.std.proofs.Common.{ℕ, ◌≡◌, ◌-◌, ◌/◌, ◌&&◌, Bool, true, false, nat_le, cond, List, refl, sym, ap, ◌∙◌, inl, inr}
-use Rattle.std.proofs.lemmas.Bool.{both_ways, cases_Bool}
-use Rattle.law_lists.proofs.Tests.{both_right}
+use Rattle.std.proofs.Common.{ℕ, ◌≡◌, ◌-◌, ◌/◌, ◌&&◌, Bool, true, false, nat_le, cond, List, refl, sym, ap, ◌∙◌}
+use Rattle.std.proofs.lemmas.Bool.{both_ways}
 use Rattle.def_words.specs.declared.Cap.{Cap}
 use Rattle.def_words.specs.Authority.{cap_base}
 use Rattle.def_words.specs.Capability.{untagged}

@@ -1,15 +1,13 @@
 -- A slice granule by granule is *Heap*'s slice.
-use Rattle.std.proofs.Common.{ℕ, zero, suc, ◌≡◌, ◌+◌, ◌*◌, ◌≤◌, ◌<◌, ◌⊎◌, inl, inr, Bool, true, false, ◌&&◌, nat_le, nat_lt, List, [], ◌∷◌, length, refl, sym, ap, ◌∙◌, arith, subst}
+use Rattle.std.proofs.Common.{ℕ, zero, suc, ◌≡◌, ◌+◌, ◌*◌, ◌≤◌, ◌<◌, ◌⊎◌, inl, inr, true, false, ◌&&◌, nat_le, nat_lt, List, [], ◌∷◌, length, refl, sym, ap, ◌∙◌, arith, subst}
 use Rattle.std.proofs.lemmas.List.{ext_get_or}
 use Rattle.law_lists.proofs.Tests.{lt_tells, le_tells}
-use Rattle.def_words.specs.declared.Cap.{Cap}
 use Rattle.def_memory.specs.declared.Granule.{Granule}
 use Rattle.def_memory.specs.Granules.{nothing, granule_at}
 use Rattle.def_machine.specs.Image.{Image}
 use Rattle.def_machine.specs.State.{State}
 use Rattle.def_machine.specs.Memory.{filtered}
 use Rattle.def_machine.specs.Heap.{sliced_granules}
-use Rattle.def_machine.specs.Memory.{filtered_in}
 use Rattle.ct_revoke.specs.Slices.{IsSliced, SlicesHeap}
 
 sliced_length : (i : Image) (s : State) (low high place : ℕ) (gs : List Granule) → length (sliced_granules i s low high place gs) ≡ length gs

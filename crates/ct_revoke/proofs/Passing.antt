@@ -1,14 +1,14 @@
 -- A walk over the tagged granules, least first.
-use Rattle.std.proofs.Common.{ℕ, ◌≡◌, ◌≢◌, ◌+◌, ◌*◌, ◌/◌, ◌%◌, ◌≤◌, ◌<◌, ◌⊎◌, inl, inr, Bool, true, false, List, length, refl, sym, ap, ◌∙◌, arith, subst}
-use Rattle.std.proofs.lemmas.List.{get_or-set_same, get_or-set_other, length-set}
+use Rattle.std.proofs.Common.{ℕ, ◌≡◌, ◌+◌, ◌*◌, ◌/◌, ◌≤◌, ◌<◌, inl, inr, true, false, List, length, refl, sym, ap, ◌∙◌, arith, subst}
+use Rattle.std.proofs.lemmas.List.{get_or-set_same, length-set}
 use Rattle.std.proofs.lemmas.Bool.{cases_eq}
-use Rattle.law_lists.proofs.Tests.{lt_tells, le_tells}
+use Rattle.law_lists.proofs.Tests.{lt_tells}
 use Rattle.def_words.specs.declared.Cap.{Cap}
 use Rattle.def_words.specs.Authority.{cap_base}
 use Rattle.def_memory.specs.declared.Granule.{Granule}
 use Rattle.def_memory.specs.Granules.{nothing, granule_at}
 use Rattle.def_memory.specs.Accesses.{loaded_cap, stored_cap}
-use Rattle.def_memory.specs.Ranges.{Inside, Outside, IsNextTagged, NoneTagged, is_tagged}
+use Rattle.def_memory.specs.Ranges.{Inside, IsNextTagged, is_tagged}
 use Rattle.def_machine.specs.Memory.{filtered_in, is_marked_in}
 use Rattle.law_granules.proofs.Lists.{cap_rest}
 use Rattle.ct_revoke.specs.Slices.{CleanFrom, IsSliced}

@@ -1,4 +1,4 @@
-use Rattle.std.proofs.Common.{ℕ, ◌≡◌, ◌*◌, ◌<◌, ◌≤◌, length, min, arith}
+use Rattle.std.proofs.Common.{ℕ, ◌≡◌, ◌<◌, ◌≤◌, length, min, arith}
 use Rattle.ct_revoke.proofs.Passing.{passes_next, finishes}
 use Rattle.ct_revoke.proofs.sweeping.pass.Goals as goal
 

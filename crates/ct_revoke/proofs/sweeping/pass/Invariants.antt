@@ -1,4 +1,4 @@
-use Rattle.std.proofs.Common.{◌≡◌, ◌*◌, ◌-◌, length}
+use Rattle.std.proofs.Common.{◌*◌, ◌-◌, length}
 use Rattle.ct_revoke.proofs.Passing.{Passing}
 use Rattle.ct_revoke.proofs.sweeping.pass.Given as goal
 

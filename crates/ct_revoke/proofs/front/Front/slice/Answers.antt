@@ -1,4 +1,4 @@
-use Rattle.std.proofs.Common.{◌≡◌, subst}
+use Rattle.std.proofs.Common.{subst}
 use Rattle.ct_revoke.specs.Slices.{SlicesHeap}
 use Rattle.ct_revoke.proofs.Heaps.{slices_heap}
 use Rattle.ct_revoke.proofs.front.Front.slice.Goals as goal
