@@ -4,7 +4,7 @@
 //! which the place of an object is found by trying every address, and tells how many answered the same.
 //! `last` puts NUMBER objects of 56 bytes into a heap of 64 MiB and frees and flushes every other one; then it
 //! takes an object that fits only behind all these gaps and frees it, COUNT times. `first` does the same with
-//! one that fits into the first gap, and a flush is made where there is none left.
+//! one that fits into the first gap, and a flush is made where there is none left. `flush` makes COUNT flushes.
 #![tactic(auto)]
 
 mod laden;
@@ -113,11 +113,25 @@ fn turns(heap: &mut Laden, count: u32, size: u32) -> u64 {
     sum
 }
 
+/// So many flushes; how many of them found nothing tagged.
+fn flushes(heap: &mut Laden, count: u32) -> u64 {
+    let mut sum = 0u64;
+    for _ in 0..count {
+        if heap.flush() {
+            sum = sum.saturating_add(1);
+        }
+    }
+    sum
+}
+
 fn run(alloc: Global, work: &str, count: u32, number: u32) -> Result<u64, NoMemory> {
     if work == "compare" {
         return Ok(compare(alloc, count, number)? as u64);
     }
     let mut heap = with_gaps(alloc, number)?;
+    if work == "flush" {
+        return Ok(flushes(&mut heap, count));
+    }
     let size = if work == "last" { 64 } else { 56 };
     Ok(turns(&mut heap, count, size))
 }

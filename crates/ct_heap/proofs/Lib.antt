@@ -7,3 +7,4 @@ pub mod Freeing
 pub mod Unnaming
 pub mod Flushing
 pub mod Laying
+pub mod Answering

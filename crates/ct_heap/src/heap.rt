@@ -212,16 +212,13 @@ impl Heap {
             bytes gap.base result.number result.base result.length result.live }
     {
         let number = self.next;
+        let start = gap.base - self.range.ram;
+        let offset = gap.base - CHUNK_HEAD - self.range.base;
         carve(&mut self.range, mem, &gap, bytes, number);
-        let ram = self.range.ram;
-        mem.zero(gap.base - ram, gap.base - ram + bytes);
-        name_chunk(
-            &mut self.names,
-            quota,
-            gap.base - CHUNK_HEAD - self.range.base,
-        );
+        mem.zero(start, start + bytes);
+        name_chunk(&mut self.names, quota, offset);
         let live = charge(&mut self.accounts, quota, bytes + CHUNK_HEAD);
-        self.next += 1;
+        self.next = number + 1;
         Object {
             number,
             base: gap.base,
