@@ -131,6 +131,13 @@ may_is h base a b c d =
     let d_ : nat_lt (base - 8 - h.range.base) h.range.length ≡ true = elim (lt_tells (base - 8 - h.range.base) h.range.length) [ inl e ↦ e.0 | inr e ↦ absurd (let ge = e.1 in omega (arith, ge, d)) ] in
     rw (a_, b_, c_, d_) refl
 
+-- where no object may begin none is told, and elsewhere the table tells
+pub not_begins : (h : HeapRow) (base : ℕ) → ((base % 8 ≡ 0) × (8 ≤ base) × (h.range.base ≤ base - 8) × (base - 8 - h.range.base < h.range.length) → ⊥) → owner_of h base ≡ None
+not_begins h base no_ = elim (bool_tells (may_begin h base)) [ inl e ↦ absurd (no_ (may h base e)) | inr e ↦ rw e refl ]
+
+pub begins : (h : HeapRow) (base : ℕ) → base % 8 ≡ 0 → h.range.base + 8 ≤ base → base - 8 - h.range.base < h.range.length → owner_of h base ≡ owner_at h.names (base - 8 - h.range.base)
+begins h base even low high = rw (may_is h base even (omega (arith, low)) (omega (arith, low)) high) refl
+
 -- a quota that is told owns a chunk
 pub owned : (h : HeapRow) (gs : List Granule) (base quota : ℕ) → Laid h gs → owner_of h base ≡ Some quota → Owned h gs base quota
 owned h gs base quota l e = elim (bool_tells (may_begin h base)) [
@@ -305,6 +312,22 @@ find_some h gs base top quota head l e is yes_ =
     ∙ ap (λ b. Some (found (told head.rest b (c.size - 8) (charges quota (objects_of h gs))) quota)) (omega (arith, low))
     ∙ ap (λ n. Some (found (told head.rest base (n - 8) (charges quota (objects_of h gs))) quota)) (sym p.size)
     ∙ ap (λ n. Some (found (told head.rest base (head.size - 8) n) quota)) (sym (l.charged quota))
+
+-- the three ends of `find`
+pub other_state : (h : HeapRow) (gs : List Granule) (base top quota : ℕ) (head : Head) → Laid h gs → owner_of h base ≡ Some quota → head ≡ head_in (head_at gs h.range.ram (base - 8)) → (head.state ≡ 1 → ⊥) → found_as (objects_of h gs) (whole_at base top (objects_of h gs)) ≡ None
+other_state h gs base top quota head l e is other = find_other h gs base top quota head l e is (elim (eq_tells head.state 1) [ inl x ↦ absurd (other x.1) | inr x ↦ rw x.0 refl ])
+
+pub other_end : (h : HeapRow) (gs : List Granule) (base top quota : ℕ) (head : Head) → Laid h gs → owner_of h base ≡ Some quota → head ≡ head_in (head_at gs h.range.ram (base - 8)) → (base - 8 + head.size ≡ top → ⊥) → found_as (objects_of h gs) (whole_at base top (objects_of h gs)) ≡ None
+other_end h gs base top quota head l e is other = find_other h gs base top quota head l e is (elim (eq_tells (base - 8 + head.size) top) [
+      | inl x ↦ absurd (other x.1)
+      | inr x ↦ elim (bool_tells (nat_eq head.state 1)) [ inl y ↦ rw (y, x.0) refl | inr y ↦ rw y refl ]
+    ])
+
+pub is_found : (h : HeapRow) (gs : List Granule) (base top quota : ℕ) (head : Head) → Laid h gs → owner_of h base ≡ Some quota → head ≡ head_in (head_at gs h.range.ram (base - 8)) → head.state ≡ 1 → base - 8 + head.size ≡ top → found_as (objects_of h gs) (whole_at base top (objects_of h gs)) ≡ Some (found (told head.rest base (head.size - 8) (account h quota).charged) quota)
+is_found h gs base top quota head l e is live ends =
+    let a : nat_eq head.state 1 ≡ true = elim (eq_tells head.state 1) [ inl x ↦ x.0 | inr x ↦ absurd (x.1 live) ] in
+    let b : nat_eq (base - 8 + head.size) top ≡ true = elim (eq_tells (base - 8 + head.size) top) [ inl x ↦ x.0 | inr x ↦ absurd (x.1 ends) ] in
+    find_some h gs base top quota head l e is (rw (a, b) refl)
 
 -- ---- what `free` knows of what was found
 

@@ -101,13 +101,21 @@ impl Heap {
         }
     }
 
+    /// What a quota may take, and takes.
+    fn account(&self, quota: u32) -> Account
+        requires { quota < length self.now.accounts }
+        ensures { result ≡ account self.now quota }
+    {
+        self.accounts[quota as usize]
+    }
+
     /// What a quota may still take, in bytes.
     pub fn remaining(&self, quota: u32) -> u32
         requires quota { quota < length self.now.accounts }
         ensures { (gs : List Granule) → Laid self.now gs
             → result ≡ (account self.now quota).limit - charges quota (objects_of self.now gs) }
     {
-        let account = self.accounts[quota as usize];
+        let account = self.account(quota);
         account.limit.saturating_sub(account.charged)
     }
 
@@ -125,8 +133,11 @@ impl Heap {
         requires even { self.now.range.length % 16 ≡ 0 }
         ensures { result ≡ owner_of self.now base }
     {
+        if base % 8 != 0 {
+            return None;
+        }
         let low = self.range.base;
-        if base % 8 != 0 || base < CHUNK_HEAD || base - CHUNK_HEAD < low {
+        if (base as u64) < low as u64 + CHUNK_HEAD as u64 {
             return None;
         }
         let offset = base - CHUNK_HEAD - low;
@@ -149,14 +160,17 @@ impl Heap {
         };
         let at = base - CHUNK_HEAD;
         let head = read_head(mem, self.range.ram, at);
-        if head.state != LIVE || at as u64 + head.size as u64 != top {
+        if head.state != LIVE {
+            return None;
+        }
+        if at as u64 + head.size as u64 != top {
             return None;
         }
         let object = Object {
             number: head.rest,
             base,
             length: head.size - CHUNK_HEAD,
-            live: self.accounts[quota as usize].charged,
+            live: self.account(quota).charged,
         };
         Some(Found { object, quota })
     }
@@ -185,11 +199,14 @@ impl Heap {
         ensures quotas { length self.new.accounts ≡ length self.old.accounts }
         ensures next { self.new.next ≤ self.old.next + 1 }
     {
-        if size == 0 || size > self.range.length {
+        if size == 0 {
+            return Err(HeapRefusal::Size);
+        }
+        if size > self.range.length {
             return Err(HeapRefusal::Size);
         }
         let length = length_for(size);
-        let account = self.accounts[quota as usize];
+        let account = self.account(quota);
         if account.charged as u64 + length + CHUNK_HEAD as u64 > account.limit as u64 {
             return Err(HeapRefusal::Quota);
         }
@@ -249,10 +266,14 @@ impl Heap {
         ensures quotas { length self.new.accounts ≡ length self.old.accounts }
         ensures next { self.new.next ≡ self.old.next }
     {
-        match self.find(mem, base, top) {
-            Some(found) if found.quota == quota => Ok(self.quarantine(mem, found)),
-            _ => Err(NotWhole),
+        let found = match self.find(mem, base, top) {
+            Some(found) => found,
+            None => return Err(NotWhole),
+        };
+        if found.quota != quota {
+            return Err(NotWhole);
         }
+        Ok(self.quarantine(mem, found))
     }
 
     /// Quarantines an object that was found.
