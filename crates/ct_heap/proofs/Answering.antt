@@ -1,17 +1,22 @@
 -- What the calls answer, from what their steps did.
-use Rattle.std.proofs.Common.{ℕ, ◌≡◌, ◌+◌, ◌-◌, ◌*◌, ◌/◌, ◌%◌, ◌^◌, ◌<◌, ◌≤◌, ◌⊎◌, inl, inr, ◌&&◌, Bool, true, false, cond, nat_eq, List, [], ◌∷◌, Option, Some, None, length, refl, sym, ap, ◌∙◌, arith, subst}
-use Rattle.std.specs.Prelude.{Result, Ok, Err, MatchResult}
+use Rattle.std.proofs.Common.{ℕ, zero, suc, ◌≡◌, ◌+◌, ◌-◌, ◌*◌, ◌/◌, ◌%◌, ◌^◌, ◌<◌, ◌≤◌, ◌⊎◌, inl, inr, ◌&&◌, Bool, true, false, cond, nat_eq, List, [], ◌∷◌, Option, Some, None, length, refl, sym, ap, ◌∙◌, arith, subst}
+use Rattle.std.proofs.Math.ListN.{get_or, set}
+use Rattle.std.proofs.lemmas.List.{get_or-set_same}
 use Rattle.law_lists.proofs.Tests.{bool_tells, eq_tells}
 use Rattle.def_words.specs.LeastBounds.{alignment_of}
 use Rattle.def_memory.specs.declared.Granule.{Granule}
+use Rattle.def_memory.specs.Ranges.{IsMarked}
 use Rattle.def_machine.specs.State.{Object}
 use Rattle.def_machine.specs.Objects.{charges, quarantine, has_quarantined}
 use Rattle.def_machine.specs.Heap.{length_for, IsPlaceFor}
+use Rattle.def_chunks.specs.declared.rows.Range.{Range}
 use Rattle.def_chunks.specs.declared.rows.Gap.{Gap}
+use Rattle.def_chunks.specs.declared.rows.Head.{Head}
+use Rattle.def_chunks.specs.declared.rows.Account.{Account}
 use Rattle.def_chunks.specs.Chunks.{total, AreChunks}
 use Rattle.def_chunks.specs.Tiles.{chunks, Tiled, Settled}
 use Rattle.def_chunks.specs.Gaps.{IsGap, NoGap}
-use Rattle.def_chunks.specs.Heaps.{HeapRow, account, objects_in, objects_of, IsHeapOf, IsUnit, Laid}
+use Rattle.def_chunks.specs.Heaps.{HeapRow, account, no_account, objects_in, objects_of, IsHeapOf, IsUnit, Laid}
 use Rattle.law_chunks.proofs.Reading.{Sits, sits}
 use Rattle.law_chunks.proofs.Places.{gap_place, no_gap_place}
 use Rattle.law_chunks.proofs.Kept.{SameChunks}
@@ -19,8 +24,10 @@ use Rattle.ct_chunks.specs.Cuts.{Fitting}
 use Rattle.ct_heap.specs.declared.rows.Found.{Found}
 use Rattle.ct_heap.specs.Lookups.{whole_of}
 use Rattle.ct_heap.specs.Effects.{Allocates, NoPlace, Frees}
-use Rattle.ct_heap.specs.Steps.{Placing, Placed, Freed, waiting_chunks, Unnames}
+use Rattle.ct_heap.specs.Steps.{Placing, Placed, Freeing, Freed, waiting_chunks, UnnamesChunk, Unnames}
 use Rattle.ct_heap.proofs.Finds.{FoundTells}
+use Rattle.ct_heap.proofs.Allocating as placing
+use Rattle.ct_heap.proofs.Freeing as freeing
 use Rattle.ct_heap.proofs.Flushing.{waiting_rows, none_waiting, some_waiting, unnamed_same}
 
 -- ---- allocate
@@ -140,3 +147,78 @@ some_is h gs l some = some_waiting (objects_of h gs) (λ none. some (l.waiting �
 
 pub unnamed_tiled : (h : HeapRow) (gs ms : List Granule) (more : List ℕ) (left : ℕ) → Laid h gs → Unnames h.range gs ms h.names more left → Tiled h.range ms
 unnamed_tiled h gs ms more left l u = (unnamed_same h gs ms more left l u).settled.tiled
+
+-- ---- numbers
+
+pub positive : (n : ℕ) → (n ≡ 0 → ⊥) → 0 < n
+positive zero other = absurd (other refl)
+positive (suc n) other = omega arith
+
+-- ---- the table
+
+pub stays_named : (r : Range) (gs : List Granule) (names : List ℕ) (at : ℕ) (head : Head) → (head.state ≡ 3 → ⊥) → UnnamesChunk r gs gs names names at 0 head
+stays_named r gs names at head other = record {
+  painted = λ e. absurd (elim (eq_tells head.state 3) [ inl x ↦ other x.1 | inr x ↦ (let clash : true ≡ false = sym e ∙ x.0 in cc) ]);
+  others = λ e. (refl, refl, refl);
+}
+
+pub loses_name : (r : Range) (gs hs : List Granule) (names more : List ℕ) (at : ℕ) (head : Head) → head.state ≡ 3 → IsMarked (at - r.ram) (at - r.ram + head.size) false gs hs → more ≡ set names ((at - r.base) / 16) 0 → UnnamesChunk r gs hs names more at 1 head
+loses_name r gs hs names more at head is marked entry = record {
+  painted = λ e. (marked, entry, refl);
+  others = λ e. absurd (elim (eq_tells head.state 3) [ inl x ↦ (let clash : true ≡ false = sym x.0 ∙ e in cc) | inr x ↦ x.1 is ]);
+}
+
+-- ---- the steps' ends
+
+pub record PlacedEnds (h n : HeapRow) (gs hs : List Granule) (quota extent : ℕ) (g : Gap) (live : ℕ) : Type 0 where
+  pub laid : Laid n hs
+  pub placed : Placed h n gs hs quota extent g.base h.next g.base extent live
+
+pub placed_ends : (h n : HeapRow) (gs ms hs : List Granule) (quota extent : ℕ) (g : Gap) (live : ℕ) → Laid h gs → quota < length h.accounts → h.next ≤ 4000000000 → Placing h gs quota extent g → placing.Left h n gs ms hs quota extent g
+    → live ≡ (account h quota).charged + (extent + 8) → PlacedEnds h n gs hs quota extent g live
+placed_ends h n gs ms hs quota extent g live l quota_in few p left live_is =
+    let d = placing.place_done h n gs ms hs quota extent g l quota_in few p left in
+    let new : Account = record { limit = (account h quota).limit; charged = (account h quota).charged + (extent + 8) } in
+    let now : (account n quota).charged ≡ (account h quota).charged + (extent + 8) = ap (λ a. (get_or a quota no_account).charged) left.accounts ∙ ap (λ (a : Account). a.charged) (get_or-set_same h.accounts quota new no_account quota_in) in
+    record {
+      laid = d.laid;
+      placed = record {
+        objects = d.objects;
+        number_is = refl;
+        base_is = refl;
+        length_is = refl;
+        live_is = live_is ∙ sym now ∙ d.charged;
+        next = left.next;
+        zero = d.zero;
+        stays = d.stays;
+        same = d.same;
+      };
+    }
+
+pub record FreedEnds (h n : HeapRow) (gs hs : List Granule) (number base extent quota live : ℕ) : Type 0 where
+  pub laid : Laid n hs
+  pub freed : Freed h n gs hs number base extent quota number base extent live
+
+pub freed_ends : (h n : HeapRow) (gs ms ns hs : List Granule) (number base extent quota live : ℕ) → Laid h gs → Freeing h gs number base extent quota → freeing.Left h n gs ms ns hs base extent quota
+    → live ≡ (account h quota).charged - (extent + 8) → FreedEnds h n gs hs number base extent quota live
+freed_ends h n gs ms ns hs number base extent quota live l f left live_is =
+    let d = freeing.free_done h n gs ms ns hs number base extent quota l f left in
+    let w = freeing.row_of h gs number base extent quota l f in
+    let new : Account = record { limit = (account h quota).limit; charged = (account h quota).charged - (extent + 8) } in
+    let now : (account n quota).charged ≡ (account h quota).charged - (extent + 8) = ap (λ a. (get_or a quota no_account).charged) left.accounts ∙ ap (λ (a : Account). a.charged) (get_or-set_same h.accounts quota new no_account w.quota_in) in
+    record {
+      laid = d.laid;
+      freed = record {
+        objects = d.objects;
+        number_is = refl;
+        base_is = refl;
+        length_is = refl;
+        live_is = live_is ∙ sym now ∙ d.charged;
+        next = left.next;
+        zero = d.zero;
+        marks = d.marks;
+        rest = d.rest;
+        size = d.size;
+        same = d.same;
+      };
+    }

@@ -319,9 +319,9 @@ other_state h gs base top quota head l e is other = find_other h gs base top quo
 
 pub other_end : (h : HeapRow) (gs : List Granule) (base top quota : ℕ) (head : Head) → Laid h gs → owner_of h base ≡ Some quota → head ≡ head_in (head_at gs h.range.ram (base - 8)) → (base - 8 + head.size ≡ top → ⊥) → found_as (objects_of h gs) (whole_at base top (objects_of h gs)) ≡ None
 other_end h gs base top quota head l e is other = find_other h gs base top quota head l e is (elim (eq_tells (base - 8 + head.size) top) [
-      | inl x ↦ absurd (other x.1)
-      | inr x ↦ elim (bool_tells (nat_eq head.state 1)) [ inl y ↦ rw (y, x.0) refl | inr y ↦ rw y refl ]
-    ])
+  | inl x ↦ absurd (other x.1)
+  | inr x ↦ elim (bool_tells (nat_eq head.state 1)) [ inl y ↦ rw (y, x.0) refl | inr y ↦ rw y refl ]
+])
 
 pub is_found : (h : HeapRow) (gs : List Granule) (base top quota : ℕ) (head : Head) → Laid h gs → owner_of h base ≡ Some quota → head ≡ head_in (head_at gs h.range.ram (base - 8)) → head.state ≡ 1 → base - 8 + head.size ≡ top → found_as (objects_of h gs) (whole_at base top (objects_of h gs)) ≡ Some (found (told head.rest base (head.size - 8) (account h quota).charged) quota)
 is_found h gs base top quota head l e is live ends =

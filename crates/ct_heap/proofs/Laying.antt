@@ -184,3 +184,64 @@ lay_stays h gs hs e some is =
     more : (n base : ℕ) → (n ≡ 0 → ⊥) → base < base + n
     more zero base other = absurd (other refl)
     more (suc n) base other = omega arith
+
+-- ---- the whole
+
+pub record LayAll (h n : HeapRow) (gs hs : List Granule) : Type 0 where
+  pub laid : Laid n hs
+  pub objects : objects_of n hs ≡ []
+  pub stays : Stays h.range [] gs hs
+  pub same : Same h n
+  pub next : n.next ≡ 1
+
+-- where the head has to stand
+pub record LayRoom (h : HeapRow) (gs : List Granule) : Type 0 where
+  pub above : h.range.ram ≤ h.range.base
+  pub even : (h.range.base - h.range.ram) % 8 ≡ 0
+  pub inside : h.range.base - h.range.ram + 8 ≤ 8 * length gs
+
+pub lay_room : (h row : HeapRow) (gs : List Granule) → row ≡ h → Empty h → (h.range.length ≡ 0 → ⊥) → h.range.base + h.range.length ≤ h.range.ram + 8 * length gs → LayRoom row gs
+lay_room h row gs is e some inside =
+    let e0 = e.even.0 in
+    let e1 = e.even.1 in
+    let e2 = e.even.2 in
+    let above = e.above in
+    let wide : 16 ≤ h.range.length = elim (lt_tells h.range.length 16) [ inr a ↦ a.1 | inl a ↦ absurd (let lt = a.1 in some (omega (arith, lt, e2))) ] in
+    subst (λ (x : HeapRow). LayRoom x gs) (sym is) (record { above = above; even = omega (arith, e0, e1, above); inside = omega (arith, inside, wide, above) })
+
+next_is : (h : HeapRow) → Empty h → h.next ≡ 1
+next_is h e = ap (λ (x : HeapRow). x.next) e.is
+
+first_moved : (h n : HeapRow) (first : ℕ) → n ≡ record h { range = record h.range { first = first } } → Same h n
+first_moved h n first is =
+    let range : n.range ≡ record h.range { first = first } = ap (λ (x : HeapRow). x.range) is in
+    record {
+      range = range ∙ ap (λ m. let y : Range = record h.range { first = m } in y) (ap (λ (y : Range). y.first) (sym range));
+      limits = λ q. ap (λ (x : HeapRow). (account x q).limit) is;
+      quotas = ap (λ (x : HeapRow). length x.accounts) is;
+    }
+
+pub lay_wrote : (h row n : HeapRow) (gs hs : List Granule) → row ≡ h → Empty h → (h.range.length ≡ 0 → ⊥) → h.range.base + h.range.length ≤ h.range.ram + 8 * length gs
+    → hs ≡ stored_cap gs (row.range.base - row.range.ram) (plain (row.range.length + NO_CHUNK * 2 ^ 32)) → n ≡ record row { range = record row.range { first = 0 } } → LayAll h n gs hs
+lay_wrote h row n gs hs same e some inside is n_is =
+    let wrote : hs ≡ stored_cap gs (h.range.base - h.range.ram) (plain (h.range.length + NO_CHUNK * 2 ^ 32)) = is ∙ ap (λ (x : HeapRow). stored_cap gs (x.range.base - x.range.ram) (plain (x.range.length + NO_CHUNK * 2 ^ 32))) same in
+    let new : n ≡ record h { range = record h.range { first = 0 } } = n_is ∙ ap (λ (x : HeapRow). let y : HeapRow = record x { range = record x.range { first = 0 } } in y) same in
+    let d = lay_some h n gs hs e some inside wrote new in
+    record {
+      laid = d.laid;
+      objects = d.objects;
+      stays = lay_stays h gs hs e some wrote;
+      same = first_moved h n 0 new;
+      next = ap (λ (x : HeapRow). x.next) new ∙ next_is h e;
+    }
+
+pub lay_left : (h row : HeapRow) (gs : List Granule) → row ≡ h → Empty h → h.range.length ≡ 0 → h.range.base + h.range.length ≤ h.range.ram + 8 * length gs → LayAll h row gs gs
+lay_left h row gs same e none inside =
+    let d = lay_none h row gs gs e none inside refl same in
+    record {
+      laid = d.laid;
+      objects = d.objects;
+      stays = record { size = refl; marks = λ k. refl; rest = λ k s. refl };
+      same = record { range = subst (λ (x : HeapRow). x.range ≡ record h.range { first = x.range.first }) (sym same) refl; limits = λ q. ap (λ (x : HeapRow). (account x q).limit) same; quotas = ap (λ (x : HeapRow). length x.accounts) same };
+      next = ap (λ (x : HeapRow). x.next) same ∙ next_is h e;
+    }

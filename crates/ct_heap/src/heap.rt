@@ -228,6 +228,7 @@ impl Heap {
         ensures placed { Placed self.old self.new (M.granules mem.old) (M.granules mem.new) quota
             bytes gap.base result.number result.base result.length result.live }
     {
+        let _size = mem.size();
         let number = self.next;
         let start = gap.base - self.range.ram;
         let offset = gap.base - CHUNK_HEAD - self.range.base;
@@ -286,6 +287,7 @@ impl Heap {
             found.object.number found.object.base found.object.length found.quota result.number
             result.base result.length result.live }
     {
+        let _size = mem.size();
         let object = found.object;
         let ram = self.range.ram;
         let at = object.base - CHUNK_HEAD;
