@@ -28,13 +28,13 @@ none_charged [] q = refl
 none_charged (x ∷ xs) zero = refl
 none_charged (x ∷ xs) (suc q) = none_charged xs q
 
-zeros : (n k : ℕ) → get_or (replicate n 0) k 0 ≡ 0
-zeros n k = elim (lt_tells k n) [
-  | inl e ↦ get_or-replicate n k 0 0 e.1
-  | inr e ↦ past (replicate n 0) k (let le = e.1 in let size : length (replicate n 0) ≡ n = length-replicate n 0 in omega (arith, le, size))
+zeros : (z n k : ℕ) → get_or (replicate n z) k z ≡ z
+zeros z n k = elim (lt_tells k n) [
+  | inl e ↦ get_or-replicate n k z z e.1
+  | inr e ↦ past (replicate n z) k (let le = e.1 in let size : length (replicate n z) ≡ n = length-replicate n z in omega (arith, le, size))
 ]
   where
-    past : (xs : List ℕ) (k : ℕ) → length xs ≤ k → get_or xs k 0 ≡ 0
+    past : (xs : List ℕ) (k : ℕ) → length xs ≤ k → get_or xs k z ≡ z
     past [] k le = refl
     past (x ∷ xs) zero le = absurd (omega (arith, le))
     past (x ∷ xs) (suc k) le = past xs k (omega (arith, le))
@@ -68,7 +68,7 @@ bare_laid h n hs cs e b =
         settled = b.settled;
         slots = ap length names ∙ length-replicate (h.range.length / 16) 0 ∙ ap (λ x. x / 16) (sym b.length_is);
         named = λ o even. (
-            let none : name_at n.names o ≡ 0 = ap (λ x. get_or x (o / 16) 0) names ∙ zeros (h.range.length / 16) (o / 16) in
+            let none : name_at n.names o ≡ 0 = ap (λ x. get_or x (o / 16) 0) names ∙ zeros 0 (h.range.length / 16) (o / 16) in
             let not_named : is_named n.names o ≡ false = rw none refl in
             not_named ∙ sym (ap (λ x. is_used_at (n.range.base + o) n.range.base x) b.chunks_are ∙ b.unused (n.range.base + o))
             );

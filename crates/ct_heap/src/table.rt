@@ -31,6 +31,14 @@ pub(crate) fn name_chunk(names: &mut Vec<u16>, quota: u32, offset: u32)
     names[(offset / SLOT) as usize] = name_of(quota, offset);
 }
 
+/// The entry of these 16 bytes names no chunk.
+fn clear_name(names: &mut Vec<u16>, offset: u32)
+    requires inside { offset / 16 < length names.old.items }
+    ensures { names.new.items ≡ slice_set names.old.items (offset / 16) 0 }
+{
+    names[(offset / SLOT) as usize] = 0;
+}
+
 /// The quota of the used chunk that begins at an offset, `None` exactly where none begins there.
 pub(crate) fn owner(names: &[u16], offset: u32) -> Option<u32>
     requires { offset / 16 < length names.now }
@@ -88,6 +96,6 @@ fn unname_chunk<M: Memory>(range: &Range, mem: &mut M, names: &mut Vec<u16>, at:
         return (head.size, 0);
     }
     mem.mark(at - range.ram, at - range.ram + head.size, false);
-    names[((at - range.base) / SLOT) as usize] = 0;
+    clear_name(names, at - range.base);
     (head.size, 1)
 }

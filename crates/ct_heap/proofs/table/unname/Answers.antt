@@ -37,4 +37,4 @@ pub returns : goal.returns
 returns g c = unnaming_ends c.args.range.now (g.M.Memory.granules c.args.mem.now) (g.M.Memory.granules c.loop-left.mem) c.args.names.now.items c.loop-left.names.items c.loop-left.waiting c.loop-left.left c.requires.settled c.loop-left.invariant c.loop-left-test.false
 
 pub overflow_add-at : goal.overflow_add-at
-overflow_add-at g c = (unnaming_ahead c.args.range.now (g.M.Memory.granules c.args.mem.now) (g.M.Memory.granules c.loop-left.mem) c.args.names.now.items c.loop-left.names.items c.loop-left.waiting c.loop-left.left c.loop-left.invariant c.loop-left-test.true).fits
+overflow_add-at g c = let fits = (unnaming_ahead c.args.range.now (g.M.Memory.granules c.args.mem.now) (g.M.Memory.granules c.loop-left.mem) c.args.names.now.items c.loop-left.names.items c.loop-left.waiting c.loop-left.left c.loop-left.invariant c.loop-left-test.true).fits in omega (arith, fits)

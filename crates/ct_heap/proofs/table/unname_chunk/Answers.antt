@@ -1,4 +1,4 @@
-use Rattle.std.proofs.Common.{ℕ, ◌≡◌, ◌+◌, ◌-◌, ◌*◌, ◌/◌, ◌%◌, ◌^◌, ◌<◌, ◌≤◌, ◌⊎◌, inl, inr, not, nat_eq, List, [], Option, Some, None, length, refl, sym, ap, ◌∙◌, arith, subst}
+use Rattle.std.proofs.Common.{ℕ, ◌≡◌, ◌+◌, ◌-◌, ◌*◌, ◌/◌, ◌%◌, ◌^◌, ◌<◌, ◌≤◌, ◌⊎◌, inl, inr, false, not, nat_eq, List, [], Option, Some, None, length, refl, sym, ap, ◌∙◌, arith, subst}
 use Rattle.def_chunks.specs.declared.rows.Head.{Head}
 use Rattle.def_chunks.specs.Chunks.{head_at, head_in}
 use Rattle.def_memory.specs.Ranges.{IsMarked}
@@ -75,4 +75,14 @@ mark-requires g c =
 pub returns-clause-unnames : goal.returns-clause-unnames
 returns-clause-unnames g c =
     let size : c.read_head-head.result.size ≡ (head_in (head_at (g.M.Memory.granules c.args.mem.now) c.args.range.now.ram c.args.at)).size = ap (λ (x : Head). x.size) c.read_head-head.ensures in
-    loses_name c.args.range.now (g.M.Memory.granules c.args.mem.now) (g.M.Memory.granules c.mark.new.self) c.args.names.now.items _ c.args.at (head_in (head_at (g.M.Memory.granules c.args.mem.now) c.args.range.now.ram c.args.at)) (ap (λ (x : Head). x.state) (sym c.read_head-head.ensures) ∙ c.if-head-ne-PAINTED.false) (subst (λ n. IsMarked (c.args.at - c.args.range.now.ram) (c.args.at - c.args.range.now.ram + n) false (g.M.Memory.granules c.args.mem.now) (g.M.Memory.granules c.mark.new.self)) size c.mark.ensures) ?
+    loses_name c.args.range.now (g.M.Memory.granules c.args.mem.now) (g.M.Memory.granules c.mark.new.self) c.args.names.now.items c.clear_name.new.names.items c.args.at (head_in (head_at (g.M.Memory.granules c.args.mem.now) c.args.range.now.ram c.args.at)) (ap (λ (x : Head). x.state) (sym c.read_head-head.ensures) ∙ c.if-head-ne-PAINTED.false) (subst (λ n. IsMarked (c.args.at - c.args.range.now.ram) (c.args.at - c.args.range.now.ram + n) false (g.M.Memory.granules c.args.mem.now) (g.M.Memory.granules c.mark.new.self)) size c.mark.ensures) c.clear_name.ensures
+
+pub clear_name-requires : goal.clear_name-requires
+clear_name-requires g c =
+    let k = sits c.args.range.now (g.M.Memory.granules c.args.mem.now) c.args.at c.requires.tiled c.requires.stands in
+    let low = k.low in
+    let fits = k.fits in
+    let some = k.shape.some in
+    let slots = c.requires.slots in
+    let even = c.requires.tiled.even.2 in
+    record { inside = omega (arith, low, fits, some, slots, even) }

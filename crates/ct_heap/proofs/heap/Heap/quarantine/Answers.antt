@@ -150,7 +150,8 @@ discharge-live-requires-clause-fits g c =
 pub overflow_add-self : goal.overflow_add-self
 overflow_add-self g c =
     let k = row_of (let x : HeapRow = record { range = c.self.inside.range; accounts = c.self.inside.accounts.items; next = c.self.inside.next; waiting = c.self.inside.waiting; names = c.self.inside.names.items } in x) (g.M.Memory.granules c.args.mem.now) c.args.found.object.number c.args.found.object.base c.args.found.object.length c.args.found.quota (subst (λ (x : HeapRow). Laid x (g.M.Memory.granules c.args.mem.now)) (sym c.self.view_is) c.requires.laid) (subst (λ (x : HeapRow). Freeing x (g.M.Memory.granules c.args.mem.now) c.args.found.object.number c.args.found.object.base c.args.found.object.length c.args.found.quota) (sym c.self.view_is) c.requires.found) in
-    k.waiting
+    let waiting = k.waiting in
+    omega (arith, waiting)
 
 pub returns-clause-laid : goal.returns-clause-laid
 returns-clause-laid g c = (freed_ends (let x : HeapRow = record { range = c.self.inside.range; accounts = c.self.inside.accounts.items; next = c.self.inside.next; waiting = c.self.inside.waiting; names = c.self.inside.names.items } in x) (let x : HeapRow = record { range = c.self.inside.range; accounts = c.discharge-live.new.accounts.items; next = c.self.inside.next; waiting = c.self.inside.waiting + 1; names = c.self.inside.names.items } in x) (g.M.Memory.granules c.args.mem.now) (g.M.Memory.granules c.set_state.new.mem) (g.M.Memory.granules c.zero.new.self) (g.M.Memory.granules c.mark.new.self) c.args.found.object.number c.args.found.object.base c.args.found.object.length c.args.found.quota c.discharge-live.result (subst (λ (x : HeapRow). Laid x (g.M.Memory.granules c.args.mem.now)) (sym c.self.view_is) c.requires.laid) (subst (λ (x : HeapRow). Freeing x (g.M.Memory.granules c.args.mem.now) c.args.found.object.number c.args.found.object.base c.args.found.object.length c.args.found.quota) (sym c.self.view_is) c.requires.found) (record { tiled = c.set_state.ensures.tiled; chunks_are = c.set_state.ensures.chunks; keeps = c.set_state.ensures.keeps; elsewhere = c.set_state.ensures.elsewhere; zeroed = c.zero.ensures; marked = c.mark.ensures; range = refl; names = refl; accounts = c.discharge-live.ensures.accounts; next = refl; waiting = refl }) c.discharge-live.ensures.charged).laid
