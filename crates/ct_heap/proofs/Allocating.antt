@@ -1,7 +1,6 @@
 -- An object is placed: what becomes of chunks, table, accounts and rows.
-use Rattle.std.proofs.Common.{ℕ, zero, suc, ◌≡◌, ◌+◌, ◌-◌, ◌*◌, ◌/◌, ◌%◌, ◌^◌, ◌<◌, ◌≤◌, ◌⊎◌, inl, inr, ◌&&◌, Bool, true, false, cond, nat_eq, List, [], ◌∷◌, ◌++◌, length, refl, sym, ap, ◌∙◌, arith, subst}
+use Rattle.std.proofs.Common.{ℕ, ◌≡◌, ◌+◌, ◌-◌, ◌*◌, ◌/◌, ◌%◌, ◌^◌, ◌<◌, ◌≤◌, inl, inr, true, false, cond, nat_eq, List, [], ◌∷◌, ◌++◌, length, refl, sym, ap, ◌∙◌, arith, subst}
 use Rattle.std.proofs.Math.ListN.{get_or, set}
-use Rattle.std.proofs.lemmas.Bool.{cases_eq}
 use Rattle.std.proofs.lemmas.List.{length-set, append_assoc}
 use Rattle.law_lists.proofs.Tests.{bool_tells, eq_tells, le_tells, lt_tells}
 use Rattle.def_memory.specs.declared.Granule.{Granule}
@@ -12,21 +11,20 @@ use Rattle.def_machine.specs.Objects.{Each, charges, placed_among}
 use Rattle.def_chunks.specs.declared.rows.Range.{Range}
 use Rattle.def_chunks.specs.declared.rows.Gap.{Gap}
 use Rattle.def_chunks.specs.declared.rows.Account.{Account}
-use Rattle.def_chunks.specs.Chunks.{Chunk, is_free, total, head_at, Starts, IsChunk, AreChunks}
-use Rattle.def_chunks.specs.Tiles.{chunks, Tiled, Settled}
+use Rattle.def_chunks.specs.Chunks.{Chunk, is_free, total, Starts, AreChunks}
+use Rattle.def_chunks.specs.Tiles.{chunks, Settled}
 use Rattle.def_chunks.specs.Changes.{replaced, gap, InUse, Spared, Keeps}
-use Rattle.def_chunks.specs.Gaps.{Stands, FreeStands, FreeLinked, carved}
+use Rattle.def_chunks.specs.Gaps.{carved}
 use Rattle.def_chunks.specs.Heaps.{HeapRow, account, no_account, name_of, is_named, quota_named, is_used_at, object_at, objects_in, objects_of, Distinct, waiting_in, Laid}
 use Rattle.law_chunks.proofs.Lays.{total_both, are_split, are_join}
-use Rattle.law_chunks.proofs.Reading.{Sits, sits, replaced_is}
+use Rattle.law_chunks.proofs.Reading.{sits, replaced_is}
 use Rattle.law_chunks.proofs.Joins.{gap_are, gap_total}
 use Rattle.law_chunks.proofs.Rows.{UsedStarts, objects_both, gap_rows, names_same, each_both, each_split, each_more, rows_low, rows_high, placed_between, charges_both, waiting_both, Others, distinct_between}
 use Rattle.law_chunks.proofs.Spares.{in_use_second, head_unused, free_unused, loose}
 use Rattle.law_chunks.proofs.Kept.{SameChunks, settled_same, head_there, live_spared}
-use Rattle.ct_chunks.specs.Cuts.{Fitting}
-use Rattle.ct_chunks.proofs.Cuts.{Carving, carving}
-use Rattle.ct_heap.specs.Effects.{Seen, Stays, Same}
-use Rattle.ct_heap.specs.Steps.{Placing, placed_object, Placed}
+use Rattle.ct_chunks.proofs.Cuts.{carving}
+use Rattle.ct_heap.specs.Effects.{Stays, Same}
+use Rattle.ct_heap.specs.Steps.{Placing, placed_object}
 use Rattle.ct_heap.proofs.Named.{used_low, used_high, used_between, used_split, used_first, used_second, set_quota}
 use Rattle.ct_heap.proofs.Tables.{OneMore, one_named, other_quota, account_set}
 

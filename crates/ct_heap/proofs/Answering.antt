@@ -1,26 +1,22 @@
 -- What the calls answer, from what their steps did.
-use Rattle.std.proofs.Common.{ℕ, zero, suc, ◌≡◌, ◌+◌, ◌-◌, ◌*◌, ◌/◌, ◌%◌, ◌^◌, ◌<◌, ◌≤◌, ◌⊎◌, inl, inr, ◌&&◌, Bool, true, false, cond, nat_eq, List, [], ◌∷◌, Option, Some, None, length, refl, sym, ap, ◌∙◌, arith, subst}
+use Rattle.std.proofs.Common.{ℕ, zero, suc, ◌≡◌, ◌+◌, ◌-◌, ◌*◌, ◌/◌, ◌%◌, ◌^◌, ◌<◌, ◌≤◌, inl, inr, true, false, List, Some, length, refl, sym, ap, ◌∙◌, arith, subst}
 use Rattle.std.proofs.Math.ListN.{get_or, set}
 use Rattle.std.proofs.lemmas.List.{get_or-set_same}
-use Rattle.law_lists.proofs.Tests.{bool_tells, eq_tells}
+use Rattle.law_lists.proofs.Tests.{eq_tells}
 use Rattle.def_words.specs.LeastBounds.{alignment_of}
 use Rattle.def_memory.specs.declared.Granule.{Granule}
 use Rattle.def_memory.specs.Ranges.{IsMarked}
-use Rattle.def_machine.specs.State.{Object}
 use Rattle.def_machine.specs.Objects.{charges, quarantine, has_quarantined}
 use Rattle.def_machine.specs.Heap.{length_for, IsPlaceFor}
 use Rattle.def_chunks.specs.declared.rows.Range.{Range}
 use Rattle.def_chunks.specs.declared.rows.Gap.{Gap}
 use Rattle.def_chunks.specs.declared.rows.Head.{Head}
 use Rattle.def_chunks.specs.declared.rows.Account.{Account}
-use Rattle.def_chunks.specs.Chunks.{total, AreChunks}
-use Rattle.def_chunks.specs.Tiles.{chunks, Tiled, Settled}
+use Rattle.def_chunks.specs.Tiles.{chunks, Tiled}
 use Rattle.def_chunks.specs.Gaps.{IsGap, NoGap}
-use Rattle.def_chunks.specs.Heaps.{HeapRow, account, no_account, objects_in, objects_of, IsHeapOf, IsUnit, Laid}
-use Rattle.law_chunks.proofs.Reading.{Sits, sits}
+use Rattle.def_chunks.specs.Heaps.{HeapRow, account, no_account, objects_of, IsHeapOf, IsUnit, Laid}
+use Rattle.law_chunks.proofs.Reading.{sits}
 use Rattle.law_chunks.proofs.Places.{gap_place, no_gap_place}
-use Rattle.law_chunks.proofs.Kept.{SameChunks}
-use Rattle.ct_chunks.specs.Cuts.{Fitting}
 use Rattle.ct_heap.specs.declared.rows.Found.{Found}
 use Rattle.ct_heap.specs.Lookups.{whole_of}
 use Rattle.ct_heap.specs.Effects.{Allocates, NoPlace, Frees}

@@ -1,26 +1,23 @@
 -- Objects are found by their bounds.
-use Rattle.std.proofs.Common.{ℕ, ◌≡◌, ◌+◌, ◌-◌, ◌*◌, ◌/◌, ◌%◌, ◌^◌, ◌<◌, ◌≤◌, ◌⊎◌, inl, inr, ◌==◌, ◌&&◌, ◌||◌, Bool, true, false, not, cond, nat_eq, nat_le, nat_lt, List, [], ◌∷◌, ◌++◌, Option, Some, None, length, refl, sym, ap, ◌∙◌, arith, subst}
-use Rattle.std.specs.List.{find}
+use Rattle.std.proofs.Common.{ℕ, ◌≡◌, ◌+◌, ◌-◌, ◌*◌, ◌%◌, ◌^◌, ◌<◌, ◌≤◌, inl, inr, ◌==◌, ◌&&◌, Bool, true, false, cond, nat_eq, nat_le, nat_lt, List, [], ◌∷◌, ◌++◌, Option, Some, None, length, refl, sym, ap, ◌∙◌, arith, subst}
 use Rattle.law_lists.proofs.Tests.{bool_tells, eq_tells, le_tells, lt_tells, both_left, both_right}
 use Rattle.def_memory.specs.declared.Granule.{Granule}
 use Rattle.def_machine.specs.State.{Object}
 use Rattle.def_machine.specs.Objects.{Each, charges}
-use Rattle.def_chunks.specs.declared.rows.Range.{Range}
 use Rattle.def_chunks.specs.declared.rows.Head.{Head}
 use Rattle.def_chunks.specs.Chunks.{Chunk, is_free, total, head_at, head_in, IsChunk, AreChunks}
-use Rattle.def_chunks.specs.Tiles.{chunks, Tiled, Settled}
+use Rattle.def_chunks.specs.Tiles.{chunks}
 use Rattle.def_chunks.specs.Gaps.{Stands, UsedStands}
 use Rattle.def_chunks.specs.Heaps.{HeapRow, object_at, objects_in, objects_of, quota_named, is_named, is_used_at, account, Laid}
-use Rattle.law_chunks.proofs.Lays.{total_both, are_split}
-use Rattle.law_chunks.proofs.Reading.{Sits, sits}
-use Rattle.law_chunks.proofs.Rows.{objects_both, UsedStarts, each_split, each_more, rows_low, rows_high}
-use Rattle.ct_chunks.proofs.Painting.{Tells, tells}
+use Rattle.law_chunks.proofs.Reading.{sits}
+use Rattle.law_chunks.proofs.Rows.{objects_both, UsedStarts, each_split}
+use Rattle.ct_chunks.proofs.Painting.{tells}
 use Rattle.ct_heap.specs.declared.rows.Found.{Found}
 use Rattle.ct_heap.specs.Steps.{Freeing}
 use Rattle.ct_heap.specs.Told.{told, found}
 use Rattle.ct_heap.specs.Table.{owner_at}
 use Rattle.ct_heap.specs.Lookups.{spans, whole_at, spans_of, whole_of, found_as, may_begin, owner_of}
-use Rattle.ct_heap.proofs.Named.{used_low, used_high, used_even, used_test, used_says, Used, used_chunk, used_between}
+use Rattle.ct_heap.proofs.Named.{used_low, used_high, used_even, used_test, used_says, used_chunk}
 
 -- ---- a list of rows
 

@@ -1,24 +1,23 @@
 -- Painting and flushing: what becomes of table, rows and marks.
-use Rattle.std.proofs.Common.{ℕ, zero, suc, ◌≡◌, ◌+◌, ◌-◌, ◌*◌, ◌/◌, ◌%◌, ◌^◌, ◌<◌, ◌≤◌, ◌⊎◌, inl, inr, ◌&&◌, ◌||◌, Bool, true, false, not, cond, nat_eq, nat_le, nat_lt, List, [], ◌∷◌, ◌++◌, map, length, refl, sym, ap, ◌∙◌, arith, subst}
+use Rattle.std.proofs.Common.{ℕ, zero, suc, ◌≡◌, ◌+◌, ◌-◌, ◌*◌, ◌/◌, ◌%◌, ◌<◌, ◌≤◌, inl, inr, ◌&&◌, ◌||◌, true, false, not, cond, nat_eq, nat_le, nat_lt, List, [], ◌∷◌, ◌++◌, map, length, refl, sym, ap, ◌∙◌, arith, subst}
 use Rattle.std.proofs.Math.ListN.{get_or}
-use Rattle.law_lists.proofs.Tests.{bool_tells, eq_tells, le_tells, lt_tells, chosen}
+use Rattle.law_lists.proofs.Tests.{bool_tells, eq_tells, le_tells, chosen}
 use Rattle.def_memory.specs.declared.Granule.{Granule}
 use Rattle.def_memory.specs.Granules.{granule_at}
 use Rattle.def_machine.specs.State.{Object}
 use Rattle.def_machine.specs.Objects.{Each, charges, has_quarantined, painted, unpainted, is_painted_at}
 use Rattle.def_chunks.specs.declared.rows.Range.{Range}
 use Rattle.def_chunks.specs.declared.rows.Account.{Account}
-use Rattle.def_chunks.specs.Chunks.{Chunk, is_free, total, head_at, IsChunk, AreChunks}
-use Rattle.def_chunks.specs.Tiles.{chunks, Tiled, Settled}
-use Rattle.def_chunks.specs.Changes.{painted_chunk, all_painted, leaves, gap, joined, released, InUse, Spared, Keeps}
-use Rattle.def_chunks.specs.Heaps.{HeapRow, account, no_account, is_named, quota_named, is_used_at, object_at, objects_in, objects_of, Distinct, waiting_in, Laid}
-use Rattle.law_chunks.proofs.Reading.{Sits}
-use Rattle.law_chunks.proofs.Joins.{gap_total, stays_used, joined_are, painted_free, painted_size}
+use Rattle.def_chunks.specs.Chunks.{Chunk, is_free, AreChunks}
+use Rattle.def_chunks.specs.Tiles.{chunks, Settled}
+use Rattle.def_chunks.specs.Changes.{all_painted, leaves, gap, joined, released, Spared, Keeps}
+use Rattle.def_chunks.specs.Heaps.{HeapRow, account, no_account, is_named, quota_named, is_used_at, objects_in, objects_of, Distinct, waiting_in, Laid}
+use Rattle.law_chunks.proofs.Joins.{stays_used, joined_are, painted_free, painted_size}
 use Rattle.law_chunks.proofs.Rows.{UsedStarts, painted_rows, joined_rows}
 use Rattle.law_chunks.proofs.Kept.{SameChunks, settled_same, live_spared}
-use Rattle.ct_heap.specs.Effects.{Seen, Stays, Same, Paints, Flushes}
+use Rattle.ct_heap.specs.Effects.{Seen, Paints, Flushes}
 use Rattle.ct_heap.specs.Steps.{waiting_chunks, staying_chunks, let_go, is_painted_in, Unnames}
-use Rattle.ct_heap.proofs.Named.{used_low, used_high, used_even, used_test, used_says, tests_same}
+use Rattle.ct_heap.proofs.Named.{used_low, used_even, used_test}
 use Rattle.ct_heap.proofs.Unnaming.{let_go_are, let_go_size}
 
 -- ---- how many wait

@@ -1,5 +1,5 @@
 -- An object is quarantined: what becomes of chunks, accounts and rows.
-use Rattle.std.proofs.Common.{ℕ, zero, suc, ◌≡◌, ◌+◌, ◌-◌, ◌*◌, ◌/◌, ◌%◌, ◌^◌, ◌<◌, ◌≤◌, ◌⊎◌, inl, inr, ◌&&◌, Bool, true, false, cond, nat_eq, List, [], ◌∷◌, ◌++◌, length, refl, sym, ap, ◌∙◌, arith, subst}
+use Rattle.std.proofs.Common.{ℕ, ◌≡◌, ◌+◌, ◌-◌, ◌*◌, ◌/◌, ◌%◌, ◌^◌, ◌<◌, ◌≤◌, ◌⊎◌, inl, inr, Bool, true, false, cond, nat_eq, List, [], ◌∷◌, ◌++◌, length, refl, sym, ap, ◌∙◌, arith, subst}
 use Rattle.std.proofs.Math.ListN.{get_or, set}
 use Rattle.std.proofs.lemmas.List.{length-set}
 use Rattle.law_lists.proofs.Tests.{bool_tells, eq_tells, le_tells, lt_tells}
@@ -10,20 +10,18 @@ use Rattle.def_machine.specs.State.{Object}
 use Rattle.def_machine.specs.Objects.{Each, charges, quarantine}
 use Rattle.def_chunks.specs.declared.rows.Range.{Range}
 use Rattle.def_chunks.specs.declared.rows.Account.{Account}
-use Rattle.def_chunks.specs.Chunks.{Chunk, is_free, total, head_at, Starts, IsChunk, AreChunks, NoneTouch}
+use Rattle.def_chunks.specs.Chunks.{Chunk, is_free, total, Starts, AreChunks, NoneTouch}
 use Rattle.def_chunks.specs.Tiles.{chunks, Tiled, Settled}
-use Rattle.def_chunks.specs.Changes.{replaced, in_state, InUse, Spared, Keeps}
-use Rattle.def_chunks.specs.Gaps.{Stands, UsedStands}
+use Rattle.def_chunks.specs.Changes.{replaced, in_state, InUse, Keeps}
 use Rattle.def_chunks.specs.Heaps.{HeapRow, account, no_account, is_named, quota_named, is_used_at, object_at, objects_in, objects_of, Distinct, waiting_in, Laid}
-use Rattle.law_chunks.proofs.Lays.{total_both, are_split, are_join}
-use Rattle.law_chunks.proofs.Reading.{Sits, sits, replaced_is}
+use Rattle.law_chunks.proofs.Reading.{sits, replaced_is}
 use Rattle.law_chunks.proofs.Joins.{state_apart}
 use Rattle.law_chunks.proofs.Rows.{UsedStarts, objects_both, each_both, each_split, charges_both, waiting_both, distinct_around, distinct_same, quarantine_between}
-use Rattle.law_chunks.proofs.Spares.{in_use_second, head_unused, keeps_store}
+use Rattle.law_chunks.proofs.Spares.{in_use_second, head_unused}
 use Rattle.law_chunks.proofs.Kept.{SameChunks, settled_same, head_there, mark_caps}
 use Rattle.ct_heap.specs.Effects.{Same}
-use Rattle.ct_heap.specs.Steps.{Freeing, Freed}
-use Rattle.ct_heap.proofs.Named.{used_between, used_split, used_first, used_second, tests_same}
+use Rattle.ct_heap.specs.Steps.{Freeing}
+use Rattle.ct_heap.proofs.Named.{used_split, used_first, used_second, tests_same}
 use Rattle.ct_heap.proofs.Tables.{account_set}
 
 -- ---- what is known of the object

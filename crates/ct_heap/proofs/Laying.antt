@@ -1,25 +1,23 @@
 -- The first chunk.
-use Rattle.std.proofs.Common.{ℕ, zero, suc, ◌≡◌, ◌+◌, ◌-◌, ◌*◌, ◌/◌, ◌%◌, ◌^◌, ◌<◌, ◌≤◌, ◌⊎◌, inl, inr, Bool, true, false, not, cond, nat_eq, List, [], ◌∷◌, ◌++◌, map, length, replicate, lit<, refl, sym, ap, ◌∙◌, arith, subst}
+use Rattle.std.proofs.Common.{ℕ, zero, suc, ◌≡◌, ◌+◌, ◌-◌, ◌*◌, ◌/◌, ◌%◌, ◌^◌, ◌<◌, ◌≤◌, inl, inr, true, false, nat_eq, List, [], ◌∷◌, length, replicate, refl, sym, ap, ◌∙◌, arith, subst}
 use Rattle.std.proofs.Math.ListN.{get_or}
-use Rattle.std.proofs.lemmas.Bool.{cases_order}
 use Rattle.std.proofs.lemmas.List.{get_or-replicate, length-replicate, length-map}
-use Rattle.law_lists.proofs.Tests.{bool_tells, eq_tells, lt_tells}
+use Rattle.law_lists.proofs.Tests.{bool_tells, lt_tells}
 use Rattle.def_memory.specs.declared.Granule.{Granule}
-use Rattle.def_memory.specs.Granules.{plain, granule_at}
+use Rattle.def_memory.specs.Granules.{plain}
 use Rattle.def_memory.specs.Accesses.{stored_cap}
-use Rattle.def_machine.specs.State.{Object}
 use Rattle.def_machine.specs.Objects.{charges}
 use Rattle.def_chunks.specs.declared.heads.TheConstants.{NO_CHUNK}
 use Rattle.def_chunks.specs.declared.rows.Range.{Range}
 use Rattle.def_chunks.specs.declared.rows.Account.{Account}
-use Rattle.def_chunks.specs.Chunks.{Chunk, head_at, Starts, NoneTouch}
+use Rattle.def_chunks.specs.Chunks.{Chunk, head_at, NoneTouch}
 use Rattle.def_chunks.specs.Tiles.{chunks, TiledBy, Settled}
-use Rattle.def_chunks.specs.Changes.{free_chunk, Keeps, Spared}
+use Rattle.def_chunks.specs.Changes.{free_chunk, Keeps}
 use Rattle.def_chunks.specs.Heaps.{HeapRow, account, no_account, is_named, name_at, is_used_at, objects_in, objects_of, Laid}
 use Rattle.law_chunks.proofs.Reading.{chunks_are}
 use Rattle.law_chunks.proofs.Carves.{head_same, store_length}
 use Rattle.law_chunks.proofs.Spares.{keeps_store, loose}
-use Rattle.ct_heap.specs.Effects.{Empty, empty, accounts_for, Stays, Same, Seen}
+use Rattle.ct_heap.specs.Effects.{Empty, accounts_for, Stays, Same}
 
 -- ---- what an empty heap keeps
 

@@ -1,16 +1,14 @@
 -- The table and the accounts after one of their entries was set.
-use Rattle.std.proofs.Common.{ℕ, zero, suc, ◌≡◌, ◌+◌, ◌-◌, ◌*◌, ◌/◌, ◌%◌, ◌<◌, ◌≤◌, ◌⊎◌, inl, inr, ◌&&◌, Bool, true, false, cond, nat_eq, List, [], ◌∷◌, ◌++◌, length, refl, sym, ap, ◌∙◌, arith, subst}
+use Rattle.std.proofs.Common.{ℕ, ◌≡◌, ◌+◌, ◌-◌, ◌/◌, ◌%◌, ◌<◌, inl, inr, true, false, cond, nat_eq, List, length, sym, ap, ◌∙◌, arith, subst}
 use Rattle.std.proofs.Math.ListN.{get_or, set}
 use Rattle.std.proofs.lemmas.Bool.{cases_eq}
-use Rattle.std.proofs.lemmas.List.{get_or-set_same, get_or-set_other, length-set}
+use Rattle.std.proofs.lemmas.List.{get_or-set_same, get_or-set_other}
 use Rattle.law_lists.proofs.Tests.{bool_tells, eq_tells}
-use Rattle.def_machine.specs.State.{Object}
-use Rattle.def_machine.specs.Objects.{Each, charges}
 use Rattle.def_chunks.specs.declared.rows.Account.{Account}
-use Rattle.def_chunks.specs.Chunks.{Chunk, is_free, total, AreChunks}
-use Rattle.def_chunks.specs.Heaps.{HeapRow, account, no_account, name_of, name_at, is_named, quota_named, is_used_at, objects_in}
-use Rattle.law_chunks.proofs.Rows.{UsedStarts, names_same}
-use Rattle.ct_heap.proofs.Named.{used_low, used_even, used_apart, used_test, used_says, tests_same, named_same, set_named, set_quota, set_elsewhere, set_beside}
+use Rattle.def_chunks.specs.Chunks.{Chunk, AreChunks}
+use Rattle.def_chunks.specs.Heaps.{no_account, name_of, is_named, quota_named, is_used_at}
+use Rattle.law_chunks.proofs.Rows.{UsedStarts}
+use Rattle.ct_heap.proofs.Named.{used_low, used_even, used_apart, used_test, used_says, tests_same, named_same, set_named, set_elsewhere, set_beside}
 
 -- ---- one used chunk more
 

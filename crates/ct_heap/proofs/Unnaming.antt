@@ -1,25 +1,24 @@
 -- Painted chunks leave the table, one by one.
-use Rattle.std.proofs.Common.{ℕ, zero, suc, ◌≡◌, ◌+◌, ◌-◌, ◌*◌, ◌/◌, ◌%◌, ◌^◌, ◌<◌, ◌≤◌, ◌⊎◌, inl, inr, ◌&&◌, ◌||◌, Bool, true, false, not, cond, nat_eq, nat_le, nat_lt, List, [], ◌∷◌, ◌++◌, map, length, refl, sym, ap, ◌∙◌, arith, subst}
+use Rattle.std.proofs.Common.{ℕ, zero, suc, ◌≡◌, ◌+◌, ◌-◌, ◌*◌, ◌/◌, ◌%◌, ◌^◌, ◌<◌, ◌≤◌, ◌⊎◌, inl, inr, ◌&&◌, ◌||◌, Bool, true, false, cond, nat_eq, nat_le, nat_lt, List, [], ◌∷◌, ◌++◌, map, length, refl, sym, ap, ◌∙◌, arith, subst}
 use Rattle.std.proofs.Math.ListN.{get_or, set}
 use Rattle.std.proofs.lemmas.Bool.{cases_eq}
-use Rattle.std.proofs.lemmas.List.{get_or-set_same, get_or-set_other, length-set, append_assoc, append-nil}
-use Rattle.law_lists.proofs.Tests.{bool_tells, eq_tells, le_tells, lt_tells, both_left, both_right}
+use Rattle.std.proofs.lemmas.List.{get_or-set_same, length-set, append_assoc, append-nil}
+use Rattle.law_lists.proofs.Tests.{bool_tells, eq_tells, le_tells, lt_tells}
 use Rattle.def_memory.specs.declared.Granule.{Granule}
 use Rattle.def_memory.specs.Granules.{granule_at, nothing}
 use Rattle.def_memory.specs.Ranges.{IsMarked}
 use Rattle.def_chunks.specs.declared.rows.Range.{Range}
-use Rattle.def_chunks.specs.declared.rows.Head.{Head}
 use Rattle.def_chunks.specs.Chunks.{Chunk, is_free, total, head_at, head_in, IsChunk, AreChunks}
-use Rattle.def_chunks.specs.Tiles.{chunks, Tiled, Settled}
+use Rattle.def_chunks.specs.Tiles.{chunks, Settled}
 use Rattle.def_chunks.specs.Gaps.{Stands}
 use Rattle.def_chunks.specs.Heaps.{name_at, is_named, quota_named, is_used_at}
-use Rattle.law_chunks.proofs.Lays.{total_both, are_split, are_join, total_even}
-use Rattle.law_chunks.proofs.Reading.{Sits, sits}
+use Rattle.law_chunks.proofs.Lays.{total_both, are_split, are_join}
+use Rattle.law_chunks.proofs.Reading.{sits}
 use Rattle.law_chunks.proofs.Rows.{UsedStarts}
-use Rattle.law_chunks.proofs.Kept.{SameChunks, settled_same, head_there}
-use Rattle.ct_chunks.proofs.Painting.{Tells, tells}
+use Rattle.law_chunks.proofs.Kept.{settled_same}
+use Rattle.ct_chunks.proofs.Painting.{tells}
 use Rattle.ct_heap.specs.Steps.{waiting_chunks, staying_chunks, let_go, is_painted_in, UnnamesChunk, Unnames}
-use Rattle.ct_heap.proofs.Named.{used_low, used_high, used_even, used_apart, used_test, used_says, used_between, used_split, used_first, used_second, tests_same, named_same, set_elsewhere}
+use Rattle.ct_heap.proofs.Named.{used_low, used_high, used_apart, used_says, used_between, used_split, used_first, used_second, tests_same, named_same, set_elsewhere}
 
 -- ---- chunks without their painted objects
 

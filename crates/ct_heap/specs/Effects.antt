@@ -1,5 +1,5 @@
 -- What each call does. `gs` and `hs` are memory before and after it, `h` and `n` the heap.
-use Rattle.std.specs.Prelude.{ℕ, ◌+◌, ◌-◌, ◌*◌, ◌/◌, ◌%◌, ◌^◌, ◌≡◌, ◌≤◌, ◌<◌, ◌⊎◌, Bool, true, false, cond, List, [], length, map, replicate, Option, Some, None}
+use Rattle.std.specs.Prelude.{ℕ, ◌+◌, ◌*◌, ◌/◌, ◌%◌, ◌^◌, ◌≡◌, ◌≤◌, ◌<◌, ◌⊎◌, true, false, cond, List, length, map, replicate, Some}
 use Rattle.def_profile.specs.declared.layout.TheConstants.{CHUNK_HEAD}
 use Rattle.def_memory.specs.declared.Granule.{Granule}
 use Rattle.def_memory.specs.Granules.{plain, granule_at}
@@ -7,7 +7,7 @@ use Rattle.def_memory.specs.Ranges.{is_tagged}
 use Rattle.def_words.specs.Authority.{cap_base, cap_top}
 use Rattle.def_machine.specs.Image.{Image}
 use Rattle.def_machine.specs.State.{Object}
-use Rattle.def_machine.specs.Objects.{charges, quarantine, placed_among, painted, unpainted, has_quarantined, is_painted_at}
+use Rattle.def_machine.specs.Objects.{charges, quarantine, placed_among, painted, unpainted, is_painted_at}
 use Rattle.def_machine.specs.Heap.{length_for, charge_for, Fits, IsPlaceFor}
 use Rattle.def_hidden.specs.Hidden.{is_live_at}
 use Rattle.def_chunks.specs.declared.heads.TheConstants.{NO_CHUNK}
@@ -16,7 +16,6 @@ use Rattle.def_chunks.specs.declared.rows.Account.{Account}
 use Rattle.def_chunks.specs.Heaps.{HeapRow, objects_of, account, IsHeapOf}
 use Rattle.ct_heap.specs.declared.rows.HeapRefusal.{HeapRefusal}
 use Rattle.ct_heap.specs.declared.rows.HeapRefusal.TheVariants.{Size, Quota, NoGap}
-use Rattle.ct_heap.specs.Told.{told}
 use Rattle.ct_heap.specs.Lookups.{whole_of}
 
 -- ---- a heap before its first chunk

@@ -1,5 +1,5 @@
 -- Objects by their bounds.
-use Rattle.std.specs.Prelude.{ℕ, ◌+◌, ◌-◌, ◌/◌, ◌%◌, ◌==◌, ◌&&◌, Bool, nat_le, nat_lt, List, Option, Some, None, find, if◌then◌else◌}
+use Rattle.std.specs.Prelude.{ℕ, ◌+◌, ◌-◌, ◌%◌, ◌==◌, ◌&&◌, Bool, nat_le, nat_lt, List, Option, Some, None, find, if◌then◌else◌}
 use Rattle.def_profile.specs.declared.layout.TheConstants.{CHUNK_HEAD}
 use Rattle.def_machine.specs.State.{Object}
 use Rattle.def_machine.specs.Objects.{charges}

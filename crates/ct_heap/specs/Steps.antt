@@ -6,7 +6,7 @@ use Rattle.def_memory.specs.Granules.{plain, granule_at}
 use Rattle.def_memory.specs.Ranges.{IsMarked}
 use Rattle.def_machine.specs.State.{Object}
 use Rattle.def_machine.specs.Objects.{charges, quarantine, placed_among}
-use Rattle.def_chunks.specs.declared.heads.TheConstants.{FREE, LIVE, QUARANTINED, PAINTED, SLOT}
+use Rattle.def_chunks.specs.declared.heads.TheConstants.{FREE, LIVE, PAINTED, SLOT}
 use Rattle.def_chunks.specs.declared.rows.Range.{Range}
 use Rattle.def_chunks.specs.declared.rows.Gap.{Gap}
 use Rattle.def_chunks.specs.declared.rows.Head.{Head}
@@ -15,7 +15,6 @@ use Rattle.def_chunks.specs.Tiles.{chunks}
 use Rattle.def_chunks.specs.Gaps.{FreeLinked, UsedStands}
 use Rattle.def_chunks.specs.Heaps.{HeapRow, objects_of, account, is_named, quota_named, is_used_at}
 use Rattle.ct_chunks.specs.Cuts.{Fitting}
-use Rattle.ct_heap.specs.declared.rows.Found.{Found}
 use Rattle.ct_heap.specs.Effects.{Stays, Same}
 
 -- two lists of granules are as long

@@ -1,14 +1,13 @@
-use Rattle.std.proofs.Common.{ℕ, ◌≡◌, ◌+◌, ◌-◌, ◌*◌, ◌/◌, ◌%◌, ◌^◌, ◌<◌, ◌≤◌, ◌⊎◌, inl, inr, not, nat_eq, List, [], Option, Some, None, length, refl, sym, ap, ◌∙◌, arith, subst}
-use Rattle.def_chunks.specs.Heaps.{HeapRow, objects_of, account, Laid}
+use Rattle.std.proofs.Common.{◌^◌, ◌<◌, inl, inr, sym, ap, arith, subst}
+use Rattle.def_chunks.specs.Heaps.{HeapRow}
 use Rattle.def_chunks.specs.declared.rows.Range.{Range}
 use Rattle.def_words.specs.LeastBounds.{alignment_of}
 use Rattle.def_machine.specs.Heap.{length_for}
 use Rattle.def_chunks.specs.declared.rows.Account.{Account}
-use Rattle.def_chunks.specs.declared.rows.Gap.{Gap}
 use Rattle.def_chunks.specs.Tiles.{Tiled}
 use Rattle.def_chunks.specs.Gaps.{IsGap, NoGap}
 use Rattle.def_chunks.specs.Heaps.{IsUnit}
-use Rattle.ct_heap.specs.Steps.{Placing, Placed}
+use Rattle.ct_heap.specs.Steps.{Placed}
 use Rattle.ct_heap.proofs.Answering.{positive, no_place, placing_of, allocates}
 use Rattle.ct_heap.proofs.heap.Heap.allocate.Goals as goal
 

@@ -1,5 +1,5 @@
-use Rattle.std.proofs.Common.{ℕ, ◌≡◌, ◌+◌, ◌-◌, ◌*◌, ◌/◌, ◌%◌, ◌^◌, ◌<◌, ◌≤◌, ◌⊎◌, inl, inr, not, nat_eq, List, [], Option, Some, None, length, refl, sym, ap, ◌∙◌, arith, subst}
-use Rattle.def_chunks.specs.Heaps.{HeapRow, objects_of, account, Laid}
+use Rattle.std.proofs.Common.{ℕ, ◌≡◌, ◌-◌, ◌%◌, Some, sym, ap, ◌∙◌, arith}
+use Rattle.def_chunks.specs.Heaps.{HeapRow}
 use Rattle.def_chunks.specs.declared.rows.Account.{Account}
 use Rattle.def_chunks.specs.declared.rows.Head.{Head}
 use Rattle.def_chunks.specs.Chunks.{head_at, head_in}

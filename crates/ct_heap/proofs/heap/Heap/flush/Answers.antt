@@ -1,5 +1,5 @@
-use Rattle.std.proofs.Common.{ℕ, ◌≡◌, ◌+◌, ◌-◌, ◌*◌, ◌/◌, ◌%◌, ◌^◌, ◌<◌, ◌≤◌, ◌⊎◌, inl, inr, not, nat_eq, List, [], Option, Some, None, length, refl, sym, ap, ◌∙◌, arith, subst}
-use Rattle.def_chunks.specs.Heaps.{HeapRow, objects_of, account, Laid}
+use Rattle.std.proofs.Common.{refl, sym, subst}
+use Rattle.def_chunks.specs.Heaps.{HeapRow, Laid}
 use Rattle.ct_heap.specs.Effects.{Flushes}
 use Rattle.ct_heap.proofs.Flushing.{flush_done}
 use Rattle.ct_heap.proofs.Answering.{waiting_is, unnamed_tiled}

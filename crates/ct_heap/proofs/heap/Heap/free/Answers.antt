@@ -1,5 +1,3 @@
-use Rattle.std.proofs.Common.{ℕ, ◌≡◌, ◌+◌, ◌-◌, ◌*◌, ◌/◌, ◌%◌, ◌^◌, ◌<◌, ◌≤◌, ◌⊎◌, inl, inr, not, nat_eq, List, [], Option, Some, None, length, refl, sym, ap, ◌∙◌, arith, subst}
-use Rattle.def_chunks.specs.Heaps.{HeapRow, objects_of, account, Laid}
 use Rattle.ct_heap.proofs.Finds.{found_tells, found_nothing}
 use Rattle.ct_heap.proofs.Answering.{frees}
 use Rattle.ct_heap.proofs.heap.Heap.free.Goals as goal

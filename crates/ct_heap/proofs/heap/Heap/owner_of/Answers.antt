@@ -1,5 +1,5 @@
-use Rattle.std.proofs.Common.{ℕ, ◌≡◌, ◌+◌, ◌-◌, ◌*◌, ◌/◌, ◌%◌, ◌^◌, ◌<◌, ◌≤◌, ◌⊎◌, inl, inr, not, nat_eq, List, [], Option, Some, None, length, refl, sym, ap, ◌∙◌, arith, subst}
-use Rattle.def_chunks.specs.Heaps.{HeapRow, objects_of, account, Laid}
+use Rattle.std.proofs.Common.{ℕ, ◌≡◌, ◌-◌, List, length, sym, ap, ◌∙◌, arith}
+use Rattle.def_chunks.specs.Heaps.{HeapRow}
 use Rattle.ct_heap.specs.Lookups.{owner_of}
 use Rattle.ct_heap.specs.Table.{owner_at}
 use Rattle.ct_heap.proofs.Finds.{not_begins, begins}

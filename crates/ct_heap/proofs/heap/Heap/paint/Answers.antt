@@ -1,5 +1,5 @@
-use Rattle.std.proofs.Common.{ℕ, ◌≡◌, ◌+◌, ◌-◌, ◌*◌, ◌/◌, ◌%◌, ◌^◌, ◌<◌, ◌≤◌, ◌⊎◌, inl, inr, not, nat_eq, List, [], Option, Some, None, length, refl, sym, ap, ◌∙◌, arith, subst}
-use Rattle.def_chunks.specs.Heaps.{HeapRow, objects_of, account, Laid}
+use Rattle.std.proofs.Common.{sym, ap, ◌∙◌, subst}
+use Rattle.def_chunks.specs.Heaps.{HeapRow, Laid}
 use Rattle.ct_heap.specs.Effects.{Paints}
 use Rattle.ct_heap.proofs.Flushing.{paints_none, paint_done}
 use Rattle.ct_heap.proofs.Answering.{none_is, some_is}

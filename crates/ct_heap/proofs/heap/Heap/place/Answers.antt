@@ -1,6 +1,5 @@
-use Rattle.std.proofs.Common.{ℕ, ◌≡◌, ◌+◌, ◌-◌, ◌*◌, ◌/◌, ◌%◌, ◌^◌, ◌<◌, ◌≤◌, ◌⊎◌, inl, inr, not, nat_eq, List, [], Option, Some, None, length, refl, sym, ap, ◌∙◌, arith, subst}
-use Rattle.def_chunks.specs.Heaps.{HeapRow, objects_of, account, Laid}
-use Rattle.def_chunks.specs.declared.rows.Range.{Range}
+use Rattle.std.proofs.Common.{◌+◌, ◌^◌, ◌<◌, ◌≤◌, length, refl, sym, arith, subst}
+use Rattle.def_chunks.specs.Heaps.{HeapRow, account, Laid}
 use Rattle.ct_heap.specs.Steps.{Placing, Placed}
 use Rattle.ct_heap.proofs.Answering.{reach, placed_ends}
 use Rattle.ct_heap.proofs.heap.Heap.place.Goals as goal

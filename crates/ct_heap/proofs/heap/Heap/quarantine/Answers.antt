@@ -1,6 +1,5 @@
-use Rattle.std.proofs.Common.{ℕ, ◌≡◌, ◌+◌, ◌-◌, ◌*◌, ◌/◌, ◌%◌, ◌^◌, ◌<◌, ◌≤◌, ◌⊎◌, inl, inr, not, nat_eq, List, [], Option, Some, None, length, refl, sym, ap, ◌∙◌, arith, subst}
-use Rattle.def_chunks.specs.Heaps.{HeapRow, objects_of, account, Laid}
-use Rattle.def_chunks.specs.declared.rows.Range.{Range}
+use Rattle.std.proofs.Common.{◌+◌, refl, sym, arith, subst}
+use Rattle.def_chunks.specs.Heaps.{HeapRow, Laid}
 use Rattle.ct_heap.specs.Steps.{Freeing, Freed}
 use Rattle.ct_heap.proofs.Freeing.{row_of}
 use Rattle.ct_heap.proofs.Answering.{freed_ends}

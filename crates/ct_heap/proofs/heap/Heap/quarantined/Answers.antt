@@ -1,5 +1,5 @@
-use Rattle.std.proofs.Common.{ℕ, ◌≡◌, ◌+◌, ◌-◌, ◌*◌, ◌/◌, ◌%◌, ◌^◌, ◌<◌, ◌≤◌, ◌⊎◌, inl, inr, not, nat_eq, List, [], Option, Some, None, length, refl, sym, ap, ◌∙◌, arith, subst}
-use Rattle.def_chunks.specs.Heaps.{HeapRow, objects_of, account, Laid}
+use Rattle.std.proofs.Common.{not, nat_eq, ap, ◌∙◌}
+use Rattle.def_chunks.specs.Heaps.{HeapRow}
 use Rattle.ct_heap.proofs.Flushing.{waiting_tells}
 use Rattle.ct_heap.proofs.heap.Heap.quarantined.Goals as goal
 

@@ -1,6 +1,4 @@
-use Rattle.std.proofs.Common.{ℕ, ◌≡◌, ◌+◌, ◌-◌, ◌*◌, ◌/◌, ◌%◌, ◌^◌, ◌<◌, ◌≤◌, ◌⊎◌, inl, inr, not, nat_eq, List, [], Option, Some, None, length, refl, sym, ap, ◌∙◌, arith, subst}
-use Rattle.def_chunks.specs.Heaps.{HeapRow, objects_of, account, Laid}
-use Rattle.def_machine.specs.Objects.{charges}
+use Rattle.std.proofs.Common.{◌-◌, ap, ◌∙◌}
 use Rattle.def_chunks.specs.declared.rows.Account.{Account}
 use Rattle.ct_heap.proofs.Answering.{remaining_is}
 use Rattle.ct_heap.proofs.heap.Heap.remaining.Goals as goal
