@@ -1,0 +1,62 @@
+//! What a switch comes to.
+
+ghost use Rattle.std.specs.Prelude.{◌≡◌, ◌*◌, ◌%◌, ◌≤◌, length};
+ghost use Rattle.ct_areas.specs.Threads.{frames_most};
+ghost use Rattle.ct_switch.specs.Ready.{MayCall};
+ghost use Rattle.ct_switch.specs.Calls.{switch_in, decided, MayEnter, TopFits, roomed};
+
+use crate::checks::first_trap;
+use crate::exports::{Export, called, export_of};
+use crate::room::top_below;
+use ct_areas::{Area, Thread};
+use ct_cap::Trap;
+use ct_entry::Entries;
+use ct_mem::Memory;
+use def_profile::layout::{AREA_HEAD, FRAME_SIZE};
+
+/// A check fails; the thread has as many frames as it may have; the callee's stack has too little room; or the export
+/// is entered, with a stack up to a new top.
+pub(crate) enum Decision {
+    Trapped { trap: Trap },
+    TooDeep,
+    NoStack,
+    Enters { export: Export, high: u32 },
+}
+
+/// How many frames an area has room for.
+fn frames_most(area: &Area) -> u32
+    ensures { result ≡ frames_most area.now }
+{
+    area.trusted_length.saturating_sub(AREA_HEAD) / FRAME_SIZE
+}
+
+/// Whether an export's stack fits below an address of the caller's stack.
+fn room(base: u32, address: u32, export: Export) -> Decision
+    requires { base ≤ address }
+    ensures is { result ≡ roomed base address export }
+    ensures fits { base % 16 ≡ 0 → TopFits base address }
+{
+    let high = top_below(base, address);
+    if high - base < export.stack {
+        return Decision::NoStack;
+    }
+    Decision::Enters { export, high }
+}
+
+/// What the switch comes to of a thread that runs.
+pub(crate) fn decide<M: Memory>(t: &Thread, mem: &M, e: &Entries) -> Decision
+    requires { MayCall (M.granules mem.now) t.now e.now }
+    ensures is { decided result ≡ switch_in (M.granules mem.now) e.now t.now }
+    ensures enters { MayEnter e.now (8 * length (M.granules mem.now)) t.now result }
+{
+    let _size = mem.size();
+    if let Some(trap) = first_trap(t.area.stack, t.top, t.regs[1], t.regs[6], t.regs[2]) {
+        return Decision::Trapped { trap };
+    }
+    if t.depth == frames_most(&t.area) {
+        return Decision::TooDeep;
+    }
+    let import = t.regs[6];
+    let export = export_of(e, called(e, import.cap.shadow.root));
+    room(t.area.stack, t.regs[2].address(), export)
+}

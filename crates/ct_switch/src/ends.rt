@@ -1,0 +1,171 @@
+//! A frame's end: the return, the unwind, and the end of an error handler.
+
+ghost use Rattle.std.specs.Prelude.{◌≡◌, ◌*◌, ◌<◌, ℕ, Bool, true, nat_lt, length};
+ghost use Rattle.def_words.specs.declared.Cap.{Cap};
+ghost use Rattle.def_words.specs.Seals.{posture_through};
+ghost use Rattle.def_memory.specs.Granules.{plain};
+ghost use Rattle.def_machine.specs.State.{Frame};
+ghost use Rattle.def_reach.specs.Roots.{root_of};
+ghost use Rattle.ct_areas.specs.declared.thread.Thread as row;
+ghost use Rattle.ct_areas.specs.Threads.{thread_of};
+ghost use Rattle.ct_areas.specs.Parts.{inner_frame, saved_in};
+ghost use Rattle.ct_switch.specs.Exports.{AreSorted};
+ghost use Rattle.ct_switch.specs.Ready.{IsReady, IsOther};
+ghost use Rattle.ct_switch.specs.Calls.{returned_by, thread_left, memory_left, row_left, ended_row, restored_row, filtered_frame, caller_registers};
+
+use crate::exports::export_of;
+use crate::given::handed;
+use ct_areas::{Saved, Thread, clear, innermost, pop};
+use ct_cap::{Live, Posture, open};
+use ct_entry::Entries;
+use ct_loadstore::filter;
+use ct_mem::Memory;
+use def_profile::seals::{RETURN_DISABLE, RETURN_ENABLE, SENTRY_DISABLE, SENTRY_ENABLE};
+
+/// The posture that a saved c1 leaves.
+fn posture_after(before: Posture, kind: u32, kept: u32) -> Posture
+    ensures { result ≡ posture_through before kind 0 kept }
+{
+    if kind == SENTRY_DISABLE {
+        return Posture {
+            off: true,
+            source: 0,
+        };
+    }
+    if kind == RETURN_DISABLE {
+        return Posture {
+            off: true,
+            source: kept,
+        };
+    }
+    if (kind == SENTRY_ENABLE) | (kind == RETURN_ENABLE) {
+        return Posture {
+            off: false,
+            source: 0,
+        };
+    }
+    before
+}
+
+/// What a frame keeps, through the load filter.
+fn kept<M: Memory>(mem: &M, ram: u32, saved: &Saved) -> Saved
+    ensures { (f : Frame) → saved.now ≡ saved_in f
+        → result ≡ filtered_frame (M.granules mem.now) ram f }
+{
+    Saved {
+        export: saved.export,
+        c1: filter(mem, ram, saved.c1),
+        c2: filter(mem, ram, saved.c2),
+        c3: filter(mem, ram, saved.c3),
+        c8: filter(mem, ram, saved.c8),
+        c9: filter(mem, ram, saved.c9),
+    }
+}
+
+/// The registers of a caller: those that its frame kept, and two results.
+fn restored(kept: &Saved, first: Live, second: Live) -> [Live; 16]
+    ensures { result ≡ caller_registers kept.now first second }
+{
+    let none = Live::integer(0);
+    [
+        none, none, kept.c2, kept.c3, none, none, none, none, kept.c8, kept.c9, first, second,
+        none, none, none, none,
+    ]
+}
+
+/// A thread without frames holds nothing.
+fn end(t: &mut Thread)
+    ensures { t.new ≡ ended_row t.old }
+{
+    let none = Live::integer(0);
+    t.pcc = none;
+    t.regs = [
+        none, none, none, none, none, none, none, none, none, none, none, none, none, none, none,
+        none,
+    ];
+    t.posture = Posture {
+        off: false,
+        source: 0,
+    };
+    t.depth = 0;
+    t.top = 0;
+    t.actor = 0;
+    t.handling = false;
+}
+
+/// The innermost frame ends with two results. `false` exactly where it was the thread's last.
+fn leave<M: Memory>(t: &mut Thread, mem: &mut M, first: Live, second: Live) -> bool
+    requires { IsReady (M.granules mem.old) t.old }
+    ensures result { result ≡ nat_lt 1 t.old.depth }
+    ensures thread { thread_of (M.granules mem.new) true t.new
+        ≡ thread_left (M.granules mem.old) t.old (λ f. first) (λ f. second) }
+    ensures memory { M.granules mem.new ≡ memory_left (M.granules mem.old) t.old }
+    ensures row { t.new ≡ row_left (M.granules mem.old) t.old (λ f. first) (λ f. second) }
+{
+    let saved = innermost(t, mem);
+    let kept = kept(mem, t.area.ram, &saved);
+    let bytes = t.top - t.area.stack;
+    pop(t, mem);
+    clear(mem, t.area.ram, t.area.stack, bytes);
+    if t.depth == 0 {
+        end(t);
+        return false;
+    }
+    t.pcc = open(kept.c1);
+    t.regs = restored(&kept, first, second);
+    t.posture = posture_after(t.posture, saved.c1.seal, saved.c1.cap.shadow.source);
+    true
+}
+
+/// The return: c10 and c11 are handed back, untagged where the frame's export passes plain values. `false` exactly
+/// where the frame was the thread's last, which has ended then. No memory is taken.
+pub fn give_back<M: Memory>(t: &mut Thread, mem: &mut M, e: &Entries) -> bool
+    requires ready { IsReady (M.granules mem.old) t.old }
+    requires entries { AreSorted e.now.gates }
+    ensures result { result ≡ nat_lt 1 t.old.depth }
+    ensures thread { thread_of (M.granules mem.new) true t.new
+        ≡ thread_left (M.granules mem.old) t.old (returned_by e.now t.old 10) (returned_by e.now t.old 11) }
+    ensures memory { M.granules mem.new ≡ memory_left (M.granules mem.old) t.old }
+    ensures row { t.new
+        ≡ row_left (M.granules mem.old) t.old (returned_by e.now t.old 10) (returned_by e.now t.old 11) }
+    ensures others { (u : row.Thread) (runs : Bool)
+        → IsOther t.old u (8 * length (M.granules mem.old))
+        → thread_of (M.granules mem.new) runs u ≡ thread_of (M.granules mem.old) runs u }
+{
+    let passes = export_of(e, innermost(t, mem).export).passes;
+    let first = handed(passes, t.regs[10]);
+    let second = handed(passes, t.regs[11]);
+    leave(t, mem, first, second)
+}
+
+/// The unwind: the return with c10 = -1 and c11 = 0. `false` exactly where the frame was the thread's last.
+pub fn unwind<M: Memory>(t: &mut Thread, mem: &mut M, _e: &Entries) -> bool
+    requires { IsReady (M.granules mem.old) t.old }
+    ensures result { result ≡ nat_lt 1 t.old.depth }
+    ensures thread { thread_of (M.granules mem.new) true t.new
+        ≡ thread_left (M.granules mem.old) t.old (λ f. plain 0xFFFFFFFF) (λ f. plain 0) }
+    ensures memory { M.granules mem.new ≡ memory_left (M.granules mem.old) t.old }
+    ensures row { t.new
+        ≡ row_left (M.granules mem.old) t.old (λ f. plain 0xFFFFFFFF) (λ f. plain 0) }
+    ensures others { (u : row.Thread) (runs : Bool)
+        → IsOther t.old u (8 * length (M.granules mem.old))
+        → thread_of (M.granules mem.new) runs u ≡ thread_of (M.granules mem.old) runs u }
+{
+    leave(t, mem, Live::integer(0xFFFF_FFFF), Live::integer(0))
+}
+
+/// The end of a frame with a value, as its error handler says: the return with c10 = the value and c11 = 0. `false`
+/// exactly where the frame was the thread's last.
+pub fn end_with<M: Memory>(t: &mut Thread, mem: &mut M, _e: &Entries, value: u32) -> bool
+    requires { IsReady (M.granules mem.old) t.old }
+    ensures result { result ≡ nat_lt 1 t.old.depth }
+    ensures thread { thread_of (M.granules mem.new) true t.new
+        ≡ thread_left (M.granules mem.old) t.old (λ f. plain value) (λ f. plain 0) }
+    ensures memory { M.granules mem.new ≡ memory_left (M.granules mem.old) t.old }
+    ensures row { t.new ≡ row_left (M.granules mem.old) t.old (λ f. plain value) (λ f. plain 0) }
+    ensures others { (u : row.Thread) (runs : Bool)
+        → IsOther t.old u (8 * length (M.granules mem.old))
+        → thread_of (M.granules mem.new) runs u ≡ thread_of (M.granules mem.old) runs u }
+{
+    leave(t, mem, Live::integer(value), Live::integer(0))
+}
