@@ -17,20 +17,20 @@ use Rattle.def_boot.specs.Made.{return_sentry}
 use Rattle.def_machine.specs.Image.{Image, made_cap, code_entry, globals_entry, stack_base}
 use Rattle.def_machine.specs.State.{Thread, Frame, nobody, interrupts_on}
 use Rattle.def_machine.specs.Frames.{Given, pushed_frame, entered_by, left_with, passed_by}
-use Rattle.def_step.specs.Accesses.{filtered_in}
+use Rattle.def_machine.specs.Memory.{filtered_in}
 use Rattle.def_step.specs.Switch.{Switched, Trapped, TooDeep, NoStack, Enters, switch_of, new_top}
 use Rattle.def_areas.specs.Areas.{held}
 use Rattle.ct_areas.specs.declared.thread.Thread as row
 use Rattle.ct_areas.specs.declared.thread.Area.{Area}
-use Rattle.ct_areas.specs.declared.frames.Saved.{Saved}
 use Rattle.ct_areas.specs.Threads.{frames_most, thread_of}
 use Rattle.ct_areas.specs.Parts.{register_in, with_frame, without_frame, inner_frame, shallower}
 use Rattle.ct_switch.specs.declared.calls.Called.{Called}
 use Rattle.ct_switch.specs.declared.calls.Called.TheVariants as called
 use Rattle.ct_switch.specs.declared.deciding.Decision.{Decision}
 use Rattle.ct_switch.specs.declared.deciding.Decision.TheVariants as decision
-use Rattle.ct_switch.specs.declared.exports.Export.{Export}
-use Rattle.ct_switch.specs.Exports.{IsCallable, callee_of, export_of, table_of}
+use Rattle.ct_switch.specs.declared.ends.Kept.{Kept}
+use Rattle.ct_exports.specs.declared.exports.Export.{Export}
+use Rattle.ct_exports.specs.Exports.{IsCallable, callee_of, export_of, table_of}
 
 -- ---- a call
 
@@ -203,8 +203,11 @@ ended_row t = record t {
   handling = false;
 }
 
+abbrev pub kept_in : Frame → Kept
+kept_in f = record { export = f.export; c1 = f.c1; c2 = f.c2; c3 = f.c3; c8 = f.c8; c9 = f.c9 }
+
 -- what a frame keeps, through the load filter
-abbrev pub filtered_frame : List Granule → ℕ → Frame → Saved
+abbrev pub filtered_frame : List Granule → ℕ → Frame → Kept
 filtered_frame gs ram f = record {
   export = f.export;
   c1 = filtered_in ram gs f.c1;
@@ -214,13 +217,13 @@ filtered_frame gs ram f = record {
   c9 = filtered_in ram gs f.c9;
 }
 
-abbrev pub caller_registers : Saved → Cap → Cap → List Cap
+abbrev pub caller_registers : Kept → Cap → Cap → List Cap
 caller_registers kept first second =
     plain 0 ∷ plain 0 ∷ kept.c2 ∷ kept.c3 ∷ plain 0 ∷ plain 0 ∷ plain 0 ∷ plain 0 ∷ kept.c8
     ∷ kept.c9 ∷ first ∷ second
     ∷ plain 0 ∷ plain 0 ∷ plain 0 ∷ plain 0 ∷ []
 
-abbrev pub restored_row : row.Thread → Frame → Saved → Cap → Cap → row.Thread
+abbrev pub restored_row : row.Thread → Frame → Kept → Cap → Cap → row.Thread
 restored_row t f kept first second = record t {
   pcc = opened kept.c1;
   regs = caller_registers kept first second;

@@ -1,3 +1,2 @@
-pub mod Exports
 pub mod Ready
 pub mod Calls

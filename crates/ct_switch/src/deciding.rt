@@ -5,12 +5,10 @@ ghost use Rattle.ct_areas.specs.Threads.{frames_most};
 ghost use Rattle.ct_switch.specs.Ready.{MayCall};
 ghost use Rattle.ct_switch.specs.Calls.{switch_in, decided, MayEnter, TopFits, roomed};
 
-use crate::checks::first_trap;
-use crate::exports::{Export, called, export_of};
-use crate::room::top_below;
 use ct_areas::{Area, Thread};
 use ct_cap::Trap;
 use ct_entry::Entries;
+use ct_exports::{Export, called, export_of, first_trap, top_below};
 use ct_mem::Memory;
 use def_profile::layout::{AREA_HEAD, FRAME_SIZE};
 

@@ -8,16 +8,16 @@ ghost use Rattle.def_machine.specs.State.{Frame};
 ghost use Rattle.def_reach.specs.Roots.{root_of};
 ghost use Rattle.ct_areas.specs.declared.thread.Thread as row;
 ghost use Rattle.ct_areas.specs.Threads.{thread_of};
-ghost use Rattle.ct_areas.specs.Parts.{inner_frame, saved_in};
-ghost use Rattle.ct_switch.specs.Exports.{AreSorted};
+ghost use Rattle.ct_areas.specs.Parts.{inner_frame};
+ghost use Rattle.ct_exports.specs.Exports.{AreSorted};
 ghost use Rattle.ct_switch.specs.Ready.{IsReady, IsOther};
-ghost use Rattle.ct_switch.specs.Calls.{returned_by, thread_left, memory_left, row_left, ended_row, restored_row, filtered_frame, caller_registers};
+ghost use Rattle.ct_switch.specs.Calls.{returned_by, thread_left, memory_left, row_left, ended_row, restored_row, kept_in, filtered_frame, caller_registers};
 
-use crate::exports::export_of;
 use crate::given::handed;
 use ct_areas::{Saved, Thread, clear, innermost, pop};
 use ct_cap::{Live, Posture, open};
 use ct_entry::Entries;
+use ct_exports::export_of;
 use ct_loadstore::filter;
 use ct_mem::Memory;
 use def_profile::seals::{RETURN_DISABLE, RETURN_ENABLE, SENTRY_DISABLE, SENTRY_ENABLE};
@@ -47,12 +47,46 @@ fn posture_after(before: Posture, kind: u32, kept: u32) -> Posture
     before
 }
 
+/// What a frame keeps of its caller, and the entry number of its own export.
+#[derive(Clone, Copy, Debug, Drop)]
+pub(crate) struct Kept {
+    pub(crate) export: u32,
+    pub(crate) c1: Live,
+    pub(crate) c2: Live,
+    pub(crate) c3: Live,
+    pub(crate) c8: Live,
+    pub(crate) c9: Live,
+}
+
+/// What a thread's innermost frame keeps.
+fn inner<M: Memory>(t: &Thread, mem: &M) -> Kept
+    requires { IsReady (M.granules mem.now) t.now }
+    ensures { result ≡ kept_in (inner_frame (M.granules mem.now) t.now) }
+{
+    let Saved {
+        export,
+        c1,
+        c2,
+        c3,
+        c8,
+        c9,
+    } = innermost(t, mem);
+    Kept {
+        export,
+        c1,
+        c2,
+        c3,
+        c8,
+        c9,
+    }
+}
+
 /// What a frame keeps, through the load filter.
-fn kept<M: Memory>(mem: &M, ram: u32, saved: &Saved) -> Saved
-    ensures { (f : Frame) → saved.now ≡ saved_in f
+fn through<M: Memory>(mem: &M, ram: u32, saved: &Kept) -> Kept
+    ensures { (f : Frame) → saved.now ≡ kept_in f
         → result ≡ filtered_frame (M.granules mem.now) ram f }
 {
-    Saved {
+    Kept {
         export: saved.export,
         c1: filter(mem, ram, saved.c1),
         c2: filter(mem, ram, saved.c2),
@@ -63,7 +97,7 @@ fn kept<M: Memory>(mem: &M, ram: u32, saved: &Saved) -> Saved
 }
 
 /// The registers of a caller: those that its frame kept, and two results.
-fn restored(kept: &Saved, first: Live, second: Live) -> [Live; 16]
+fn restored(kept: &Kept, first: Live, second: Live) -> [Live; 16]
     ensures { result ≡ caller_registers kept.now first second }
 {
     let none = Live::integer(0);
@@ -102,8 +136,8 @@ fn leave<M: Memory>(t: &mut Thread, mem: &mut M, first: Live, second: Live) -> b
     ensures memory { M.granules mem.new ≡ memory_left (M.granules mem.old) t.old }
     ensures row { t.new ≡ row_left (M.granules mem.old) t.old (λ f. first) (λ f. second) }
 {
-    let saved = innermost(t, mem);
-    let kept = kept(mem, t.area.ram, &saved);
+    let saved = inner(t, mem);
+    let kept = through(mem, t.area.ram, &saved);
     let bytes = t.top - t.area.stack;
     pop(t, mem);
     clear(mem, t.area.ram, t.area.stack, bytes);
@@ -132,7 +166,7 @@ pub fn give_back<M: Memory>(t: &mut Thread, mem: &mut M, e: &Entries) -> bool
         → IsOther t.old u (8 * length (M.granules mem.old))
         → thread_of (M.granules mem.new) runs u ≡ thread_of (M.granules mem.old) runs u }
 {
-    let passes = export_of(e, innermost(t, mem).export).passes;
+    let passes = export_of(e, inner(t, mem).export).passes;
     let first = handed(passes, t.regs[10]);
     let second = handed(passes, t.regs[11]);
     leave(t, mem, first, second)

@@ -6,13 +6,9 @@
 #![tactic(auto)]
 
 mod calls;
-mod checks;
 mod deciding;
 mod ends;
-mod exports;
 mod given;
-mod looking;
-mod room;
 
 pub use calls::{Called, call};
 pub use ct_areas::{Area, Thread, resume, save};

@@ -1,6 +1,6 @@
 use Rattle.std.proofs.Common.{◌≡◌, arith}
-use Rattle.ct_switch.proofs.Rooms.{NoneBelow, found, missing, fits_so}
-use Rattle.ct_switch.proofs.room.exponent.Goals as goal
+use Rattle.ct_exports.proofs.Rooms.{NoneBelow, found, missing, fits_so}
+use Rattle.ct_exports.proofs.room.exponent.Goals as goal
 
 pub returns-then-length-e-le511-clause-is : goal.returns-then-length-e-le511-clause-is
 returns-then-length-e-le511-clause-is c =

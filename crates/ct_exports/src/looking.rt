@@ -3,7 +3,7 @@
 ghost use Rattle.std.specs.Prelude.{◌≡◌, ◌<◌, ◌≤◌, ◌+◌, ◌-◌, ℕ, true, false, length, slice_get, slice_index_or};
 ghost use Rattle.ct_entry.specs.declared.rows.Gate.{Gate};
 ghost use Rattle.def_reach.specs.Roots.{gate_for};
-ghost use Rattle.ct_switch.specs.Exports.{AreSorted, AreTogether, no_row, row_named, is_export_of, table_in};
+ghost use Rattle.ct_exports.specs.Exports.{AreSorted, AreTogether, no_row, row_named, is_export_of, table_in};
 
 use ct_entry::{Entry, Gate, Kind, Mode, Owner};
 use def_profile::layout::TABLE_HEAD;
@@ -56,7 +56,7 @@ pub(crate) fn named(rows: &[Entry], number: u32) -> Option<Entry>
 }
 
 /// Whether a row is an export of this compartment.
-pub(crate) fn is_export_of(home: u32, row: Entry) -> bool
+pub fn is_export_of(home: u32, row: Entry) -> bool
     ensures { result ≡ is_export_of home row }
 {
     match row.kind {
@@ -88,7 +88,7 @@ fn first_of(rows: &[Entry], home: u32, index: usize) -> usize
 }
 
 /// Where the export table begins of the compartment that the export at an index is of.
-pub(crate) fn table_at(rows: &[Entry], home: u32, index: usize) -> u32
+pub fn table_at(rows: &[Entry], home: u32, index: usize) -> u32
     requires inside { index < length rows.now }
     requires is { is_export_of home (slice_index_or rows.now index no_row) ≡ true }
     requires together { AreTogether rows.now home }

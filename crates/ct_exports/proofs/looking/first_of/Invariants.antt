@@ -1,7 +1,7 @@
 use Rattle.std.proofs.Common.{◌≡◌, ◌≤◌, true}
 use Rattle.std.specs.Prelude.{slice_index_or}
-use Rattle.ct_switch.specs.Exports.{no_row, is_export_of}
-use Rattle.ct_switch.proofs.looking.first_of.Given as goal
+use Rattle.ct_exports.specs.Exports.{no_row, is_export_of}
+use Rattle.ct_exports.proofs.looking.first_of.Given as goal
 
 abbrev pub invariant-loop-first : goal.invariant-loop-first
 invariant-loop-first l = record {

@@ -1,5 +1,5 @@
-use Rattle.ct_switch.proofs.Rooms.{NoneBelow}
-use Rattle.ct_switch.proofs.room.exponent.Given as goal
+use Rattle.ct_exports.proofs.Rooms.{NoneBelow}
+use Rattle.ct_exports.proofs.room.exponent.Given as goal
 
 -- none so far fits
 abbrev pub invariant-loop-e : goal.invariant-loop-e

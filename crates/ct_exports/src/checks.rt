@@ -57,7 +57,7 @@ fn stack_trap(base: u32, top: u32, c: Live) -> Option<Trap>
 }
 
 /// The first check of c1, then of c6, then of c2 that fails.
-pub(crate) fn first_trap(base: u32, top: u32, c1: Live, c6: Live, c2: Live) -> Option<Trap>
+pub fn first_trap(base: u32, top: u32, c1: Live, c6: Live, c2: Live) -> Option<Trap>
     ensures { result
         ≡ first_failed (return_checks c1 ++ gate_checks c6 ++ stack_checks base top c2) }
 {

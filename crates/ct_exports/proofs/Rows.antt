@@ -10,8 +10,8 @@ use Rattle.ct_entry.specs.Listed.{Listed}
 use Rattle.ct_entry.specs.declared.rows.Entry.{Entry}
 use Rattle.ct_entry.specs.declared.rows.Gate.{Gate}
 use Rattle.def_reach.specs.Roots.{root_of, gate_for, no_gate, compartment_of, is_disabled, listed_root}
-use Rattle.ct_switch.specs.declared.exports.Export.{Export}
-use Rattle.ct_switch.specs.Exports.{AreTogether, no_row, row_at, row_named, is_export_of, table_in, export_of}
+use Rattle.ct_exports.specs.declared.exports.Export.{Export}
+use Rattle.ct_exports.specs.Exports.{AreTogether, no_row, row_at, row_named, is_export_of, table_in, export_of}
 
 -- ---- rows
 

@@ -1,6 +1,6 @@
 use Rattle.std.proofs.Common.{◌≤◌, ltb, ltb-true, ltb-false, arith, rules}
 use Rattle.std.proofs.lemmas.List.Sorted.{IsPartitionPoint-from_clause, IsPartitionedBy-ltb}
-use Rattle.ct_switch.proofs.looking.place_of.Goals as goal
+use Rattle.ct_exports.proofs.looking.place_of.Goals as goal
 
 pub returns-clause-before : goal.returns-clause-before
 returns-clause-before c =

@@ -29,7 +29,7 @@ fn whole(length: u32, exponent: u32) -> u32
 
 /// The new top under an address of the caller's stack, of which this is the base: as many whole units as lie between
 /// them, so that a capability spells the callee's stack.
-pub(crate) fn top_below(base: u32, address: u32) -> u32
+pub fn top_below(base: u32, address: u32) -> u32
     requires { base ≤ address }
     ensures is { result ≡ new_top base address }
     ensures low { base ≤ result }

@@ -2,7 +2,7 @@
 
 ghost use Rattle.std.specs.Prelude.{◌≡◌};
 ghost use Rattle.def_reach.specs.Roots.{compartment_of, is_disabled, root_of};
-ghost use Rattle.ct_switch.specs.Exports.{AreSorted, export_of};
+ghost use Rattle.ct_exports.specs.Exports.{AreSorted, export_of};
 
 use crate::looking::{gate_of, named};
 use ct_entry::{Entries, Mode, Owner};
@@ -43,7 +43,7 @@ fn is_disabled(posture: Mode) -> bool
 }
 
 /// What the entries say of the export with this number.
-pub(crate) fn export_of(e: &Entries, number: u32) -> Export
+pub fn export_of(e: &Entries, number: u32) -> Export
     requires { AreSorted e.now.gates }
     ensures { result ≡ export_of e.now number }
 {
@@ -71,7 +71,7 @@ pub(crate) fn export_of(e: &Entries, number: u32) -> Export
 }
 
 /// The number of the export that an entry names; 0 where it names none.
-pub(crate) fn called(e: &Entries, entry: u32) -> u32
+pub fn called(e: &Entries, entry: u32) -> u32
     ensures { result ≡ (root_of e.now entry).of }
 {
     match named(&e.rows, entry) {

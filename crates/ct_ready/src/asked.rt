@@ -2,13 +2,12 @@
 
 ghost use Rattle.std.specs.Prelude.{◌≡◌, ◌*◌, ◌+◌, ◌-◌, ◌^◌, ◌≤◌, ◌<◌, ℕ, Bool, true, false, length, slice_index_or};
 ghost use Rattle.ct_areas.specs.Threads.{HasArea};
-ghost use Rattle.ct_switch.specs.Exports.{AreSorted, AreTogether, IsCallable, no_row, is_export_of};
+ghost use Rattle.ct_exports.specs.Exports.{AreSorted, AreTogether, IsCallable, no_row, is_export_of};
 ghost use Rattle.ct_switch.specs.Ready.{HasStack, IsReady, MayCall};
 
-use crate::exports::{called, export_of};
-use crate::looking::{is_export_of, table_at};
 use ct_areas::{Area, Thread};
 use ct_entry::{Entries, Entry, Gate};
+use ct_exports::{called, export_of, is_export_of, table_at};
 use ct_mem::Memory;
 use def_profile::layout::{AREA_HEAD, FRAME_SIZE, TABLE_HEAD};
 use def_profile::seals::EXPORT_TYPE;
@@ -91,7 +90,7 @@ fn first_export(rows: &[Entry], home: u32) -> usize
 
 /// From which index on no row is an export of a compartment.
 fn last_export(rows: &[Entry], home: u32) -> usize
-    ensures { (k : ℕ) → result ≤ k → is_export_of home (slice_index_or rows.now k no_row) ≡ false }
+    ensures none { (k : ℕ) → result ≤ k → is_export_of home (slice_index_or rows.now k no_row) ≡ false }
     ensures inside { result ≤ length rows.now }
 {
     let mut end = rows.len();

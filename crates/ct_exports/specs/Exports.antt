@@ -9,7 +9,7 @@ use Rattle.ct_entry.specs.declared.rows.Kind.TheVariants.{Code}
 use Rattle.def_profile.specs.declared.layout.TheConstants.{TABLE_HEAD}
 use Rattle.def_reach.specs.Roots.{root_of, gate_for, compartment_of}
 use Rattle.def_step.specs.Boot.{is_export_kind, is_compartment}
-use Rattle.ct_switch.specs.declared.exports.Export.{Export}
+use Rattle.ct_exports.specs.declared.exports.Export.{Export}
 
 -- ---- rows
 
@@ -60,6 +60,10 @@ abbrev pub callee_of : Listed → ℕ → ℕ
 callee_of e export = compartment_of (root_of e export).owner
 
 -- ---- the export that is entered
+
+-- gates stand by the numbers of their exports
+abbrev pub AreSorted : List Gate → Type 0
+AreSorted gates = IsNonDecreasingBy (λ (g : Gate). g.entry) gates
 
 abbrev pub export_of : Listed → ℕ → Export
 export_of e export = record {
