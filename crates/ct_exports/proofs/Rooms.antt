@@ -1,14 +1,14 @@
 -- The exponent of a callee's stack, and its new top.
-use Rattle.std.proofs.Common.{ℕ, zero, suc, ◌≡◌, ◌+◌, ◌-◌, ◌*◌, ◌/◌, ◌%◌, ◌^◌, ◌≤◌, ◌<◌, inl, inr, Bool, true, false, nat_le, List, length, Some, None, refl, sym, ap, ◌∙◌, arith}
+use Rattle.std.proofs.Common.{ℕ, ◌≡◌, ◌+◌, ◌-◌, ◌*◌, ◌/◌, ◌%◌, ◌^◌, ◌≤◌, ◌<◌, inl, inr, Bool, true, false, nat_le, length, sym, ap, ◌∙◌, arith}
 use Rattle.std.proofs.Math.ListN.{get_or}
-use Rattle.std.specs.List.{range_with_len, find}
+use Rattle.std.specs.List.{range_with_len}
 use Rattle.std.specs.Option.{unwrap_or}
 use Rattle.std.proofs.lemmas.List.FromFn.{get_or-range_with_len, length-range_with_len}
 use Rattle.std.proofs.Math.Nat.{mul_assoc, mul-mod_left}
 use Rattle.std.proofs.lemmas.Nat.{pow-add}
 use Rattle.law_lists.proofs.Finds.{find_is, find_none}
 use Rattle.law_lists.proofs.Tests.{le_tells}
-use Rattle.def_step.specs.Switch.{room_exponent, room_of, new_top}
+use Rattle.def_step.specs.Switch.{room_exponent}
 
 abbrev pub fits : ℕ → ℕ → Bool
 fits length e = nat_le (length / 2 ^ e) 511
@@ -53,3 +53,7 @@ whole_units n e low =
     let power : 2 ^ e ≡ 2 ^ (e - 4) * 16 = ap (λ k. 2 ^ k) split ∙ pow-add 2 (e - 4) 4 in
     let whole : n * 2 ^ e ≡ n * 2 ^ (e - 4) * 16 = ap (λ p. n * p) power ∙ sym (mul_assoc n (2 ^ (e - 4)) 16) in
     ap (λ x. x % 16) whole ∙ mul-mod_left (n * 2 ^ (e - 4)) 16
+
+-- also cut to 32 bits
+pub cut_units : (x : ℕ) → x % 16 ≡ 0 → x % 4294967296 % 16 ≡ 0
+cut_units x even = omega (arith, even)

@@ -1,23 +1,20 @@
 -- Rows that numbers name, gates by their numbers, and where an export table begins.
-use Rattle.std.proofs.Common.{ℕ, zero, suc, ◌≡◌, ◌+◌, ◌-◌, ◌≤◌, ◌<◌, ◌==◌, inl, inr, Bool, true, false, List, [], ◌∷◌, length, Option, Some, None, slice_get, refl, sym, ap, ◌∙◌, arith}
-use Rattle.std.specs.Prelude.{slice_index_or}
+use Rattle.std.proofs.Common.{ℕ, zero, suc, ◌≡◌, ◌-◌, ◌≤◌, ◌<◌, inl, inr, true, false, List, [], ◌∷◌, length, Some, None, slice_get, refl, sym, ap, ◌∙◌, arith}
 use Rattle.std.proofs.Math.ListN.{get_or}
 use Rattle.std.specs.Option.{unwrap_or}
-use Rattle.std.specs.List.{find}
 use Rattle.law_lists.proofs.Finds.{find_is}
-use Rattle.law_lists.proofs.Tests.{bool_tells, eq_tells}
+use Rattle.law_lists.proofs.Tests.{bool_tells, eq_tells, lt_tells}
 use Rattle.ct_entry.specs.Listed.{Listed}
 use Rattle.ct_entry.specs.declared.rows.Entry.{Entry}
 use Rattle.ct_entry.specs.declared.rows.Gate.{Gate}
-use Rattle.def_reach.specs.Roots.{root_of, gate_for, no_gate, compartment_of, is_disabled, listed_root}
-use Rattle.ct_exports.specs.declared.exports.Export.{Export}
-use Rattle.ct_exports.specs.Exports.{AreTogether, no_row, row_at, row_named, is_export_of, table_in, export_of}
+use Rattle.def_reach.specs.Roots.{root_of, gate_for, no_gate, compartment_of, is_disabled}
+use Rattle.ct_exports.specs.Exports.{AreSorted, AreTogether, no_row, row_at, row_named, is_export_of, table_in, export_of}
 
 -- ---- rows
 
 pub named_next : (rows : List Entry) (n : ℕ) → 0 < n → row_named rows n ≡ slice_get rows (n - 1)
 named_next rows zero some = absurd (omega (arith, some))
-named_next rows (suc n) some = refl
+named_next rows (suc n) some = let back : suc n - 1 ≡ n = omega arith in rw back refl
 
 pub export_found : (e : Listed) (n : ℕ) (r : Entry) → row_named e.rows n ≡ Some r → export_of e n ≡ record {
   number = n;
@@ -75,6 +72,19 @@ gate_missing (g ∷ gs) n none = elim (eq_tells g.entry n) [
   | inl e ↦ absurd (none 0 (omega arith) e.1)
   | inr e ↦ rw e.0 (gate_missing gs n (λ k lt is. none (suc k) (omega (arith, lt)) is))
 ]
+
+-- where a place parts the lesser numbers from the others, and no gate there has this one
+pub gate_none : (gs : List Gate) (n i : ℕ) → AreSorted gs → ((k : ℕ) (d : Gate) → k < i → (get_or gs k d).entry < n)
+    → ((k : ℕ) (d : Gate) → i ≤ k → k < length gs → n ≤ (get_or gs k d).entry)
+    → (i < length gs → (get_or gs i no_gate).entry ≡ n → ⊥) → no_gate ≡ gate_for gs n
+gate_none gs n i sorted before after other = gate_missing gs n (λ k inside is. elim (lt_tells k i) [
+  | inl e ↦ let less : (get_or gs k no_gate).entry < n = before k no_gate e.1 in absurd (omega (arith, less, is))
+  | inr e ↦
+      let here : i < length gs = omega (arith, e.1, inside) in
+      let low : n ≤ (get_or gs i no_gate).entry = after i no_gate (omega arith) here in
+      let rises : (get_or gs i no_gate).entry ≤ (get_or gs k no_gate).entry = sorted i k no_gate e.1 inside in
+      other here (omega (arith, low, rises, is))
+])
 
 -- ---- export tables
 

@@ -1,5 +1,5 @@
 use Rattle.std.proofs.Common.{◌≡◌, arith}
-use Rattle.ct_exports.proofs.Rooms.{NoneBelow, found, missing, fits_so}
+use Rattle.ct_exports.proofs.Rooms.{found, missing, fits_so}
 use Rattle.ct_exports.proofs.room.exponent.Goals as goal
 
 pub returns-then-length-e-le511-clause-is : goal.returns-then-length-e-le511-clause-is
