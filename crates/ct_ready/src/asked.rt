@@ -107,7 +107,9 @@ fn last_export(rows: &[Entry], home: u32) -> usize
 fn are_together(rows: &[Entry], home: u32) -> bool
     ensures { result ≡ true → AreTogether rows.now home }
 {
-    for i in first_export(rows, home)..last_export(rows, home) {
+    let low = first_export(rows, home);
+    let high = last_export(rows, home);
+    for i in low..high {
         if !is_export_of(home, rows[i]) {
             return false;
         }

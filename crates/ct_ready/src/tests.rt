@@ -8,7 +8,7 @@ use crate::{is_ready, may_call};
 use ct_cap::{Cap, Live, Posture, Shadow, Trap, derive, shrink};
 use ct_entry::{Entries, Entry, Gate, Kind, Mode, Owner};
 use ct_mem::{Memory, Plain};
-use ct_switch::{Area, Called, Thread, call, give_back, unwind};
+use ct_switch::{Area, Called, Thread, call, give_back, resume, save, unwind};
 use def_profile::rights::{
     CODE_RIGHTS, EXECUTABLE_ROOT, EXPORT_RIGHTS, GLOBALS_RIGHTS, MEMORY_ROOT, STACK_RIGHTS,
 };
@@ -378,5 +378,110 @@ fn plain_results(rt: HostRuntime) -> Result<(), Fail> {
     word.shadow = Shadow { root: 0, source: 0 };
     assert_eq!(rt; t.regs[10].cap, word);
     assert_eq!(rt; given_back(&mut t, &mut mem, &e), Some(false));
+    Ok(())
+}
+
+/// The thread stops and is picked again, where that may be; between, memory is marked from one offset to another.
+fn stopped_and_picked(t: &mut Thread, mem: &mut Plain, low: u32, high: u32) -> bool {
+    if !is_ready(t, mem) {
+        return false;
+    }
+    save(t, mem);
+    if !is_ready(t, mem) || low % 8 != 0 || high % 8 != 0 || high < low || mem.size() < high {
+        return false;
+    }
+    mem.mark(low, high, true);
+    if !is_ready(t, mem) {
+        return false;
+    }
+    resume(t, mem);
+    true
+}
+
+#[test]
+fn areas_by_their_layout(rt: HostRuntime) -> Result<(), Fail> {
+    let alloc = rt.alloc();
+    let e = entries(alloc, 128)?;
+    let mut mem = Plain::new(alloc, 8192)?;
+    let mut t = thread(&mut mem, 3);
+    heads(&mut mem);
+
+    // frame 0 holds its export alone
+    assert_eq!(rt; held(&mem, 0x10A0 + 40).word, 4);
+    assert!(rt; is_clear(&mem, 0x10A0, 0x10A0 + 40) && is_clear(&mem, 0x10A0 + 48, 0x10E0));
+
+    // frame 1: the caller's c1, c2, c3, c8, c9; export and compartment; top; its handler was entered
+    t.handling = true;
+    t.regs[3] = Live::integer(33);
+    t.regs[8] = Live::integer(88);
+    t.regs[9] = Live::integer(99);
+    let (link, stack) = (t.regs[1].cap, t.regs[2].cap);
+    let entered = called(&mut t, &mut mem, &e);
+    assert_eq!(rt;
+        entered,
+        Some(Called::Entered {
+            entry: 3,
+            export: 8
+        })
+    );
+    assert!(rt; held(&mem, 0x10E0) == link && held(&mem, 0x10E8) == stack);
+    assert_eq!(rt;
+        (
+            held(&mem, 0x10F0).word,
+            held(&mem, 0x10F8).word,
+            held(&mem, 0x1100).word
+        ),
+        (33, 88, 99)
+    );
+    assert_eq!(rt;
+        (
+            held(&mem, 0x1108).word,
+            held(&mem, 0x1110).word,
+            held(&mem, 0x1118).word
+        ),
+        (8, 0x8000_0C00, 1)
+    );
+    assert!(rt; !t.handling);
+
+    // frame 2: compartment 1 called
+    second(&mut t, &mut mem);
+    let entered = called(&mut t, &mut mem, &e);
+    assert_eq!(rt;
+        entered,
+        Some(Called::Entered {
+            entry: 7,
+            export: 12
+        })
+    );
+    assert_eq!(rt;
+        (
+            held(&mem, 0x1148).word,
+            held(&mem, 0x1150).word,
+            held(&mem, 0x1158).word
+        ),
+        (0x1_0000_000C, 0x8000_0A00, 0)
+    );
+
+    // a stop and a pick: what has its base in a marked granule comes back untagged
+    let before = t.regs[3].cap;
+    let code = t.pcc.cap;
+    assert!(rt; before.tag && code.tag);
+    assert!(rt; stopped_and_picked(&mut t, &mut mem, 0x420, 0x428));
+    assert!(rt; t.pcc.cap == code && t.regs[3].cap.word == before.word && !t.regs[3].cap.tag);
+    assert!(rt; is_clear(&mem, 0x1000, 0x1080));
+
+    // a return through frames: the caller's registers come back, and what is marked untagged
+    assert_eq!(rt; unwound(&mut t, &mut mem, &e), Some(true));
+    assert_eq!(rt; (t.depth, t.actor, t.top), (2, 1, 0x8000_0A00));
+    assert_eq!(rt; unwound(&mut t, &mut mem, &e), Some(true));
+    assert!(rt; t.handling && t.regs[2].cap == stack);
+    assert_eq!(rt;
+        (
+            t.regs[3].address(),
+            t.regs[8].address(),
+            t.regs[9].address()
+        ),
+        (33, 88, 99)
+    );
     Ok(())
 }

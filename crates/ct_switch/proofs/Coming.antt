@@ -8,7 +8,7 @@ use Rattle.def_memory.specs.declared.Granule.{Granule}
 use Rattle.def_machine.specs.State.{Thread}
 use Rattle.def_reach.specs.Roots.{root_of, gate_for}
 use Rattle.def_step.specs.Checks.{first_failed}
-use Rattle.def_step.specs.Switch.{Switched, Trapped, TooDeep, NoStack, Enters, switch_of, switch_checks, return_checks, gate_checks, stack_checks, past_checks, with_depth, with_room, new_top}
+use Rattle.def_step.specs.Switch.{Switched, Trapped, TooDeep, NoStack, Enters, switch_of, past_checks, with_depth, with_room, new_top}
 use Rattle.law_areas.proofs.Frames.{frames_count}
 use Rattle.ct_areas.specs.declared.thread.Thread as row
 use Rattle.ct_areas.specs.Threads.{area_begin, frames_most, living, thread_of}
@@ -17,12 +17,8 @@ use Rattle.ct_areas.proofs.Places.{alive_is}
 use Rattle.ct_exports.specs.declared.exports.Export.{Export}
 use Rattle.ct_exports.specs.Exports.{IsCallable, export_of}
 use Rattle.ct_switch.specs.Ready.{MayCall}
-use Rattle.ct_switch.specs.Calls.{switch_in, decided, roomed, Enterable, MayEnter, TopFits}
+use Rattle.ct_switch.specs.Calls.{failed_in, switch_in, decided, roomed, Enterable, MayEnter, TopFits}
 use Rattle.ct_switch.proofs.Failing.{checks_passed}
-
--- the first check of a row that fails
-abbrev pub failed_in : row.Thread → Option Trap
-failed_in t = first_failed (return_checks (register_in t 1) ++ gate_checks (register_in t 6) ++ stack_checks t.area.stack t.top (register_in t 2))
 
 by_checks : (gs : List Granule) (e : Listed) (t : row.Thread) → 0 < t.depth
     → switch_in gs e t ≡ past_checks e t.area.stack (frames_most t.area) (living gs true t) (failed_in t)
@@ -76,8 +72,8 @@ may_enter gs e t x may none free is fits =
     let enterable : Enterable e (8 * length gs) t x (new_top t.area.stack (cap_address (register_in t 2))) = record {
       is = is ∙ ap (λ n. export_of e n) (sym number);
       callable = rw number callable;
-      low = low;
-      high = omega (arith, high, top);
+      above = low;
+      below = omega (arith, high, top);
       even = fits.even;
       room = less t.depth (frames_most t.area) room free;
     } in

@@ -1,11 +1,12 @@
 -- What a switch, a return and an unwind leave of a thread and of memory.
-use Rattle.std.specs.Prelude.{ℕ, ◌+◌, ◌-◌, ◌/◌, ◌==◌, ◌≡◌, ◌≤◌, ◌<◌, ◌%◌, true, false, Bool, cond, nat_lt, List, [], ◌∷◌, slice_index_or, if◌then◌else◌}
+use Rattle.std.specs.Prelude.{ℕ, ◌+◌, ◌-◌, ◌/◌, ◌==◌, ◌≡◌, ◌≤◌, ◌<◌, ◌%◌, true, false, Bool, cond, nat_lt, List, [], ◌∷◌, slice_index_or, ◌++◌, Option, if◌then◌else◌}
 use Rattle.ct_entry.specs.Listed.{Listed}
 use Rattle.def_profile.specs.declared.layout.TheConstants.{GRANULE}
 use Rattle.def_profile.specs.declared.rights.TheConstants.{STACK_RIGHTS}
 use Rattle.def_words.specs.declared.Cap.{Cap}
 use Rattle.def_words.specs.declared.Posture.{Posture}
 use Rattle.def_words.specs.declared.Shadow.{Shadow}
+use Rattle.def_words.specs.declared.Trap.{Trap}
 use Rattle.def_words.specs.Capability.{untagged, with_address}
 use Rattle.def_words.specs.Derive.{derive, memory_root}
 use Rattle.def_words.specs.Jumped.{opened}
@@ -18,7 +19,8 @@ use Rattle.def_machine.specs.Image.{Image, made_cap, code_entry, globals_entry, 
 use Rattle.def_machine.specs.State.{Thread, Frame, nobody, interrupts_on}
 use Rattle.def_machine.specs.Frames.{Given, pushed_frame, entered_by, left_with, passed_by}
 use Rattle.def_machine.specs.Memory.{filtered_in}
-use Rattle.def_step.specs.Switch.{Switched, Trapped, TooDeep, NoStack, Enters, switch_of, new_top}
+use Rattle.def_step.specs.Checks.{first_failed}
+use Rattle.def_step.specs.Switch.{Switched, Trapped, TooDeep, NoStack, Enters, return_checks, gate_checks, stack_checks, switch_of, new_top}
 use Rattle.def_areas.specs.Areas.{held}
 use Rattle.ct_areas.specs.declared.thread.Thread as row
 use Rattle.ct_areas.specs.declared.thread.Area.{Area}
@@ -67,6 +69,13 @@ pub record HoldsHeads (i : Image) (gs : List Granule) (e : Listed) (t : row.Thre
   pub stack : stack_base i n ≡ t.area.stack
   pub alive : 0 < t.depth
 
+-- the first check of a thread that runs that fails
+abbrev pub failed_in : row.Thread → Option Trap
+failed_in t =
+    first_failed
+    (return_checks (register_in t 1) ++ gate_checks (register_in t 6)
+    ++ stack_checks t.area.stack t.top (register_in t 2))
+
 -- what the switch comes to
 abbrev pub switch_in : List Granule → Listed → row.Thread → Switched
 switch_in gs e t = switch_of e t.area.stack t.top (frames_most t.area) (thread_of gs true t)
@@ -94,8 +103,8 @@ pub record TopFits (base address : ℕ) : Type 0 where
 pub record Enterable (e : Listed) (size : ℕ) (t : row.Thread) (x : Export) (high : ℕ) : Type 0 where
   pub is : x ≡ export_of e x.number
   pub callable : IsCallable e t.area.ram size x.number
-  pub low : t.area.stack ≤ high
-  pub high : high ≤ t.top
+  pub above : t.area.stack ≤ high
+  pub below : high ≤ t.top
   pub even : high % 16 ≡ 0
   pub room : t.depth < frames_most t.area
 
@@ -188,14 +197,17 @@ thread_left gs t first second =
 abbrev pub memory_left : List Granule → row.Thread → List Granule
 memory_left gs t = zeroed_from t.area.stack t.top t.area.ram (without_frame gs t)
 
+-- registers that hold nothing
+abbrev pub no_registers : List Cap
+no_registers =
+    plain 0 ∷ plain 0 ∷ plain 0 ∷ plain 0 ∷ plain 0 ∷ plain 0 ∷ plain 0 ∷ plain 0 ∷ plain 0
+    ∷ plain 0 ∷ plain 0 ∷ plain 0 ∷ plain 0 ∷ plain 0 ∷ plain 0 ∷ plain 0 ∷ []
+
 -- a thread's row after its last frame
 abbrev pub ended_row : row.Thread → row.Thread
 ended_row t = record t {
   pcc = plain 0;
-  regs =
-      plain 0 ∷ plain 0 ∷ plain 0 ∷ plain 0 ∷ plain 0 ∷ plain 0 ∷ plain 0 ∷ plain 0 ∷ plain 0
-      ∷ plain 0 ∷ plain 0
-      ∷ plain 0 ∷ plain 0 ∷ plain 0 ∷ plain 0 ∷ plain 0 ∷ [];
+  regs = no_registers;
   posture = interrupts_on;
   depth = 0;
   top = 0;

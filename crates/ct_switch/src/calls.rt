@@ -7,7 +7,7 @@ ghost use Rattle.ct_areas.specs.Threads.{frames_most, thread_of};
 ghost use Rattle.ct_areas.specs.Parts.{register_in, with_frame};
 ghost use Rattle.ct_exports.specs.Exports.{IsCallable, callee_of};
 ghost use Rattle.ct_switch.specs.Ready.{IsReady, IsOther, MayCall};
-ghost use Rattle.ct_switch.specs.Calls.{head_of, switch_in, told, memory_after, thread_after, row_after, entered_row, entered_thread};
+ghost use Rattle.ct_switch.specs.Calls.{head_of, switch_in, told, memory_after, thread_after, row_after, registers_in, posture_in, entered_row, entered_thread};
 
 use crate::deciding::{Decision, decide};
 use crate::given::{Start, given, posture, registers};
@@ -42,8 +42,21 @@ fn head_of<M: Memory>(t: &Thread, mem: &M, e: &Entries, x: &Export) -> u32
     table_at(&e.rows, x.callee, x.number as usize - 1) - t.area.ram
 }
 
+/// A thread is dressed as a callee: program counter, registers and posture.
+fn dress(t: &mut Thread, x: &Export, start: &Start)
+    ensures { t.new ≡ record t.old {
+      pcc = start.now.pcc;
+      regs = registers_in x.now t.old.regs start.now;
+      posture = posture_in x.now;
+    } }
+{
+    t.pcc = start.pcc;
+    t.regs = registers(x, &t.regs, start);
+    t.posture = posture(x);
+}
+
 /// The callee is entered: its stack is zeroed, the caller's frame is kept, and the thread is the callee's.
-fn enter<M: Memory>(t: &mut Thread, mem: &mut M, x: &Export, start: Start, high: u32)
+fn enter<M: Memory>(t: &mut Thread, mem: &mut M, x: &Export, start: &Start, high: u32)
     requires ready { IsReady (M.granules mem.old) t.old }
     requires room { t.old.depth < frames_most t.old.area }
     requires low { t.old.area.stack ≤ high }
@@ -52,14 +65,12 @@ fn enter<M: Memory>(t: &mut Thread, mem: &mut M, x: &Export, start: Start, high:
     ensures memory { M.granules mem.new
         ≡ with_frame (zeroed_from t.old.area.stack high t.old.area.ram (M.granules mem.old)) t.old x.now.number }
     ensures thread { thread_of (M.granules mem.new) true t.new
-        ≡ entered_thread (thread_of (M.granules mem.old) true t.old) x.now high start }
-    ensures row { t.new ≡ entered_row t.old x.now high start }
+        ≡ entered_thread (thread_of (M.granules mem.old) true t.old) x.now high start.now }
+    ensures row { t.new ≡ entered_row t.old x.now high start.now }
 {
     clear(mem, t.area.ram, t.area.stack, high - t.area.stack);
     push(t, mem, x.callee, x.number, high);
-    t.pcc = start.pcc;
-    t.regs = registers(x, &t.regs, &start);
-    t.posture = posture(x);
+    dress(t, x, start);
 }
 
 /// The call of the export whose capability stands in c6.
@@ -90,7 +101,7 @@ pub fn call<M: Memory>(t: &mut Thread, mem: &mut M, e: &Entries) -> Called
             let entry = import.cap.shadow.root;
             let head = head_of(t, mem, e, &export);
             let start = given(t, mem, head, export.code, high);
-            enter(t, mem, &export, start, high);
+            enter(t, mem, &export, &start, high);
             Called::Entered {
                 entry,
                 export: export.number,

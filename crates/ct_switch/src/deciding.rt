@@ -1,9 +1,9 @@
 //! What a switch comes to.
 
-ghost use Rattle.std.specs.Prelude.{◌≡◌, ◌*◌, ◌%◌, ◌≤◌, length};
+ghost use Rattle.std.specs.Prelude.{◌≡◌, ◌*◌, ◌%◌, ◌≤◌, None, length};
 ghost use Rattle.ct_areas.specs.Threads.{frames_most};
 ghost use Rattle.ct_switch.specs.Ready.{MayCall};
-ghost use Rattle.ct_switch.specs.Calls.{switch_in, decided, MayEnter, TopFits, roomed};
+ghost use Rattle.ct_switch.specs.Calls.{failed_in, switch_in, decided, MayEnter, TopFits, roomed};
 
 use ct_areas::{Area, Thread};
 use ct_cap::Trap;
@@ -41,20 +41,31 @@ fn room(base: u32, address: u32, export: Export) -> Decision
     Decision::Enters { export, high }
 }
 
+/// What the switch comes to after its checks.
+fn past_checks<M: Memory>(t: &Thread, mem: &M, e: &Entries) -> Decision
+    requires may { MayCall (M.granules mem.now) t.now e.now }
+    requires passed { failed_in t.now ≡ None }
+    ensures is { decided result ≡ switch_in (M.granules mem.now) e.now t.now }
+    ensures enters { MayEnter e.now (8 * length (M.granules mem.now)) t.now result }
+{
+    let most = frames_most(&t.area);
+    let depth = t.depth;
+    if depth == most {
+        return Decision::TooDeep;
+    }
+    let import = t.regs[6];
+    let export = export_of(e, called(e, import.cap.shadow.root));
+    room(t.area.stack, t.regs[2].address(), export)
+}
+
 /// What the switch comes to of a thread that runs.
 pub(crate) fn decide<M: Memory>(t: &Thread, mem: &M, e: &Entries) -> Decision
     requires { MayCall (M.granules mem.now) t.now e.now }
     ensures is { decided result ≡ switch_in (M.granules mem.now) e.now t.now }
     ensures enters { MayEnter e.now (8 * length (M.granules mem.now)) t.now result }
 {
-    let _size = mem.size();
-    if let Some(trap) = first_trap(t.area.stack, t.top, t.regs[1], t.regs[6], t.regs[2]) {
-        return Decision::Trapped { trap };
+    match first_trap(t.area.stack, t.top, t.regs[1], t.regs[6], t.regs[2]) {
+        Some(trap) => Decision::Trapped { trap },
+        None => past_checks(t, mem, e),
     }
-    if t.depth == frames_most(&t.area) {
-        return Decision::TooDeep;
-    }
-    let import = t.regs[6];
-    let export = export_of(e, called(e, import.cap.shadow.root));
-    room(t.area.stack, t.regs[2].address(), export)
 }

@@ -11,7 +11,7 @@ ghost use Rattle.ct_areas.specs.Threads.{thread_of};
 ghost use Rattle.ct_areas.specs.Parts.{inner_frame};
 ghost use Rattle.ct_exports.specs.Exports.{AreSorted};
 ghost use Rattle.ct_switch.specs.Ready.{IsReady, IsOther};
-ghost use Rattle.ct_switch.specs.Calls.{returned_by, thread_left, memory_left, row_left, ended_row, restored_row, kept_in, filtered_frame, caller_registers};
+ghost use Rattle.ct_switch.specs.Calls.{returned_by, thread_left, memory_left, row_left, no_registers, ended_row, restored_row, kept_in, filtered_frame, caller_registers};
 
 use crate::given::handed;
 use ct_areas::{Saved, Thread, clear, innermost, pop};
@@ -107,16 +107,30 @@ fn restored(kept: &Kept, first: Live, second: Live) -> [Live; 16]
     ]
 }
 
+/// A caller goes on: its program counter and registers are those that its frame kept, filtered, and its posture is by the
+/// saved c1.
+fn restore(t: &mut Thread, saved: &Kept, kept: &Kept, first: Live, second: Live)
+    ensures { (f : Frame) → saved.now ≡ kept_in f
+        → t.new ≡ restored_row t.old f kept.now first second }
+{
+    t.pcc = open(kept.c1);
+    t.regs = restored(kept, first, second);
+    t.posture = posture_after(t.posture, saved.c1.seal, saved.c1.cap.shadow.source);
+}
+
+/// Registers that hold nothing.
+fn empty() -> [Live; 16]
+    ensures { result ≡ no_registers }
+{
+    [Live::integer(0); 16]
+}
+
 /// A thread without frames holds nothing.
 fn end(t: &mut Thread)
     ensures { t.new ≡ ended_row t.old }
 {
-    let none = Live::integer(0);
-    t.pcc = none;
-    t.regs = [
-        none, none, none, none, none, none, none, none, none, none, none, none, none, none, none,
-        none,
-    ];
+    t.pcc = Live::integer(0);
+    t.regs = empty();
     t.posture = Posture {
         off: false,
         source: 0,
@@ -141,13 +155,12 @@ fn leave<M: Memory>(t: &mut Thread, mem: &mut M, first: Live, second: Live) -> b
     let bytes = t.top - t.area.stack;
     pop(t, mem);
     clear(mem, t.area.ram, t.area.stack, bytes);
-    if t.depth == 0 {
+    let depth = t.depth;
+    if depth == 0 {
         end(t);
         return false;
     }
-    t.pcc = open(kept.c1);
-    t.regs = restored(&kept, first, second);
-    t.posture = posture_after(t.posture, saved.c1.seal, saved.c1.cap.shadow.source);
+    restore(t, &saved, &kept, first, second);
     true
 }
 
