@@ -1,24 +1,32 @@
 -- What a switch comes to, by its checks, the depth and the room.
-use Rattle.std.proofs.Common.{ℕ, ◌≡◌, ◌+◌, ◌-◌, ◌*◌, ◌%◌, ◌==◌, ◌≤◌, ◌<◌, ◌++◌, inl, inr, Bool, true, false, nat_lt, List, length, Option, Some, None, refl, sym, ap, ◌∙◌, arith}
+use Rattle.std.proofs.Common.{ℕ, ◌≡◌, ◌-◌, ◌*◌, ◌==◌, ◌≤◌, ◌<◌, ◌++◌, inl, inr, true, false, nat_lt, List, length, Option, Some, None, refl, sym, ap, ◌∙◌, arith}
 use Rattle.law_lists.proofs.Tests.{bool_tells, eq_tells, lt_tells}
 use Rattle.ct_entry.specs.Listed.{Listed}
+use Rattle.def_words.specs.declared.Cap.{Cap}
 use Rattle.def_words.specs.declared.Trap.{Trap}
 use Rattle.def_words.specs.Authority.{cap_address}
 use Rattle.def_memory.specs.declared.Granule.{Granule}
-use Rattle.def_machine.specs.State.{Thread}
 use Rattle.def_reach.specs.Roots.{root_of, gate_for}
 use Rattle.def_step.specs.Checks.{first_failed}
-use Rattle.def_step.specs.Switch.{Switched, Trapped, TooDeep, NoStack, Enters, switch_of, past_checks, with_depth, with_room, new_top}
+use Rattle.def_step.specs.Switch.{Trapped, TooDeep, switch_of, return_checks, gate_checks, stack_checks, past_checks, with_depth, with_room, new_top}
 use Rattle.law_areas.proofs.Frames.{frames_count}
 use Rattle.ct_areas.specs.declared.thread.Thread as row
-use Rattle.ct_areas.specs.Threads.{area_begin, frames_most, living, thread_of}
+use Rattle.ct_areas.specs.Threads.{area_begin, frames_most, living}
 use Rattle.ct_areas.specs.Parts.{register_in}
 use Rattle.ct_areas.proofs.Places.{alive_is}
 use Rattle.ct_exports.specs.declared.exports.Export.{Export}
-use Rattle.ct_exports.specs.Exports.{IsCallable, export_of}
+use Rattle.ct_exports.specs.Exports.{export_of}
 use Rattle.ct_switch.specs.Ready.{MayCall}
 use Rattle.ct_switch.specs.Calls.{failed_in, switch_in, decided, roomed, Enterable, MayEnter, TopFits}
 use Rattle.ct_switch.proofs.Failing.{checks_passed}
+
+-- by what the registers hold
+pub failed_so : (t : row.Thread) (c1 c6 c2 : Cap) (o : Option Trap) → c1 ≡ register_in t 1 → c6 ≡ register_in t 6 → c2 ≡ register_in t 2
+    → o ≡ first_failed (return_checks c1 ++ gate_checks c6 ++ stack_checks t.area.stack t.top c2) → o ≡ failed_in t
+failed_so t c1 c6 c2 o one six two is =
+    is ∙ ap (λ c. first_failed (return_checks c ++ gate_checks c6 ++ stack_checks t.area.stack t.top c2)) one
+    ∙ ap (λ c. first_failed (return_checks (register_in t 1) ++ gate_checks c ++ stack_checks t.area.stack t.top c2)) six
+    ∙ ap (λ c. first_failed (return_checks (register_in t 1) ++ gate_checks (register_in t 6) ++ stack_checks t.area.stack t.top c)) two
 
 by_checks : (gs : List Granule) (e : Listed) (t : row.Thread) → 0 < t.depth
     → switch_in gs e t ≡ past_checks e t.area.stack (frames_most t.area) (living gs true t) (failed_in t)

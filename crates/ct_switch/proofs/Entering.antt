@@ -1,21 +1,17 @@
 -- What a call leaves, by what the switch comes to.
-use Rattle.std.proofs.Common.{ℕ, ◌≡◌, ◌+◌, ◌-◌, ◌*◌, ◌/◌, ◌%◌, ◌≤◌, ◌<◌, true, List, length, refl, sym, ap, ◌∙◌, arith, subst}
+use Rattle.std.proofs.Common.{ℕ, ◌≡◌, ◌+◌, ◌-◌, ◌%◌, ◌≤◌, true, List, refl, sym, ap, ◌∙◌, arith, subst}
 use Rattle.ct_entry.specs.Listed.{Listed}
-use Rattle.def_words.specs.declared.Cap.{Cap}
-use Rattle.def_words.specs.declared.Trap.{Trap}
 use Rattle.def_memory.specs.declared.Granule.{Granule}
 use Rattle.def_memory.specs.Ranges.{zeroed_from}
 use Rattle.def_machine.specs.State.{Thread}
 use Rattle.def_machine.specs.Frames.{Given, entered_by}
 use Rattle.def_step.specs.Switch.{Switched, Trapped, TooDeep, NoStack, Enters, new_top}
 use Rattle.ct_areas.specs.declared.thread.Thread as row
-use Rattle.ct_areas.specs.Threads.{HasArea, thread_of}
+use Rattle.ct_areas.specs.Threads.{thread_of}
 use Rattle.ct_areas.specs.Parts.{register_in, with_frame}
 use Rattle.ct_exports.specs.declared.exports.Export.{Export}
-use Rattle.ct_exports.specs.Exports.{IsExport, AreTogether, HeadLies, IsCallable, row_at, is_export_of, table_of, callee_of, export_of}
-use Rattle.ct_switch.specs.declared.calls.Called.{Called}
+use Rattle.ct_exports.specs.Exports.{AreTogether, HeadLies, IsCallable, row_at, is_export_of, table_of, callee_of, export_of}
 use Rattle.ct_switch.specs.declared.calls.Called.TheVariants as called
-use Rattle.ct_switch.specs.Ready.{IsOther}
 use Rattle.ct_switch.specs.Calls.{TopFits, told, head_of, switch_in, memory_after, thread_after, row_after, given_by, given_in, entered_row, entered_thread}
 use Rattle.ct_switch.proofs.Threads.{entered_same}
 

@@ -1,5 +1,5 @@
 -- Lists of checks: what follows where none fails, and one list after another.
-use Rattle.std.proofs.Common.{ℕ, ◌≡◌, ◌≤◌, ◌<◌, ◌++◌, ◌&&◌, ◌==◌, inl, inr, Bool, true, false, nat_le, List, [], ◌∷◌, Option, Some, None, refl, sym, ap, ◌∙◌, arith}
+use Rattle.std.proofs.Common.{ℕ, ◌≡◌, ◌≤◌, ◌++◌, ◌&&◌, ◌==◌, inl, inr, true, false, nat_le, List, [], ◌∷◌, Some, None, refl, sym, ◌∙◌}
 use Rattle.std.proofs.lemmas.Bool.{leb-true}
 use Rattle.law_lists.proofs.Tests.{bool_tells, eq_tells, both_left, both_right}
 use Rattle.def_words.specs.declared.Cap.{Cap}

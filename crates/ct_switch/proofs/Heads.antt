@@ -1,20 +1,18 @@
 -- What a callee is given, where the heads of export tables are as boot made them.
-use Rattle.std.proofs.Common.{ℕ, ◌≡◌, ◌+◌, ◌-◌, ◌<◌, Bool, true, List, refl, sym, ap, ◌∙◌}
+use Rattle.std.proofs.Common.{ℕ, ◌≡◌, ◌+◌, true, List, sym, ap, ◌∙◌}
 use Rattle.ct_entry.specs.Listed.{Listed}
-use Rattle.def_profile.specs.declared.rights.TheConstants.{STACK_RIGHTS}
 use Rattle.def_words.specs.declared.Cap.{Cap}
 use Rattle.def_words.specs.declared.Shadow.{Shadow}
 use Rattle.def_words.specs.Capability.{with_address}
-use Rattle.def_words.specs.Derive.{derive, memory_root}
 use Rattle.def_memory.specs.declared.Granule.{Granule}
 use Rattle.def_reach.specs.Roots.{gate_for}
 use Rattle.def_boot.specs.Made.{return_sentry}
 use Rattle.def_machine.specs.Image.{Image, made_cap, code_entry, globals_entry, stack_base}
-use Rattle.def_machine.specs.State.{Thread, register}
+use Rattle.def_machine.specs.State.{Thread}
 use Rattle.def_machine.specs.Frames.{Given, given}
 use Rattle.def_areas.specs.Areas.{held}
 use Rattle.ct_areas.specs.declared.thread.Thread as row
-use Rattle.ct_areas.specs.Threads.{living, thread_of}
+use Rattle.ct_areas.specs.Threads.{thread_of}
 use Rattle.ct_areas.specs.Parts.{register_in}
 use Rattle.ct_areas.proofs.Places.{alive_is}
 use Rattle.ct_exports.specs.Exports.{callee_of}

@@ -1,5 +1,5 @@
 -- What a frame's end leaves, where it was the last and where another goes on.
-use Rattle.std.proofs.Common.{ℕ, ◌≡◌, ◌+◌, ◌-◌, ◌*◌, ◌/◌, ◌%◌, ◌==◌, ◌≤◌, ◌<◌, inl, inr, Bool, true, false, nat_lt, cond, List, length, refl, sym, ap, ◌∙◌, arith, subst}
+use Rattle.std.proofs.Common.{ℕ, ◌≡◌, ◌+◌, ◌-◌, ◌*◌, ◌==◌, ◌<◌, inl, inr, Bool, true, false, nat_lt, cond, List, length, refl, sym, ap, ◌∙◌, arith, subst}
 use Rattle.law_lists.proofs.Tests.{eq_tells, lt_tells}
 use Rattle.law_granules.proofs.Lists.{zeroed_length}
 use Rattle.ct_entry.specs.Listed.{Listed}
@@ -7,7 +7,6 @@ use Rattle.def_reach.specs.Roots.{root_of}
 use Rattle.def_words.specs.declared.Cap.{Cap}
 use Rattle.def_memory.specs.declared.Granule.{Granule}
 use Rattle.def_memory.specs.Ranges.{zeroed_from}
-use Rattle.def_machine.specs.State.{Thread, Frame, nobody}
 use Rattle.ct_areas.specs.declared.thread.Area.{Area}
 use Rattle.ct_areas.specs.declared.thread.Thread as row
 use Rattle.ct_areas.specs.Threads.{thread_of}

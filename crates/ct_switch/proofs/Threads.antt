@@ -1,6 +1,5 @@
 -- A call and a frame's end, as threads, and what they leave of other threads.
-use Rattle.std.proofs.Common.{ℕ, zero, suc, ◌≡◌, ◌+◌, ◌-◌, ◌*◌, ◌/◌, ◌%◌, ◌==◌, ◌<◌, ◌≤◌, ◌⊎◌, inl, inr, Bool, true, false, cond, List, [], ◌∷◌, length, refl, sym, ap, ◌∙◌, arith, subst}
-use Rattle.law_lists.proofs.Tests.{eq_tells}
+use Rattle.std.proofs.Common.{ℕ, ◌≡◌, ◌+◌, ◌-◌, ◌*◌, ◌/◌, ◌%◌, ◌==◌, ◌<◌, ◌≤◌, ◌⊎◌, inl, inr, Bool, true, false, List, [], ◌∷◌, length, refl, sym, ap, ◌∙◌, arith, subst}
 use Rattle.law_granules.proofs.Lists.{zeroed_length}
 use Rattle.ct_entry.specs.Listed.{Listed}
 use Rattle.def_words.specs.declared.Cap.{Cap}
@@ -8,7 +7,6 @@ use Rattle.def_words.specs.declared.Posture.{Posture}
 use Rattle.def_words.specs.Jumped.{opened}
 use Rattle.def_words.specs.Seals.{cap_seal, posture_through}
 use Rattle.def_memory.specs.declared.Granule.{Granule}
-use Rattle.def_memory.specs.Granules.{plain}
 use Rattle.def_memory.specs.Ranges.{zeroed_from}
 use Rattle.def_machine.specs.State.{Thread, Frame, nobody}
 use Rattle.def_machine.specs.Frames.{Given, entered_by, left_with}
@@ -16,17 +14,16 @@ use Rattle.def_areas.specs.Areas.{frames_in, caller_actor, caller_top, caller_ha
 use Rattle.def_areas.specs.Touches.{Touches}
 use Rattle.law_areas.proofs.Frames.{frames_none, frames_count}
 use Rattle.law_areas.proofs.Changes.{zeroed_touches, touches_more}
-use Rattle.ct_areas.specs.declared.thread.Area.{Area}
 use Rattle.ct_areas.specs.declared.thread.Thread as row
 use Rattle.ct_areas.specs.Threads.{HasArea, IsApart, area_begin, area_end, frames_most, living, thread_of}
-use Rattle.ct_areas.specs.Parts.{IsSpan, register_in, with_frame, without_frame, deeper, pushed, shallower, inner_place, inner_frame, outer_frames}
+use Rattle.ct_areas.specs.Parts.{IsSpan, with_frame, without_frame, deeper, pushed, shallower, inner_place, inner_frame, outer_frames}
 use Rattle.ct_areas.proofs.Places.{some_depth}
 use Rattle.ct_areas.proofs.Same.{touched_same, cleared_same}
 use Rattle.ct_areas.proofs.Rows.{frames_are, pushed_touches, popped_touches}
 use Rattle.ct_exports.specs.declared.exports.Export.{Export}
 use Rattle.ct_exports.specs.Exports.{callee_of, export_of}
-use Rattle.ct_switch.specs.Ready.{HasStack, IsReady, IsOther, stack_begin, stack_end}
-use Rattle.ct_switch.specs.Calls.{registers_in, posture_in, entered_thread, left, load_filter, thread_left, memory_left, filtered_frame, caller_registers, restored_row, ended_row}
+use Rattle.ct_switch.specs.Ready.{IsReady, IsOther, stack_begin, stack_end}
+use Rattle.ct_switch.specs.Calls.{registers_in, posture_in, entered_thread, left, load_filter, thread_left, memory_left, filtered_frame, caller_registers, restored_row}
 
 -- ---- the stack's range
 

@@ -40,7 +40,8 @@ use Rattle.ct_exports.specs.Exports.{IsCallable, callee_of, export_of, table_of}
 abbrev pub head_of : Listed → Area → ℕ → ℕ
 head_of e a b = (table_of e b - a.ram) / GRANULE
 
--- the stack that it has: from its base to the new top, at that top, with the shadow of the caller's c2
+-- the stack that it has: from its base to the new top, at that top, with the shadow of the
+-- caller's c2
 abbrev pub stack_cap : ℕ → ℕ → Shadow → Cap
 stack_cap base high from = derive memory_root base (high - base) STACK_RIGHTS high 0 from
 
@@ -57,7 +58,8 @@ abbrev pub given_in : List Granule → Listed → row.Thread → ℕ → ℕ →
 given_in gs e t export high =
     given_by gs t (head_of e t.area (callee_of e export)) (export_of e export).code high
 
--- memory whose head of the callee's export table is as boot made it, and whose thread n has this row
+-- memory whose head of the callee's export table is as boot made it, and whose thread n has this
+-- row
 pub record HoldsHeads (i : Image) (gs : List Granule) (e : Listed) (t : row.Thread)
     (n export : ℕ) : Type 0 where
   pub entries : i.entries ≡ e
@@ -99,7 +101,8 @@ pub record TopFits (base address : ℕ) : Type 0 where
   pub high : new_top base address ≤ address
   pub even : new_top base address % 16 ≡ 0
 
--- of a call that enters: the export is the one that its number names, and the new top lies in the caller's stack
+-- of a call that enters: the export is the one that its number names, and the new top lies in
+-- the caller's stack
 pub record Enterable (e : Listed) (size : ℕ) (t : row.Thread) (x : Export) (high : ℕ) : Type 0 where
   pub is : x ≡ export_of e x.number
   pub callable : IsCallable e t.area.ram size x.number
@@ -118,7 +121,8 @@ told import TooDeep = called.TooDeep
 told import NoStack = called.NoStack
 told import (Enters export high) = called.Entered import.shadow.root export
 
--- where it enters the callee the stack is zeroed up to the new top, and a frame is written; else nothing changes
+-- where it enters the callee the stack is zeroed up to the new top, and a frame is written; else
+-- nothing changes
 abbrev pub memory_after : List Granule → row.Thread → Switched → List Granule
 memory_after gs t (Enters export high) =
     with_frame (zeroed_from t.area.stack high t.area.ram gs) t export
@@ -130,7 +134,8 @@ thread_after gs e t (Enters export high) =
     (given_in gs e t export high)
 thread_after gs e t _ = thread_of gs true t
 
--- the registers of the callee, by how many arguments the export declares and whether it passes capabilities
+-- the registers of the callee, by how many arguments the export declares and whether it passes
+-- capabilities
 abbrev pub handed : Bool → Cap → Cap
 handed passes c = cond passes c (untagged c)
 
@@ -176,7 +181,8 @@ row_after gs e t _ = t
 
 -- ---- a frame's end
 
--- The innermost frame ends with results that may go by the frame; without one below it the thread ends.
+-- The innermost frame ends with results that may go by the frame; without one below it the
+-- thread ends.
 abbrev pub left : (Cap → Cap) → Thread → List Frame → (Frame → Cap) → (Frame → Cap) → Thread
 left keep old [] first second = old
 left keep old (f ∷ []) first second = nobody
@@ -185,7 +191,8 @@ left keep old (f ∷ g ∷ gs) first second = left_with keep old f (g ∷ gs) (f
 abbrev pub load_filter : List Granule → row.Thread → Cap → Cap
 load_filter gs t = filtered_in t.area.ram gs
 
--- what a return hands back, by the frame: a register, untagged where the frame's export passes plain values
+-- what a return hands back, by the frame: a register, untagged where the frame's export passes
+-- plain values
 abbrev pub returned_by : Listed → row.Thread → ℕ → Frame → Cap
 returned_by e t n f = passed_by e f.export (register_in t n)
 

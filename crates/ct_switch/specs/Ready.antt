@@ -30,7 +30,8 @@ pub record IsReady (gs : List Granule) (t : row.Thread) : Type 0 where
   pub high : t.top ≤ t.area.stack + t.area.stack_length
   pub even : t.top % 16 ≡ 0
 
--- beside that, of a call: gates stand by their numbers, and where c6 is a tagged capability of an export's type, its root
+-- beside that, of a call: gates stand by their numbers, and where c6 is a tagged capability of
+-- an export's type, its root
 -- is an entry that names an export that can be called
 pub record MayCall (gs : List Granule) (t : row.Thread) (e : Listed) : Type 0 where
   pub ready : IsReady gs t

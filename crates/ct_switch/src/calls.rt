@@ -9,7 +9,7 @@ ghost use Rattle.ct_exports.specs.Exports.{IsCallable, callee_of};
 ghost use Rattle.ct_switch.specs.Ready.{IsReady, IsOther, MayCall};
 ghost use Rattle.ct_switch.specs.Calls.{head_of, switch_in, told, memory_after, thread_after, row_after, registers_in, posture_in, entered_row, entered_thread};
 
-use crate::deciding::{Decision, decide};
+use crate::deciding::{Decision, decide, entry_of, register};
 use crate::given::{Start, given, posture, registers};
 use ct_areas::{Thread, clear, push};
 use ct_cap::Trap;
@@ -97,8 +97,8 @@ pub fn call<M: Memory>(t: &mut Thread, mem: &mut M, e: &Entries) -> Called
         Decision::TooDeep => Called::TooDeep,
         Decision::NoStack => Called::NoStack,
         Decision::Enters { export, high } => {
-            let import = t.regs[6];
-            let entry = import.cap.shadow.root;
+            let import = register(&t.regs, 6);
+            let entry = entry_of(import);
             let head = head_of(t, mem, e, &export);
             let start = given(t, mem, head, export.code, high);
             enter(t, mem, &export, &start, high);

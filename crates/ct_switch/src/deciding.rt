@@ -1,12 +1,13 @@
 //! What a switch comes to.
 
-ghost use Rattle.std.specs.Prelude.{◌≡◌, ◌*◌, ◌%◌, ◌≤◌, None, length};
+ghost use Rattle.std.specs.Prelude.{◌≡◌, ◌*◌, ◌%◌, ◌≤◌, ◌<◌, None, length, slice_index_or};
+ghost use Rattle.def_memory.specs.Granules.{plain};
 ghost use Rattle.ct_areas.specs.Threads.{frames_most};
 ghost use Rattle.ct_switch.specs.Ready.{MayCall};
 ghost use Rattle.ct_switch.specs.Calls.{failed_in, switch_in, decided, MayEnter, TopFits, roomed};
 
 use ct_areas::{Area, Thread};
-use ct_cap::Trap;
+use ct_cap::{Live, Trap};
 use ct_entry::Entries;
 use ct_exports::{Export, called, export_of, first_trap, top_below};
 use ct_mem::Memory;
@@ -41,6 +42,21 @@ fn room(base: u32, address: u32, export: Export) -> Decision
     Decision::Enters { export, high }
 }
 
+/// A register; c0 to c15 are 0 to 15.
+pub(crate) fn register(regs: &[Live; 16], n: usize) -> Live
+    requires { n < 16 }
+    ensures { result ≡ slice_index_or regs.now n (plain 0) }
+{
+    regs[n]
+}
+
+/// The number of the entry from which a capability comes.
+pub(crate) fn entry_of(c: Live) -> u32
+    ensures { result ≡ c.shadow.root }
+{
+    c.cap.shadow.root
+}
+
 /// What the switch comes to after its checks.
 fn past_checks<M: Memory>(t: &Thread, mem: &M, e: &Entries) -> Decision
     requires may { MayCall (M.granules mem.now) t.now e.now }
@@ -53,9 +69,11 @@ fn past_checks<M: Memory>(t: &Thread, mem: &M, e: &Entries) -> Decision
     if depth == most {
         return Decision::TooDeep;
     }
-    let import = t.regs[6];
-    let export = export_of(e, called(e, import.cap.shadow.root));
-    room(t.area.stack, t.regs[2].address(), export)
+    let import = register(&t.regs, 6);
+    let number = called(e, entry_of(import));
+    let export = export_of(e, number);
+    let stack = register(&t.regs, 2);
+    room(t.area.stack, stack.address(), export)
 }
 
 /// What the switch comes to of a thread that runs.
@@ -64,7 +82,10 @@ pub(crate) fn decide<M: Memory>(t: &Thread, mem: &M, e: &Entries) -> Decision
     ensures is { decided result ≡ switch_in (M.granules mem.now) e.now t.now }
     ensures enters { MayEnter e.now (8 * length (M.granules mem.now)) t.now result }
 {
-    match first_trap(t.area.stack, t.top, t.regs[1], t.regs[6], t.regs[2]) {
+    let link = register(&t.regs, 1);
+    let import = register(&t.regs, 6);
+    let stack = register(&t.regs, 2);
+    match first_trap(t.area.stack, t.top, link, import, stack) {
         Some(trap) => Decision::Trapped { trap },
         None => past_checks(t, mem, e),
     }

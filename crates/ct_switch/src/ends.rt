@@ -13,6 +13,7 @@ ghost use Rattle.ct_exports.specs.Exports.{AreSorted};
 ghost use Rattle.ct_switch.specs.Ready.{IsReady, IsOther};
 ghost use Rattle.ct_switch.specs.Calls.{returned_by, thread_left, memory_left, row_left, no_registers, ended_row, restored_row, kept_in, filtered_frame, caller_registers};
 
+use crate::deciding::register;
 use crate::given::handed;
 use ct_areas::{Saved, Thread, clear, innermost, pop};
 use ct_cap::{Live, Posture, open};
@@ -180,8 +181,10 @@ pub fn give_back<M: Memory>(t: &mut Thread, mem: &mut M, e: &Entries) -> bool
         → thread_of (M.granules mem.new) runs u ≡ thread_of (M.granules mem.old) runs u }
 {
     let passes = export_of(e, inner(t, mem).export).passes;
-    let first = handed(passes, t.regs[10]);
-    let second = handed(passes, t.regs[11]);
+    let ten = register(&t.regs, 10);
+    let eleven = register(&t.regs, 11);
+    let first = handed(passes, ten);
+    let second = handed(passes, eleven);
     leave(t, mem, first, second)
 }
 

@@ -1,13 +1,10 @@
-use Rattle.std.proofs.Common.{◌≡◌, ◌≤◌, ◌<◌, ◌*◌, ◌/◌, ◌∙◌, true, length, refl, sym, ap, subst}
-use Rattle.def_words.specs.declared.Trap.{Trap}
-use Rattle.def_step.specs.Switch.{Switched, Trapped, TooDeep, NoStack, Enters}
-use Rattle.ct_areas.specs.declared.thread.Thread as row
+use Rattle.std.proofs.Common.{◌≡◌, ◌*◌, ◌/◌, ◌∙◌, true, length, refl, sym, ap, subst}
+use Rattle.def_words.specs.declared.Cap.{Cap}
+use Rattle.def_step.specs.Switch.{Trapped, TooDeep, NoStack, Enters}
 use Rattle.ct_areas.specs.Threads.{thread_of}
 use Rattle.ct_areas.specs.Parts.{register_in}
 use Rattle.ct_exports.specs.declared.exports.Export.{Export}
-use Rattle.ct_exports.specs.Exports.{callee_of}
-use Rattle.ct_switch.specs.declared.deciding.Decision.{Decision}
-use Rattle.ct_switch.specs.declared.deciding.Decision.TheVariants as decision
+use Rattle.ct_switch.specs.declared.calls.Called.TheVariants as called
 use Rattle.ct_switch.specs.Calls.{decided, told, switch_in, given_in, Enterable, MayEnter}
 use Rattle.ct_switch.proofs.Entering.{Kept, kept_so, given_same, call_told, call_thread, call_memory, call_row}
 use Rattle.ct_switch.proofs.Threads.{entered_others}
@@ -58,22 +55,22 @@ returns-in-NoStack g c =
       others = λ u runs other. refl;
     }
 
-pub head_of-requires-clause-callable : goal.head_of-requires-clause-callable
-head_of-requires-clause-callable g c =
+pub head_of-head-requires-clause-callable : goal.head_of-head-requires-clause-callable
+head_of-head-requires-clause-callable g c =
     let gs = g.M.Memory.granules c.args.mem.now in
     let may : Enterable c.args.e.now (8 * length gs) c.args.t.now c.in-Enters.export c.in-Enters.high =
     subst (λ d. MayEnter c.args.e.now (8 * length gs) c.args.t.now d) c.in-Enters.is c.decide.ensures.enters in
     may.callable
 
-pub head_of-requires-clause-callee : goal.head_of-requires-clause-callee
-head_of-requires-clause-callee g c =
+pub head_of-head-requires-clause-callee : goal.head_of-head-requires-clause-callee
+head_of-head-requires-clause-callee g c =
     let gs = g.M.Memory.granules c.args.mem.now in
     let may : Enterable c.args.e.now (8 * length gs) c.args.t.now c.in-Enters.export c.in-Enters.high =
     subst (λ d. MayEnter c.args.e.now (8 * length gs) c.args.t.now d) c.in-Enters.is c.decide.ensures.enters in
     ap (λ (x : Export). x.callee) may.is
 
-pub given-requires-clause-order : goal.given-requires-clause-order
-given-requires-clause-order g c =
+pub given-start-requires-clause-order : goal.given-start-requires-clause-order
+given-start-requires-clause-order g c =
     let gs = g.M.Memory.granules c.args.mem.now in
     let may : Enterable c.args.e.now (8 * length gs) c.args.t.now c.in-Enters.export c.in-Enters.high =
     subst (λ d. MayEnter c.args.e.now (8 * length gs) c.args.t.now d) c.in-Enters.is c.decide.ensures.enters in
@@ -99,7 +96,8 @@ returns-in-Enters g c =
     let start : c.given-start.result ≡ given_in gs e t x.number high =
     given_same gs e t x (c.head_of-head.result / 8) high c.given-start.result may.is c.head_of-head.ensures.is c.given-start.ensures in
     record {
-      result = call_told gs e t x.number high is;
+      result = ap (λ n. called.Entered n x.number) (c.entry_of-entry.ensures ∙ ap (λ (k : Cap). k.shadow.root) c.register-import.ensures)
+          ∙ call_told gs e t x.number high is;
       thread = call_thread gs e t x high c.given-start.result (thread_of hs true c.enter.new.t) is may.is start c.enter.ensures.thread;
       memory = call_memory gs e t x.number high hs is c.enter.ensures.memory;
       row = call_row gs e t c.enter.new.t x high c.given-start.result is may.is start c.enter.ensures.row;

@@ -1,4 +1,4 @@
-use Rattle.std.proofs.Common.{◌≡◌, ◌∙◌, true, false}
+use Rattle.std.proofs.Common.{◌≡◌, true, false}
 use Rattle.ct_areas.specs.Parts.{inner_frame}
 use Rattle.ct_switch.specs.Calls.{filtered_frame}
 use Rattle.ct_switch.proofs.Leaving.{Left, span_after, left_ends, left_goes}

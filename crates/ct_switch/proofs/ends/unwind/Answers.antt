@@ -1,4 +1,4 @@
-use Rattle.std.proofs.Common.{◌≡◌, ◌∙◌, ap}
+use Rattle.std.proofs.Common.{◌∙◌, ap}
 use Rattle.def_memory.specs.Granules.{plain}
 use Rattle.ct_areas.specs.Threads.{thread_of}
 use Rattle.ct_switch.specs.Calls.{thread_left, row_left}
