@@ -2,10 +2,15 @@
 
 ghost use Rattle.std.specs.Prelude.{◌≡◌, ◌*◌, ◌+◌, ◌-◌, ◌^◌, ◌≤◌, ◌<◌, ℕ, Bool, true, false, length, slice_index_or};
 ghost use Rattle.ct_areas.specs.Threads.{HasArea};
-ghost use Rattle.ct_exports.specs.Exports.{AreSorted, AreTogether, IsCallable, no_row, is_export_of};
+ghost use Rattle.def_profile.specs.declared.seals.TheConstants.{EXPORT_TYPE};
+ghost use Rattle.def_words.specs.Seals.{cap_seal};
+ghost use Rattle.def_memory.specs.Granules.{plain};
+ghost use Rattle.def_reach.specs.Roots.{root_of};
+ghost use Rattle.ct_exports.specs.Exports.{AreSorted, AreTogether, HeadLies, IsCallable, no_row, is_export_of};
 ghost use Rattle.ct_switch.specs.Ready.{HasStack, IsReady, MayCall};
 
 use ct_areas::{Area, Thread};
+use ct_cap::Live;
 use ct_entry::{Entries, Entry, Gate};
 use ct_exports::{called, export_of, is_export_of, table_at};
 use ct_mem::Memory;
@@ -117,6 +122,17 @@ fn are_together(rows: &[Entry], home: u32) -> bool
     true
 }
 
+/// Whether the head of an export table lies in RAM of so many bytes.
+fn head_lies(ram: u32, size: u64, table: u32) -> bool
+    requires { size < 2 ^ 32 }
+    ensures { result ≡ true → HeadLies ram size table }
+{
+    if table < ram || table % 8 != ram % 8 {
+        return false;
+    }
+    table as u64 + TABLE_HEAD as u64 <= ram as u64 + size
+}
+
 /// Whether a number is that of an export that can be called, in RAM of so many bytes.
 fn is_callable(e: &Entries, ram: u32, size: u64, number: u32) -> bool
     requires sorted { AreSorted e.now.gates }
@@ -125,34 +141,50 @@ fn is_callable(e: &Entries, ram: u32, size: u64, number: u32) -> bool
 {
     let home = export_of(e, number).callee;
     let index = (number as usize).saturating_sub(1);
-    if number == 0 || e.rows.len() <= index {
+    let rows = e.rows.as_slice();
+    if number == 0 || rows.len() <= index {
         return false;
     }
-    if !is_export_of(home, e.rows[index]) || !are_together(&e.rows, home) {
-        return false;
+    let exported = is_export_of(home, rows[index]);
+    let together = are_together(rows, home);
+    if exported && together {
+        let table = table_at(rows, home, index);
+        return head_lies(ram, size, table);
     }
-    let table = table_at(&e.rows, home, index);
-    if table < ram || table % 8 != ram % 8 {
-        return false;
+    false
+}
+
+/// Whether an import, where it is a tagged capability of an export's type, names an export that can be called.
+fn names_callable(e: &Entries, ram: u32, size: u64, import: Live) -> bool
+    requires sorted { AreSorted e.now.gates }
+    requires small { size < 2 ^ 32 }
+    ensures { result ≡ true → import.tag ≡ true → cap_seal import ≡ EXPORT_TYPE
+        → IsCallable e.now ram size (root_of e.now import.shadow.root).of }
+{
+    if !import.cap.tag || import.seal != EXPORT_TYPE {
+        return true;
     }
-    table as u64 + TABLE_HEAD as u64 <= ram as u64 + size
+    let number = called(e, import.cap.shadow.root);
+    is_callable(e, ram, size, number)
+}
+
+/// Register c6.
+fn import_of(regs: &[Live; 16]) -> Live
+    ensures { result ≡ slice_index_or regs.now 6 (plain 0) }
+{
+    regs[6]
 }
 
 /// Whether a call may be made.
 pub fn may_call<M: Memory>(t: &Thread, mem: &M, e: &Entries) -> bool
     ensures { result ≡ true → MayCall (M.granules mem.now) t.now e.now }
 {
-    if !is_ready(t, mem) || !are_sorted(&e.gates) {
-        return false;
+    let ready = is_ready(t, mem);
+    let sorted = are_sorted(e.gates.as_slice());
+    if ready && sorted {
+        let import = import_of(&t.regs);
+        let size = mem.size() as u64;
+        return names_callable(e, t.area.ram, size, import);
     }
-    let import = t.regs[6];
-    if !import.cap.tag || import.seal != EXPORT_TYPE {
-        return true;
-    }
-    is_callable(
-        e,
-        t.area.ram,
-        mem.size() as u64,
-        called(e, import.cap.shadow.root),
-    )
+    false
 }

@@ -1,4 +1,4 @@
-use Rattle.ct_ready.proofs.Asked.{NeighboursRise}
+use Rattle.ct_ready.proofs.Searches.{NeighboursRise}
 use Rattle.ct_ready.proofs.asked.are_sorted.Given as goal
 
 -- as far as the loop has come

@@ -1,4 +1,4 @@
-use Rattle.ct_ready.proofs.Asked.{AllBetween}
+use Rattle.ct_ready.proofs.Searches.{AllBetween}
 use Rattle.ct_ready.proofs.asked.are_together.Given as goal
 
 abbrev pub invariant-loop-i : goal.invariant-loop-i

@@ -1,4 +1,4 @@
-use Rattle.ct_ready.proofs.Asked.{NoneBefore}
+use Rattle.ct_ready.proofs.Searches.{NoneBefore}
 use Rattle.ct_ready.proofs.asked.first_export.Given as goal
 
 abbrev pub invariant-loop-i : goal.invariant-loop-i

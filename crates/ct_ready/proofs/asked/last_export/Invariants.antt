@@ -1,5 +1,5 @@
 use Rattle.std.proofs.Common.{◌≤◌, length}
-use Rattle.ct_ready.proofs.Asked.{NoneFrom}
+use Rattle.ct_ready.proofs.Searches.{NoneFrom}
 use Rattle.ct_ready.proofs.asked.last_export.Given as goal
 
 abbrev pub invariant-loop-end : goal.invariant-loop-end

@@ -2,10 +2,11 @@
 use Rattle.std.proofs.Common.{ℕ, zero, suc, ◌≡◌, ◌+◌, ◌-◌, ◌*◌, ◌≤◌, ◌<◌, ◌⊎◌, inl, inr, nat_lt, true, false, List, [], ◌∷◌, length, refl, sym, ap, ◌∙◌, arith, subst}
 use Rattle.std.proofs.Math.ListN.{get_or}
 use Rattle.law_lists.proofs.Tests.{bool_tells, lt_tells}
+use Rattle.ct_entry.specs.Listed.{Listed}
 use Rattle.ct_entry.specs.declared.rows.Entry.{Entry}
 use Rattle.ct_entry.specs.declared.rows.Gate.{Gate}
 use Rattle.def_reach.specs.Roots.{no_gate}
-use Rattle.ct_exports.specs.Exports.{AreSorted, AreTogether, no_row, row_at, is_export_of}
+use Rattle.ct_exports.specs.Exports.{AreSorted, AreTogether, HeadLies, IsCallable, row_at, is_export_of, table_in, callee_of}
 
 -- ---- gates
 
@@ -16,7 +17,7 @@ at_hand : (gs : List Gate) (i k : ℕ) → k + 1 ≡ i → (get_or gs (i - 1) no
     → (get_or gs k no_gate).entry ≤ (get_or gs (k + 1) no_gate).entry
 at_hand gs i k is le =
     let back : i - 1 ≡ k = omega (arith, is) in
-    rw (← back, is) le
+    subst (λ n. (get_or gs k no_gate).entry ≤ (get_or gs n no_gate).entry) (sym is) (subst (λ n. (get_or gs n no_gate).entry ≤ (get_or gs i no_gate).entry) back le)
 
 pub rise_more : (gs : List Gate) (i : ℕ) → NeighboursRise gs i → (get_or gs (i - 1) no_gate).entry ≤ (get_or gs i no_gate).entry → NeighboursRise gs (i + 1)
 rise_more gs i before here k lt = elim (lt_tells (k + 1) i) [
@@ -89,8 +90,25 @@ together_so rows home low high before after between i j k ij jk first last =
       | inl e ↦ absurd (let no : is_export_of home (row_at rows i) ≡ false = before i e.1 in let clash : true ≡ false = sym first ∙ no in cc)
       | inr e ↦ omega (arith, e.1, ij)
     ]
+
     below : ((nat_lt k high ≡ true) × (k < high)) ⊎ ((nat_lt k high ≡ false) × (high ≤ k)) → j < high
     below t = elim t [
       | inl e ↦ omega (arith, e.1, jk)
       | inr e ↦ absurd (let no : is_export_of home (row_at rows k) ≡ false = after k e.1 in let clash : true ≡ false = sym last ∙ no in cc)
     ]
+
+-- a number that is that of an export which can be called, by what was looked at
+pub callable_so : (e : Listed) (ram size n index home table : ℕ) (rows : List Entry) → 1 ≤ n → index ≡ n - 1 → home ≡ callee_of e n → rows ≡ e.rows
+    → index < length rows → is_export_of home (row_at rows index) ≡ true → AreTogether rows home → table ≡ table_in rows home
+    → HeadLies ram size table → IsCallable e ram size n
+callable_so e ram size n index home table rows some is home_is rows_is inside export together table_is head = record {
+  counted = some;
+  export = record {
+    inside = subst (λ i. i < length e.rows) is (subst (λ rs. index < length rs) rows_is inside);
+    is = subst (λ i. is_export_of (callee_of e n) (row_at e.rows i) ≡ true) is
+        (subst (λ rs. is_export_of (callee_of e n) (row_at rs index) ≡ true) rows_is
+        (subst (λ h. is_export_of h (row_at rows index) ≡ true) home_is export));
+  };
+  together = subst (λ rs. AreTogether rs (callee_of e n)) rows_is (subst (λ h. AreTogether rows h) home_is together);
+  head = subst (λ k. HeadLies ram size k) (table_is ∙ ap (λ h. table_in rows h) home_is ∙ ap (λ rs. table_in rs (callee_of e n)) rows_is) head;
+}
