@@ -1,10 +1,13 @@
 -- Gates in order by neighbours, and exports that stand together between two places.
 use Rattle.std.proofs.Common.{ℕ, zero, suc, ◌≡◌, ◌+◌, ◌-◌, ◌*◌, ◌≤◌, ◌<◌, ◌⊎◌, inl, inr, nat_lt, true, false, List, [], ◌∷◌, length, refl, sym, ap, ◌∙◌, arith, subst}
+use Rattle.std.specs.Prelude.{replicate}
 use Rattle.std.proofs.Math.ListN.{get_or}
 use Rattle.law_lists.proofs.Tests.{bool_tells, lt_tells}
 use Rattle.ct_entry.specs.Listed.{Listed}
 use Rattle.ct_entry.specs.declared.rows.Entry.{Entry}
 use Rattle.ct_entry.specs.declared.rows.Gate.{Gate}
+use Rattle.def_memory.specs.Granules.{plain, nothing}
+use Rattle.def_areas.specs.Areas.{held}
 use Rattle.def_reach.specs.Roots.{no_gate}
 use Rattle.ct_exports.specs.Exports.{AreSorted, AreTogether, HeadLies, IsCallable, row_at, is_export_of, table_in, callee_of}
 
@@ -112,3 +115,10 @@ callable_so e ram size n index home table rows some is home_is rows_is inside ex
   together = subst (λ rs. AreTogether rs (callee_of e n)) rows_is (subst (λ h. AreTogether rows h) home_is together);
   head = subst (λ k. HeadLies ram size k) (table_is ∙ ap (λ h. table_in rows h) home_is ∙ ap (λ rs. table_in rs (callee_of e n)) rows_is) head;
 }
+
+-- ---- memory that reads as zero
+
+pub blank_held : (n k : ℕ) → held (replicate n nothing) k ≡ plain 0
+blank_held zero k = refl
+blank_held (suc n) zero = refl
+blank_held (suc n) (suc k) = blank_held n k

@@ -1,8 +1,9 @@
 //! Three compartments deep, too deep and no stack. Numbers are put together by hand from the layout of
 //! docs/use/machine.md: RAM from 0x80000000, a stack of 1,024 bytes, an area of two or three frames.
 
-ghost use Rattle.std.specs.Prelude.{◌≡◌, ◌*◌, ◌≤◌, ◌<◌, ℕ, length, replicate};
+ghost use Rattle.std.specs.Prelude.{◌≡◌, ◌+◌, ◌≤◌, ◌<◌, replicate};
 ghost use Rattle.def_memory.specs.Granules.{nothing};
+ghost use Rattle.ct_areas.specs.Threads.{HasArea};
 
 use crate::{is_ready, may_call};
 use ct_cap::{Cap, Live, Posture, Shadow, Trap, derive, shrink};
@@ -76,6 +77,16 @@ fn from(root: u32) -> Shadow {
     Shadow { root, source: 0 }
 }
 
+/// Where a capability's authority begins.
+fn base_of(c: Live) -> u64 {
+    c.bounds.base
+}
+
+/// And ends.
+fn top_of(c: Live) -> u64 {
+    c.bounds.top
+}
+
 /// The heads of the export tables.
 fn heads(mem: &mut Plain) {
     for n in 0..3u32 {
@@ -106,7 +117,9 @@ fn heads(mem: &mut Plain) {
 
 /// Registers for a call by compartment n: a return sentry in c1, the stack at an address in c2, an argument in c10, the
 /// import in c6.
-fn registers(n: u32, at: u32) -> [Live; 16] {
+fn registers(n: u32, at: u32) -> [Live; 16]
+    requires { n < 3 }
+{
     let mut regs = [Live::integer(0); 16];
     regs[1] = derive(
         EXECUTABLE_ROOT,
@@ -131,7 +144,10 @@ fn registers(n: u32, at: u32) -> [Live; 16] {
     regs
 }
 
-fn area(frames: u32) -> Area {
+fn area(frames: u32) -> Area
+    ensures area { HasArea 8192 result }
+    ensures end { result.stack + result.stack_length ≤ 4294967280 }
+{
     Area {
         ram: RAM,
         stack: STACK,
@@ -255,9 +271,9 @@ fn three_compartments_deep(rt: HostRuntime) -> Result<(), Fail> {
         (t.pcc.bounds.base, t.pcc.bounds.top),
         (CODE as u64 + 64, CODE as u64 + 128)
     );
-    assert_eq!(rt; t.regs[3].bounds.base, GLOBALS as u64 + 16);
+    assert_eq!(rt; base_of(t.regs[3]), GLOBALS as u64 + 16);
     assert_eq!(rt;
-        (t.regs[2].bounds.base, t.regs[2].bounds.top),
+        (base_of(t.regs[2]), top_of(t.regs[2])),
         (STACK as u64, STACK as u64 + 512)
     );
     assert_eq!(rt; (t.regs[10].address(), t.regs[12].address()), (7, 0));
@@ -281,12 +297,12 @@ fn three_compartments_deep(rt: HostRuntime) -> Result<(), Fail> {
     assert_eq!(rt; unwound(&mut t, &mut mem, &e), Some(true));
     assert_eq!(rt; (t.depth, t.actor, t.top), (2, 1, STACK + 512));
     assert_eq!(rt;
-        (t.regs[10].cap.tag, t.regs[10].address()),
+        (shrink(t.regs[10]).tag, t.regs[10].address()),
         (false, 0xFFFF_FFFF)
     );
-    assert_eq!(rt; (t.regs[11].cap.tag, t.regs[11].address()), (false, 0));
+    assert_eq!(rt; (shrink(t.regs[11]).tag, t.regs[11].address()), (false, 0));
     assert_eq!(rt;
-        (t.regs[8].address(), t.regs[9].bounds.base),
+        (t.regs[8].address(), base_of(t.regs[9])),
         (8, GLOBALS as u64 + 16)
     );
     assert!(rt; is_clear(&mem, 0x800, 0x800 + 256));
@@ -296,10 +312,10 @@ fn three_compartments_deep(rt: HostRuntime) -> Result<(), Fail> {
     assert_eq!(rt; unwound(&mut t, &mut mem, &e), Some(true));
     assert_eq!(rt; (t.depth, t.actor, t.top), (1, 0, STACK + 1024));
     assert_eq!(rt;
-        (t.regs[10].cap.tag, t.regs[10].address()),
+        (shrink(t.regs[10]).tag, t.regs[10].address()),
         (false, 0xFFFF_FFFF)
     );
-    assert_eq!(rt; (t.regs[11].cap.tag, t.regs[11].address()), (false, 0));
+    assert_eq!(rt; (shrink(t.regs[11]).tag, t.regs[11].address()), (false, 0));
     assert_eq!(rt; t.pcc.address(), CODE + 4);
     assert!(rt; is_clear(&mem, 0x800, 0x800 + 512));
 
@@ -371,12 +387,12 @@ fn plain_results(rt: HostRuntime) -> Result<(), Fail> {
     );
 
     // the callee hands back its globals through an export that passes plain values
-    let mut word = t.regs[3].cap;
+    let mut word = shrink(t.regs[3]);
     t.regs[10] = t.regs[3];
     assert_eq!(rt; given_back(&mut t, &mut mem, &e), Some(true));
     word.tag = false;
     word.shadow = Shadow { root: 0, source: 0 };
-    assert_eq!(rt; t.regs[10].cap, word);
+    assert_eq!(rt; shrink(t.regs[10]), word);
     assert_eq!(rt; given_back(&mut t, &mut mem, &e), Some(false));
     Ok(())
 }
@@ -415,7 +431,7 @@ fn areas_by_their_layout(rt: HostRuntime) -> Result<(), Fail> {
     t.regs[3] = Live::integer(33);
     t.regs[8] = Live::integer(88);
     t.regs[9] = Live::integer(99);
-    let (link, stack) = (t.regs[1].cap, t.regs[2].cap);
+    let (link, stack) = (shrink(t.regs[1]), shrink(t.regs[2]));
     let entered = called(&mut t, &mut mem, &e);
     assert_eq!(rt;
         entered,
@@ -463,18 +479,20 @@ fn areas_by_their_layout(rt: HostRuntime) -> Result<(), Fail> {
     );
 
     // a stop and a pick: what has its base in a marked granule comes back untagged
-    let before = t.regs[3].cap;
+    let before = shrink(t.regs[3]);
     let code = t.pcc.cap;
     assert!(rt; before.tag && code.tag);
     assert!(rt; stopped_and_picked(&mut t, &mut mem, 0x420, 0x428));
-    assert!(rt; t.pcc.cap == code && t.regs[3].cap.word == before.word && !t.regs[3].cap.tag);
+    assert!(rt;
+        t.pcc.cap == code && shrink(t.regs[3]).word == before.word && !shrink(t.regs[3]).tag
+    );
     assert!(rt; is_clear(&mem, 0x1000, 0x1080));
 
     // a return through frames: the caller's registers come back, and what is marked untagged
     assert_eq!(rt; unwound(&mut t, &mut mem, &e), Some(true));
     assert_eq!(rt; (t.depth, t.actor, t.top), (2, 1, 0x8000_0A00));
     assert_eq!(rt; unwound(&mut t, &mut mem, &e), Some(true));
-    assert!(rt; t.handling && t.regs[2].cap == stack);
+    assert!(rt; t.handling && shrink(t.regs[2]) == stack);
     assert_eq!(rt;
         (
             t.regs[3].address(),
