@@ -1,0 +1,82 @@
+-- The smallest image's bytes, cut short or with a byte more.
+use Rattle.std.proofs.Common.{ℕ, suc, ◌≡◌, ◌-◌, ◌<◌, ◌≤◌, ◌&&◌, Bool, true, false, nat_le, List, [], ◌∷◌, ◌++◌, length, take, drop, refl, sym, ap, ◌∙◌, subst, arith, inl, inr}
+use Rattle.std.specs.Prelude.{bytes_eq}
+use Rattle.std.specs.Int.{w32, from_le_bytes}
+use Rattle.std.proofs.lemmas.List.{take-append-drop, length-take, length-drop}
+use Rattle.law_lists.proofs.Tests.{le_tells}
+use Rattle.def_image.specs.Raw.{RawImage}
+use Rattle.def_image.specs.Profile.{is_within, last_version}
+use Rattle.def_image.specs.Spelling.{magic, raw_of, spelled, image_bytes}
+use Rattle.def_image.specs.Shapes.{IsShaped}
+use Rattle.def_image.specs.Accepted.{is_begun, Spells, FaultAt}
+use Rattle.law_image.proofs.OneCut.{ends_whole}
+use Rattle.law_images.specs.Tiny.{tiny}
+use Rattle.law_answers.specs.Altered.{bytes_of_tiny, altered}
+use Rattle.law_answers.proofs.Facts.{plain_by}
+
+tiny_shaped : IsShaped (raw_of tiny)
+unfolding raw_of
+tiny_shaped = plain_by (raw_of tiny) refl
+
+tiny_long : length bytes_of_tiny ≡ 412
+unfolding image_bytes raw_of spelled
+tiny_long = refl
+
+not_long : (b : Bool) → b ≡ false → (x y : Bool) → (b && x && y) ≡ false
+not_long b e x y = rw e refl
+
+pub short : (n : ℕ) → n < 8 → FaultAt (take n bytes_of_tiny) 1 0
+short n lt =
+    let bytes = take n bytes_of_tiny in
+    let few = length-take n bytes_of_tiny in
+    let less : nat_le 8 (length bytes) ≡ false = elim (le_tells 8 (length bytes)) [ inl h ↦ absurd (let long = h.1 in omega (arith, long, few, lt)) | inr h ↦ h.0 ] in
+    inl (refl, not_long (nat_le 8 (length bytes)) less (bytes_eq (take 4 bytes) magic) (is_within 1 last_version (from_le_bytes w32 (take 4 (drop 4 bytes)))), refl)
+
+-- no fields spell what another spelling goes on from
+cut_apart : (r : RawImage) (bytes more : List ℕ) → Spells r bytes → bytes ++ more ≡ bytes_of_tiny → 0 < length more → ⊥
+unfolding image_bytes
+cut_apart r bytes more spells whole some =
+    let ends : more ≡ [] = ends_whole r (raw_of tiny) more spells.0 tiny_shaped (ap (λ (b : List ℕ). b ++ more) (sym spells.1) ∙ whole) in
+    absurd (let none = ap (λ (l : List ℕ). length l) ends in omega (arith, none, some))
+
+eight : (n : ℕ) → nat_le 8 (suc (suc (suc (suc (suc (suc (suc (suc n)))))))) ≡ true
+eight n = elim (le_tells 8 (suc (suc (suc (suc (suc (suc (suc (suc n))))))))) [ inl h ↦ h.0 | inr h ↦ absurd (let less = h.1 in omega (arith, less)) ]
+
+all_three : (a b c : Bool) → a ≡ true → b ≡ true → c ≡ true → (a && b && c) ≡ true
+all_three a b c e f g = rw (e, f, g) refl
+
+-- eight bytes and more begin an image
+begun_after : (k : ℕ) → is_begun (take (suc (suc (suc (suc (suc (suc (suc (suc k)))))))) bytes_of_tiny) ≡ true
+unfolding image_bytes raw_of spelled
+begun_after k =
+    let bytes = take (suc (suc (suc (suc (suc (suc (suc (suc k)))))))) bytes_of_tiny in
+    all_three (nat_le 8 (length bytes)) (bytes_eq (take 4 bytes) magic) (is_within 1 last_version (from_le_bytes w32 (take 4 (drop 4 bytes)))) (eight (length (drop 8 bytes))) refl refl
+
+begun_at : (n : ℕ) → 8 ≤ n → is_begun (take n bytes_of_tiny) ≡ true
+begun_at n low =
+    let is : suc (suc (suc (suc (suc (suc (suc (suc (n - 8)))))))) ≡ n = omega (arith, low) in
+    subst (λ (m : ℕ). is_begun (take m bytes_of_tiny) ≡ true) is (begun_after (n - 8))
+
+pub cut : (n : ℕ) → 8 ≤ n → n < 412 → FaultAt (take n bytes_of_tiny) 2 n
+cut n low high =
+    let bytes = take n bytes_of_tiny in
+    let long = tiny_long in
+    let size = length-take n bytes_of_tiny in
+    let left = length-drop n bytes_of_tiny in
+    let place : n ≡ length bytes = omega (arith, size, long, high) in
+    inr (begun_at n low, inl (refl, (place, λ r spells. cut_apart r bytes (drop n bytes_of_tiny) spells (take-append-drop n bytes_of_tiny) (omega (arith, left, long, high)))))
+
+one_more : (r : RawImage) → Spells r (bytes_of_tiny ++ 0 ∷ []) → ⊥
+unfolding image_bytes
+one_more r spells =
+    let more : List ℕ = 0 ∷ [] in
+    let ends : more ≡ [] = ends_whole (raw_of tiny) r more tiny_shaped spells.0 spells.1 in
+    absurd (let none = ap (λ (l : List ℕ). length l) ends in omega (arith, none))
+
+pub appended : FaultAt (bytes_of_tiny ++ 0 ∷ []) 2 413
+unfolding image_bytes raw_of spelled
+appended = inr (refl, inl (refl, (refl, λ r spells. one_more r spells)))
+
+pub other_version : FaultAt (altered 4 (9 ∷ [])) 1 0
+unfolding image_bytes raw_of spelled
+other_version = inl (refl, refl, refl)

@@ -1,0 +1,5 @@
+pub mod Walks
+pub mod Linkeds
+pub mod Granted
+pub mod Found
+pub mod Indexed

@@ -1,0 +1,102 @@
+-- Walks on which no check fails, and lists whose elements all have a property.
+use Rattle.std.proofs.Common.{ℕ, zero, suc, ◌≡◌, ◌+◌, Bool, true, false, cond, List, [], ◌∷◌, ◌++◌, map, take, Some, None, slice_get, refl, sym, ap, ◌∙◌, subst, append_assoc, append-nil}
+use Rattle.std.specs.List.{AllByRecursion}
+use Rattle.def_image.specs.declared.Check.{Check}
+use Rattle.def_image.specs.Checks.{first, walked, check}
+use Rattle.law_image.proofs.Passing.{left_none, right_none}
+
+-- ---- checks
+
+pub joined_none : (xs ys : List Check) → first xs ≡ None → first ys ≡ None → first (xs ++ ys) ≡ None
+unfolding first
+joined_none [] ys a b = b
+joined_none (x ∷ xs) ys a b = by x.fails a (λ h. joined_none xs ys h b)
+  where
+    by : (c : Bool) → cond c (Some x.place) (first xs) ≡ None → (first xs ≡ None → first (xs ++ ys) ≡ None) → cond c (Some x.place) (first (xs ++ ys)) ≡ None
+    by true h rest = absurd (let clash : Some x.place ≡ None = h in cc)
+    by false h rest = rest h
+
+pub next_none : (x : Check) (xs : List Check) → x.fails ≡ false → first xs ≡ None → first (x ∷ xs) ≡ None
+unfolding first
+next_none x xs a b = ap (λ c. cond c (Some x.place) (first xs)) a ∙ b
+
+pub one_none : (place : ℕ) (fails : Bool) → fails ≡ false → first (check place fails ∷ []) ≡ None
+unfolding first
+one_none place fails a = ap (λ c. cond c (Some place) None) a
+
+-- each check passes
+pub none_fails : (cs : List Check) → AllByRecursion (λ (c : Check). c.fails ≡ false) cs → first cs ≡ None
+unfolding first
+none_fails [] h = refl
+none_fails (c ∷ cs) h = next_none c cs h.0 (none_fails cs h.1)
+
+-- ---- walks
+
+-- each member passes, whatever stands before it
+pub walk_all : {A : Type 0} (P : A → Type 0) (asked : ℕ → List A → A → List Check) (size : A → ℕ)
+    → ((at : ℕ) (earlier : List A) (x : A) → P x → first (asked at earlier x) ≡ None)
+    → (at : ℕ) (earlier xs : List A) → AllByRecursion P xs → first (walked asked size at earlier xs) ≡ None
+unfolding walked first
+walk_all P asked size so at earlier [] h = refl
+walk_all P asked size so at earlier (x ∷ xs) h =
+    joined_none (asked at earlier x) (walked asked size (at + size x) (earlier ++ x ∷ []) xs) (so at earlier x h.0)
+    (walk_all P asked size so (at + size x) (earlier ++ x ∷ []) xs h.1)
+
+-- each member passes after those before it
+pub walk_each : {A : Type 0} (asked : ℕ → List A → A → List Check) (size : A → ℕ) (at : ℕ) (earlier xs : List A)
+    → ((i : ℕ) (x : A) → slice_get xs i ≡ Some x → (place : ℕ) → first (asked place (earlier ++ take i xs) x) ≡ None)
+    → first (walked asked size at earlier xs) ≡ None
+unfolding walked first
+walk_each asked size at earlier [] h = refl
+walk_each asked size at earlier (x ∷ xs) h =
+    joined_none (asked at earlier x) (walked asked size (at + size x) (earlier ++ x ∷ []) xs)
+    (subst (λ l. first (asked at l x) ≡ None) (append-nil earlier) (h zero x refl at))
+    (walk_each asked size (at + size x) (earlier ++ x ∷ []) xs
+    (λ i y is place. subst (λ l. first (asked place l y) ≡ None) (sym (append_assoc earlier (x ∷ []) (take i xs))) (h (suc i) y is place)))
+
+-- where something holds of those before, each member passes, and it goes on to hold
+pub walk_holding : {A : Type 0} (Q : List A → Type 0) (P : A → Type 0) (asked : ℕ → List A → A → List Check) (size : A → ℕ)
+    → ((at : ℕ) (earlier : List A) (x : A) → Q earlier → P x → first (asked at earlier x) ≡ None)
+    → ((earlier : List A) (x : A) → Q earlier → P x → Q (earlier ++ x ∷ []))
+    → (at : ℕ) (earlier xs : List A) → Q earlier → AllByRecursion P xs → first (walked asked size at earlier xs) ≡ None
+unfolding walked first
+walk_holding Q P asked size so on at earlier [] q h = refl
+walk_holding Q P asked size so on at earlier (x ∷ xs) q h =
+    joined_none (asked at earlier x) (walked asked size (at + size x) (earlier ++ x ∷ []) xs) (so at earlier x q h.0)
+    (walk_holding Q P asked size so on (at + size x) (earlier ++ x ∷ []) xs (on earlier x q h.0) h.1)
+
+-- two stretches of a walk
+pub walk_joined : {A : Type 0} (asked : ℕ → List A → A → List Check) (size : A → ℕ) (at : ℕ) (earlier xs ys : List A)
+    → first (walked asked size at earlier xs) ≡ None
+    → ((place : ℕ) → first (walked asked size place (earlier ++ xs) ys) ≡ None)
+    → first (walked asked size at earlier (xs ++ ys)) ≡ None
+unfolding walked
+walk_joined asked size at earlier [] ys a b = subst (λ l. first (walked asked size at l ys) ≡ None) (append-nil earlier) (b at)
+walk_joined asked size at earlier (x ∷ xs) ys a b =
+    let own = asked at earlier x in
+    let later = walked asked size (at + size x) (earlier ++ x ∷ []) xs in
+    joined_none own (walked asked size (at + size x) (earlier ++ x ∷ []) (xs ++ ys)) (left_none own later a)
+    (walk_joined asked size (at + size x) (earlier ++ x ∷ []) xs ys (right_none own later a)
+    (λ place. subst (λ l. first (walked asked size place l ys) ≡ None) (sym (append_assoc earlier (x ∷ []) xs)) (b place)))
+
+-- ---- lists
+
+pub all_joined : {A : Type 0} (P : A → Type 0) (xs ys : List A) → AllByRecursion P xs → AllByRecursion P ys → AllByRecursion P (xs ++ ys)
+all_joined P [] ys h k = k
+all_joined P (x ∷ xs) ys h k = (h.0, all_joined P xs ys h.1 k)
+
+pub all_mapped : {A B : Type 0} (P : B → Type 0) (f : A → B) (xs : List A) → AllByRecursion (λ x. P (f x)) xs → AllByRecursion P (map f xs)
+all_mapped P f [] h = tt
+all_mapped P f (x ∷ xs) h = (h.0, all_mapped P f xs h.1)
+
+pub all_unmapped : {A B : Type 0} (P : B → Type 0) (f : A → B) (xs : List A) → AllByRecursion P (map f xs) → AllByRecursion (λ x. P (f x)) xs
+all_unmapped P f [] h = tt
+all_unmapped P f (x ∷ xs) h = (h.0, all_unmapped P f xs h.1)
+
+pub all_so : {A : Type 0} (P Q : A → Type 0) (xs : List A) → ((x : A) → P x → Q x) → AllByRecursion P xs → AllByRecursion Q xs
+all_so P Q [] f h = tt
+all_so P Q (x ∷ xs) f h = (f x h.0, all_so P Q xs f h.1)
+
+pub all_both : {A : Type 0} (P Q : A → Type 0) (xs : List A) → AllByRecursion P xs → AllByRecursion Q xs → AllByRecursion (λ x. P x × Q x) xs
+all_both P Q [] h k = tt
+all_both P Q (x ∷ xs) h k = ((h.0, k.0), all_both P Q xs h.1 k.1)

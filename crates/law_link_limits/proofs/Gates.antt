@@ -1,0 +1,146 @@
+-- The exports of what is linked keep the limits of an image's rows.
+use Rattle.std.proofs.Common.{ℕ, ◌≡◌, ◌+◌, ◌%◌, ◌^◌, ◌<◌, ◌≤◌, true, false, List, [], ◌∷◌, ◌++◌, length, map, refl, sym, ap, ◌∙◌, subst, arith}
+use Rattle.std.proofs.lemmas.List.{length-append}
+use Rattle.std.specs.Prelude.{unwrap_or}
+use Rattle.std.specs.List.{AllByRecursion}
+use Rattle.ct_entry.specs.declared.rows.Mode.{Mode}
+use Rattle.ct_entry.specs.declared.rows.Mode.TheVariants.{Inherit, Disabled, Enabled}
+use Rattle.def_names.specs.Names.{is_name}
+use Rattle.def_image.specs.declared.RawEntry.{RawEntry}
+use Rattle.def_image.specs.Parts.{GateRow}
+use Rattle.def_image.specs.Spelling.{posture_byte, passes_byte, raw_gate}
+use Rattle.def_image.specs.Profile.{outside}
+use Rattle.def_image.specs.Limits.{Bounds, compartment_bounds, library_bounds}
+use Rattle.def_description.specs.declared.tables.Passes.{Passes}
+use Rattle.def_description.specs.declared.tables.Passes.TheVariants.{Capabilities, Data}
+use Rattle.def_description.specs.Rows.{AtRow, ExportRow, CompartmentRow, LexportRow, LibraryRow}
+use Rattle.def_description.specs.Named.{export_names, library_export_names}
+use Rattle.def_description.specs.Lawful.{AreNames, IsLawfulExport}
+use Rattle.def_link.specs.Owners.{Built, begin_of, numbered}
+use Rattle.def_link.specs.Slots.{passes_capabilities, export_gate, compartment_gates, lexport_gate, library_gates}
+use Rattle.law_link_regions.proofs.Builts.{Begins}
+use Rattle.law_link_limits.proofs.Fields.{New, all_new}
+use Rattle.law_link_limits.proofs.Along.{Along}
+use Rattle.law_link_limits.proofs.Rows.{GateGood}
+
+posture_within : (m : Mode) → (m ≡ Inherit → ⊥) → outside 2 3 (posture_byte m) ≡ false
+posture_within Inherit unlike = absurd (unlike refl)
+posture_within Disabled unlike = refl
+posture_within Enabled unlike = refl
+
+any_posture : (m : Mode) → outside 1 3 (posture_byte m) ≡ false
+any_posture Inherit = refl
+any_posture Disabled = refl
+any_posture Enabled = refl
+
+passes_within : (p : Passes) → outside 1 2 (passes_byte (passes_capabilities p)) ≡ false
+passes_within Capabilities = refl
+passes_within Data = refl
+
+-- an export's offset is a word of the text
+begin_is : (b : Built) (at : AtRow) → (h : Begins b at) → unwrap_or (begin_of b at) 0 ≡ h.offset
+begin_is b at h = ap (λ o. unwrap_or o 0) h.is
+
+pub gate_good : (b : Built) (entry : ℕ) (x : ExportRow) → length b.text ≤ 1048576 → entry < 2 ^ 32 → Begins b x.at → IsLawfulExport x → is_name x.name ≡ true
+    → GateGood compartment_bounds (length b.text) (export_gate b entry x)
+gate_good b entry x small few at law formed =
+    let is = begin_is b x.at at in
+    record {
+      named = formed;
+      even = ap (λ n. n % 4) is ∙ at.even;
+      inside = (let lt = at.inside in omega (arith, lt, is));
+      small = small;
+      stack = law.stack;
+      most = omega arith;
+      args = law.args;
+      posture = posture_within x.posture law.posture;
+      passes = passes_within x.passes;
+      entry_small = few;
+    }
+
+pub lexport_good : (b : Built) (entry : ℕ) (x : LexportRow) → length b.text ≤ 1048576 → entry < 2 ^ 32 → Begins b x.at → is_name x.name ≡ true
+    → GateGood library_bounds (length b.text) (lexport_gate b entry x)
+lexport_good b entry x small few at formed =
+    let is = begin_is b x.at at in
+    record {
+      named = formed;
+      even = ap (λ n. n % 4) is ∙ at.even;
+      inside = (let lt = at.inside in omega (arith, lt, is));
+      small = small;
+      stack = omega arith;
+      most = omega arith;
+      args = omega arith;
+      posture = any_posture x.posture;
+      passes = refl;
+      entry_small = few;
+    }
+
+-- ---- the exports of an owner, numbered on from an entry
+
+gates_good : (b : Built) (entry : ℕ) (xs : List ExportRow) → length b.text ≤ 1048576 → entry + length xs < 2 ^ 32
+    → AllByRecursion (Begins b) (map (λ (e : ExportRow). e.at) xs) → AllByRecursion IsLawfulExport xs → AllByRecursion (λ n. is_name n ≡ true) (map (λ (e : ExportRow). e.name) xs)
+    → AllByRecursion (GateGood compartment_bounds (length b.text)) (numbered (export_gate b) entry xs)
+gates_good b entry [] small few at law formed = tt
+gates_good b entry (x ∷ xs) small few at law formed =
+    (gate_good b entry x small (omega (arith, few)) at.0 law.0 formed.0, gates_good b (entry + 1) xs small (omega (arith, few)) at.1 law.1 formed.1)
+
+lexports_good : (b : Built) (entry : ℕ) (xs : List LexportRow) → length b.text ≤ 1048576 → entry + length xs < 2 ^ 32
+    → AllByRecursion (Begins b) (map (λ (e : LexportRow). e.at) xs) → AllByRecursion (λ n. is_name n ≡ true) (map (λ (e : LexportRow). e.name) xs)
+    → AllByRecursion (GateGood library_bounds (length b.text)) (numbered (lexport_gate b) entry xs)
+lexports_good b entry [] small few at formed = tt
+lexports_good b entry (x ∷ xs) small few at formed =
+    (lexport_good b entry x small (omega (arith, few)) at.0 formed.0, lexports_good b (entry + 1) xs small (omega (arith, few)) at.1 formed.1)
+
+pub gate_title : GateRow → List ℕ
+gate_title x = x.name
+
+gate_titles : (b : Built) (entry : ℕ) (xs : List ExportRow) → map gate_title (numbered (export_gate b) entry xs) ≡ map (λ (e : ExportRow). e.name) xs
+unfolding gate_title
+gate_titles b entry [] = refl
+gate_titles b entry (x ∷ xs) = ap (λ l. x.name ∷ l) (gate_titles b (entry + 1) xs)
+
+lexport_titles : (b : Built) (entry : ℕ) (xs : List LexportRow) → map gate_title (numbered (lexport_gate b) entry xs) ≡ map (λ (e : LexportRow). e.name) xs
+unfolding gate_title
+lexport_titles b entry [] = refl
+lexport_titles b entry (x ∷ xs) = ap (λ l. x.name ∷ l) (lexport_titles b (entry + 1) xs)
+
+-- each has the number of its entry, counted on from the first
+pub gates_numbered : (b : Built) (first n : ℕ) (earlier : List RawEntry) (xs : List ExportRow) → n ≡ first + length earlier
+    → Along raw_gate (λ before (x : GateRow). x.row.entry ≡ first + length before) earlier (numbered (export_gate b) n xs)
+unfolding Along
+gates_numbered b first n earlier [] is = tt
+gates_numbered b first n earlier (x ∷ xs) is =
+    let one = length-append earlier (raw_gate (export_gate b n x) ∷ []) in
+    (is, gates_numbered b first (n + 1) (earlier ++ raw_gate (export_gate b n x) ∷ []) xs (omega (arith, is, one)))
+
+pub lexports_numbered : (b : Built) (first n : ℕ) (earlier : List RawEntry) (xs : List LexportRow) → n ≡ first + length earlier
+    → Along raw_gate (λ before (x : GateRow). x.row.entry ≡ first + length before) earlier (numbered (lexport_gate b) n xs)
+unfolding Along
+lexports_numbered b first n earlier [] is = tt
+lexports_numbered b first n earlier (x ∷ xs) is =
+    let one = length-append earlier (raw_gate (lexport_gate b n x) ∷ []) in
+    (is, lexports_numbered b first (n + 1) (earlier ++ raw_gate (lexport_gate b n x) ∷ []) xs (omega (arith, is, one)))
+
+-- good exports, under new names, each with its entry's number
+pub record Gates (b : Bounds) (text first : ℕ) (gates : List GateRow) : Type 0 where
+  pub each : AllByRecursion (GateGood b text) gates
+  pub new : New [] (map gate_title gates)
+  pub numbered : Along raw_gate (λ before (x : GateRow). x.row.entry ≡ first + length before) [] gates
+
+pub compartment_gates_good : (b : Built) (entry : ℕ) (c : CompartmentRow) → length b.text ≤ 1048576 → entry + length c.exports < 2 ^ 32
+    → AllByRecursion (Begins b) (map (λ (e : ExportRow). e.at) c.exports) → AllByRecursion IsLawfulExport c.exports → AreNames (export_names c)
+    → Gates compartment_bounds (length b.text) entry (compartment_gates b entry c)
+compartment_gates_good b entry c small few at law names = record {
+  each = gates_good b entry c.exports small few at law names.formed;
+  new = subst (New []) (sym (gate_titles b entry c.exports)) (all_new (export_names c) names.once);
+  numbered = gates_numbered b entry entry [] c.exports (omega arith);
+}
+
+pub library_gates_good : (b : Built) (entry : ℕ) (l : LibraryRow) → length b.text ≤ 1048576 → entry + length l.exports < 2 ^ 32
+    → AllByRecursion (Begins b) (map (λ (e : LexportRow). e.at) l.exports) → AreNames (library_export_names l)
+    → Gates library_bounds (length b.text) entry (library_gates b entry l)
+library_gates_good b entry l small few at names = record {
+  each = lexports_good b entry l.exports small few at names.formed;
+  new = subst (New []) (sym (lexport_titles b entry l.exports)) (all_new (library_export_names l) names.once);
+  numbered = lexports_numbered b entry entry [] l.exports (omega arith);
+}

@@ -1,0 +1,12 @@
+pub mod Fields
+pub mod Lengths
+pub mod Along
+pub mod Rows
+pub mod Slots
+pub mod Gates
+pub mod Owners
+pub mod Makings
+pub mod Lists
+pub mod Limits
+pub mod Shapes
+pub mod Whole

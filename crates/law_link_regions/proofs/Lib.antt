@@ -1,0 +1,5 @@
+pub mod Texts
+pub mod Builts
+pub mod Orders
+pub mod Placings
+pub mod Lying

@@ -1,0 +1,355 @@
+-- What is built of an owner's code: a text of words, and initial bytes, both within their limits.
+use Rattle.std.proofs.Common.{ℕ, zero, suc, ◌≡◌, ◌+◌, ◌*◌, ◌%◌, ◌<◌, ◌≤◌, ◌&&◌, not, Bool, true, false, cond, List, [], ◌∷◌, ◌++◌, length, Option, Some, None, refl, sym, ap, ap₂, ◌∙◌, subst, arith, inl, inr, append_assoc, add-zero}
+use Rattle.std.proofs.lemmas.List.{length-append}
+use Rattle.std.specs.Prelude.{⊤, Result, Ok, Err, replicate}
+use Rattle.std.specs.List.{AllByRecursion, flat_map}
+use Rattle.law_lists.proofs.Tests.{lt_tells, both_left, both_right}
+use Rattle.def_instr.specs.declared.Instr.{Instr}
+use Rattle.def_instr.specs.declared.Instr.TheVariants as instr
+use Rattle.def_instr.specs.Table.{word_of}
+use Rattle.def_source.specs.declared.AsmFault.{AsmFault}
+use Rattle.def_source.specs.declared.AsmFault.TheVariants as asm
+use Rattle.def_source.specs.declared.words.Head.{Head}
+use Rattle.def_source.specs.declared.words.Directive.{Directive}
+use Rattle.def_source.specs.declared.parts.Token.TheVariants as token
+use Rattle.def_source.specs.declared.parts.Section.{Section}
+use Rattle.def_source.specs.declared.parts.Section.TheVariants as section
+use Rattle.def_source.specs.declared.parts.Part.{Part}
+use Rattle.def_source.specs.declared.parts.Part.TheVariants as part
+use Rattle.def_source.specs.declared.parts.Line.{Line}
+use Rattle.def_source.specs.Source.{result_map, Name, Row, Statements, in_section, numbers_fit, registers_exist, is_lawful, lawful_or_fault, formed, headed, directed, head_of, directive_of, form_of, directive_form, statement_of, after_label, label_of, row_line, tokens_line, line_tokens, line_of, lines_of, section_after, label_statements, part_statements, line_statements, goes_on, program_from, program_of, lawful_from, or_else}
+use Rattle.def_source.specs.Source.{with_front as with_statements}
+use Rattle.def_object.specs.declared.Place.{Place}
+use Rattle.def_object.specs.declared.Fault.{Fault}
+use Rattle.def_object.specs.Object.{Labels, size_at, offset, advanced, start, label_in, size_fault, reference_fault, statement_fault, on_line, lesser, is_least, fault_from, fault_in, number_word, is_short, upper_part, rest_part, padding, same_section, instructions_at, word_bytes, instruction_bytes, bytes_at, section_bytes, bytes_from, text_of, initial_of}
+
+Bytes : List ℕ → Type 0
+Bytes bs = AllByRecursion (λ b. b < 256) bs
+
+-- a fault is no answer
+not_ok : {A : Type 0} (n : ℕ) (x : A) → ◌≡◌ {A = Result A ℕ} (Err n) (Ok x) → ⊥
+not_ok n x e = absurd (cc)
+
+-- ---- lawful statements
+
+-- a statement, if there is one, is lawful in its section
+IsFine : Section → Option (Part Name) → Type 0
+IsFine s None = ⊤
+IsFine s (Some p) = is_lawful s p ≡ true
+
+lawful_one : (s : Section) (p q : Part Name) → lawful_or_fault s p ≡ Ok q → is_lawful s q ≡ true
+lawful_one s p q e = by (in_section s p) (numbers_fit p) (registers_exist p) refl refl refl e
+  where
+    by : (a b c : Bool) → in_section s p ≡ a → numbers_fit p ≡ b → registers_exist p ≡ c
+        → cond {A = Result (Part Name) ℕ} (not a) (Err 3) (cond {A = Result (Part Name) ℕ} (not b) (Err 4) (cond {A = Result (Part Name) ℕ} (not c) (Err 7) (Ok p))) ≡ Ok q → is_lawful s q ≡ true
+    by false b c x y z h = absurd (not_ok 3 q h)
+    by true false c x y z h = absurd (not_ok 4 q h)
+    by true true false x y z h = absurd (not_ok 7 q h)
+    by true true true x y z h = let same : p ≡ q = cc in subst (λ r. is_lawful s r ≡ true) same (rw (x, y, z) refl)
+
+formed_fine : (s : Section) (o : Option (Part Name)) (r : Option (Part Name)) → formed s o ≡ Ok r → IsFine s r
+unfolding IsFine
+formed_fine s None r e = absurd (not_ok 3 r e)
+formed_fine s (Some p) r e = by (lawful_or_fault s p) refl e
+  where
+    by : (o : Result (Part Name) ℕ) → lawful_or_fault s p ≡ o → result_map (λ q. Some q) o ≡ Ok r → IsFine s r
+    by (Err n) is h = absurd (let no : Err n ≡ Ok r = h in cc)
+    by (Ok q) is h = let same : Some q ≡ r = cc in subst (IsFine s) same (lawful_one s p q is)
+
+headed_fine : (s : Section) (ts : Row) (o : Option Head) (r : Option (Part Name)) → headed s ts o ≡ Ok r → IsFine s r
+headed_fine s ts None r e = absurd (not_ok 2 r e)
+headed_fine s ts (Some h) r e = formed_fine s (form_of h ts) r e
+
+directed_fine : (s : Section) (ts : Row) (o : Option Directive) (r : Option (Part Name)) → directed s ts o ≡ Ok r → IsFine s r
+directed_fine s ts None r e = absurd (not_ok 2 r e)
+directed_fine s ts (Some h) r e = formed_fine s (directive_form h ts) r e
+
+statement_fine : (s : Section) (ts : Row) (r : Option (Part Name)) → statement_of s ts ≡ Ok r → IsFine s r
+unfolding IsFine
+statement_fine s [] r e = let same : None ≡ r = cc in subst (IsFine s) same tt
+statement_fine s (token.Name n ∷ ts) r e = headed_fine s ts (head_of n) r e
+statement_fine s (token.Directive n ∷ ts) r e = directed_fine s ts (directive_of n) r e
+statement_fine s _ r e = absurd (not_ok 2 r e)
+
+row_fine : (s : Section) (ts : Row) (l : Line Name) → row_line s ts ≡ Ok l → IsFine s l.part
+unfolding row_line
+row_fine s ts l e = by (statement_of s (after_label ts)) refl e
+  where
+    by : (o : Result (Option (Part Name)) ℕ) → statement_of s (after_label ts) ≡ o → result_map (λ p. record { label = label_of ts; part = p }) o ≡ Ok l → IsFine s l.part
+    by (Err n) is h = absurd (let no : Err n ≡ Ok l = h in cc)
+    by (Ok p) is h =
+        let here : Line Name = record { label = label_of ts; part = p } in
+        let same : here ≡ l = cc in
+        subst (λ (k : Line Name). IsFine s k.part) same (statement_fine s (after_label ts) p is)
+
+line_fine : (s : Section) (bytes : List ℕ) (l : Line Name) → line_of s bytes ≡ Ok l → IsFine s l.part
+unfolding line_of
+line_fine s bytes l e = by (line_tokens bytes) e
+  where
+    by : (o : Option Row) → tokens_line s o ≡ Ok l → IsFine s l.part
+    by None h = absurd (not_ok 1 l h)
+    by (Some ts) h = row_fine s ts l h
+
+both_true : (a b : Bool) → a ≡ true → b ≡ true → (a && b) ≡ true
+both_true a b x y = ap₂ (λ p q. p && q) x y
+
+part_lawful : (s : Section) (n : ℕ) (o : Option (Part Name)) (rest : Statements) → IsFine s o → lawful_from (section_after s o) rest ≡ true → lawful_from s (part_statements n o ++ rest) ≡ true
+unfolding IsFine
+part_lawful s n None rest f h = h
+part_lawful s n (Some p) rest f h = both_true (is_lawful s p) (lawful_from (section_after s (Some p)) rest) f h
+
+label_lawful : (s : Section) (n : ℕ) (o : Option Name) (rest : Statements) → lawful_from s rest ≡ true → lawful_from s (label_statements n o ++ rest) ≡ true
+label_lawful s n None rest h = h
+label_lawful s n (Some name) rest h = h
+
+line_lawful : (s : Section) (n : ℕ) (l : Line Name) (rest : Statements) → IsFine s l.part → lawful_from (section_after s l.part) rest ≡ true → lawful_from s (line_statements n l ++ rest) ≡ true
+line_lawful s n l rest f h =
+    subst (λ z. lawful_from s z ≡ true) (sym (append_assoc (label_statements n l.label) (part_statements n l.part) rest))
+    (label_lawful s n l.label (part_statements n l.part ++ rest) (part_lawful s n l.part rest f h))
+
+program_lawful : (s : Section) (n : ℕ) (lines : List (List ℕ)) (ss : Statements) → program_from s n lines ≡ Ok ss → lawful_from s ss ≡ true
+program_lawful s n [] ss e = let same : [] ≡ ss = cc in subst (λ z. lawful_from s z ≡ true) same refl
+program_lawful s n (b ∷ bs) ss e = by (line_of s b) refl e (λ t rest h. program_lawful t (n + 1) bs rest h)
+  where
+    on : (l : Line Name) → line_of s b ≡ Ok l → (o : Result Statements AsmFault) → program_from (section_after s l.part) (n + 1) bs ≡ o
+        → with_statements (line_statements n l) o ≡ Ok ss → ((t : Section) (rest : Statements) → program_from t (n + 1) bs ≡ Ok rest → lawful_from t rest ≡ true) → lawful_from s ss ≡ true
+    on l is (Err f) at h so = absurd (let no : Err f ≡ Ok ss = h in cc)
+    on l is (Ok rest) at h so =
+        let same : line_statements n l ++ rest ≡ ss = cc in
+        subst (λ z. lawful_from s z ≡ true) same (line_lawful s n l rest (line_fine s b l is) (so (section_after s l.part) rest at))
+
+    by : (o : Result (Line Name) ℕ) → line_of s b ≡ o → goes_on n s o (λ t. program_from t (n + 1) bs) ≡ Ok ss
+        → ((t : Section) (rest : Statements) → program_from t (n + 1) bs ≡ Ok rest → lawful_from t rest ≡ true) → lawful_from s ss ≡ true
+    by (Err k) is h so = absurd (let no : Err (asm.At k n) ≡ Ok ss = h in cc)
+    by (Ok l) is h so = on l is (program_from (section_after s l.part) (n + 1) bs) refl h so
+
+pub source_lawful : (text : List ℕ) (ss : Statements) → program_of text ≡ Ok ss → lawful_from section.Text ss ≡ true
+unfolding program_of
+source_lawful text ss e = program_lawful section.Text 1 (lines_of text) ss e
+
+-- ---- bytes of a statement
+
+joined_bytes : (xs ys : List ℕ) → Bytes xs → Bytes ys → Bytes (xs ++ ys)
+unfolding Bytes
+joined_bytes [] ys h k = k
+joined_bytes (x ∷ xs) ys h k = (h.0, joined_bytes xs ys h.1 k)
+
+zero_bytes : (n : ℕ) → Bytes (replicate n 0)
+unfolding Bytes
+zero_bytes zero = tt
+zero_bytes (suc n) = (omega arith, zero_bytes n)
+
+pub word_is_bytes : (w : ℕ) → AllByRecursion (λ b. b < 256) (word_bytes w)
+word_is_bytes w = (omega arith, (omega arith, (omega arith, (omega arith, tt))))
+
+instructions_bytes : (is : List Instr) → Bytes (instruction_bytes is)
+unfolding Bytes
+instructions_bytes [] = tt
+instructions_bytes (i ∷ is) = joined_bytes (word_bytes (word_of i)) (instruction_bytes is) (word_is_bytes (word_of i)) (instructions_bytes is)
+
+statement_bytes : (labels : Labels) (slots : List Name) (at : ℕ) (q : Part Name) → Bytes (bytes_at labels slots at q)
+unfolding Bytes
+statement_bytes labels slots at (part.Word number) = word_is_bytes (number_word number)
+statement_bytes labels slots at (part.Byte number) = (omega arith, tt)
+statement_bytes labels slots at (part.Zero number) = zero_bytes number.magnitude
+statement_bytes labels slots at (part.Align number) = zero_bytes (padding number.magnitude at)
+statement_bytes labels slots at q = instructions_bytes (instructions_at labels slots at q)
+
+zeros_length : (n : ℕ) → length {A = ℕ} (replicate n 0) ≡ n
+zeros_length zero = refl
+zeros_length (suc n) = ap suc (zeros_length n)
+
+statement_length : (labels : Labels) (slots : List Name) (at : ℕ) (q : Part Name) → length (bytes_at labels slots at q) ≡ size_at q at
+statement_length labels slots at (part.Zero number) = zeros_length number.magnitude
+statement_length labels slots at (part.Align number) = zeros_length (padding number.magnitude at)
+statement_length labels slots at (part.LoadImmediate rd number) = by (is_short (number_word number))
+  where
+    by : (b : Bool) → length (instruction_bytes (cond b (instr.Addi rd 0 (number_word number) ∷ []) (instr.Lui rd (upper_part (number_word number)) ∷ instr.Addi rd rd (rest_part (number_word number)) ∷ []))) ≡ cond b 4 8
+    by true = refl
+    by false = refl
+statement_length labels slots at q = refl
+
+-- ---- bytes of a section
+
+section_is_bytes : (w : Section) (labels : Labels) (slots : List Name) (p : Place) (q : Part Name) → Bytes (section_bytes w labels slots p q)
+unfolding Bytes
+section_is_bytes w labels slots p q = by (same_section p.section w)
+  where
+    by : (b : Bool) → AllByRecursion (λ b. b < 256) (cond b (bytes_at labels slots (offset p) q) [])
+    by true = statement_bytes labels slots (offset p) q
+    by false = tt
+
+pub section_all_bytes : (w : Section) (labels : Labels) (slots : List Name) (p : Place) (ss : Statements) → AllByRecursion (λ b. b < 256) (bytes_from w labels slots p ss)
+unfolding Bytes
+section_all_bytes w labels slots p [] = tt
+section_all_bytes w labels slots p (s ∷ ss) =
+    joined_bytes (section_bytes w labels slots p s.part) (bytes_from w labels slots (advanced p s.part) ss)
+    (section_is_bytes w labels slots p s.part) (section_all_bytes w labels slots (advanced p s.part) ss)
+
+-- a place, field by field
+at_place : Section → ℕ → ℕ → Place
+at_place s t i = record { section = s; text = t; initial = i }
+
+after_section : (s : Section) (t i : ℕ) (q : Part Name) → (advanced (at_place s t i) q).section ≡ section_after s (Some q)
+unfolding at_place
+after_section section.Text t i part.Text = refl
+after_section section.Text t i part.Data = refl
+after_section section.Text t i q = refl
+after_section section.Data t i part.Text = refl
+after_section section.Data t i part.Data = refl
+after_section section.Data t i q = refl
+
+-- how much of a section stands before a place
+filled : Section → Place → ℕ
+filled section.Text p = p.text
+filled section.Data p = p.initial
+
+filled_on : (w s : Section) (t i : ℕ) (labels : Labels) (slots : List Name) (q : Part Name)
+    → filled w (at_place s t i) + length (section_bytes w labels slots (at_place s t i) q) ≡ filled w (advanced (at_place s t i) q)
+unfolding filled at_place
+filled_on section.Text section.Text t i labels slots part.Text = add-zero t
+filled_on section.Text section.Text t i labels slots part.Data = add-zero t
+filled_on section.Text section.Text t i labels slots q = ap (λ n. t + n) (statement_length labels slots t q)
+filled_on section.Text section.Data t i labels slots part.Text = add-zero t
+filled_on section.Text section.Data t i labels slots part.Data = add-zero t
+filled_on section.Text section.Data t i labels slots q = add-zero t
+filled_on section.Data section.Text t i labels slots part.Text = add-zero i
+filled_on section.Data section.Text t i labels slots part.Data = add-zero i
+filled_on section.Data section.Text t i labels slots q = add-zero i
+filled_on section.Data section.Data t i labels slots part.Text = add-zero i
+filled_on section.Data section.Data t i labels slots part.Data = add-zero i
+filled_on section.Data section.Data t i labels slots q = ap (λ n. i + n) (statement_length labels slots i q)
+
+-- ---- limits
+
+size_kept : (at : ℕ) (q : Part Name) → size_fault at q ≡ None → at + size_at q at ≤ 1048576
+size_kept at q e = elim (lt_tells 1048576 (at + size_at q at)) [
+  | inl h ↦ absurd (let is : size_fault at q ≡ Some 8 = ap (λ b. cond b (Some 8) None) h.0 in let no : Some 8 ≡ None = sym is ∙ e in cc)
+  | inr h ↦ h.1
+]
+
+second_none : (a b : Option ℕ) → or_else a b ≡ None → b ≡ None
+second_none None b e = e
+second_none (Some n) b e = absurd (let no : Some n ≡ None = e in cc)
+
+line_none : (line : ℕ) (o : Option ℕ) → on_line line o ≡ None → o ≡ None
+line_none line None e = refl
+line_none line (Some n) e = absurd (let no : Some (fault_at n line) ≡ None = e in cc)
+  where
+    fault_at : ℕ → ℕ → Fault
+    fault_at n line = record { number = n; line = line }
+
+lesser_none : (a b : Option Fault) → lesser a b ≡ None → (a ≡ None) × (b ≡ None)
+lesser_none None b e = (refl, e)
+lesser_none (Some a) None e = absurd (let no : Some a ≡ None = e in cc)
+lesser_none (Some a) (Some b) e = by (is_least a b) e
+  where
+    by : (c : Bool) → cond c (Some a) (Some b) ≡ None → (Some a ≡ None) × (Some b ≡ None)
+    by true h = absurd (let no : Some a ≡ None = h in cc)
+    by false h = absurd (let no : Some b ≡ None = h in cc)
+
+-- after a statement that keeps the limit
+filled_kept : (w s : Section) (t i : ℕ) (q : Part Name) → filled w (at_place s t i) ≤ 1048576 → size_fault (offset (at_place s t i)) q ≡ None → filled w (advanced (at_place s t i) q) ≤ 1048576
+unfolding filled at_place
+filled_kept section.Text section.Text t i part.Text h e = h
+filled_kept section.Text section.Text t i part.Data h e = h
+filled_kept section.Text section.Text t i q h e = size_kept t q e
+filled_kept section.Text section.Data t i part.Text h e = h
+filled_kept section.Text section.Data t i part.Data h e = h
+filled_kept section.Text section.Data t i q h e = h
+filled_kept section.Data section.Text t i part.Text h e = h
+filled_kept section.Data section.Text t i part.Data h e = h
+filled_kept section.Data section.Text t i q h e = h
+filled_kept section.Data section.Data t i part.Text h e = h
+filled_kept section.Data section.Data t i part.Data h e = h
+filled_kept section.Data section.Data t i q h e = size_kept i q e
+
+section_few : (w : Section) (labels : Labels) (slots : List Name) (p : Place) (k : ℕ) (ss : Statements) → filled w p ≤ 1048576 → fault_from labels p k ss ≡ None
+    → filled w p + length (bytes_from w labels slots p ss) ≤ 1048576
+unfolding at_place
+section_few w labels slots p k [] h e = rw (add-zero (filled w p)) h
+section_few w labels slots p k (s ∷ ss) h e =
+    let f = lesser_none (on_line s.line (statement_fault labels p k s.part)) (fault_from labels (advanced p s.part) (k + 1) ss) e in
+    let size = second_none (reference_fault labels k (offset p) s.part) (size_fault (offset p) s.part) (line_none s.line (statement_fault labels p k s.part) f.0) in
+    let here = section_bytes w labels slots p s.part in
+    let later = bytes_from w labels slots (advanced p s.part) ss in
+    let on = filled_on w p.section p.text p.initial labels slots s.part in
+    let rest = section_few w labels slots (advanced p s.part) (k + 1) ss (filled_kept w p.section p.text p.initial s.part h size) f.1 in
+    let sum = length-append here later in
+    omega (arith, on, rest, sum)
+
+-- ---- words
+
+-- a statement of the text has whole words
+words_of : (labels : Labels) (slots : List Name) (at : ℕ) (q : Part Name) → in_section section.Text q ≡ true → length (bytes_at labels slots at q) % 4 ≡ 0
+words_of labels slots at (part.Byte number) e = absurd (let no : false ≡ true = e in cc)
+words_of labels slots at (part.Zero number) e = absurd (let no : false ≡ true = e in cc)
+words_of labels slots at (part.Align number) e = absurd (let no : false ≡ true = e in cc)
+words_of labels slots at (part.LoadImmediate rd number) e = ap (λ n. n % 4) (statement_length labels slots at (part.LoadImmediate rd number)) ∙ by (is_short (number_word number))
+  where
+    by : (b : Bool) → cond b 4 8 % 4 ≡ 0
+    by true = refl
+    by false = refl
+words_of labels slots at q e = refl
+
+section_words : (s : Section) (t i : ℕ) (labels : Labels) (slots : List Name) (q : Part Name) → is_lawful s q ≡ true → length (section_bytes section.Text labels slots (at_place s t i) q) % 4 ≡ 0
+unfolding at_place
+section_words section.Text t i labels slots q e =
+    words_of labels slots t q (both_left (in_section section.Text q) (numbers_fit q) (both_left (in_section section.Text q && numbers_fit q) (registers_exist q) e))
+section_words section.Data t i labels slots q e = refl
+
+text_words : (labels : Labels) (slots : List Name) (p : Place) (ss : Statements) → lawful_from p.section ss ≡ true → length (bytes_from section.Text labels slots p ss) % 4 ≡ 0
+unfolding at_place
+text_words labels slots p [] e = refl
+text_words labels slots p (s ∷ ss) e =
+    let here = section_bytes section.Text labels slots p s.part in
+    let later = bytes_from section.Text labels slots (advanced p s.part) ss in
+    let a = both_left (is_lawful p.section s.part) (lawful_from (section_after p.section (Some s.part)) ss) e in
+    let b = both_right (is_lawful p.section s.part) (lawful_from (section_after p.section (Some s.part)) ss) e in
+    let first = section_words p.section p.text p.initial labels slots s.part a in
+    let rest = text_words labels slots (advanced p s.part) ss (subst (λ z. lawful_from z ss ≡ true) (sym (after_section p.section p.text p.initial s.part)) b) in
+    let sum = length-append here later in
+    omega (arith, first, rest, sum)
+
+-- ---- objects
+
+pub record IsText (text initial : List ℕ) : Type 0 where
+  pub words : length text % 4 ≡ 0
+  pub few : length text ≤ 1048576
+  pub bytes : AllByRecursion (λ b. b < 256) text
+  pub initial_few : length initial ≤ 1048576
+  pub initial_bytes : AllByRecursion (λ b. b < 256) initial
+
+pub object_text : (ss : Statements) (slots : List Name) → lawful_from section.Text ss ≡ true → fault_in ss ≡ None → IsText (text_of ss slots) (initial_of ss slots)
+unfolding text_of initial_of fault_in filled
+object_text ss slots l f = record {
+  words = text_words (label_in ss) slots start ss l;
+  few = (let h = section_few section.Text (label_in ss) slots start 0 ss (omega arith) f in omega (arith, h));
+  bytes = section_all_bytes section.Text (label_in ss) slots start ss;
+  initial_few = (let h = section_few section.Data (label_in ss) slots start 0 ss (omega arith) f in omega (arith, h));
+  initial_bytes = section_all_bytes section.Data (label_in ss) slots start ss;
+}
+
+words_all : (ws : List ℕ) → AllByRecursion (λ b. b < 256) (flat_map word_bytes ws)
+unfolding Bytes
+words_all [] = tt
+words_all (w ∷ ws) = joined_bytes (word_bytes w) (flat_map word_bytes ws) (word_is_bytes w) (words_all ws)
+
+words_length : (ws : List ℕ) → length (flat_map word_bytes ws) ≡ 4 * length ws
+words_length [] = refl
+words_length (w ∷ ws) =
+    let rest = words_length ws in
+    let sum = length-append (word_bytes w) (flat_map word_bytes ws) in
+    let four : length (word_bytes w) ≡ 4 = refl in
+    omega (arith, rest, sum, four)
+
+pub words_text : (ws : List ℕ) → length ws ≤ 262144 → IsText (flat_map word_bytes ws) []
+words_text ws few =
+    let count = words_length ws in
+    record {
+      words = omega (arith, count);
+      few = omega (arith, count, few);
+      bytes = words_all ws;
+      initial_few = omega arith;
+      initial_bytes = tt;
+    }

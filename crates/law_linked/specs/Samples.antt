@@ -1,0 +1,63 @@
+-- Descriptions and sources that are linked, or not.
+use Rattle.std.specs.Prelude.{ℕ, List, [], ◌∷◌, ◌++◌, codes}
+use Rattle.serde_json.specs.Data.{Data, string}
+use Rattle.def_description.specs.Rows.{DescRow}
+use Rattle.def_description.specs.Reading.{rows_of}
+use Rattle.law_description.specs.Samples.{empty, all, num, with, altered, words, app, export, ram, tiny_of, file, hex, export_of}
+
+-- a line with its line feed
+abbrev pub line : List ℕ → List ℕ
+line text = text ++ 10 ∷ []
+
+-- cimport ct0, uart; li a0, 65; csw a0, 0(ct0); cret
+abbrev pub five_words : Data
+five_words = with empty (codes "words") (all (string (codes "00000297") ∷ string (codes "ff82b283") ∷ string (codes "04100513")
+    ∷ string (codes "00a2a023") ∷ string (codes "00008067") ∷ []))
+
+abbrev pub tiny_app : Data
+tiny_app = altered app (codes "code") five_words
+
+abbrev pub tiny_rows : DescRow
+tiny_rows = rows_of (tiny_of tiny_app)
+
+-- with so many bytes of RAM
+abbrev pub tiny_in : ℕ → DescRow
+tiny_in size = rows_of (altered (tiny_of tiny_app) (codes "ram") (altered ram (codes "size") (num size)))
+
+-- with an export at an offset, or with code in a file and an export at a label
+abbrev pub tiny_at : ℕ → DescRow
+tiny_at offset = rows_of (tiny_of (altered tiny_app (codes "exports") (all (altered export (codes "at") (num offset) ∷ []))))
+
+abbrev pub from_file : Data
+from_file = altered (altered app (codes "code") (file (codes "app.s"))) (codes "exports") (all (export_of (codes "main") ∷ []))
+
+abbrev pub filed : DescRow
+filed = rows_of (tiny_of from_file)
+
+-- and a library beside it
+abbrev pub lent : DescRow
+lent = rows_of (with (tiny_of from_file) (codes "libraries") (all (hex ∷ [])))
+
+-- ---- sources
+
+-- the four statements of the words
+abbrev pub tiny_source : List ℕ
+tiny_source = line (codes "main: cimport ct0, uart") ++ line (codes "li a0, 65") ++ line (codes "csw a0, 0(ct0)") ++ line (codes "cret")
+
+abbrev pub unknown_mnemonic : List ℕ
+unknown_mnemonic = line (codes "main: nop") ++ line (codes "frob a0")
+
+abbrev pub undeclared_import : List ℕ
+undeclared_import = line (codes "main: cimport ct0, nosuch")
+
+abbrev pub undefined_label : List ℕ
+undefined_label = line (codes "main: j nowhere")
+
+abbrev pub no_main : List ℕ
+no_main = line (codes "other: cret")
+
+abbrev pub only_main : List ℕ
+only_main = line (codes "main: cret")
+
+abbrev pub stray_bytes : List ℕ
+stray_bytes = line (codes "digit: cret") ++ line (codes ".data") ++ line (codes ".word 1")
