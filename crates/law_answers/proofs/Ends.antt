@@ -3,7 +3,8 @@ use Rattle.std.proofs.Common.{ℕ, suc, ◌≡◌, ◌-◌, ◌<◌, ◌≤◌, 
 use Rattle.std.specs.Prelude.{bytes_eq}
 use Rattle.std.specs.Int.{w32, from_le_bytes}
 use Rattle.std.proofs.lemmas.List.{take-append-drop, length-take, length-drop}
-use Rattle.law_lists.proofs.Tests.{le_tells}
+use Rattle.std.proofs.lemmas.Slice.Eq.{bytes_eq-Decides}
+use Rattle.law_lists.proofs.Tests.{le_tells, bool_tells}
 use Rattle.def_image.specs.Raw.{RawImage}
 use Rattle.def_image.specs.Profile.{is_within, last_version}
 use Rattle.def_image.specs.Spelling.{magic, raw_of, spelled, image_bytes}
@@ -66,17 +67,37 @@ cut n low high =
     let place : n ≡ length bytes = omega (arith, size, long, high) in
     inr (begun_at n low, inl (refl, (place, λ r spells. cut_apart r bytes (drop n bytes_of_tiny) spells (take-append-drop n bytes_of_tiny) (omega (arith, left, long, high)))))
 
-one_more : (r : RawImage) → Spells r (bytes_of_tiny ++ 0 ∷ []) → ⊥
+one_more : (b : ℕ) (r : RawImage) → Spells r (bytes_of_tiny ++ b ∷ []) → ⊥
 unfolding image_bytes
-one_more r spells =
-    let more : List ℕ = 0 ∷ [] in
+one_more b r spells =
+    let more : List ℕ = b ∷ [] in
     let ends : more ≡ [] = ends_whole (raw_of tiny) r more tiny_shaped spells.0 spells.1 in
     absurd (let none = ap (λ (l : List ℕ). length l) ends in omega (arith, none))
 
-pub appended : FaultAt (bytes_of_tiny ++ 0 ∷ []) 2 413
+pub appended : (b : ℕ) → FaultAt (bytes_of_tiny ++ b ∷ []) 2 413
 unfolding image_bytes raw_of spelled
-appended = inr (refl, inl (refl, (refl, λ r spells. one_more r spells)))
+appended b = inr (refl, inl (refl, (refl, λ r spells. one_more b r spells)))
 
 pub other_version : FaultAt (altered 4 (9 ∷ [])) 1 0
 unfolding image_bytes raw_of spelled
 other_version = inl (refl, refl, refl)
+
+other_front : (b : ℕ) (rest : List ℕ) → (b ≡ 67 → ⊥) → bytes_eq (b ∷ rest) magic ≡ false
+other_front b rest other = elim (bool_tells (bytes_eq (b ∷ rest) magic)) [
+  | inl h ↦ absurd (let same : b ∷ rest ≡ magic = (bytes_eq-Decides (b ∷ rest) magic).0 h in let first : b ≡ 67 = cc in other first)
+  | inr h ↦ h
+]
+
+front_not : (x y z : Bool) → y ≡ false → (x && y && z) ≡ false
+front_not true y z e = rw e refl
+front_not false y z e = refl
+
+pub other_begin : (b : ℕ) → (b ≡ 67 → ⊥) → FaultAt (altered 0 (b ∷ [])) 1 0
+other_begin b other =
+    let bytes = altered 0 (b ∷ []) in
+    inl (
+      refl,
+      front_not (nat_le 8 (length bytes)) (bytes_eq (take 4 bytes) magic) (is_within 1 last_version (from_le_bytes w32 (take 4 (drop 4 bytes))))
+          (other_front b (take 3 (drop 1 bytes_of_tiny)) other),
+      refl,
+    )

@@ -1,10 +1,10 @@
 -- What tests that compute say of fields and parts.
-use Rattle.std.proofs.Common.{ℕ, zero, suc, ◌≡◌, ◌<◌, ◌^◌, ◌==◌, ◌&&◌, ◌||◌, not, Bool, true, false, nat_lt, nat_eq, List, [], ◌∷◌, length, refl, sym, ap, ◌∙◌, subst, arith, inl, inr}
+use Rattle.std.proofs.Common.{ℕ, ◌≡◌, ◌<◌, ◌==◌, ◌&&◌, ◌||◌, not, Bool, true, nat_lt, List, [], ◌∷◌, length, subst, arith}
 use Rattle.std.specs.List.{list_all, AllByRecursion}
-use Rattle.law_lists.proofs.Tests.{both_left, both_right, eq_tells}
+use Rattle.law_lists.proofs.Tests.{both_left, both_right}
 use Rattle.ct_entry.specs.Listed.{DeviceRow}
 use Rattle.def_image.specs.declared.RawEntry.{RawEntry}
-use Rattle.def_image.specs.Raw.{RawDevice, RawShared, RawSealed, RawCode, RawCompartment, RawThread, RawImage}
+use Rattle.def_image.specs.Raw.{RawDevice, RawCode, RawCompartment, RawThread, RawImage}
 use Rattle.def_image.specs.Parts.{SlotRow, GateRow, SharedRow, SealedRow, CodeRow, CompartmentRow, ThreadRow, PartsRow}
 use Rattle.def_image.specs.Spelling.{padding_after, raw_of}
 use Rattle.def_image.specs.Shapes.{IsField, IsNumber, IsCounted, IsEntry, IsDevice, IsShared, IsSealed, IsCode, IsCompartment, IsThread, IsShaped, Clean, SpellableSlot, SpellableGate, SpellableCode, IsSpellable}

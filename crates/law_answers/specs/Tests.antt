@@ -5,8 +5,8 @@ use Rattle.ct_entry.specs.Listed.{DeviceRow}
 use Rattle.def_profile.specs.declared.limits.TheConstants.{SWEEP_RATE}
 use Rattle.def_image.specs.declared.RawEntry.{RawEntry}
 use Rattle.def_image.specs.declared.format.TheConstants.{NAME, ROW}
-use Rattle.def_image.specs.Raw.{RawDevice, RawShared, RawSealed, RawCode, RawCompartment, RawThread, RawImage}
-use Rattle.def_image.specs.Parts.{SlotRow, GateRow, SharedRow, SealedRow, CodeRow, CompartmentRow, ThreadRow, PartsRow}
+use Rattle.def_image.specs.Raw.{RawDevice, RawCode, RawCompartment, RawThread, RawImage}
+use Rattle.def_image.specs.Parts.{SlotRow, GateRow, CodeRow, CompartmentRow, ThreadRow, PartsRow}
 use Rattle.def_image.specs.Spelling.{padding_after, raw_of}
 
 abbrev pub are_bytes : List ℕ → Bool

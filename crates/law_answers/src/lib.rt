@@ -2,15 +2,16 @@
 //! Functions with empty bodies whose contracts are the laws.
 #![tactic(auto)]
 
-ghost use Rattle.std.specs.Prelude.{ℕ, ◌<◌, ◌≤◌, ◌++◌, [], ◌∷◌, take};
+ghost use Rattle.std.specs.Prelude.{ℕ, ◌≡◌, ◌<◌, ◌≤◌, ◌++◌, [], ◌∷◌, take};
 ghost use Rattle.def_image.specs.Accepted.{FaultAt};
 ghost use Rattle.law_answers.specs.Altered.{bytes_of_tiny, altered, numbered, bytes_of_later, numbered_later};
 
-/// Bytes cut short, a byte appended, and another version.
+/// Bytes cut short, a byte appended, another first byte, and another version.
 pub fn cut_answers()
     ensures short { (n : ℕ) → n < 8 → FaultAt (take n bytes_of_tiny) 1 0 }
     ensures cut { (n : ℕ) → 8 ≤ n → n < 412 → FaultAt (take n bytes_of_tiny) 2 n }
-    ensures appended { FaultAt (bytes_of_tiny ++ 0 ∷ []) 2 413 }
+    ensures appended { (b : ℕ) → FaultAt (bytes_of_tiny ++ b ∷ []) 2 413 }
+    ensures begins { (b : ℕ) → (b ≡ 67 → ⊥) → FaultAt (altered 0 (b ∷ [])) 1 0 }
     ensures version { FaultAt (altered 4 (9 ∷ [])) 1 0 }
 {}
 

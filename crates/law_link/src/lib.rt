@@ -18,8 +18,8 @@ pub fn rights_are_granted()
         → Links d sources p → first (right_checks p) ≡ None }
 {}
 
-/// What slots and threads name is there, slot 0 of a compartment is the switch and no other slot is,
-/// and imports stand before quotas and these before keys: no check of indexes fails.
+/// What slots and threads name is there, slot 0 of a compartment is the switch and no other slot
+/// is, and imports stand before quotas and these before keys: no check of indexes fails.
 pub fn indexes_are_there()
     ensures { (d : DescRow) (sources : List (List ℕ)) (p : PartsRow)
         → Links d sources p → first (index_checks p) ≡ None }

@@ -1,5 +1,5 @@
-//! What a lawful description and its sources are linked to keeps every limit of an image, and has no
-//! fault of one. Functions with empty bodies whose contracts are the laws.
+//! What a lawful description and its sources are linked to keeps every limit of an image, and has
+//! no fault of one. Functions with empty bodies whose contracts are the laws.
 #![tactic(auto)]
 
 ghost use Rattle.std.specs.Prelude.{◌≡◌, List, None, ℕ};
@@ -11,8 +11,8 @@ ghost use Rattle.def_image.specs.Parts.{PartsRow};
 ghost use Rattle.def_image.specs.Spelling.{raw_of};
 ghost use Rattle.law_link.specs.Links.{Links};
 
-/// Names have their form and stand once in their space, numbers and lengths are within the limits of
-/// the version, each export has the number of its entry, and slots and text fit their regions: no
+/// Names have their form and stand once in their space, numbers and lengths are within the limits
+/// of the version, each export has the number of its entry, and slots and text fit their regions: no
 /// check of limits fails.
 pub fn limits_are_kept()
     ensures { (d : DescRow) (sources : List (List ℕ)) (p : PartsRow)

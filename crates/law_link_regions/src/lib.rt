@@ -1,4 +1,5 @@
-//! Where the regions of what is linked lie: as those of an image may, since placement puts them there.
+//! Where the regions of what is linked lie: as those of an image may, since placement puts them
+//! there.
 //! A function with an empty body whose contract is the law.
 #![tactic(auto)]
 

@@ -1,4 +1,4 @@
-use Rattle.law_answers.proofs.Ends.{short, cut, appended, other_version}
+use Rattle.law_answers.proofs.Ends.{short, cut, appended, other_begin, other_version}
 use Rattle.law_answers.proofs.cut_answers.Goals as goal
 
 pub returns-clause-short : goal.returns-clause-short
@@ -12,3 +12,6 @@ returns-clause-appended c = appended
 
 pub returns-clause-version : goal.returns-clause-version
 returns-clause-version c = other_version
+
+pub returns-clause-begins : goal.returns-clause-begins
+returns-clause-begins c = other_begin

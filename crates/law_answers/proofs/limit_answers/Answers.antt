@@ -1,14 +1,10 @@
-use Rattle.std.proofs.Common.{ℕ, ◌≡◌, ◌++◌, ◌∷◌, [], Some, None, refl, inl, inr}
+use Rattle.std.proofs.Common.{refl, inl, inr}
 use Rattle.def_image.specs.Checks.{first, walked}
 use Rattle.def_image.specs.Limits.{compartment_limits_by, device_limits, export_limits, gate_limits, header_limits, library_limits_by, limit_checks, name_checks, own_slot_limits, row_limits, sealed_limits, shared_limits, slot_limits, thread_limits_by}
-use Rattle.def_image.specs.Lying.{region_checks}
-use Rattle.def_image.specs.Indexes.{index_checks}
-use Rattle.def_image.specs.Rights.{right_checks}
-use Rattle.def_image.specs.Parts.{PartsRow, upgraded}
 use Rattle.def_image.specs.Raw.{RawImage}
 use Rattle.def_image.specs.Spelling.{image_bytes, raw_of, spelled}
-use Rattle.law_images.specs.Tiny.{tiny, app, the_main, the_switch, the_uart, the_thread, with_app, with_switch, with_uart, with_main, with_thread}
-use Rattle.law_answers.proofs.Facts.{plain_by, spelled_by}
+use Rattle.law_images.specs.Tiny.{tiny, the_main, with_main}
+use Rattle.law_answers.proofs.Facts.{plain_by}
 use Rattle.law_answers.proofs.limit_answers.Goals as goal
 
 pub returns-clause-quantum : goal.returns-clause-quantum

@@ -40,3 +40,19 @@ returns-clause-initial c = refl
 pub returns-clause-first_owner : goal.returns-clause-first_owner
 unfolding linked all_built parts_of compartment_parts library_parts shared_parts sealed_parts thread_parts placed last_end exponent_for packed set_where bit form_of kind_of posture_of library_posture_of passes_of service_of program_of line_of row_line line_tokens head_of directive_of register_of register_at register_comma address_at two_registers three_registers two_registers_number two_registers_target register_number register_target register_name register_address one_register one_number one_target label_in fault_in slot_of text_of initial_of
 returns-clause-first_owner c = refl
+
+pub returns-clause-text_first : goal.returns-clause-text_first
+unfolding linked all_built parts_of compartment_parts library_parts shared_parts sealed_parts thread_parts placed last_end exponent_for packed set_where bit form_of kind_of posture_of library_posture_of passes_of service_of program_of line_of row_line line_tokens head_of directive_of register_of register_at register_comma address_at two_registers three_registers two_registers_number two_registers_target register_number register_target register_name register_address one_register one_number one_target label_in fault_in slot_of text_of initial_of
+returns-clause-text_first c = refl
+
+pub returns-clause-import_next : goal.returns-clause-import_next
+unfolding linked all_built parts_of compartment_parts library_parts shared_parts sealed_parts thread_parts placed last_end exponent_for packed set_where bit form_of kind_of posture_of library_posture_of passes_of service_of program_of line_of row_line line_tokens head_of directive_of register_of register_at register_comma address_at two_registers three_registers two_registers_number two_registers_target register_number register_target register_name register_address one_register one_number one_target label_in fault_in slot_of text_of initial_of
+returns-clause-import_next c = refl
+
+pub returns-clause-export_next : goal.returns-clause-export_next
+unfolding linked all_built parts_of compartment_parts library_parts shared_parts sealed_parts thread_parts placed last_end exponent_for packed set_where bit form_of kind_of posture_of library_posture_of passes_of service_of program_of line_of row_line line_tokens head_of directive_of register_of register_at register_comma address_at two_registers three_registers two_registers_number two_registers_target register_number register_target register_name register_address one_register one_number one_target label_in fault_in slot_of text_of initial_of
+returns-clause-export_next c = refl
+
+pub returns-clause-room_last : goal.returns-clause-room_last
+unfolding linked all_built parts_of compartment_parts library_parts shared_parts sealed_parts thread_parts placed last_end exponent_for packed set_where bit form_of kind_of posture_of library_posture_of passes_of service_of program_of line_of row_line line_tokens head_of directive_of register_of register_at register_comma address_at two_registers three_registers two_registers_number two_registers_target register_number register_target register_name register_address one_register one_number one_target label_in fault_in slot_of text_of initial_of
+returns-clause-room_last c = refl
