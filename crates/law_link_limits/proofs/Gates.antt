@@ -91,7 +91,7 @@ lexports_good b entry [] small few at formed = tt
 lexports_good b entry (x ∷ xs) small few at formed =
     (lexport_good b entry x small (omega (arith, few)) at.0 formed.0, lexports_good b (entry + 1) xs small (omega (arith, few)) at.1 formed.1)
 
-pub gate_title : GateRow → List ℕ
+unfoldable pub gate_title : GateRow → List ℕ
 gate_title x = x.name
 
 gate_titles : (b : Built) (entry : ℕ) (xs : List ExportRow) → map gate_title (numbered (export_gate b) entry xs) ≡ map (λ (e : ExportRow). e.name) xs

@@ -34,10 +34,10 @@ use Rattle.law_link_limits.proofs.Lists.{device_title, devices_pass, shared_titl
 
 -- ---- names of owners
 
-owner_title : CompartmentPart → List ℕ
+unfoldable pub owner_title : CompartmentPart → List ℕ
 owner_title c = c.code.name
 
-library_title : CodePart → List ℕ
+unfoldable pub library_title : CodePart → List ℕ
 library_title c = c.name
 
 map_twice : {A B C : Type 0} (g : B → C) (f : A → B) (xs : List A) → map g (map f xs) ≡ map (λ x. g (f x)) xs

@@ -57,7 +57,7 @@ devices_pass at ds formed new =
 
 -- ---- shared objects
 
-pub shared_title : SharedPart → List ℕ
+unfoldable pub shared_title : SharedPart → List ℕ
 shared_title s = s.name
 
 pub record SharedGood (s : SharedPart) : Type 0 where
@@ -103,7 +103,7 @@ shared_pass at ss good new =
 
 -- ---- sealed objects
 
-pub sealed_title : SealedPart → List ℕ
+unfoldable pub sealed_title : SealedPart → List ℕ
 sealed_title s = s.name
 
 pub record SealedGood (s : SealedPart) : Type 0 where
@@ -163,7 +163,7 @@ sealed_pass at ss good new =
 
 -- ---- threads
 
-pub thread_title : ThreadPart → List ℕ
+unfoldable pub thread_title : ThreadPart → List ℕ
 thread_title t = t.name
 
 pub record ThreadGood (t : ThreadPart) : Type 0 where

@@ -97,7 +97,7 @@ entries_few d x g =
     omega (arith, i, q, k, e)
 
 -- each part is good under the number of its first entry
-pub Numbered : List RawCompartment → CompartmentPart → Type 0
+unfoldable pub Numbered : List RawCompartment → CompartmentPart → Type 0
 Numbered before c = CompartmentGood (1 + sum_of lim.compartment_entries before) c
 
 pub compartments_along : (d : DescRow) → IsLawful d → (entry end : ℕ) (rest : List ℕ) (earlier : List RawCompartment) (cs : List BuiltCompartment)
@@ -165,7 +165,7 @@ raw_library_count d entry regions x =
     let e = numbered_length (lexport_gate x.built) (entry + 1 + length x.row.imports) x.row.exports in
     omega (arith, a, b, c, e)
 
-pub NumberedAfter : ℕ → List RawCode → CodePart → Type 0
+unfoldable pub NumberedAfter : ℕ → List RawCode → CodePart → Type 0
 NumberedAfter first before c = LibraryGood (first + sum_of lim.library_entries before) c
 
 pub libraries_along : (d : DescRow) → IsLawful d → (first entry end : ℕ) (rest : List ℕ) (earlier : List RawCode) (ls : List BuiltLibrary)

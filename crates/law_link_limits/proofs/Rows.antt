@@ -1,7 +1,8 @@
 -- Rows of slots and exports of what is linked, and their names.
-use Rattle.std.proofs.Common.{ℕ, suc, ◌≡◌, ◌+◌, ◌%◌, ◌^◌, ◌<◌, ◌≤◌, ◌==◌, ◌&&◌, ◌||◌, not, true, false, cond, nat_le, nat_lt, nat_eq, List, [], ◌∷◌, length, map, take, drop, None, refl, ap, ap₂, ◌∙◌, arith}
+use Rattle.std.proofs.Common.{ℕ, suc, ◌≡◌, ◌+◌, ◌%◌, ◌^◌, ◌<◌, ◌≤◌, ◌==◌, ◌&&◌, ◌||◌, not, true, false, cond, nat_le, nat_lt, nat_eq, List, [], ◌∷◌, length, map, take, drop, None, refl, ap, ap₂, ◌∙◌, arith, inl, inr}
 use Rattle.std.specs.Prelude.{bytes_eq}
 use Rattle.std.proofs.lemmas.Slice.Eq.{bytes_eq-Decides}
+use Rattle.law_lists.proofs.Tests.{eq_tells}
 use Rattle.def_names.specs.Names.{is_name, among}
 use Rattle.def_image.specs.declared.ImportRow.{ImportRow as SlotImport}
 use Rattle.def_image.specs.declared.RawEntry.{RawEntry}
@@ -15,7 +16,7 @@ use Rattle.def_image.specs.Checks.{first, check}
 use Rattle.def_image.specs.Limits.{name_checks, are_zeros, byte_at, number_at, misnumbered, has_second, row_limits, Bounds, gate_limits, entry_name, key_name, is_unnamed_key, switch_name, is_misnamed, own_slot_limits, slot_limits, export_limits}
 use Rattle.law_image.proofs.Rows.{number_back, first_at, offset_at, stack_at, entry_at}
 use Rattle.law_link.proofs.Walks.{joined_none, next_none, one_none}
-use Rattle.law_link_limits.proofs.Fields.{le_not, lt_not, eq_so, inside, name_is, name_back, name_passes}
+use Rattle.law_link_limits.proofs.Fields.{le_not, lt_not, eq_so, name_is, name_back, name_passes}
 
 -- ---- rows of slots
 
@@ -87,7 +88,7 @@ own_slot_passes at earlier s h new k more =
     (name_passes (at + ROW) (is_misnamed earlier (raw_slot s)) (map entry_name earlier) s.name h.named new wanted)
   where
     not_zero : (k : ℕ) → nat_eq (suc k) 0 ≡ false
-    not_zero k = refl
+    not_zero k = elim (eq_tells (suc k) 0) [ inl h ↦ absurd (let e = h.1 in omega (arith, e)) | inr h ↦ h.0 ]
 
 pub slot_passes : (at : ℕ) (earlier : List RawEntry) (s : SlotRow) → SlotGood s → among s.name (map entry_name earlier) ≡ false → first (slot_limits at earlier (raw_slot s)) ≡ None
 unfolding slot_limits

@@ -178,7 +178,7 @@ rest_sized d law c h =
     (all_mapped SlotSized quota_slot c.quotas (all_so (λ (q : QuotaRow). q.limit ≤ 2147483647) (λ q. SlotSized (quota_slot q)) c.quotas (λ q k. quota_sized q k) h.quota)))
     (all_mapped SlotSized key_slot c.keys (all_so (IsWithin 13 15) (λ n. SlotSized (key_slot n)) c.keys (λ n k. key_sized n k) h.key))
 
-pub title : SlotRow → List ℕ
+unfoldable pub title : SlotRow → List ℕ
 title s = s.name
 
 map_joined : {A B : Type 0} (f : A → B) (xs ys : List A) → map f (xs ++ ys) ≡ map f xs ++ map f ys

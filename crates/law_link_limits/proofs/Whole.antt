@@ -1,5 +1,5 @@
 -- What is linked is faultless: it has a spelling, and no check of an image fails.
-use Rattle.std.proofs.Common.{ℕ, ◌≡◌, ◌+◌, ◌*◌, ◌^◌, ◌<◌, ◌≤◌, ◌&&◌, Bool, true, false, cond, nat_eq, List, [], ◌∷◌, length, map, drop, sym, ap₂, subst, arith, inl, inr}
+use Rattle.std.proofs.Common.{ℕ, ◌≡◌, ◌+◌, ◌*◌, ◌^◌, ◌<◌, ◌≤◌, ◌&&◌, Bool, true, false, cond, nat_eq, List, [], ◌∷◌, length, map, drop, sym, ap₂, subst, arith, inl, inr, refl}
 use Rattle.std.specs.List.{AllByRecursion}
 use Rattle.std.proofs.lemmas.List.{length-map}
 use Rattle.law_lists.proofs.Tests.{eq_tells}
@@ -11,7 +11,7 @@ use Rattle.def_layout.specs.Placement.{placed, last_end}
 use Rattle.def_image.specs.declared.RawEntry.{RawEntry}
 use Rattle.def_image.specs.Raw.{RawCode, RawCompartment}
 use Rattle.def_image.specs.Parts.{SharedRow as SharedPart, SealedRow as SealedPart, CodeRow as CodePart, CompartmentRow as CompartmentPart, ThreadRow as ThreadPart, PartsRow}
-use Rattle.def_image.specs.Spelling.{raw_slot, raw_gate, raw_device, raw_shared, raw_sealed, raw_code, raw_compartment, raw_thread, raw_of}
+use Rattle.def_image.specs.Spelling.{raw_slot, raw_gate, raw_device, raw_shared, raw_sealed, raw_code, raw_compartment, raw_thread, raw_of, image_bytes}
 use Rattle.def_image.specs.Sizes.{sum_of, compartments_at, libraries_at, shared_at, sealed_at, threads_at, compartment_size, library_size, sealed_size}
 use Rattle.def_image.specs.declared.format.TheConstants.{SHARED, THREAD}
 use Rattle.def_image.specs.Shapes.{IsEntry, IsShared, IsSealed, IsCode, IsCompartment, IsThread, IsShaped, Clean, SpellableCode, IsSpellable}
@@ -20,7 +20,9 @@ use Rattle.def_image.specs.Profile.{is_within, last_version}
 use Rattle.def_image.specs.Checks.{first}
 use Rattle.def_image.specs.Limits as lim
 use Rattle.def_image.specs.Limits.{compartment_bounds, library_bounds}
-use Rattle.def_image.specs.Accepted.{IsFaultless}
+use Rattle.def_image.specs.Accepted.{IsFaultless, IsImage, FaultAt}
+use Rattle.law_image.proofs.Backs.{one_reading}
+use Rattle.law_image.proofs.Faults.{no_fault}
 use Rattle.def_description.specs.Rows.{ThreadRow, DescRow}
 use Rattle.def_description.specs.Lawful.{IsLawful, IsLawfulDevice, IsLawfulThread}
 use Rattle.def_link.specs.Linked.{sizes_of, thread_parts, parts_of}
@@ -319,3 +321,14 @@ faultless d sources p h = record {
   indexes = indexes_pass d sources p h;
   rights = rights_pass d sources p h;
 }
+
+-- ---- what is written
+
+pub written : (d : DescRow) (sources : List (List ℕ)) (p : PartsRow) → Links d sources p → IsImage (image_bytes p) p
+written d sources p h = (faultless d sources p h, refl)
+
+pub alone : (d : DescRow) (sources : List (List ℕ)) (p q : PartsRow) → Links d sources p → IsImage (image_bytes p) q → q ≡ p
+alone d sources p q h i = one_reading q p i.0.spellable (spellable_parts d sources p h) (sym i.1)
+
+pub no_fault_written : (d : DescRow) (sources : List (List ℕ)) (p : PartsRow) (number place : ℕ) → Links d sources p → FaultAt (image_bytes p) number place → ⊥
+no_fault_written d sources p number place h f = no_fault (image_bytes p) p number place (written d sources p h) f
