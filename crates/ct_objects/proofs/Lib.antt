@@ -1,3 +1,4 @@
 pub mod Walks
 pub mod Slots
 pub mod Units
+pub mod Progress

@@ -41,9 +41,9 @@ unfolding Once Fresh
 taken seen [] h = sym (append-nil seen)
 taken seen (n ∷ ns) h =
     let fresh : Fresh seen n = λ i is.
-        let same : i ≡ length seen = h i (length seen) n (kept seen (n ∷ ns) i n is) (seam seen ns n) in
-        let low = slice_get_within seen i n is in
-        absurd (omega (arith, same, low)) in
+    let same : i ≡ length seen = h i (length seen) n (kept seen (n ∷ ns) i n is) (seam seen ns n) in
+    let low = slice_get_within seen i n is in
+    absurd (omega (arith, same, low)) in
     let whole : (seen ++ n ∷ []) ++ ns ≡ seen ++ n ∷ ns = append_assoc seen (n ∷ []) ns in
     ap (λ l. with_slots l ns) (fresh_last seen n fresh) ∙ taken (seen ++ n ∷ []) ns (subst Once (sym whole) h) ∙ whole
 

@@ -5,7 +5,8 @@ use Rattle.def_description.specs.Rows.{AtRow}
 use Rattle.def_link.specs.declared.LinkFault.{LinkFault}
 use Rattle.def_link.specs.declared.LinkFault.TheVariants as fault
 use Rattle.def_link.specs.Owners.{Unit as OwnerUnit, Built, built, text_label, label_or, is_begin, begin_of, first_lost, has_stray_bytes, placed_or, checked, unit_built}
-use Rattle.ct_asm.specs.Labels.{Assembled}
+use Rattle.def_object.specs.declared.Label.{Label}
+use Rattle.ct_asm.specs.Labels.{Assembled, text_offset}
 use Rattle.ct_objects.specs.Objects.{built_of, Holds, IsBuilt}
 
 -- ---- an object that holds what was built says the same of exports
@@ -58,3 +59,8 @@ unit_placed u source o h is stray = record {
   is = unit_is u source o h None is ∙ ap (λ b. cond b (Err (fault.Initial u.owner)) (Ok h.built)) (sym (stray_same u h.built o h.held) ∙ stray);
   held = h.held;
 }
+
+-- the offset of a label is the one that an object gives
+pub same_offset : (o : Option Label) → text_offset o ≡ text_label o
+same_offset None = refl
+same_offset (Some l) = refl

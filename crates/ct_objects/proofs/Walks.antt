@@ -34,7 +34,7 @@ numbered_one f n (y ∷ ys) (suc k) x is =
 -- ---- texts
 
 pub files_joined : (us vs : List OwnerUnit) → files_of (us ++ vs) ≡ files_of us + files_of vs
-files_joined [] vs = refl
+files_joined [] vs = let none : files_of vs ≡ 0 + files_of vs = omega arith in none
 files_joined (u ∷ us) vs = let rest = files_joined us vs in omega (arith, rest)
 
 dropped_one : {A : Type 0} (n : ℕ) (xs : List A) → drop (suc n) xs ≡ drop n (drop 1 xs)
@@ -49,7 +49,7 @@ left (Some name) n sources = ap (λ k. drop k sources) (let e : 1 + n ≡ suc n 
 -- ---- answers
 
 -- what was built before, and what comes of the rest
-pub prepended : List Built → Result (List Built) LinkFault → Result (List Built) LinkFault
+unfoldable pub prepended : List Built → Result (List Built) LinkFault → Result (List Built) LinkFault
 prepended bs (Err e) = Err e
 prepended bs (Ok cs) = Ok (bs ++ cs)
 
