@@ -55,14 +55,14 @@ one_done f xs texts used old new k index next x o h is one =
     let at : 0 + k ≡ k = omega arith in
     let whole : numbered f 0 (take (suc k) xs) ≡ us ++ u ∷ [] = numbered_one f 0 xs k x is ∙ ap (λ m. us ++ f m x ∷ []) at in
     let here : unit_built u (source_for u.code.file (drop (files_of us) (drop used texts))) ≡ Ok one.built =
-        subst (λ m. unit_built (f m x) (source_for (f m x).code.file (drop (files_of us) (drop used texts))) ≡ Ok one.built) h.counted
-        (subst (λ (s : List (List ℕ)). unit_built (f index x) (source_for (f index x).code.file s) ≡ Ok one.built) rest one.is) in
+    subst (λ m. unit_built (f m x) (source_for (f m x).code.file (drop (files_of us) (drop used texts))) ≡ Ok one.built) h.counted
+    (subst (λ (s : List (List ℕ)). unit_built (f index x) (source_for (f index x).code.file s) ≡ Ok one.built) rest one.is) in
     let count : files_of (us ++ u ∷ []) ≡ files_of us + (file_of u.code.file + 0) = files_joined us (u ∷ []) in
     let same : file_of (f index x).code.file ≡ file_of u.code.file = ap (λ m. file_of (f m x).code.file) h.counted in
     let before = h.taken in
     let sum : next + file_of (f index x).code.file ≡ used + files_of (us ++ u ∷ []) = omega (arith, count, same, before) in
     let all : all_built (us ++ u ∷ []) (drop used texts) ≡ Ok (h.adds.built.built ++ one.built ∷ []) =
-        built_joined us (u ∷ []) (drop used texts) h.adds.built.built h.adds.built.is ∙ ap (prepended h.adds.built.built) (alone u (drop (files_of us) (drop used texts)) one.built here) in
+    built_joined us (u ∷ []) (drop used texts) h.adds.built.built h.adds.built.is ∙ ap (prepended h.adds.built.built) (alone u (drop (files_of us) (drop used texts)) one.built here) in
     record {
       counted = (let e = h.counted in omega (arith, e));
       taken = sum ∙ ap (λ (l : List OwnerUnit). used + files_of l) (sym whole);
@@ -89,8 +89,8 @@ fault_done f xs texts used old new k index next x e h is fails =
     let at : 0 + k ≡ k = omega arith in
     let whole : numbered f 0 xs ≡ us ++ u ∷ later = numbered_cut f 0 xs k x is ∙ ap (λ m. us ++ f m x ∷ numbered f (m + 1) (drop (suc k) xs)) at in
     let here : unit_built u (source_for u.code.file (drop (files_of us) (drop used texts))) ≡ Err e =
-        subst (λ m. unit_built (f m x) (source_for (f m x).code.file (drop (files_of us) (drop used texts))) ≡ Err e) h.counted
-        (subst (λ (s : List (List ℕ)). unit_built (f index x) (source_for (f index x).code.file s) ≡ Err e) (rest_is f xs texts used old new k index next h) fails) in
+    subst (λ m. unit_built (f m x) (source_for (f m x).code.file (drop (files_of us) (drop used texts))) ≡ Err e) h.counted
+    (subst (λ (s : List (List ℕ)). unit_built (f index x) (source_for (f index x).code.file s) ≡ Err e) (rest_is f xs texts used old new k index next h) fails) in
     ap (λ (l : List OwnerUnit). all_built l (drop used texts)) whole
     ∙ built_joined us (u ∷ later) (drop used texts) h.adds.built.built h.adds.built.is
     ∙ ap (prepended h.adds.built.built) (fails_at u later (drop (files_of us) (drop used texts)) e here)

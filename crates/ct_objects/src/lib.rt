@@ -8,6 +8,8 @@ mod code;
 mod exports;
 mod names;
 mod sources;
+#[cfg(test)]
+mod tests;
 
 pub use built::objects;
 pub use exports::begin_of;
