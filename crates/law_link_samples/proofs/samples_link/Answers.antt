@@ -10,7 +10,7 @@ use Rattle.def_link.specs.Linked.{compartment_parts, library_parts, shared_parts
 use Rattle.def_description.specs.WellFormed.{first_fault}
 use Rattle.def_description.specs.Walk.{spots_of}
 use Rattle.law_description.specs.Samples.{tiny_of, board}
-use Rattle.law_linked.specs.Samples.{tiny_app, from_file, board_rows, board_sources}
+use Rattle.law_linked.specs.Samples.{tiny_app, from_file}
 use Rattle.law_wellformed.proofs.Lawfuls.{value_lawful}
 use Rattle.law_link_samples.proofs.samples_link.Goals as goal
 
