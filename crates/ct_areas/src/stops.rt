@@ -3,7 +3,7 @@
 ghost use Rattle.std.specs.Prelude.{◌≡◌, ◌+◌, ◌-◌, ◌*◌, ◌/◌, ◌%◌, ◌^◌, ◌≤◌, ◌<◌, ◌∷◌, true, false, length, drop, map};
 ghost use Rattle.def_memory.specs.Granules.{plain};
 ghost use Rattle.def_machine.specs.Threads.{picked_with};
-ghost use Rattle.def_step.specs.Accesses.{filtered_in};
+ghost use Rattle.def_machine.specs.Memory.{filtered_in};
 ghost use Rattle.def_areas.specs.Areas.{held_from, holding_all};
 ghost use Rattle.def_areas.specs.Touches.{Touches};
 ghost use Rattle.ct_areas.specs.Threads.{HasArea, area_begin, area_end, frames_most, thread_of};

@@ -46,7 +46,8 @@ fn add_exports(
     exports: &[Value],
 ) -> Result<(), AllocError>
     ensures { OnOk result (names.new ≡ with_names names.old
-        (map (spec.export_name owner.now) (map (member.text_or (codes "name")) (map view exports.now)))) }
+        (map (spec.export_name owner.now)
+        (map (member.text_or (codes "name")) (map view exports.now)))) }
 {
     for export in exports {
         let name = export_name(alloc, owner, text_or(export, "name").as_bytes())?;

@@ -94,7 +94,8 @@ fn are_of_code(keys: &Map<String, Value>) -> bool
 }
 
 fn code_has_only(value: &Value) -> bool
-    ensures { result ≡ spec.all_among code_names (keys_of (member_at (codes "code") (view value.now))) }
+    ensures { result
+        ≡ spec.all_among code_names (keys_of (member_at (codes "code") (view value.now))) }
 {
     match value.get("code").and_then(Value::as_object) {
         Some(keys) => are_of_code(keys),

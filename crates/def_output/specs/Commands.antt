@@ -32,7 +32,8 @@ audit_of word name = if bytes_eq word (codes "audit") then Some (Audit name) els
 
 -- `run DESC LIMIT`
 abbrev pub run_of : List ℕ → List ℕ → List ℕ → Option Command
-run_of word name limit = if bytes_eq word (codes "run") then option_map (Run name) (limit_of limit) else None
+run_of word name limit =
+    if bytes_eq word (codes "run") then option_map (Run name) (limit_of limit) else None
 
 abbrev pub form_of : List (List ℕ) → Option Command
 form_of [] = None

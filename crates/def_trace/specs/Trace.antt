@@ -45,32 +45,41 @@ by_entry step word d = who step word d.thread d.actor ++ after (codes " e") d.en
 
 -- an access of a device
 abbrev pub access_text : ℕ → ℕ → ℕ → List ℕ
-access_text address width value = after_space 8 address ++ (after (codes " ") width ++ after_space (value_digits width) value)
+access_text address width value =
+    after_space 8 address ++ (after (codes " ") width ++ after_space (value_digits width) value)
 
 -- an object of the heap, and the quota's charges after the deed
 abbrev pub sizes_text : ℕ → ℕ → List ℕ
 sizes_text length live = after (codes " ") length ++ after (codes " ") live
 
 abbrev pub object_text : ℕ → ℕ → ℕ → ℕ → List ℕ
-object_text number base length live = after (codes " n") number ++ (after_space 8 base ++ sizes_text length live)
+object_text number base length live =
+    after (codes " n") number ++ (after_space 8 base ++ sizes_text length live)
 
 abbrev pub trap_text : ℕ → ℕ → ℕ → List ℕ
-trap_text cause code register = after (codes " ") cause ++ (after (codes " ") code ++ after (codes " ") register)
+trap_text cause code register =
+    after (codes " ") cause ++ (after (codes " ") code ++ after (codes " ") register)
 
 abbrev pub act_text : ℕ → Deed → Act → List ℕ
 act_text step d (Call export) = by_entry step (codes " call t") d ++ after (codes " e") export
-act_text step d (Load address width value) = by_entry step (codes " load t") d ++ access_text address width value
-act_text step d (Store address width value) = by_entry step (codes " store t") d ++ access_text address width value
-act_text step d (Allocate number base length live) = by_entry step (codes " allocate t") d ++ object_text number base length live
-act_text step d (Free number base length live) = by_entry step (codes " free t") d ++ object_text number base length live
-act_text step d (Trap cause code register) = who step (codes " trap t") d.thread d.actor ++ trap_text cause code register
+act_text step d (Load address width value) =
+    by_entry step (codes " load t") d ++ access_text address width value
+act_text step d (Store address width value) =
+    by_entry step (codes " store t") d ++ access_text address width value
+act_text step d (Allocate number base length live) =
+    by_entry step (codes " allocate t") d ++ object_text number base length live
+act_text step d (Free number base length live) =
+    by_entry step (codes " free t") d ++ object_text number base length live
+act_text step d (Trap cause code register) =
+    who step (codes " trap t") d.thread d.actor ++ trap_text cause code register
 
 unfoldable pub deed_line : ℕ → Deed → List ℕ
 deed_line step d = act_text step d d.act ++ 10 ∷ []
 
 -- the begin of a span with interrupts off, by an export
 unfoldable pub off_line : ℕ → Owned → List ℕ
-off_line step o = (who step (codes " off t") o.thread o.actor ++ after (codes " e") o.export) ++ 10 ∷ []
+off_line step o =
+    (who step (codes " off t") o.thread o.actor ++ after (codes " e") o.export) ++ 10 ∷ []
 
 abbrev pub deed_part : ℕ → Option Deed → List ℕ
 deed_part step None = []
@@ -95,10 +104,13 @@ abbrev pub events_text : Totals → List ℕ
 events_text t = after (end_text t.end) t.steps ++ after (codes " ticks ") t.ticks
 
 abbrev pub rest_text : Totals → List ℕ
-rest_text t = after (codes " allocations ") t.allocations ++ (after (codes " frees ") t.frees ++ after (codes " traps ") t.traps)
+rest_text t =
+    after (codes " allocations ") t.allocations
+    ++ (after (codes " frees ") t.frees ++ after (codes " traps ") t.traps)
 
 abbrev pub deeds_text : Totals → List ℕ
-deeds_text t = after (codes " calls ") t.calls ++ (after (codes " devices ") t.devices ++ rest_text t)
+deeds_text t =
+    after (codes " calls ") t.calls ++ (after (codes " devices ") t.devices ++ rest_text t)
 
 unfoldable pub summary_line : Totals → List ℕ
 summary_line t = (events_text t ++ deeds_text t) ++ 10 ∷ []

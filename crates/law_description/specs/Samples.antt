@@ -42,13 +42,22 @@ abbrev pub ram : Data
 ram = with (with empty (codes "size") (num 4096)) (codes "base") (num 2147483648)
 
 abbrev pub uart : Data
-uart = with (with (with empty (codes "name") (string (codes "uart0"))) (codes "kind") (string (codes "uart"))) (codes "base") (num 268435456)
+uart =
+    with
+    (with (with empty (codes "name") (string (codes "uart0"))) (codes "kind")
+    (string (codes "uart")))
+    (codes "base") (num 268435456)
 
 abbrev pub words : Data
-words = with empty (codes "words") (all (string (codes "00000297") ∷ string (codes "ff82b283") ∷ []))
+words =
+    with empty (codes "words") (all (string (codes "00000297") ∷ string (codes "ff82b283") ∷ []))
 
 abbrev pub import : Data
-import = with (with (with empty (codes "as") (string (codes "uart"))) (codes "device") (string (codes "uart0"))) (codes "rights") (string (codes "W"))
+import =
+    with
+    (with (with empty (codes "as") (string (codes "uart"))) (codes "device")
+    (string (codes "uart0")))
+    (codes "rights") (string (codes "W"))
 
 abbrev pub export : Data
 export = with (with empty (codes "name") (string (codes "main"))) (codes "at") (num 0)
@@ -58,13 +67,19 @@ app = with (with (with (with empty (codes "name") (string (codes "app"))) (codes
     (codes "imports") (all (import ∷ []))) (codes "exports") (all (export ∷ []))
 
 abbrev pub thread : Data
-thread = with (with (with (with (with empty (codes "name") (string (codes "t"))) (codes "entry") (string (codes "app.main")))
+thread =
+    with
+    (with (with (with (with empty (codes "name") (string (codes "t"))) (codes "entry") (string (codes "app.main")))
     (codes "priority") (num 1)) (codes "stack") (num 256)) (codes "frames") (num 2)
 
 -- one device, one compartment that may write to it, one thread
 abbrev pub tiny : Data
-tiny = with (with (with (with (with empty (codes "firmware") (string (codes "tiny"))) (codes "ram") ram)
-    (codes "devices") (all (uart ∷ []))) (codes "compartments") (all (app ∷ []))) (codes "threads") (all (thread ∷ []))
+tiny =
+    with
+    (with (with (with (with empty (codes "firmware") (string (codes "tiny"))) (codes "ram") ram)
+    (codes "devices") (all (uart ∷ []))) (codes "compartments") (all
+    (app ∷ []))) (codes "threads") (all (thread
+    ∷ []))
 
 -- the same with another compartment
 abbrev pub tiny_of : Data → Data
@@ -106,24 +121,36 @@ abbrev pub export_of : List ℕ → Data
 export_of name = with (with empty (codes "name") (text name)) (codes "at") (text name)
 
 abbrev pub application : Data
-application = with (with (with (with (with empty (codes "name") (text (codes "app"))) (codes "code") (file (codes "app.s")))
+application =
+    with
+    (with (with (with (with empty (codes "name") (text (codes "app"))) (codes "code") (file (codes "app.s")))
     (codes "imports") (all (import_of (codes "digit") (codes "library") (codes "hex.digit")
     ∷ import_of (codes "put") (codes "call") (codes "driver.put")
     ∷ import_of (codes "allocate") (codes "service") (codes "allocate") ∷ [])))
     (codes "quotas") (all (quota ∷ []))) (codes "exports") (all (export_of (codes "main") ∷ []))
 
 abbrev pub put : Data
-put = with (with (export_of (codes "put")) (codes "args") (num 1)) (codes "passes") (text (codes "data"))
+put =
+    with (with (export_of (codes "put")) (codes "args") (num 1)) (codes "passes")
+    (text (codes "data"))
 
 abbrev pub driver : Data
-driver = with (with (with (with empty (codes "name") (text (codes "driver"))) (codes "code") (file (codes "driver.s")))
+driver =
+    with
+    (with (with (with empty (codes "name") (text (codes "driver"))) (codes "code") (file (codes "driver.s")))
     (codes "imports") (all (import ∷ []))) (codes "exports") (all (put ∷ []))
 
 abbrev pub hex : Data
-hex = with (with (with empty (codes "name") (text (codes "hex"))) (codes "code") (file (codes "hex.s")))
+hex =
+    with
+    (with (with empty (codes "name") (text (codes "hex"))) (codes "code") (file (codes "hex.s")))
     (codes "exports") (all (export_of (codes "digit") ∷ []))
 
 abbrev pub board : Data
-board = with (with (with (with (with (with (with empty (codes "firmware") (text (codes "board"))) (codes "ram") ram) (codes "quantum") (num 20))
-    (codes "devices") (all (uart ∷ []))) (codes "compartments") (all (application ∷ driver ∷ []))) (codes "libraries") (all (hex ∷ [])))
+board =
+    with
+    (with (with (with (with (with (with empty (codes "firmware") (text (codes "board"))) (codes "ram") ram) (codes "quantum") (num 20))
+    (codes "devices") (all (uart ∷ []))) (codes "compartments") (all
+    (application ∷ driver ∷ []))) (codes "libraries") (all (hex
+    ∷ [])))
     (codes "threads") (all (thread ∷ altered thread (codes "name") (text (codes "u")) ∷ []))

@@ -1,6 +1,6 @@
 use Rattle.std.proofs.Common.{◌≡◌, ◌∷◌, ◌/◌, ◌∙◌, ap, refl, arith}
 use Rattle.def_memory.specs.Granules.{plain}
-use Rattle.def_step.specs.Accesses.{filtered_in}
+use Rattle.def_machine.specs.Memory.{filtered_in}
 use Rattle.ct_areas.proofs.Stopped.{take_step, take_end}
 use Rattle.ct_areas.proofs.stops.take_registers.Goals as goal
 

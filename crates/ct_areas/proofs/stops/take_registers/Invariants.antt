@@ -1,6 +1,6 @@
 use Rattle.std.proofs.Common.{◌≡◌, ◌/◌, ◌∷◌, drop}
 use Rattle.def_memory.specs.Granules.{plain}
-use Rattle.def_step.specs.Accesses.{filtered_in}
+use Rattle.def_machine.specs.Memory.{filtered_in}
 use Rattle.ct_areas.proofs.Stopped.{filled}
 use Rattle.ct_areas.proofs.stops.take_registers.Given as goal
 

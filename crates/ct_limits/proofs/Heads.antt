@@ -1,0 +1,103 @@
+-- The first failing check of a whole, by its parts.
+use Rattle.std.proofs.Common.{ℕ, ◌≡◌, ◌+◌, ◌<◌, ◌^◌, ◌||◌, Bool, false, List, [], ◌∷◌, ◌++◌, length, map, Option, Some, None, refl, sym, ap, ◌∙◌, append_assoc}
+use Rattle.std.specs.Prelude.{bytes_eq}
+use Rattle.std.proofs.lemmas.List.Folds.{list_any-append}
+use Rattle.def_names.specs.Names.{among}
+use Rattle.def_image.specs.declared.Check.{Check}
+use Rattle.def_image.specs.declared.format.TheConstants.{DEVICE, SHARED, THREAD, COMPARTMENT_HEAD, LIBRARY_HEAD}
+use Rattle.def_image.specs.Raw.{RawCode, RawCompartment, RawImage}
+use Rattle.def_image.specs.Sizes.{sealed_size, compartment_size, library_size, devices_at, shared_at, sealed_at, compartments_at, libraries_at, threads_at}
+use Rattle.def_image.specs.Checks.{first, walked}
+use Rattle.def_image.specs.Limits.{name_of, name_checks, code_limits, own_slots_limits, slots_limits, header_limits, compartment_limits_by, library_limits_by, limit_checks, device_limits, shared_limits, sealed_limits, compartment_limits, library_limits, thread_limits}
+use Rattle.law_image.specs.First.{or_else}
+use Rattle.law_image.proofs.Walks.{first_both}
+use Rattle.ct_limits.specs.Asked.{named, count_limits, number_limits}
+use Rattle.ct_limits.specs.Owners.{own_numbers, compartment_head, dirty_padding, own_gates, first_of_tables, library_numbers, library_head, library_gates, first_of_library}
+use Rattle.ct_limits.specs.Whole.{first_of_owners, first_of_parts}
+
+or_later : (a b c : Option ℕ) → or_else (or_else a b) c ≡ or_else a (or_else b c)
+or_later None b c = refl
+or_later (Some n) b c = refl
+
+-- ---- the header
+
+pub header_first : (r : RawImage) → first (header_limits r) ≡ or_else (first (count_limits r)) (first (number_limits r))
+unfolding header_limits name_checks
+header_first r = first_both (count_limits r) (number_limits r)
+
+-- ---- owners
+
+pub compartment_first : (entry at : ℕ) (seen : List (List ℕ)) (c : RawCompartment)
+    → first (compartment_limits_by entry at seen c) ≡ or_else (first (compartment_head at (among (name_of c.code.name) seen) c)) (first_of_tables at entry c)
+unfolding compartment_limits_by name_checks
+compartment_first entry at seen c =
+    let k = c.code in
+    let front = named at (among (name_of k.name) seen) false k.name ++ code_limits at k in
+    let head = front ++ own_numbers at c in
+    let slots = own_slots_limits (at + COMPARTMENT_HEAD) k in
+    let gates = own_gates at entry k in
+    let padding = dirty_padding at c in
+    let a0 : first (compartment_limits_by entry at seen c) ≡ or_else (first (front ++ (own_numbers at c ++ slots) ++ gates)) (first padding) = first_both (front ++ (own_numbers at c ++ slots) ++ gates) padding in
+    let a1 : first (front ++ (own_numbers at c ++ slots) ++ gates) ≡ or_else (first (front ++ (own_numbers at c ++ slots))) (first gates) = first_both (front ++ (own_numbers at c ++ slots)) gates in
+    let a2 : first (front ++ (own_numbers at c ++ slots)) ≡ or_else (first head) (first slots) =
+    ap first (sym (append_assoc front (own_numbers at c) slots)) ∙ first_both head slots in
+    a0 ∙ ap (λ o. or_else o (first padding)) (a1 ∙ ap (λ o. or_else o (first gates)) a2 ∙ or_later (first head) (first slots) (first gates))
+    ∙ or_later (first head) (or_else (first slots) (first gates)) (first padding) ∙ ap (λ o. or_else (first head) o) (or_later (first slots) (first gates) (first padding))
+
+pub library_first : (entry at : ℕ) (seen : List (List ℕ)) (c : RawCode)
+    → first (library_limits_by entry at seen c) ≡ or_else (first (library_head at (among (name_of c.name) seen) c)) (first_of_library at entry c)
+unfolding library_limits_by name_checks
+library_first entry at seen c =
+    let front = named at (among (name_of c.name) seen) false c.name ++ code_limits at c in
+    let head = front ++ library_numbers at c in
+    let slots = slots_limits (at + LIBRARY_HEAD) c in
+    let gates = library_gates at entry c in
+    let a1 : first (library_limits_by entry at seen c) ≡ or_else (first (front ++ (library_numbers at c ++ slots))) (first gates) = first_both (front ++ (library_numbers at c ++ slots)) gates in
+    let a2 : first (front ++ (library_numbers at c ++ slots)) ≡ or_else (first head) (first slots) =
+    ap first (sym (append_assoc front (library_numbers at c) slots)) ∙ first_both head slots in
+    a1 ∙ ap (λ o. or_else o (first gates)) a2 ∙ or_later (first head) (first slots) (first gates)
+
+-- ---- names of several lists
+
+pub among_two : (name : List ℕ) (a b : List (List ℕ)) → among name (a ++ b) ≡ (among name a || among name b)
+among_two name a b = list_any-append (bytes_eq name) a b
+
+pub among_three : (name : List ℕ) (a b c : List (List ℕ)) → among name (a ++ b ++ c) ≡ (among name a || among name b || among name c)
+among_three name a b c = among_two name (a ++ b) c ∙ ap (λ x. x || among name c) (among_two name a b)
+
+-- ---- all
+
+pub limits_first : (r : RawImage) → first (limit_checks r) ≡ or_else (first (header_limits r)) (first_of_parts r)
+unfolding limit_checks
+limits_first r =
+    let h = header_limits r in
+    let d = walked device_limits (λ d. DEVICE) (devices_at r) [] r.devices in
+    let s = walked shared_limits (λ s. SHARED) (shared_at r) [] r.shared in
+    let x = walked sealed_limits sealed_size (sealed_at r) [] r.sealed in
+    let c = walked compartment_limits compartment_size (compartments_at r) [] r.compartments in
+    let l = walked (library_limits r) library_size (libraries_at r) [] r.libraries in
+    let t = walked (thread_limits r) (λ t. THREAD) (threads_at r) [] r.threads in
+    let a1 = first_both (h ++ d ++ s ++ x ++ c ++ l) t in
+    let a2 = first_both (h ++ d ++ s ++ x ++ c) l in
+    let a3 = first_both (h ++ d ++ s ++ x) c in
+    let a4 = first_both (h ++ d ++ s) x in
+    let a5 = first_both (h ++ d) s in
+    let a6 = first_both h d in
+    let ft = first t in
+    let fl = first l in
+    let fc = first c in
+    let fx = first x in
+    let fs = first s in
+    let fd = first d in
+    let fh = first h in
+    let all : first (limit_checks r) ≡ or_else (or_else (or_else (or_else (or_else (or_else fh fd) fs) fx) fc) fl) ft =
+    a1 ∙ ap (λ p. or_else p ft) (a2 ∙ ap (λ p. or_else p fl) (a3 ∙ ap (λ p. or_else p fc) (a4 ∙ ap (λ p. or_else p fx) (a5 ∙ ap (λ p. or_else p fs) a6)))) in
+    all ∙ regrouped fh fd fs fx fc fl ft
+  where
+    regrouped : (h d s x c l t : Option ℕ) → or_else (or_else (or_else (or_else (or_else (or_else h d) s) x) c) l) t ≡ or_else h (or_else d (or_else s (or_else x (or_else c (or_else l t)))))
+    regrouped None None None None None l t = refl
+    regrouped None None None None (Some n) l t = refl
+    regrouped None None None (Some n) c l t = refl
+    regrouped None None (Some n) x c l t = refl
+    regrouped None (Some n) s x c l t = refl
+    regrouped (Some n) d s x c l t = refl

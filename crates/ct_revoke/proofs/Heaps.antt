@@ -1,0 +1,44 @@
+-- A slice granule by granule is *Heap*'s slice.
+use Rattle.std.proofs.Common.{ℕ, zero, suc, ◌≡◌, ◌+◌, ◌*◌, ◌≤◌, ◌<◌, ◌⊎◌, inl, inr, true, false, ◌&&◌, nat_le, nat_lt, List, [], ◌∷◌, length, refl, sym, ap, ◌∙◌, arith, subst}
+use Rattle.std.proofs.lemmas.List.{ext_get_or}
+use Rattle.law_lists.proofs.Tests.{lt_tells, le_tells}
+use Rattle.def_memory.specs.declared.Granule.{Granule}
+use Rattle.def_memory.specs.Granules.{nothing, granule_at}
+use Rattle.def_machine.specs.Image.{Image}
+use Rattle.def_machine.specs.State.{State}
+use Rattle.def_machine.specs.Memory.{filtered}
+use Rattle.def_machine.specs.Heap.{sliced_granules}
+use Rattle.ct_revoke.specs.Slices.{IsSliced, SlicesHeap}
+
+sliced_length : (i : Image) (s : State) (low high place : ℕ) (gs : List Granule) → length (sliced_granules i s low high place gs) ≡ length gs
+sliced_length i s low high place [] = refl
+sliced_length i s low high place (g ∷ gs) = ap (λ n. suc n) (sliced_length i s low high (place + 8) gs)
+
+-- what holds of the granule that a slice leaves at a place: what passed, or what was there
+sliced_at : (i : Image) (s : State) (low high place : ℕ) (gs : List Granule) (k : ℕ) (P : Granule → Type 0) → k < length gs
+    → (low ≤ place + 8 * k → place + 8 * k < high → P (record (granule_at gs k) { cap = filtered i s (granule_at gs k).cap }))
+    → ((place + 8 * k < low) ⊎ (high ≤ place + 8 * k) → P (granule_at gs k))
+    → P (granule_at (sliced_granules i s low high place gs) k)
+sliced_at i s low high place [] k P lt in_it out_of = absurd (omega (arith, lt))
+sliced_at i s low high place (g ∷ gs) zero P lt in_it out_of =
+    let none : place + 8 * zero ≡ place = omega arith in
+    elim (le_tells low place) [
+      | inl e ↦ elim (lt_tells place high) [
+        | inl f ↦ let test : (nat_le low place && nat_lt place high) ≡ true = rw (e.0, f.0) refl in rw test (in_it (omega (arith, e.1)) (omega (arith, f.1)))
+        | inr f ↦ let test : (nat_le low place && nat_lt place high) ≡ false = rw (e.0, f.0) refl in rw test (out_of (inr (omega (arith, f.1))))
+      ]
+      | inr e ↦ let test : (nat_le low place && nat_lt place high) ≡ false = rw e.0 refl in rw test (out_of (inl (omega (arith, e.1))))
+    ]
+sliced_at i s low high place (g ∷ gs) (suc k) P lt in_it out_of =
+    sliced_at i s low high (place + 8) gs k P (omega (arith, lt)) (λ a b. in_it (omega (arith, a)) (omega (arith, b))) (λ o. out_of (elim o [ inl a ↦ inl (omega (arith, a)) | inr b ↦ inr (omega (arith, b)) ]))
+
+of_state : (low high : ℕ) (new : List Granule) (i : Image) (s : State) → IsSliced i.ram low high s.granules new → new ≡ sliced_granules i s low high 0 s.granules
+of_state low high new i s is =
+    ext_get_or nothing new (sliced_granules i s low high 0 s.granules) (is.size ∙ sym (sliced_length i s low high 0 s.granules))
+    (λ k lt. let inside : k < length s.granules = omega (arith, lt, is.size) in
+    sliced_at i s low high 0 s.granules k (λ g. granule_at new k ≡ g) inside (λ a b. is.passed k (omega (arith, a), omega (arith, b))) (λ o. is.rest k (elim o [ inl a ↦ inl (omega (arith, a)) | inr b ↦ inr (omega (arith, b)) ])))
+
+pub slices_heap : (ram low high : ℕ) (old new : List Granule) → IsSliced ram low high old new → SlicesHeap ram low high old new
+slices_heap ram low high old new is i s ram_is old_is =
+    subst (λ gs. new ≡ sliced_granules i s low high 0 gs) old_is
+    (of_state low high new i s (subst (λ gs. IsSliced i.ram low high gs new) (sym old_is) (subst (λ r. IsSliced r low high old new) (sym ram_is) is)))

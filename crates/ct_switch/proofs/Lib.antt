@@ -1,0 +1,6 @@
+pub mod Failing
+pub mod Coming
+pub mod Threads
+pub mod Entering
+pub mod Leaving
+pub mod Heads

@@ -1,0 +1,221 @@
+//! A frame's end: the return, the unwind, and the end of an error handler.
+
+ghost use Rattle.std.specs.Prelude.{◌≡◌, ◌*◌, ◌<◌, ℕ, Bool, true, nat_lt, length};
+ghost use Rattle.def_words.specs.declared.Cap.{Cap};
+ghost use Rattle.def_words.specs.Seals.{posture_through};
+ghost use Rattle.def_memory.specs.Granules.{plain};
+ghost use Rattle.def_machine.specs.State.{Frame};
+ghost use Rattle.def_reach.specs.Roots.{root_of};
+ghost use Rattle.ct_areas.specs.declared.thread.Thread as row;
+ghost use Rattle.ct_areas.specs.Threads.{thread_of};
+ghost use Rattle.ct_areas.specs.Parts.{inner_frame};
+ghost use Rattle.ct_exports.specs.Exports.{AreSorted};
+ghost use Rattle.ct_switch.specs.Ready.{IsReady, IsOther};
+ghost use Rattle.ct_switch.specs.Calls.{returned_by, thread_left, memory_left, row_left, no_registers, ended_row, restored_row, kept_in, filtered_frame, caller_registers};
+
+use crate::deciding::register;
+use crate::given::handed;
+use ct_areas::{Saved, Thread, clear, innermost, pop};
+use ct_cap::{Live, Posture, open};
+use ct_entry::Entries;
+use ct_exports::export_of;
+use ct_loadstore::filter;
+use ct_mem::Memory;
+use def_profile::seals::{RETURN_DISABLE, RETURN_ENABLE, SENTRY_DISABLE, SENTRY_ENABLE};
+
+/// The posture that a saved c1 leaves.
+fn posture_after(before: Posture, kind: u32, kept: u32) -> Posture
+    ensures { result ≡ posture_through before kind 0 kept }
+{
+    if kind == SENTRY_DISABLE {
+        return Posture {
+            off: true,
+            source: 0,
+        };
+    }
+    if kind == RETURN_DISABLE {
+        return Posture {
+            off: true,
+            source: kept,
+        };
+    }
+    if (kind == SENTRY_ENABLE) | (kind == RETURN_ENABLE) {
+        return Posture {
+            off: false,
+            source: 0,
+        };
+    }
+    before
+}
+
+/// What a frame keeps of its caller, and the entry number of its own export.
+#[derive(Clone, Copy, Debug, Drop)]
+pub(crate) struct Kept {
+    pub(crate) export: u32,
+    pub(crate) c1: Live,
+    pub(crate) c2: Live,
+    pub(crate) c3: Live,
+    pub(crate) c8: Live,
+    pub(crate) c9: Live,
+}
+
+/// What a thread's innermost frame keeps.
+fn inner<M: Memory>(t: &Thread, mem: &M) -> Kept
+    requires { IsReady (M.granules mem.now) t.now }
+    ensures { result ≡ kept_in (inner_frame (M.granules mem.now) t.now) }
+{
+    let Saved {
+        export,
+        c1,
+        c2,
+        c3,
+        c8,
+        c9,
+    } = innermost(t, mem);
+    Kept {
+        export,
+        c1,
+        c2,
+        c3,
+        c8,
+        c9,
+    }
+}
+
+/// What a frame keeps, through the load filter.
+fn through<M: Memory>(mem: &M, ram: u32, saved: &Kept) -> Kept
+    ensures { (f : Frame) → saved.now ≡ kept_in f
+        → result ≡ filtered_frame (M.granules mem.now) ram f }
+{
+    Kept {
+        export: saved.export,
+        c1: filter(mem, ram, saved.c1),
+        c2: filter(mem, ram, saved.c2),
+        c3: filter(mem, ram, saved.c3),
+        c8: filter(mem, ram, saved.c8),
+        c9: filter(mem, ram, saved.c9),
+    }
+}
+
+/// The registers of a caller: those that its frame kept, and two results.
+fn restored(kept: &Kept, first: Live, second: Live) -> [Live; 16]
+    ensures { result ≡ caller_registers kept.now first second }
+{
+    let none = Live::integer(0);
+    [
+        none, none, kept.c2, kept.c3, none, none, none, none, kept.c8, kept.c9, first, second,
+        none, none, none, none,
+    ]
+}
+
+/// A caller goes on: its program counter and registers are those that its frame kept, filtered, and its posture is by the
+/// saved c1.
+fn restore(t: &mut Thread, saved: &Kept, kept: &Kept, first: Live, second: Live)
+    ensures { (f : Frame) → saved.now ≡ kept_in f
+        → t.new ≡ restored_row t.old f kept.now first second }
+{
+    t.pcc = open(kept.c1);
+    t.regs = restored(kept, first, second);
+    t.posture = posture_after(t.posture, saved.c1.seal, saved.c1.cap.shadow.source);
+}
+
+/// Registers that hold nothing.
+fn empty() -> [Live; 16]
+    ensures { result ≡ no_registers }
+{
+    [Live::integer(0); 16]
+}
+
+/// A thread without frames holds nothing.
+fn end(t: &mut Thread)
+    ensures { t.new ≡ ended_row t.old }
+{
+    t.pcc = Live::integer(0);
+    t.regs = empty();
+    t.posture = Posture {
+        off: false,
+        source: 0,
+    };
+    t.depth = 0;
+    t.top = 0;
+    t.actor = 0;
+    t.handling = false;
+}
+
+/// The innermost frame ends with two results. `false` exactly where it was the thread's last.
+fn leave<M: Memory>(t: &mut Thread, mem: &mut M, first: Live, second: Live) -> bool
+    requires { IsReady (M.granules mem.old) t.old }
+    ensures result { result ≡ nat_lt 1 t.old.depth }
+    ensures thread { thread_of (M.granules mem.new) true t.new
+        ≡ thread_left (M.granules mem.old) t.old (λ f. first) (λ f. second) }
+    ensures memory { M.granules mem.new ≡ memory_left (M.granules mem.old) t.old }
+    ensures row { t.new ≡ row_left (M.granules mem.old) t.old (λ f. first) (λ f. second) }
+{
+    let saved = inner(t, mem);
+    let kept = through(mem, t.area.ram, &saved);
+    let bytes = t.top - t.area.stack;
+    pop(t, mem);
+    clear(mem, t.area.ram, t.area.stack, bytes);
+    let depth = t.depth;
+    if depth == 0 {
+        end(t);
+        return false;
+    }
+    restore(t, &saved, &kept, first, second);
+    true
+}
+
+/// The return: c10 and c11 are handed back, untagged where the frame's export passes plain values. `false` exactly
+/// where the frame was the thread's last, which has ended then. No memory is taken.
+pub fn give_back<M: Memory>(t: &mut Thread, mem: &mut M, e: &Entries) -> bool
+    requires ready { IsReady (M.granules mem.old) t.old }
+    requires entries { AreSorted e.now.gates }
+    ensures result { result ≡ nat_lt 1 t.old.depth }
+    ensures thread { thread_of (M.granules mem.new) true t.new
+        ≡ thread_left (M.granules mem.old) t.old (returned_by e.now t.old 10) (returned_by e.now t.old 11) }
+    ensures memory { M.granules mem.new ≡ memory_left (M.granules mem.old) t.old }
+    ensures row { t.new
+        ≡ row_left (M.granules mem.old) t.old (returned_by e.now t.old 10) (returned_by e.now t.old 11) }
+    ensures others { (u : row.Thread) (runs : Bool)
+        → IsOther t.old u (8 * length (M.granules mem.old))
+        → thread_of (M.granules mem.new) runs u ≡ thread_of (M.granules mem.old) runs u }
+{
+    let passes = export_of(e, inner(t, mem).export).passes;
+    let ten = register(&t.regs, 10);
+    let eleven = register(&t.regs, 11);
+    let first = handed(passes, ten);
+    let second = handed(passes, eleven);
+    leave(t, mem, first, second)
+}
+
+/// The unwind: the return with c10 = -1 and c11 = 0. `false` exactly where the frame was the thread's last.
+pub fn unwind<M: Memory>(t: &mut Thread, mem: &mut M, _e: &Entries) -> bool
+    requires { IsReady (M.granules mem.old) t.old }
+    ensures result { result ≡ nat_lt 1 t.old.depth }
+    ensures thread { thread_of (M.granules mem.new) true t.new
+        ≡ thread_left (M.granules mem.old) t.old (λ f. plain 0xFFFFFFFF) (λ f. plain 0) }
+    ensures memory { M.granules mem.new ≡ memory_left (M.granules mem.old) t.old }
+    ensures row { t.new
+        ≡ row_left (M.granules mem.old) t.old (λ f. plain 0xFFFFFFFF) (λ f. plain 0) }
+    ensures others { (u : row.Thread) (runs : Bool)
+        → IsOther t.old u (8 * length (M.granules mem.old))
+        → thread_of (M.granules mem.new) runs u ≡ thread_of (M.granules mem.old) runs u }
+{
+    leave(t, mem, Live::integer(0xFFFF_FFFF), Live::integer(0))
+}
+
+/// The end of a frame with a value, as its error handler says: the return with c10 = the value and c11 = 0. `false`
+/// exactly where the frame was the thread's last.
+pub fn end_with<M: Memory>(t: &mut Thread, mem: &mut M, _e: &Entries, value: u32) -> bool
+    requires { IsReady (M.granules mem.old) t.old }
+    ensures result { result ≡ nat_lt 1 t.old.depth }
+    ensures thread { thread_of (M.granules mem.new) true t.new
+        ≡ thread_left (M.granules mem.old) t.old (λ f. plain value) (λ f. plain 0) }
+    ensures memory { M.granules mem.new ≡ memory_left (M.granules mem.old) t.old }
+    ensures row { t.new ≡ row_left (M.granules mem.old) t.old (λ f. plain value) (λ f. plain 0) }
+    ensures others { (u : row.Thread) (runs : Bool)
+        → IsOther t.old u (8 * length (M.granules mem.old))
+        → thread_of (M.granules mem.new) runs u ≡ thread_of (M.granules mem.old) runs u }
+{
+    leave(t, mem, Live::integer(value), Live::integer(0))
+}

@@ -1,0 +1,149 @@
+//! What a callee is given.
+
+ghost use Rattle.std.specs.Prelude.{◌≡◌, ◌+◌, ◌*◌, ◌/◌, ◌%◌, ◌≤◌, ◌<◌, ℕ, true, List, length};
+ghost use Rattle.ct_entry.specs.Listed.{Listed};
+ghost use Rattle.def_memory.specs.declared.Granule.{Granule};
+ghost use Rattle.def_boot.specs.Made.{return_sentry};
+ghost use Rattle.def_machine.specs.Image.{Image};
+ghost use Rattle.def_machine.specs.Frames.{given};
+ghost use Rattle.ct_areas.specs.declared.thread.Thread as row;
+ghost use Rattle.ct_areas.specs.Threads.{thread_of};
+ghost use Rattle.ct_exports.specs.Exports.{callee_of};
+ghost use Rattle.ct_switch.specs.Calls.{given_by, given_in, registers_in, argument_in, handed, posture_in, stack_cap, HoldsHeads};
+
+use ct_areas::Thread;
+use ct_cap::{Live, Posture, Shadow, clear_tag, derive, expand, set_address};
+use ct_exports::Export;
+use ct_mem::Memory;
+use def_profile::native::{NATIVE_LENGTH, RETURN_ENTRY};
+use def_profile::rights::{EXECUTABLE_ROOT, MEMORY_ROOT, SERVICE_RIGHTS, STACK_RIGHTS};
+use def_profile::seals::RETURN_ENABLE;
+use std::marker::Model;
+
+/// The four capabilities that the switcher makes for a callee.
+#[derive(Drop)]
+pub(crate) struct Start {
+    pub(crate) pcc: Live,
+    pub(crate) back: Live,
+    pub(crate) stack: Live,
+    pub(crate) globals: Live,
+}
+
+impl Model for Start {
+    ghost use Rattle.def_machine.specs.Frames.{Given};
+
+    ghost Value = { Given };
+
+    ghost view = { λ s. record { pcc = s.pcc; back = s.back; stack = s.stack; globals = s.globals } };
+}
+
+/// The return sentry: the return's native entry, of type 5, with the trusted part's number.
+#[tactic(auto, unfolding(def_words::specs::Derive::executable_root))]
+fn return_sentry() -> Live
+    ensures { result ≡ return_sentry }
+{
+    derive(
+        EXECUTABLE_ROOT,
+        RETURN_ENTRY,
+        NATIVE_LENGTH,
+        SERVICE_RIGHTS,
+        RETURN_ENTRY,
+        RETURN_ENABLE,
+        Shadow { root: 0, source: 0 },
+    )
+}
+
+/// A stack from its base to a new top, at that top.
+#[tactic(auto, unfolding(def_words::specs::Derive::memory_root))]
+fn stack_of(base: u32, high: u32, from: Shadow) -> Live
+    requires { base ≤ high }
+    ensures { result ≡ stack_cap base high from }
+{
+    derive(MEMORY_ROOT, base, high - base, STACK_RIGHTS, high, 0, from)
+}
+
+/// What the switcher gives: code and globals from the head of the export table at an offset, code at the export's
+/// address, the return sentry, and the stack up to the new top.
+pub(crate) fn given<M: Memory>(t: &Thread, mem: &M, head: u32, code: u32, high: u32) -> Start
+    requires even { head % 8 ≡ 0 }
+    requires inside { head + 16 ≤ 8 * length (M.granules mem.now) }
+    requires order { t.now.area.stack ≤ high }
+    ensures { result ≡ given_by (M.granules mem.now) t.now (head / 8) code high }
+{
+    let _size = mem.size();
+    let caller = t.regs[2];
+    Start {
+        pcc: set_address(expand(mem.load_cap(head)), code),
+        back: return_sentry(),
+        stack: stack_of(t.area.stack, high, caller.cap.shadow),
+        globals: expand(mem.load_cap(head + 8)),
+    }
+}
+
+/// A capability as it is passed: untagged where only plain values are.
+pub(crate) fn handed(passes: bool, c: Live) -> Live
+    ensures { result ≡ handed passes c }
+{
+    if passes { c } else { clear_tag(c) }
+}
+
+/// Argument register 10 + n of the callee: the caller's where it is declared, else zero.
+fn argument(x: &Export, regs: &[Live; 16], n: u32) -> Live
+    requires { n < 6 }
+    ensures { result ≡ argument_in x.now regs.now n }
+{
+    if n < x.args {
+        handed(x.passes, regs[10 + n as usize])
+    } else {
+        Live::integer(0)
+    }
+}
+
+/// The registers of the callee.
+pub(crate) fn registers(x: &Export, regs: &[Live; 16], start: &Start) -> [Live; 16]
+    ensures { result ≡ registers_in x.now regs.now start.now }
+{
+    let none = Live::integer(0);
+    [
+        none,
+        start.back,
+        start.stack,
+        start.globals,
+        none,
+        none,
+        none,
+        none,
+        none,
+        none,
+        argument(x, regs, 0),
+        argument(x, regs, 1),
+        argument(x, regs, 2),
+        argument(x, regs, 3),
+        argument(x, regs, 4),
+        argument(x, regs, 5),
+    ]
+}
+
+/// The posture of the callee.
+pub(crate) fn posture(x: &Export) -> Posture
+    ensures { result ≡ posture_in x.now }
+{
+    if x.disabled {
+        return Posture {
+            off: true,
+            source: x.number,
+        };
+    }
+    Posture {
+        off: false,
+        source: 0,
+    }
+}
+
+/// Where the heads of export tables are as boot made them, a callee is given what *Threads and frames* gives it.
+pub fn heads_give()
+    ensures { (i : Image) (gs : List Granule) (e : Listed) (t : row.Thread) (n export high : ℕ)
+        → HoldsHeads i gs e t n export
+        → given_in gs e t export high
+        ≡ given i (thread_of gs true t) n (callee_of e export) export high }
+{}

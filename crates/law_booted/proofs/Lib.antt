@@ -1,0 +1,5 @@
+pub mod Codes
+pub mod Contents
+pub mod Rooting
+pub mod Loading
+pub mod Whole

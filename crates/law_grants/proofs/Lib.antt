@@ -1,0 +1,10 @@
+pub mod Lying
+pub mod Sets
+pub mod Making
+pub mod Told
+pub mod Imports
+pub mod Clauses
+pub mod Booted
+pub mod Own
+pub mod Wiring
+pub mod Holding

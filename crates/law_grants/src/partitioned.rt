@@ -1,0 +1,87 @@
+//! What a sound image owes of its entries, as the laws of the moves ask it.
+
+ghost use Rattle.std.specs.Prelude.{◌%◌, ◌<◌, ◌^◌, ◌≡◌, ◌≤◌, ◌⊎◌, true, ℕ};
+ghost use Rattle.def_image.specs.Parts.{PartsRow};
+ghost use Rattle.ct_entry.specs.declared.rows.Kind.TheVariants as kind;
+ghost use Rattle.ct_entry.specs.declared.rows.Owner.TheVariants as owner;
+ghost use Rattle.def_confined.specs.Partitioned.{AwayFromHeap, BootMade, IsOwnEntry};
+ghost use Rattle.def_profile.specs.declared.rights.TheConstants.{STACK_RIGHTS};
+ghost use Rattle.def_machine.specs.Image.{code_entry, globals_entry, made_cap, root, stack_entry};
+ghost use Rattle.def_reach.specs.Roots.{Listing, gate_for, is_code, is_root};
+ghost use Rattle.def_reach.specs.Sharing.{Reaches};
+ghost use Rattle.def_boot.specs.Boot.{image_of};
+ghost use Rattle.def_image.specs.Sound.{Sound};
+ghost use Rattle.def_words.specs.Permissions.{bit, execute, has, sealing, unsealing};
+ghost use Rattle.def_words.specs.Seals.{cap_seal};
+
+/// What *Partitioned* asks of kinds, ranges and rights: each clause is that of its name.
+pub fn rows_partition()
+    ensures even { (p : PartsRow) → Sound p
+        → ((image_of p).ram % 8 ≡ 0) × ((image_of p).heap_base % 8 ≡ 0)
+        × ((image_of p).heap_end % 8 ≡ 0) }
+    ensures heap_small { (p : PartsRow) → Sound p → (image_of p).heap_end ≤ 2 ^ 32 }
+    ensures libraries { (p : PartsRow) → Sound p → (n : ℕ)
+        → (root (image_of p) n).origin ≡ Listing kind.Library
+        → (l : ℕ) × ((root (image_of p) (root (image_of p) n).of).owner ≡ owner.Library l) }
+    ensures quotas { (p : PartsRow) → Sound p → (n : ℕ)
+        → (root (image_of p) n).origin ≡ Listing kind.Quota
+        → (a : ℕ) × ((root (image_of p) n).owner ≡ owner.Compartment a) }
+    ensures calls { (p : PartsRow) → Sound p → (n : ℕ)
+        → (root (image_of p) n).origin ≡ Listing kind.Call
+        → (a : ℕ) × ((root (image_of p) n).owner ≡ owner.Compartment a) }
+    ensures keys { (p : PartsRow) → Sound p → (n : ℕ)
+        → is_root (root (image_of p) n).origin ≡ true
+        → (bit (root (image_of p) n).rights sealing ≡ true)
+        ⊎ (bit (root (image_of p) n).rights unsealing ≡ true)
+        → 13 ≤ (root (image_of p) n).base }
+    ensures executes { (p : PartsRow) → Sound p → (n : ℕ)
+        → is_root (root (image_of p) n).origin ≡ true
+        → bit (root (image_of p) n).rights execute ≡ true
+        → is_code (root (image_of p) n).origin ≡ true }
+    ensures runs_away { (p : PartsRow) → Sound p → (n x : ℕ)
+        → bit (root (image_of p) n).rights execute ≡ true
+        → (root (image_of p) n).base ≤ x → x < (root (image_of p) n).top
+        → AwayFromHeap (image_of p) x }
+    ensures stacks_are { (p : PartsRow) → Sound p → (n : ℕ)
+        → (root (image_of p) n).origin ≡ Listing kind.Stack
+        → ((root (image_of p) n).rights ≡ STACK_RIGHTS) × ((root (image_of p) n).top ≤ 4294967280) }
+    ensures stacks_differ { (p : PartsRow) → Sound p → (t u : ℕ)
+        → (root (image_of p) (stack_entry (image_of p) t)).origin ≡ Listing kind.Stack
+        → stack_entry (image_of p) t ≡ stack_entry (image_of p) u → t ≡ u }
+    ensures gates_small { (p : PartsRow) → Sound p → (n : ℕ)
+        → (gate_for (image_of p).entries.gates n).code < 2 ^ 32 }
+{}
+
+/// What *Partitioned* asks of the capabilities that boot makes: each clause is that of its name.
+pub fn made_partition()
+    ensures made { (p : PartsRow) → Sound p → (n : ℕ)
+        → is_root (root (image_of p) n).origin ≡ true
+        → (made_cap (image_of p) n).tag ≡ true → BootMade (image_of p) n (made_cap (image_of p) n) }
+    ensures forwards { (p : PartsRow) → Sound p → (n : ℕ)
+        → (cap_seal (made_cap (image_of p) n) ≡ 1) ⊎ (cap_seal (made_cap (image_of p) n) ≡ 2)
+        ⊎ (cap_seal (made_cap (image_of p) n) ≡ 3)
+        → ((root (image_of p) n).origin ≡ Listing kind.Library)
+        ⊎ ((root (image_of p) n).origin ≡ Listing kind.Service) }
+    ensures disables { (p : PartsRow) → Sound p → (n : ℕ)
+        → cap_seal (made_cap (image_of p) n) ≡ 2
+        → ((root (image_of p) (root (image_of p) n).of).disabled ≡ true)
+        × ((d : ℕ) → Reaches (image_of p).entries (root (image_of p) n).owner d
+        → Reaches (image_of p).entries (root (image_of p) (root (image_of p) n).of).owner d) }
+    ensures own_code { (p : PartsRow) → Sound p → (b n : ℕ)
+        → (root (image_of p) n).owner ≡ owner.Compartment b
+        → IsOwnEntry (image_of p) b (code_entry (image_of p) b) kind.Code
+        × (has (made_cap (image_of p) (code_entry (image_of p) b)) execute ≡ true) }
+    ensures own_globals { (p : PartsRow) → Sound p → (b n : ℕ)
+        → (root (image_of p) n).owner ≡ owner.Compartment b
+        → IsOwnEntry (image_of p) b (globals_entry (image_of p) b) kind.Globals }
+    ensures sentry { (p : PartsRow) → Sound p → (made_cap (image_of p) 0).tag ≡ true
+        → cap_seal (made_cap (image_of p) 0) ≡ 5 }
+{}
+
+/// No root's range meets the heap.
+pub fn roots_away()
+    ensures { (p : PartsRow) → Sound p → (n : ℕ)
+        → is_root (root (image_of p) n).origin ≡ true
+        → ((root (image_of p) n).top ≤ (image_of p).heap_base)
+        ⊎ ((image_of p).heap_end ≤ (root (image_of p) n).base) }
+{}

@@ -1,0 +1,5 @@
+pub mod Lists
+pub mod Found
+pub mod Granules
+pub mod Stacks
+pub mod Storing

@@ -1,0 +1,4 @@
+pub mod Blocks
+pub mod Gates
+pub mod Standing
+pub mod Listing
