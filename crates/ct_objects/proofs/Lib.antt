@@ -2,3 +2,4 @@ pub mod Walks
 pub mod Slots
 pub mod Units
 pub mod Progress
+pub mod Codes

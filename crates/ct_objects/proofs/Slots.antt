@@ -54,3 +54,11 @@ once_taken names h = taken [] names h.once
 pub two_stretches : (seen a b : List (List ℕ)) → with_slots seen (a ++ b) ≡ with_slots (with_slots seen a) b
 two_stretches seen [] b = refl
 two_stretches seen (n ∷ ns) b = two_stretches (with_slot seen n) ns b
+
+-- one name, then three stretches
+pub slots_taken : (n : List ℕ) (a b c : List (List ℕ)) (first second third all : List (List ℕ)) → first ≡ with_slot [] n → second ≡ with_slots first a → third ≡ with_slots second b
+    → all ≡ with_slots third c → AreNames (n ∷ a ++ b ++ c) → all ≡ n ∷ a ++ b ++ c
+slots_taken n a b c first second third all e f g h names =
+    let joined : with_slots (with_slot [] n) (a ++ b ++ c) ≡ with_slots (with_slots (with_slots (with_slot [] n) a) b) c =
+    two_stretches (with_slot [] n) a (b ++ c) ∙ two_stretches (with_slots (with_slot [] n) a) b c in
+    h ∙ ap (λ l. with_slots l c) (g ∙ ap (λ l. with_slots l b) (f ∙ ap (λ l. with_slots l a) e)) ∙ sym joined ∙ once_taken (n ∷ a ++ b ++ c) names

@@ -16,6 +16,7 @@ use def_link::LinkFault;
 use std::alloc::Global;
 
 /// The object of a compartment: a fault of its code first, then an export that begins nowhere.
+#[tactic(auto, using(crate::proofs::Units::compartment_refused, crate::proofs::Units::compartment_lost, crate::proofs::Units::compartment_placed))]
 fn compartment_object(
     alloc: Global,
     index: u32,
@@ -42,6 +43,7 @@ fn compartment_object(
 
 /// The object of a library: a fault of its code first, then an export that begins nowhere, then
 /// initial bytes, which it may not have.
+#[tactic(auto, using(crate::proofs::Units::library_refused, crate::proofs::Units::library_lost, crate::proofs::Units::library_stray, crate::proofs::Units::library_placed))]
 fn library_object(
     alloc: Global,
     index: u32,

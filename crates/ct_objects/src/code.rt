@@ -27,6 +27,7 @@ fn words_text(alloc: Global, words: &[u32]) -> Result<Vec<u8>, AllocError>
 }
 
 /// The object of words: their bytes alone.
+#[tactic(auto, using(crate::proofs::Codes::words_hold))]
 fn words_object(alloc: Global, words: &[u32]) -> Result<Object, LinkFault>
     ensures ok { IfOk result (λ o. IsBuilt (Ok (owner.words_built words.now)) o) }
     ensures err { IfErr result (λ e. Refuses (Ok (owner.words_built words.now)) e) }
@@ -48,6 +49,7 @@ fn words_object(alloc: Global, words: &[u32]) -> Result<Object, LinkFault>
 
 /// The object of a source: a fault of its text first, then an import that isn't declared, then a
 /// fault of the assembly.
+#[tactic(auto, using(crate::proofs::Codes::source_unread, crate::proofs::Codes::source_undeclared, crate::proofs::Codes::source_faulty, crate::proofs::Codes::source_holds))]
 fn source_object(
     alloc: Global,
     owner: Owner,

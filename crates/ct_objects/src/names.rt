@@ -57,6 +57,7 @@ fn add_keys(names: &mut Names, alloc: Global, keys: &[u64]) -> Result<(), AllocE
 }
 
 /// The names of a compartment's slots: `switch`, the imports, the quotas, the keys.
+#[tactic(auto, using(crate::proofs::Slots::slots_taken))]
 pub(crate) fn names_of(alloc: Global, compartment: &Compartment) -> Result<Names, AllocError>
     requires { AreNames (slot_names compartment.now) }
     ensures { IfOk result (λ names. names ≡ slot_names compartment.now) }
@@ -84,6 +85,7 @@ fn add_library_imports(
 }
 
 /// The names of a library's slots: its imports.
+#[tactic(auto, using(crate::proofs::Slots::once_taken))]
 pub(crate) fn library_names_of(alloc: Global, library: &Library) -> Result<Names, AllocError>
     requires { AreNames (library_slot_names library.now) }
     ensures { IfOk result (λ names. names ≡ library_slot_names library.now) }
