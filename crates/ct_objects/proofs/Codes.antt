@@ -14,6 +14,7 @@ use Rattle.ct_objects.specs.Objects.{Holds, IsBuilt}
 -- the object of no statements, whose text is that of words
 pub words_hold : (words text : List ℕ) (slots : List (List ℕ)) (o : Assembled) → Stands [] slots o → text ≡ flat_map word_bytes words
     → IsBuilt (Ok (words_built words)) (record { text = text; init = o.init; labels = o.labels })
+unfolding initial_of label_in
 words_hold words text slots o s is = record {
   built = words_built words;
   is = refl;

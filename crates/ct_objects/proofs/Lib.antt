@@ -3,3 +3,4 @@ pub mod Slots
 pub mod Units
 pub mod Progress
 pub mod Codes
+pub mod Steps

@@ -60,5 +60,5 @@ pub slots_taken : (n : List ℕ) (a b c : List (List ℕ)) (first second third a
     → all ≡ with_slots third c → AreNames (n ∷ a ++ b ++ c) → all ≡ n ∷ a ++ b ++ c
 slots_taken n a b c first second third all e f g h names =
     let joined : with_slots (with_slot [] n) (a ++ b ++ c) ≡ with_slots (with_slots (with_slots (with_slot [] n) a) b) c =
-    two_stretches (with_slot [] n) a (b ++ c) ∙ two_stretches (with_slots (with_slot [] n) a) b c in
+    two_stretches (with_slot [] n) (a ++ b) c ∙ ap (λ l. with_slots l c) (two_stretches (with_slot [] n) a b) in
     h ∙ ap (λ l. with_slots l c) (g ∙ ap (λ l. with_slots l b) (f ∙ ap (λ l. with_slots l a) e)) ∙ sym joined ∙ once_taken (n ∷ a ++ b ++ c) names

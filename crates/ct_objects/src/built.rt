@@ -75,6 +75,7 @@ fn library_object(
 }
 
 /// The text of a code that is a file, which stands next; none of a code of words.
+#[tactic(auto, using(crate::proofs::Steps::head_at, crate::proofs::Steps::short_at))]
 fn source_for<'a>(code: &Code, texts: &'a [Vec<u8>], next: usize) -> &'a [u8]
     requires there { next + file_of code.now.file ≤ length texts.now }
     requires short { AllByRecursion (λ (t : List ℕ). length t < 2 ^ 32)
@@ -100,6 +101,7 @@ fn files_in(code: &Code) -> usize
 }
 
 /// Adds the objects of compartments, and says how many texts these took.
+#[tactic(auto, using(crate::proofs::Progress::none_done, crate::proofs::Steps::at_each, crate::proofs::Steps::one_step, crate::proofs::Steps::fault_step, crate::proofs::Steps::room_step, crate::proofs::Steps::all_done, crate::proofs::Steps::all_taken))]
 fn add_compartments(
     all: &mut Vec<Object>,
     alloc: Global,
@@ -136,6 +138,7 @@ fn add_compartments(
 }
 
 /// Adds the objects of libraries, whose texts stand from the next on.
+#[tactic(auto, using(crate::proofs::Progress::none_done, crate::proofs::Steps::at_each, crate::proofs::Steps::one_step, crate::proofs::Steps::fault_step, crate::proofs::Steps::room_step, crate::proofs::Steps::all_done, crate::proofs::Steps::all_taken))]
 fn add_libraries(
     all: &mut Vec<Object>,
     alloc: Global,

@@ -4,7 +4,7 @@ ghost use Rattle.std.specs.Prelude.{◌≡◌, ◌++◌, ◌<◌, ◌^◌, lengt
 ghost use Rattle.std.specs.List.{flat_map};
 ghost use Rattle.def_source.specs.Source.{program_of};
 ghost use Rattle.def_object.specs.Object.{word_bytes};
-ghost use Rattle.def_link.specs.Owners as owner;
+ghost use Rattle.def_link.specs.Owners as owners;
 ghost use Rattle.ct_objects.specs.Objects.{IsBuilt, Refuses};
 
 use ct_asm::{Names, Object, assemble, undeclared};
@@ -29,8 +29,8 @@ fn words_text(alloc: Global, words: &[u32]) -> Result<Vec<u8>, AllocError>
 /// The object of words: their bytes alone.
 #[tactic(auto, using(crate::proofs::Codes::words_hold))]
 fn words_object(alloc: Global, words: &[u32]) -> Result<Object, LinkFault>
-    ensures ok { IfOk result (λ o. IsBuilt (Ok (owner.words_built words.now)) o) }
-    ensures err { IfErr result (λ e. Refuses (Ok (owner.words_built words.now)) e) }
+    ensures ok { IfOk result (λ o. IsBuilt (Ok (owners.words_built words.now)) o) }
+    ensures err { IfErr result (λ e. Refuses (Ok (owners.words_built words.now)) e) }
 {
     let Ok(text) = words_text(alloc, words) else {
         return Err(LinkFault::NoMemory);
@@ -58,9 +58,9 @@ fn source_object(
 ) -> Result<Object, LinkFault>
     requires { length source.now < 2 ^ 32 }
     ensures ok { IfOk result
-        (λ o. IsBuilt (owner.read_or owner slots.now (program_of source.now)) o) }
+        (λ o. IsBuilt (owners.read_or owner slots.now (program_of source.now)) o) }
     ensures err { IfErr result
-        (λ e. Refuses (owner.read_or owner slots.now (program_of source.now)) e) }
+        (λ e. Refuses (owners.read_or owner slots.now (program_of source.now)) e) }
 {
     let program = match statements(alloc, source) {
         Ok(program) => program,
@@ -97,9 +97,9 @@ pub(crate) fn code_object(
 ) -> Result<Object, LinkFault>
     requires { length source.now < 2 ^ 32 }
     ensures ok { IfOk result
-        (λ o. IsBuilt (owner.built owner slots.now code.now source.now) o) }
+        (λ o. IsBuilt (owners.built owner slots.now code.now source.now) o) }
     ensures err { IfErr result
-        (λ e. Refuses (owner.built owner slots.now code.now source.now) e) }
+        (λ e. Refuses (owners.built owner slots.now code.now source.now) e) }
 {
     match &code.file {
         None => words_object(alloc, code.words.as_slice()),
