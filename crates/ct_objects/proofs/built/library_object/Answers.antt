@@ -1,0 +1,34 @@
+use Rattle.std.proofs.Common.{◌≡◌, map, length, nat_lt, true, false, Some, None}
+use Rattle.ct_entry.specs.declared.rows.Owner.TheVariants.{Library}
+use Rattle.def_description.specs.Named.{library_slot_names}
+use Rattle.def_description.specs.Rows.{LexportRow}
+use Rattle.def_link.specs.Owners.{built, first_lost}
+use Rattle.ct_objects.specs.Objects.{built_of, IsBuilt}
+use Rattle.ct_objects.proofs.Units.{library_lost, library_stray, library_placed}
+use Rattle.ct_objects.proofs.built.library_object.Goals as goal
+
+pub returns-in-Some-clause-err : goal.returns-in-Some-clause-err
+returns-in-Some-clause-err c =
+    let row = c.args.library.now in
+    let o = c.in_ok-object.object in
+    let h : IsBuilt (built (Library c.args.index) (library_slot_names row) row.code c.args.source.now) o = search in
+    let found : first_lost (built_of o) 0 (map (λ (x : LexportRow). x.at) row.exports) ≡ Some c.in-Some.item = cc in
+    library_lost c.args.index row c.args.source.now o c.in-Some.item h found
+
+pub returns-then-is_empty-clause-ok : goal.returns-then-is_empty-clause-ok
+returns-then-is_empty-clause-ok c =
+    let row = c.args.library.now in
+    let o = c.in_ok-object.object in
+    let h : IsBuilt (built (Library c.args.index) (library_slot_names row) row.code c.args.source.now) o = search in
+    let none : first_lost (built_of o) 0 (map (λ (x : LexportRow). x.at) row.exports) ≡ None = cc in
+    let clean : nat_lt 0 (length o.init) ≡ false = search in
+    library_placed c.args.index row c.args.source.now o h none clean
+
+pub returns-clause-err : goal.returns-clause-err
+returns-clause-err c =
+    let row = c.args.library.now in
+    let o = c.in_ok-object.object in
+    let h : IsBuilt (built (Library c.args.index) (library_slot_names row) row.code c.args.source.now) o = search in
+    let none : first_lost (built_of o) 0 (map (λ (x : LexportRow). x.at) row.exports) ≡ None = cc in
+    let stray : nat_lt 0 (length o.init) ≡ true = search in
+    library_stray c.args.index row c.args.source.now o h none stray

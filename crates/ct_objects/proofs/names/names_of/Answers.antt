@@ -1,0 +1,16 @@
+use Rattle.std.proofs.Common.{◌≡◌, map, [], ◌∷◌}
+use Rattle.def_description.specs.Names.{key_name}
+use Rattle.def_description.specs.Rows.{ImportRow, QuotaRow}
+use Rattle.ct_objects.specs.Slots.{with_slot, with_slots}
+use Rattle.ct_objects.proofs.Slots.{slots_taken}
+use Rattle.ct_objects.proofs.names.names_of.Goals as goal
+
+pub returns : goal.returns
+returns c =
+    let row = c.args.compartment.now in
+    let switch = 115 ∷ 119 ∷ 105 ∷ 116 ∷ 99 ∷ 104 ∷ [] in
+    let one : c.add.new.names ≡ with_slot [] switch = cc in
+    let two : c.add_imports.new.names ≡ with_slots c.add.new.names (map (λ (x : ImportRow). x.alias) row.imports) = cc in
+    let three : c.add_quotas.new.names ≡ with_slots c.add_imports.new.names (map (λ (q : QuotaRow). q.name) row.quotas) = cc in
+    let four : c.add_keys.new.names ≡ with_slots c.add_quotas.new.names (map key_name row.keys) = cc in
+    slots_taken switch _ _ _ c.add.new.names c.add_imports.new.names c.add_quotas.new.names c.add_keys.new.names one two three four c.requires
