@@ -67,3 +67,23 @@ pub short_at : {A : Type 0} (P : List ℕ → Type 0) (f : A → List ℕ) (xs :
 short_at P f [] k d h low = absurd (omega (arith, low))
 short_at P f (x ∷ xs) zero d h low = h.0
 short_at P f (x ∷ xs) (suc k) d h low = short_at P f xs k d h.1 (omega (arith, low))
+
+-- the element that a loop reads stands at its index
+pub met : {A : Type 0} (xs : List A) (k : ℕ) (d x : A) → x ≡ get_or xs k d → k < length xs → slice_get xs k ≡ Some x
+met xs k d x is low = slice_get-get_or xs k d low ∙ ap (λ z. Some z) (sym is)
+
+pub one_more : {A : Type 0} (f : ℕ → A → OwnerUnit) (xs : List A) (texts : List (List ℕ)) (used : ℕ) (old new last : List Assembled) (k index next size : ℕ) (d x : A) (o : Assembled)
+    → Done f xs texts used old new k index next → x ≡ get_or xs k d → k < length xs
+    → IsBuilt (unit_built (f index x) (source_for (f index x).code.file (drop next texts))) o → last ≡ new ++ o ∷ [] → size ≡ file_of (f index x).code.file
+    → Done f xs texts used old last (k + 1) (index + 1) (next + size)
+one_more f xs texts used old new last k index next size d x o h is low one pushed sized =
+    let on : suc k ≡ k + 1 = omega arith in
+    let done = one_done f xs texts used old new k index next x o h (met xs k d x is low) one in
+    let counted = done.counted in
+    let taken : next + file_of (f index x).code.file ≡ used + files_of (numbered f 0 (take (k + 1) xs)) = done.taken ∙ ap (λ n. used + files_of (numbered f 0 (take n xs))) on in
+    record {
+      counted = omega (arith, counted);
+      taken = ap (λ n. next + n) sized ∙ taken;
+      adds = subst (λ (l : List Assembled). Adds (all_built (numbered f 0 (take (k + 1) xs)) (drop used texts)) old l) (sym pushed)
+      (subst (λ n. Adds (all_built (numbered f 0 (take n xs)) (drop used texts)) old (new ++ o ∷ [])) on done.adds);
+    }
