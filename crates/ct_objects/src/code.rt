@@ -27,7 +27,7 @@ fn words_text(alloc: Global, words: &[u32]) -> Result<Vec<u8>, AllocError>
 }
 
 /// The object of words: their bytes alone.
-#[tactic(auto, using(crate::proofs::Codes::words_hold))]
+#[tactic(auto, using(crate::proofs::Codes::no_statements))]
 fn words_object(alloc: Global, words: &[u32]) -> Result<Object, LinkFault>
     ensures ok { IfOk result (λ o. IsBuilt (Ok (owners.words_built words.now)) o) }
     ensures err { IfErr result (λ e. Refuses (Ok (owners.words_built words.now)) e) }

@@ -13,4 +13,4 @@ returns c =
     let two : c.add_imports.new.names ≡ with_slots c.add.new.names (map (λ (x : ImportRow). x.alias) row.imports) = rw (← c.compartment.view_is, ← c.as_slice.ensures.value) c.in_ok-add_imports.ensures in
     let three : c.add_quotas.new.names ≡ with_slots c.add_imports.new.names (map (λ (q : QuotaRow). q.name) row.quotas) = rw (← c.compartment.view_is, ← c.as_slice-2.ensures.value) c.in_ok-add_quotas.ensures in
     let four : c.add_keys.new.names ≡ with_slots c.add_quotas.new.names (map key_name row.keys) = rw (← c.compartment.view_is, ← c.as_slice-3.ensures.value) c.in_ok-add_keys.ensures in
-    slots_taken switch _ _ _ c.add.new.names c.add_imports.new.names c.add_quotas.new.names c.add_keys.new.names one two three four c.requires
+    slots_taken switch (map (λ (x : ImportRow). x.alias) row.imports) (map (λ (q : QuotaRow). q.name) row.quotas) (map key_name row.keys) c.add.new.names c.add_imports.new.names c.add_quotas.new.names c.add_keys.new.names one two three four c.requires
