@@ -22,9 +22,9 @@ words_hold words text slots o s is = record {
 }
 
 -- the same of statements of which there are none
-pub no_statements : (ss : Statements) (words text : List ℕ) (slots : List (List ℕ)) (o : Assembled) → ss ≡ [] → Stands ss slots o → text ≡ flat_map word_bytes words
+pub no_statements : (ss : Statements) (words text : List ℕ) (slots : List (List ℕ)) (o : Assembled) → Stands ss slots o → ss ≡ [] → text ≡ flat_map word_bytes words
     → IsBuilt (Ok (words_built words)) (record { text = text; init = o.init; labels = o.labels })
-no_statements ss words text slots o none s is = words_hold words text slots o (subst (λ (l : Statements). Stands l slots o) none s) is
+no_statements ss words text slots o s none is = words_hold words text slots o (subst (λ (l : Statements). Stands l slots o) none s) is
 
 pub source_unread : (owner : Owner) (slots : List (List ℕ)) (source : List ℕ) (number line : ℕ) → program_of source ≡ Err (asm.At number line)
     → read_or owner slots (program_of source) ≡ Err (fault.Asm owner number line)

@@ -85,5 +85,5 @@ one_more f xs texts used old new last k index next size d x o h is low one pushe
       counted = omega (arith, counted);
       taken = ap (λ n. next + n) sized ∙ taken;
       adds = subst (λ (l : List Assembled). Adds (all_built (numbered f 0 (take (k + 1) xs)) (drop used texts)) old l) (sym pushed)
-      (subst (λ n. Adds (all_built (numbered f 0 (take n xs)) (drop used texts)) old (new ++ o ∷ [])) on done.adds);
+          (subst (λ n. Adds (all_built (numbered f 0 (take n xs)) (drop used texts)) old (new ++ o ∷ [])) on done.adds);
     }

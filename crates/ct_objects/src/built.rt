@@ -65,10 +65,10 @@ fn library_object(
     match first_library_lost(&object, library.exports.as_slice()) {
         Some(item) => Err(LinkFault::Export { owner, item }),
         None => {
-            if object.init.is_empty() {
-                Ok(object)
-            } else {
+            if 0 < object.init.len() {
                 Err(LinkFault::Initial { owner })
+            } else {
+                Ok(object)
             }
         }
     }
@@ -128,9 +128,9 @@ fn add_compartments(
     for compartment in compartments {
         let source = source_for(&compartment.code, texts, next);
         let object = compartment_object(alloc, index, compartment, source)?;
-        if all.push(object).is_err() {
+        let Ok(()) = all.push(object) else {
             return Err(LinkFault::NoMemory);
-        }
+        };
         next += files_in(&compartment.code);
         index += 1;
     }
@@ -164,9 +164,9 @@ fn add_libraries(
     for library in libraries {
         let source = source_for(&library.code, texts, next);
         let object = library_object(alloc, index, library, source)?;
-        if all.push(object).is_err() {
+        let Ok(()) = all.push(object) else {
             return Err(LinkFault::NoMemory);
-        }
+        };
         next += files_in(&library.code);
         index += 1;
     }

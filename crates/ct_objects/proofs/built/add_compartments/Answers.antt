@@ -27,7 +27,7 @@ loop-compartment-preserved c =
     let o = c.in_ok-object.object in
     let value : c.source_for-source.result.now ≡ source_for x.code.file (drop l.next texts) = rw (← c.compartment.view_is) c.source_for-source.ensures.value in
     let one : IsBuilt (unit_built (compartment_unit l.index x) (source_for x.code.file (drop l.next texts))) o = rw (← value) c.in_ok-object.ensures.ok in
-    let pushed : c.push.new.self.items ≡ l.all.items ++ o ∷ [] = search in
+    let pushed : c.push.new.self.items ≡ l.all.items ++ o ∷ [] = c.in-Ok.ensures.items in
     let sized : c.files_in-next.result ≡ file_of x.code.file = rw (← c.compartment.view_is) c.files_in-next.ensures in
     one_more compartment_unit xs texts 0 c.args.all.now.items l.all.items c.push.new.self.items l.compartment-index l.index l.next c.files_in-next.result _ x o
     l.invariant c.compartment-item.is c.loop-compartment-test.true one pushed sized
