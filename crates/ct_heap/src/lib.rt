@@ -18,3 +18,6 @@ pub use def_chunks::{Account, Range};
 pub use def_refusals::NoMemory;
 pub use heap::Heap;
 pub use rows::{Found, HeapRefusal, NotWhole, Object};
+
+#[cfg(test)]
+mod tests;
