@@ -1,0 +1,5 @@
+pub mod Rights
+pub mod Labels
+pub mod Edges
+pub mod Lines
+pub mod Report
