@@ -10,7 +10,8 @@ ghost use Rattle.def_image.specs.Indexes.{index_checks};
 ghost use Rattle.def_image.specs.Rights.{right_checks};
 ghost use Rattle.law_images.specs.Tiny.{tiny, app, app_code, the_main, the_switch, the_uart, the_thread, uart0, raw_tiny, raw_app, with_app, with_slots, with_switch, with_uart, with_main, with_thread, raw_with, slot_byte, export_byte, slot_named};
 
-/// Limits and forms: a number, a name or padding of the smallest image altered, and where that is found.
+/// Limits and forms: a number, a name or padding of the smallest image altered, and where that is
+/// found.
 pub fn limits_fail()
     ensures devices { first
         (limit_checks (record raw_tiny { devices = replicate 17 (raw_device uart0) }))
@@ -24,7 +25,9 @@ pub fn limits_fail()
     ensures size_odd { first (limit_checks (raw_of (record tiny { size = 4104 }))) ≡ Some 40 }
     ensures end { first (limit_checks (raw_of (record tiny { ram = 0xfffff000 }))) ≡ Some 40 }
     ensures name { first (limit_checks (raw_of (record tiny { name = codes "Tiny" }))) ≡ Some 52 }
-    ensures name_padding { first (limit_checks (record raw_tiny { name = codes "tiny" ++ replicate 27 0 ++ 1 ∷ [] })) ≡ Some 56 }
+    ensures name_padding { first
+        (limit_checks (record raw_tiny { name = codes "tiny" ++ replicate 27 0 ++ 1 ∷ [] }))
+        ≡ Some 56 }
     ensures device_name { first
         (limit_checks (raw_of (record tiny { devices = uart0 ∷ uart0 ∷ [] })))
         ≡ Some 124 }
@@ -60,9 +63,13 @@ pub fn limits_fail()
     ensures service { first (limit_checks (slot_byte 0 4 13)) ≡ Some 196 }
     ensures second { first (limit_checks (slot_byte 1 8 1)) ≡ Some 248 }
     ensures third { first (limit_checks (slot_byte 1 15 1)) ≡ Some 252 }
-    ensures slot_name { first (limit_checks (slot_named 1 (name_field (codes "switch")))) ≡ Some 256 }
-    ensures switch_name { first (limit_checks (slot_named 0 (name_field (codes "swatch")))) ≡ Some 208 }
-    ensures slot_padding { first (limit_checks (slot_named 1 (codes "uart" ++ 0 ∷ replicate 27 1))) ≡ Some 260 }
+    ensures slot_name { first (limit_checks (slot_named 1 (name_field (codes "switch"))))
+        ≡ Some 256 }
+    ensures switch_name { first (limit_checks (slot_named 0 (name_field (codes "swatch"))))
+        ≡ Some 208 }
+    ensures slot_padding { first
+        (limit_checks (slot_named 1 (codes "uart" ++ 0 ∷ replicate 27 1)))
+        ≡ Some 260 }
     ensures offset { first
         (limit_checks (raw_of (with_main (record the_main.row { offset = 20 }))))
         ≡ Some 288 }
@@ -84,7 +91,9 @@ pub fn limits_fail()
     ensures initial_padding { first
         (limit_checks (raw_with (record raw_app { initial = 1 ∷ []; padding = 0 ∷ 0 ∷ 7 ∷ [] })))
         ≡ Some 357 }
-    ensures thread_name { first (limit_checks (raw_of (with_thread (record the_thread { name = codes "app" })))) ≡ Some 356 }
+    ensures thread_name { first
+        (limit_checks (raw_of (with_thread (record the_thread { name = codes "app" }))))
+        ≡ Some 356 }
     ensures stack_length { first
         (limit_checks (raw_of (with_thread (record the_thread { stack_length = 240 }))))
         ≡ Some 392 }

@@ -94,7 +94,21 @@ pub fn whole_limits_fail()
     ensures library_name { first
         (limit_checks (raw_of (record whole { libraries = one ∷ one ∷ [] })))
         ≡ Some 1024 }
-    ensures library_posture { first (limit_checks (record (raw_of whole) { libraries = raw_code one ∷ record (raw_code two) { exports = record { row = 0 ∷ 0 ∷ 0 ∷ 0 ∷ 0 ∷ 0 ∷ 0 ∷ 0 ∷ 0 ∷ 4 ∷ 1 ∷ 0 ∷ 18 ∷ 0 ∷ 0 ∷ 0 ∷ []; name = name_field (codes "f") } ∷ [] } ∷ [] })) ≡ Some 1085 }
+    ensures library_posture { first
+        (limit_checks (record (raw_of whole) {
+          libraries =
+              raw_code one
+              ∷ record (raw_code two) {
+                exports =
+                    record {
+                      row = 0 ∷ 0 ∷ 0 ∷ 0 ∷ 0 ∷ 0 ∷ 0 ∷ 0 ∷ 0 ∷ 4 ∷ 1 ∷ 0 ∷ 18 ∷ 0 ∷ 0 ∷ 0 ∷ [];
+                      name = name_field (codes "f");
+                    }
+                    ∷ [];
+              }
+              ∷ [];
+        }))
+        ≡ Some 1085 }
     ensures library_args { first
         (limit_checks
         (raw_of (record whole {
