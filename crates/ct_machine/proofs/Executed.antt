@@ -12,7 +12,7 @@ use Rattle.def_step.specs.declared.Next.TheVariants.{Returning, Instruction, Not
 use Rattle.def_step.specs.Checks.{first_failed}
 use Rattle.def_step.specs.Devices.{Bank}
 use Rattle.def_step.specs.Operands.{operands_of, class_of}
-use Rattle.def_step.specs.Instructions.{Board, Done, executed, after_fetch, goes_on, ends, fetch_checks, next_at, space_of, operand, carried_out, around}
+use Rattle.def_step.specs.Instructions.{Board, Done, executed, after_fetch, goes_on, ends, fetch_checks, next_at, space_of, operand, carried_out, named_by, around}
 use Rattle.def_step.specs.Events.{run_on, noted, with_deed}
 use Rattle.ct_machine.specs.declared.ran.Ran.{Ran}
 use Rattle.ct_machine.specs.declared.presence.Presence.{Presence}
@@ -28,7 +28,7 @@ next_is : (b : Board) (s : State) (t : ℕ) (n : Next) → goes_on b s t n ≡ s
 next_is b s t Returning = refl
 next_is b s t (Instruction i) =
     result_is b s t (operand s t (operands_of i).first)
-    (carried_out (class_of i) i (operands_of i).to (operand s t (operands_of i).first) (operand s t (operands_of i).second) (around b s t))
+    (carried_out (class_of i) i (operands_of i).to (operand s t (operands_of i).first) (operand s t (operands_of i).second) (named_by b.image (operand s t (operands_of i).first)) (around b s t))
 next_is b s t Nothing = refl
 
 fetched_is : (b : Board) (s : State) (t : ℕ) (o : Option Trap) → after_fetch b s t o ≡ settle b s t (decide_fetched (thread s t) (space_of b s) o)

@@ -15,7 +15,7 @@ use Rattle.def_step.specs.declared.Next.TheVariants.{Returning, Instruction, Not
 use Rattle.def_step.specs.declared.Event.TheVariants.{Step}
 use Rattle.def_step.specs.Checks.{first_failed}
 use Rattle.def_step.specs.Operands.{operands_of, class_of}
-use Rattle.def_step.specs.Instructions.{Board, Done, executed, after_fetch, goes_on, ends, fetch_checks, next_at, space_of, operand, carried_out, around}
+use Rattle.def_step.specs.Instructions.{Board, Done, executed, after_fetch, goes_on, ends, fetch_checks, next_at, space_of, operand, carried_out, named_by, around}
 use Rattle.def_step.specs.Events.{happens, stepped, continued, with_deed, with_act, scheduled, picked_as, picked_from, preempted, preempted_from, one_more_step}
 use Rattle.def_sched.specs.Picks.{pick}
 use Rattle.def_machine.specs.Threads.{statuses_of}
@@ -42,7 +42,7 @@ next_counts : (b : Board) (s : State) (t : ℕ) (n : Next) → (goes_on b s t n)
 next_counts b s t Returning = returned_counts b.image s t (thread s t).frames
 next_counts b s t (Instruction i) =
     ends_counts b s t (operand s t (operands_of i).first)
-    (carried_out (class_of i) i (operands_of i).to (operand s t (operands_of i).first) (operand s t (operands_of i).second) (around b s t))
+    (carried_out (class_of i) i (operands_of i).to (operand s t (operands_of i).first) (operand s t (operands_of i).second) (named_by b.image (operand s t (operands_of i).first)) (around b s t))
 next_counts b s t Nothing = unwound_counts b.image s t (thread s t).frames
 
 fetched_counts : (b : Board) (s : State) (t : ℕ) (o : Option trap_words.Trap) → (after_fetch b s t o).0.counts ≡ s.counts

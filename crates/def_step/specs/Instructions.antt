@@ -17,7 +17,7 @@ use Rattle.def_instr.specs.declared.Instr.{Instr}
 use Rattle.def_instr.specs.Reading.{instruction_in}
 use Rattle.def_instr.specs.Results.{integer_result}
 use Rattle.def_capstep.specs.Results.{capability_result}
-use Rattle.def_machine.specs.Image.{Image}
+use Rattle.def_machine.specs.Image.{Image, root}
 use Rattle.def_machine.specs.State.{State, Frame, register, thread}
 use Rattle.def_machine.specs.Threads.{jumped}
 use Rattle.def_machine.specs.Frames.{returned, unwound}
@@ -25,7 +25,7 @@ use Rattle.def_step.specs.declared.Class.{Class}
 use Rattle.def_step.specs.declared.Class.TheVariants as class
 use Rattle.def_step.specs.declared.Next.{Next}
 use Rattle.def_step.specs.declared.Next.TheVariants.{Returning, Instruction, Nothing}
-use Rattle.def_profile.specs.declared.native.TheConstants.{NATIVE_BASE, NATIVE_UNIT, REMAINING, RETURN_ENTRY}
+use Rattle.def_profile.specs.declared.native.TheConstants.{NATIVE_BASE, NATIVE_UNIT, LAST_NATIVE, RETURN_ENTRY}
 use Rattle.def_profile.specs.declared.traps.TheConstants.{BOUNDS_CODE, TAG_CODE, SEAL_CODE, EXECUTE_CODE, SYSTEM_REGISTER_CODE, PCC_REGISTER, ILLEGAL_INSTRUCTION, BREAKPOINT, ENVIRONMENT_CALL}
 use Rattle.def_words.specs.Traps.{capability_trap, plain_trap}
 use Rattle.def_step.specs.Checks.{Check, first_failed}
@@ -96,19 +96,19 @@ accesses a to (Ok m) =
       act = m.act;
     })
 
--- x and y are the values of the first and second source. No jump that is carried out goes through a type 2
--- sentry, so that none names an export.
-abbrev pub carried_out : Class → Instr → ℕ → Cap → Cap → Around → Result Done trap_words.Trap
-carried_out class.Integer i to x y a =
+-- x and y are the values of the first and second source, and `named` is the export that the root of x
+-- names, or 0
+abbrev pub carried_out : Class → Instr → ℕ → Cap → Cap → ℕ → Around → Result Done trap_words.Trap
+carried_out class.Integer i to x y named a =
     Ok (gives a to (integer (integer_result i (cap_address x) (cap_address y))))
-carried_out class.Capability i to x y a = Ok (gives a to (capability_result i x y a.pcc))
-carried_out class.System i to x y a = Err (capability_trap SYSTEM_REGISTER_CODE PCC_REGISTER)
-carried_out class.Jump i to x y a = flows a to (flow_result i x y a.pcc a.posture 0)
-carried_out class.Access i to x y a = accesses a to (access_result i x y a.space)
-carried_out class.Fence i to x y a = Ok (gives a 0 (plain 0))
-carried_out class.Call i to x y a = Err (plain_trap ENVIRONMENT_CALL)
-carried_out class.Break i to x y a = Err (plain_trap BREAKPOINT)
-carried_out class.Absent i to x y a = Err (plain_trap ILLEGAL_INSTRUCTION)
+carried_out class.Capability i to x y named a = Ok (gives a to (capability_result i x y a.pcc))
+carried_out class.System i to x y named a = Err (capability_trap SYSTEM_REGISTER_CODE PCC_REGISTER)
+carried_out class.Jump i to x y named a = flows a to (flow_result i x y a.pcc a.posture named)
+carried_out class.Access i to x y named a = accesses a to (access_result i x y a.space)
+carried_out class.Fence i to x y named a = Ok (gives a 0 (plain 0))
+carried_out class.Call i to x y named a = Err (plain_trap ENVIRONMENT_CALL)
+carried_out class.Break i to x y named a = Err (plain_trap BREAKPOINT)
+carried_out class.Absent i to x y named a = Err (plain_trap ILLEGAL_INSTRUCTION)
 
 -- ---- fetch
 
@@ -134,7 +134,7 @@ fetched p at =
 -- the entry of a native routine that a slot may name, or of the return
 abbrev pub is_native_entry : ℕ → Bool
 is_native_entry x =
-    nat_le NATIVE_BASE x && nat_lt x (NATIVE_BASE + NATIVE_UNIT * (REMAINING + 1))
+    nat_le NATIVE_BASE x && nat_lt x (NATIVE_BASE + NATIVE_UNIT * (LAST_NATIVE + 1))
     && (x % NATIVE_UNIT == 0)
 
 -- what stands at the program counter: the return, an instruction, or nothing that is carried out
@@ -204,11 +204,16 @@ ends b s t x (Ok d) = (put_done s t d, option_map (deed s t x.shadow.root) d.act
 abbrev pub operand : State → ℕ → ℕ → Cap
 operand s t n = register (thread s t) n
 
+-- the export that the root of a capability names, or 0
+abbrev pub named_by : Image → Cap → ℕ
+named_by i x = (root i x.shadow.root).of
+
 abbrev pub instructed : Board → State → ℕ → Instr → State × Option Deed
 instructed b s t i =
     ends b s t (operand s t (operands_of i).first)
     (carried_out (class_of i) i (operands_of i).to (operand s t (operands_of i).first)
-    (operand s t (operands_of i).second) (around b s t))
+    (operand s t (operands_of i).second) (named_by b.image (operand s t (operands_of i).first))
+    (around b s t))
 
 abbrev pub goes_on : Board → State → ℕ → Next → State × Option Deed
 goes_on b s t Returning = (returned b.image s t (thread s t).frames, None)

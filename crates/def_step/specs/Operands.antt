@@ -1,5 +1,5 @@
 -- The registers of each instruction, and what kind of work it is, by its shape.
-use Rattle.std.specs.Prelude.{ℕ, ◌==◌, ◌&&◌, if◌then◌else◌}
+use Rattle.std.specs.Prelude.{ℕ}
 use Rattle.def_instr.specs.declared.Instr.{Instr}
 use Rattle.def_instr.specs.declared.shapes.Shape.{Shape}
 use Rattle.def_instr.specs.declared.shapes.Shape.TheVariants as shape
@@ -31,7 +31,6 @@ shape_operands _ = operands 0 0 0
 abbrev pub operands_of : Instr → Operands
 operands_of i = shape_operands (shape_of i)
 
--- Of the register jumps only the return, `cjalr c0, 0(c1)`, is carried out.
 abbrev pub shape_class : Shape → Class
 shape_class (shape.Registers (registers.Integer operation) rd rs1 rs2) = class.Integer
 shape_class (shape.Registers (registers.Capability operation) rd rs1 rs2) = class.Capability
@@ -44,8 +43,7 @@ shape_class (shape.Load operation rd rs1 n) = class.Access
 shape_class (shape.Store operation rs1 rs2 n) = class.Access
 shape_class (shape.Branch operation rs1 rs2 offset) = class.Jump
 shape_class (shape.Jump rd offset) = class.Jump
-shape_class (shape.RegisterJump rd rs1 n) =
-    if (rd == 0) && (rs1 == 1) && (n == 0) then class.Jump else class.Absent
+shape_class (shape.RegisterJump rd rs1 n) = class.Jump
 shape_class (shape.OneSource operation rd rs1) = class.Capability
 shape_class (shape.Fence n) = class.Fence
 shape_class shape.Call = class.Call

@@ -12,23 +12,20 @@ ghost use Rattle.def_image.specs.Accepted.{IsFaultless, IsImage};
 ghost use Rattle.def_image.specs.Parts.{PartsRow};
 ghost use Rattle.def_step.specs.Events.{run, told};
 ghost use Rattle.def_step.specs.declared.Event.{Event};
-ghost use Rattle.law_grants.specs.Fits.{AreServed};
 ghost use Rattle.law_images.specs.Tiny.{tiny};
 ghost use Rattle.law_link.specs.Links.{Links};
 
 use law_link_samples::samples_link;
 
-/// Of any bytes that are an image: the machine's image of its parts is partitioned; and where its slots
-/// name no token routine, the machine is confined after any list of events from its boot, and each deed
-/// and each span with interrupts off that these tell is licensed by the image's entries.
+/// Of any bytes that are an image: the machine's image of its parts is partitioned; the machine is confined
+/// after any list of events from its boot, and each deed and each span with interrupts off that these
+/// tell is licensed by the image's entries.
 pub fn accepted_images_run()
     ensures partitioned { (bytes : List ℕ) (p : PartsRow) → IsImage bytes p
         → Partitioned (image_of p) }
     ensures confined { (bytes : List ℕ) (p : PartsRow) (es : List Event) → IsImage bytes p
-        → AreServed (image_of p)
         → Confined (image_of p) (run (board_of p) (boot_state p) es) }
     ensures licensed { (bytes : List ℕ) (p : PartsRow) (es : List Event) → IsImage bytes p
-        → AreServed (image_of p)
         → AllLicensed (image_of p).entries (told (board_of p) (boot_state p) es) }
 {}
 
@@ -37,17 +34,16 @@ pub fn linked_images_run()
     ensures partitioned { (d : DescRow) (sources : List (List ℕ)) (p : PartsRow)
         → Links d sources p → Partitioned (image_of p) }
     ensures confined { (d : DescRow) (sources : List (List ℕ)) (p : PartsRow) (es : List Event)
-        → Links d sources p → AreServed (image_of p)
+        → Links d sources p
         → Confined (image_of p) (run (board_of p) (boot_state p) es) }
     ensures licensed { (d : DescRow) (sources : List (List ℕ)) (p : PartsRow) (es : List Event)
-        → Links d sources p → AreServed (image_of p)
+        → Links d sources p
         → AllLicensed (image_of p).entries (told (board_of p) (boot_state p) es) }
 {}
 
-/// The premises are met: the smallest sample's parts have no fault, and its slots name no token routine.
+/// The premise is met: the smallest sample's parts have no fault.
 pub fn smallest_image_is_one()
-    ensures faultless { IsFaultless tiny }
-    ensures served { AreServed (image_of tiny) }
+    ensures { IsFaultless tiny }
 {
     samples_link();
 }

@@ -16,11 +16,12 @@ use Rattle.def_step.specs.Operands.{operands_of, class_of}
 use Rattle.def_step.specs.Instructions.{Done, carried_out}
 use Rattle.def_object.specs.Object.{high_piece, low_piece, way}
 
--- what an instruction does to the thread; one that traps leaves it
+-- what an instruction does to the thread; one that traps leaves it. None jumps through a register, so that
+-- no export is named.
 abbrev pub effect : Space → Thread → Instr → Result Done Trap
 effect p w i =
     carried_out (class_of i) i (operands_of i).to (register w (operands_of i).first)
-    (register w (operands_of i).second)
+    (register w (operands_of i).second) 0
     (record { pcc = w.pcc; posture = w.posture; space = p })
 
 abbrev pub onward : Thread → Result Done Trap → Thread

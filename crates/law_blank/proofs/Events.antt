@@ -37,7 +37,7 @@ use Rattle.def_step.specs.Checks.{first_failed}
 use Rattle.def_step.specs.Accesses.{Accessed}
 use Rattle.def_step.specs.Jumps.{Flowed}
 use Rattle.def_step.specs.Operands.{operands_of, class_of}
-use Rattle.def_step.specs.Instructions.{Board, Done, carried_out, flows, accesses, around, space_of, put_done, ends, operand, trapped, goes_on, after_fetch, executed, fetch_checks, next_at}
+use Rattle.def_step.specs.Instructions.{Board, Done, carried_out, named_by, flows, accesses, around, space_of, put_done, ends, operand, trapped, goes_on, after_fetch, executed, fetch_checks, next_at}
 use Rattle.def_step.specs.Events.{preempted_from, preempted, picked_as, picked_from, scheduled, continued, one_more_step, stepped, interrupted, happens, run}
 use Rattle.law_places.proofs.Rows.{each_map}
 use Rattle.law_heap.proofs.Quarantines.{one_there}
@@ -80,7 +80,7 @@ accesses_blank : (b : Board) (s : State) (t to : ℕ) (r : Result Accessed Trap)
 accesses_blank b s t to (Err w) h = tt
 accesses_blank b s t to (Ok m) h = h
 
-class_blank : (b : Board) (s : State) (t : ℕ) (c : Class) (k : Instr) (to m n : ℕ) → Reaching b s t → IfDone b s (carried_out c k to (operand s t m) (operand s t n) (around b s t))
+class_blank : (b : Board) (s : State) (t : ℕ) (c : Class) (k : Instr) (to m n : ℕ) → Reaching b s t → IfDone b s (carried_out c k to (operand s t m) (operand s t n) (named_by b.image (operand s t m)) (around b s t))
 class_blank b s t class.Integer k to m n r = r.blank
 class_blank b s t class.Capability k to m n r = r.blank
 class_blank b s t class.System k to m n r = tt
@@ -93,7 +93,7 @@ class_blank b s t class.Absent k to m n r = tt
 
 next_blank : (b : Board) (s : State) (t : ℕ) (n : Next) → Reaching b s t → Blank b.image (goes_on b s t n).0
 next_blank b s t Returning r = returned_blank b.image s t (thread s t).frames r.blank
-next_blank b s t (Instruction k) r = ends_blank b s t (operand s t (operands_of k).first) (carried_out (class_of k) k (operands_of k).to (operand s t (operands_of k).first) (operand s t (operands_of k).second) (around b s t)) r.blank (class_blank b s t (class_of k) k (operands_of k).to (operands_of k).first (operands_of k).second r)
+next_blank b s t (Instruction k) r = ends_blank b s t (operand s t (operands_of k).first) (carried_out (class_of k) k (operands_of k).to (operand s t (operands_of k).first) (operand s t (operands_of k).second) (named_by b.image (operand s t (operands_of k).first)) (around b s t)) r.blank (class_blank b s t (class_of k) k (operands_of k).to (operands_of k).first (operands_of k).second r)
 next_blank b s t Nothing r = unwound_blank b.image s t (thread s t).frames r.blank
 
 fetch_blank : (b : Board) (s : State) (t : ℕ) (o : Option Trap) → Reaching b s t → Blank b.image (after_fetch b s t o).0

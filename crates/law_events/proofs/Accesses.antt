@@ -32,7 +32,7 @@ use Rattle.def_step.specs.Checks.{Check, first_failed}
 use Rattle.def_step.specs.Devices.{Bank, found, bank_value, bank_read, bank_written}
 use Rattle.def_machine.specs.Memory.{filtered_in}
 use Rattle.def_step.specs.Accesses.{Accessed, access_of, access_checks, load_checks, store_checks, access_address, access_result, accessed, in_ram, on_device, is_ram, ram_value, ram_stored, device_value, stored_value, widened, deed_at, unless}
-use Rattle.def_step.specs.Instructions.{Board, Done, Around, accesses, around, space_of, bank_of, deed, put_done, operand, carried_out, actor_of}
+use Rattle.def_step.specs.Instructions.{Board, Done, Around, accesses, around, space_of, bank_of, deed, put_done, operand, carried_out, named_by, actor_of}
 use Rattle.def_board.specs.Wired.{Wired}
 use Rattle.def_confined.specs.Confined.{Confined}
 use Rattle.def_confined.specs.Licensed.{Licensed}
@@ -363,9 +363,9 @@ accessed_licensed b s t n m a at w =
 
 -- of a load or a store that is carried out
 pub record AccessLaws (b : Board) (s : State) (t : ℕ) (k : Instr) : Type 0 where
-  pub confined : (d : Done) → carried_out class.Access k (operands_of k).to (operand s t (operands_of k).first) (operand s t (operands_of k).second) (around b s t) ≡ Ok d → Confined b.image (put_done s t d)
-  pub ram : (d : Done) → carried_out class.Access k (operands_of k).to (operand s t (operands_of k).first) (operand s t (operands_of k).second) (around b s t) ≡ Ok d → RamLeft b.image s d.granules
-  pub licensed : (d : Done) (a : Act) → carried_out class.Access k (operands_of k).to (operand s t (operands_of k).first) (operand s t (operands_of k).second) (around b s t) ≡ Ok d → d.act ≡ Some a
+  pub confined : (d : Done) → carried_out class.Access k (operands_of k).to (operand s t (operands_of k).first) (operand s t (operands_of k).second) (named_by b.image (operand s t (operands_of k).first)) (around b s t) ≡ Ok d → Confined b.image (put_done s t d)
+  pub ram : (d : Done) → carried_out class.Access k (operands_of k).to (operand s t (operands_of k).first) (operand s t (operands_of k).second) (named_by b.image (operand s t (operands_of k).first)) (around b s t) ≡ Ok d → RamLeft b.image s d.granules
+  pub licensed : (d : Done) (a : Act) → carried_out class.Access k (operands_of k).to (operand s t (operands_of k).first) (operand s t (operands_of k).second) (named_by b.image (operand s t (operands_of k).first)) (around b s t) ≡ Ok d → d.act ≡ Some a
       → Licensed b.image.entries (deed s t (operand s t (operands_of k).first).shadow.root a)
 
 pub access_laws : (b : Board) (s : State) (t : ℕ) (k : Instr) → Wired b → Fetching b.image s t → s.running ≡ Some t → AccessLaws b s t k

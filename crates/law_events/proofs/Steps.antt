@@ -25,7 +25,7 @@ use Rattle.def_step.specs.Accesses.{Space, Accessed, access_of, access_checks, a
 use Rattle.def_step.specs.Jumps.{Flowed, flow_result}
 use Rattle.def_step.specs.Operands.{operands_of, class_of}
 use Rattle.def_profile.specs.declared.native.TheConstants.{RETURN_ENTRY}
-use Rattle.def_step.specs.Instructions.{Board, Done, Around, carried_out, flows, accesses, around, space_of, deed, put_done, ends, operand, goes_on, after_fetch, executed, fetch_checks, fetched, next_at, next_word, is_native_entry}
+use Rattle.def_step.specs.Instructions.{Board, Done, Around, carried_out, named_by, flows, accesses, around, space_of, deed, put_done, ends, operand, goes_on, after_fetch, executed, fetch_checks, fetched, next_at, next_word, is_native_entry}
 use Rattle.def_board.specs.Wired.{Wired}
 use Rattle.def_confined.specs.Confined.{Confined}
 use Rattle.def_confined.specs.Partitioned.{Partitioned}
@@ -74,7 +74,7 @@ act_licensed b s t entry None h d e = none_licensed b d e
 act_licensed b s t entry (Some a) h d e = some_same (Licensed b.image.entries) (deed s t entry a) d e (h a refl)
 
 access_fair : (b : Board) (s : State) (t : ℕ) (k : Instr) (r : Result Done Trap) → Fetching b.image s t → Wired b → s.running ≡ Some t
-    → carried_out class.Access k (operands_of k).to (operand s t (operands_of k).first) (operand s t (operands_of k).second) (around b s t) ≡ r → ErrTells r → Fair b s (ends b s t (operand s t (operands_of k).first) r)
+    → carried_out class.Access k (operands_of k).to (operand s t (operands_of k).first) (operand s t (operands_of k).second) (named_by b.image (operand s t (operands_of k).first)) (around b s t) ≡ r → ErrTells r → Fair b s (ends b s t (operand s t (operands_of k).first) r)
 access_fair b s t k (Err w) f wired runs e tells = trapped_fair b s t w runs f.parts f.held tells
 access_fair b s t k (Ok d) f wired runs e tells =
     let laws = access_laws b s t k wired f runs in
@@ -87,7 +87,7 @@ access_fair b s t k (Ok d) f wired runs e tells =
 -- ---- an instruction
 
 class_fair : (b : Board) (s : State) (t : ℕ) (k : Instr) (c : Class) → class_of k ≡ c → Wired b → s.running ≡ Some t → Fetching b.image s t → (access_of k).by < 16
-    → Fair b s (ends b s t (operand s t (operands_of k).first) (carried_out c k (operands_of k).to (operand s t (operands_of k).first) (operand s t (operands_of k).second) (around b s t)))
+    → Fair b s (ends b s t (operand s t (operands_of k).first) (carried_out c k (operands_of k).to (operand s t (operands_of k).first) (operand s t (operands_of k).second) (named_by b.image (operand s t (operands_of k).first)) (around b s t)))
 class_fair b s t k class.Integer e wired runs f small =
     gives_fair b s t (operands_of k).to (integer (integer_result k (cap_address (operand s t (operands_of k).first)) (cap_address (operand s t (operands_of k).second)))) runs f (untagged_puts b.image s t _ refl)
 class_fair b s t k class.Capability e wired runs f small =

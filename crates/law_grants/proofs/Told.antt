@@ -10,7 +10,7 @@ use Rattle.ct_entry.specs.declared.rows.Mode.{Mode}
 use Rattle.ct_entry.specs.declared.rows.Mode.TheVariants.{Inherit, Disabled, Enabled}
 use Rattle.ct_entry.specs.declared.rows.Kind.TheVariants as kind
 use Rattle.def_profile.specs.declared.layout.TheConstants.{SLOT_SIZE, DEVICE_SIZE}
-use Rattle.def_profile.specs.declared.native.TheConstants.{NATIVE_BASE, NATIVE_END, RETURN_ENTRY}
+use Rattle.def_profile.specs.declared.native.TheConstants.{LAST_NATIVE, NATIVE_BASE, NATIVE_END, RETURN_ENTRY}
 use Rattle.def_profile.specs.declared.rights.TheConstants.{KEY_RIGHTS}
 use Rattle.def_profile.specs.declared.seals.TheConstants.{FIRST_KEY_TYPE, RETURN_ENABLE, EXPORT_TYPE, QUOTA_TYPE}
 use Rattle.def_words.specs.declared.Cap.{Cap}
@@ -116,6 +116,12 @@ says_return p r some run = record {
 
 -- ---- what is said of a number
 
+-- a service stands at its native entry, and is one of the routines
+pub record Serves (o : Origin) (at number : ℕ) : Type 0 where
+  pub service : o ≡ Listing kind.Service
+  pub at_entry : at ≡ native_address number
+  pub few : number ≤ LAST_NATIVE
+
 -- a capability is what its entry says
 pub record Faithful (p : PartsRow) (n : ℕ) (r : Root) (d : Cap) : Type 0 where
   pub seal : ℕ
@@ -124,7 +130,7 @@ pub record Faithful (p : PartsRow) (n : ℕ) (r : Root) (d : Cap) : Type 0 where
   pub says : TypeSays p r seal
   pub roots : is_root r.origin ≡ true
   pub home : is_home r.origin r.owner ≡ true
-  pub native : is_native r.origin ≡ true → (at ≡ RETURN_ENTRY) ⊎ ((r.origin ≡ Listing kind.Service) × (at ≡ native_address r.of))
+  pub native : is_native r.origin ≡ true → (at ≡ RETURN_ENTRY) ⊎ Serves r.origin at r.of
 
 -- a range is of nothing, of RAM below the heap, of the native routines, of a device, or a key's
 pub data LiesAs (p : PartsRow) (o : Origin) (base top : ℕ) : Type 0 where
@@ -177,7 +183,7 @@ told_export p n e g is rights low high = record {
 
 -- what boot made of an entry, with what its type says
 faithful : (p : PartsRow) (n : ℕ) (e : Entry) → RowMade p n e → TypeSays p (listed_root (Some e) no_gate) (type_for p e e.kind) → is_root (Listing e.kind) ≡ true → is_home (Listing e.kind) e.owner ≡ true
-    → (is_native (Listing e.kind) ≡ true → (address_for p e e.kind ≡ RETURN_ENTRY) ⊎ ((Listing e.kind ≡ Listing kind.Service) × (address_for p e e.kind ≡ native_address e.of)))
+    → (is_native (Listing e.kind) ≡ true → (address_for p e e.kind ≡ RETURN_ENTRY) ⊎ Serves (Listing e.kind) (address_for p e e.kind) e.of)
     → Faithful p n (listed_root (Some e) no_gate) (made_by p n e e.kind)
 faithful p n e made says roots home stands = record { seal = type_for p e e.kind; at = address_for p e e.kind; made = made; says = says; roots = roots; home = home; native = stands }
 
@@ -190,7 +196,7 @@ module _ (p : PartsRow) (s : Sound p) where
   slot_told n o at r slot.Service names fits low inside owned =
       told_row p n _ _ (run_fit (Listing kind.Service) (rights_of r) (service_rights (rights_of r) fits) refl refl (λ root. refl))
       (native refl refl (omega arith) (omega (arith, names)))
-      (inr (faithful p n _ (slot_made p s n o at r slot.Service names fits inside) (says_forward p _ 1 (inr refl) (omega arith) (λ e. absurd (omega (arith, e)))) refl refl (λ is. inr (refl, refl))))
+      (inr (faithful p n _ (slot_made p s n o at r slot.Service names fits inside) (says_forward p _ 1 (inr refl) (omega arith) (λ e. absurd (omega (arith, e)))) refl refl (λ is. inr (record { service = refl; at_entry = refl; few = names }))))
       (λ any. neither (Listing kind.Service) refl any)
   slot_told n o at r slot.Device names fits low inside owned =
       let same = device_base_is p s r.first names.0 names.1 in

@@ -4,7 +4,7 @@ use Rattle.law_lists.proofs.Tests.{le_tells, lt_tells}
 use Rattle.ct_entry.specs.Listed.{DeviceRow}
 use Rattle.ct_entry.specs.declared.rows.Kind.TheVariants as kind
 use Rattle.def_profile.specs.declared.layout.TheConstants.{DEVICE_SIZE}
-use Rattle.def_profile.specs.declared.native.TheConstants.{NATIVE_BASE, NATIVE_END, NATIVE_UNIT, REMAINING, RETURN_ENTRY}
+use Rattle.def_profile.specs.declared.native.TheConstants.{NATIVE_BASE, NATIVE_END, NATIVE_UNIT, LAST_NATIVE, RETURN_ENTRY}
 use Rattle.def_words.specs.Authority.{cap_address}
 use Rattle.def_words.specs.Permissions.{bit, load_data, store_data}
 use Rattle.def_reach.specs.Roots.{Origin, Listing, is_native}
@@ -16,7 +16,6 @@ use Rattle.def_image.specs.Parts.{PartsRow}
 use Rattle.def_image.specs.Sound.{Sound}
 use Rattle.def_boot.specs.Boot.{image_of, board_of, bases_of}
 use Rattle.def_boot.specs.Entries.{native_address}
-use Rattle.law_grants.specs.Fits.{AreServed}
 use Rattle.law_grants.proofs.Sets.{clash_of}
 use Rattle.law_grants.proofs.Told.{LiesAs, of_nothing, in_ram, native, device, of_key}
 use Rattle.law_grants.proofs.Clauses.{told_at, interrupts}
@@ -40,9 +39,9 @@ le_yes a b le = elim (le_tells a b) [ inl t ↦ t.0 | inr t ↦ absurd (let gt =
 lt_yes : (a b : ℕ) → a < b → nat_lt a b ≡ true
 lt_yes a b lt = elim (lt_tells a b) [ inl t ↦ t.0 | inr t ↦ absurd (let ge = t.1 in omega (arith, lt, ge)) ]
 
-entry_there : (k : ℕ) → k ≤ REMAINING → is_native_entry (native_address k) ≡ true
+entry_there : (k : ℕ) → k ≤ LAST_NATIVE → is_native_entry (native_address k) ≡ true
 entry_there k few =
-    rw (le_yes NATIVE_BASE (native_address k) (omega arith), lt_yes (native_address k) (NATIVE_BASE + NATIVE_UNIT * (REMAINING + 1)) (omega (arith, few)), eq-eqb (native_address k % NATIVE_UNIT) 0 (omega arith)) refl
+    rw (le_yes NATIVE_BASE (native_address k) (omega arith), lt_yes (native_address k) (NATIVE_BASE + NATIVE_UNIT * (LAST_NATIVE + 1)) (omega (arith, few)), eq-eqb (native_address k % NATIVE_UNIT) 0 (omega arith)) refl
 
 return_there : is_native_entry RETURN_ENTRY ≡ true
 return_there = refl
@@ -55,12 +54,12 @@ module _ (p : PartsRow) (s : Sound p) where
   pub none_native : (x : ℕ) → NATIVE_BASE ≤ x → x < NATIVE_END → is_some (found (bases_of p) x) ≡ false
   none_native x low high = none_from 0 x p.devices (λ i d is. elim (s.device i d is).native [ inl a ↦ inr (omega (arith, a, low)) | inr a ↦ inl (omega (arith, a, high)) ])
 
-  natives : AreServed (image_of p) → (n : ℕ) → is_native (root (image_of p) n).origin ≡ true → is_native_entry (cap_address (made_cap (image_of p) n)) ≡ true
-  natives served n is = elim (told_at p s n).made [
+  natives : (n : ℕ) → is_native (root (image_of p) n).origin ≡ true → is_native_entry (cap_address (made_cap (image_of p) n)) ≡ true
+  natives n is = elim (told_at p s n).made [
     | inl none ↦ clash_of (is_native (root (image_of p) n).origin) is none.other
     | inr f ↦ elim (f.native is) [
       | inl at ↦ subst (λ a. is_native_entry a ≡ true) (sym (f.made.made.address_is ∙ at)) return_there
-      | inr at ↦ subst (λ a. is_native_entry a ≡ true) (sym (f.made.made.address_is ∙ at.1)) (entry_there (root (image_of p) n).of (served n at.0))
+      | inr at ↦ subst (λ a. is_native_entry a ≡ true) (sym (f.made.made.address_is ∙ at.at_entry)) (entry_there (root (image_of p) n).of at.few)
     ]
   ]
 
@@ -81,5 +80,5 @@ module _ (p : PartsRow) (s : Sound p) where
   unfolding image_of
   heap_apart x low high = let below = s.heap.below in none_in_ram x (omega (arith, below, low)) high
 
-  pub wired : AreServed (image_of p) → Wired (board_of p)
-  wired served = record { natives = natives served; devices = devices; apart = heap_apart; gates = interrupts p s }
+  pub wired : Wired (board_of p)
+  wired = record { natives = natives; devices = devices; apart = heap_apart; gates = interrupts p s }

@@ -5,13 +5,11 @@ use Rattle.ct_entry.specs.declared.rows.Entry.{Entry}
 use Rattle.ct_entry.specs.declared.rows.Kind.{Kind}
 use Rattle.ct_entry.specs.declared.rows.Kind.TheVariants as kind
 use Rattle.def_profile.specs.declared.layout.TheConstants.{REGION_UNIT}
-use Rattle.def_profile.specs.declared.native.TheConstants.{REMAINING}
 use Rattle.def_profile.specs.declared.seals.TheConstants.{SENTRY_INHERIT, EXPORT_TYPE, QUOTA_TYPE}
 use Rattle.def_words.specs.declared.Cap.{Cap}
 use Rattle.def_words.specs.LeastBounds.{rounded_of}
 use Rattle.def_words.specs.Narrows.{IsMade}
-use Rattle.def_reach.specs.Roots.{Listing, gate_for}
-use Rattle.def_machine.specs.Image.{Image, root}
+use Rattle.def_reach.specs.Roots.{gate_for}
 use Rattle.def_image.specs.Parts.{GateRow, CodeRow, CompartmentRow, PartsRow}
 use Rattle.def_image.specs.Members.{sealed, gate_address, gate_number, library_gate_number}
 use Rattle.def_boot.specs.Entries.{export_row, library_export_row}
@@ -80,9 +78,3 @@ pub record LibraryExportAt (p : PartsRow) (n : ℕ) : Type 0 where
   pub there : slice_get library.exports which ≡ Some export
   pub number : n ≡ library_gate_number p index which
   pub row : HasRow p n (library_export_row index library) (gate n library export.row)
-
--- ---- services
-
--- each service that a slot names is one whose entry the machine's step takes for a native one
-abbrev pub AreServed : Image → Type 0
-AreServed i = (n : ℕ) → (root i n).origin ≡ Listing kind.Service → (root i n).of ≤ REMAINING

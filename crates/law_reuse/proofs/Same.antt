@@ -15,7 +15,7 @@ use Rattle.def_step.specs.declared.Next.{Next}
 use Rattle.def_step.specs.declared.Next.TheVariants.{Returning, Instruction, Nothing}
 use Rattle.def_step.specs.Checks.{first_failed}
 use Rattle.def_step.specs.Operands.{operands_of, class_of}
-use Rattle.def_step.specs.Instructions.{Board, Done, carried_out, around, space_of, ends, operand, trapped, goes_on, after_fetch, executed, fetch_checks, next_at}
+use Rattle.def_step.specs.Instructions.{Board, Done, carried_out, named_by, around, space_of, ends, operand, trapped, goes_on, after_fetch, executed, fetch_checks, next_at}
 use Rattle.def_step.specs.Events.{preempted_from, preempted, picked_as, picked_from, scheduled, continued, one_more_step, stepped, interrupted, ticked}
 
 pub record Same (s r : State) : Type 0 where
@@ -44,7 +44,7 @@ ends_same b s t x (Ok d) = record { objects = refl; front = refl }
 
 next_same : (b : Board) (s : State) (t : ℕ) (n : Next) → Same s (goes_on b s t n).0
 next_same b s t Returning = returned_same b.image s t (thread s t).frames
-next_same b s t (Instruction k) = ends_same b s t (operand s t (operands_of k).first) (carried_out (class_of k) k (operands_of k).to (operand s t (operands_of k).first) (operand s t (operands_of k).second) (around b s t))
+next_same b s t (Instruction k) = ends_same b s t (operand s t (operands_of k).first) (carried_out (class_of k) k (operands_of k).to (operand s t (operands_of k).first) (operand s t (operands_of k).second) (named_by b.image (operand s t (operands_of k).first)) (around b s t))
 next_same b s t Nothing = unwound_same b.image s t (thread s t).frames
 
 fetch_same : (b : Board) (s : State) (t : ℕ) (o : Option Trap) → Same s (after_fetch b s t o).0

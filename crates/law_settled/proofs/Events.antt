@@ -34,7 +34,7 @@ use Rattle.def_step.specs.Checks.{first_failed}
 use Rattle.def_step.specs.Accesses.{Accessed}
 use Rattle.def_step.specs.Jumps.{Flowed}
 use Rattle.def_step.specs.Operands.{operands_of, class_of}
-use Rattle.def_step.specs.Instructions.{Board, Done, carried_out, gives, flows, accesses, around, space_of, put_done, ends, operand, trapped, goes_on, after_fetch, executed, fetch_checks, next_at}
+use Rattle.def_step.specs.Instructions.{Board, Done, carried_out, named_by, gives, flows, accesses, around, space_of, put_done, ends, operand, trapped, goes_on, after_fetch, executed, fetch_checks, next_at}
 use Rattle.def_step.specs.Events.{preempted_from, preempted, picked_as, picked_from, scheduled, continued, one_more_step, stepped, interrupted, happens, run}
 use Rattle.law_words.proofs.Away.{address_settles, opens_settles}
 use Rattle.law_lists.proofs.Maps.{at_map}
@@ -138,7 +138,7 @@ accesses_settled : (b : Board) (s : State) (t to : ℕ) (r : Result Accessed Tra
 accesses_settled b s t to (Err w) f = tt
 accesses_settled b s t to (Ok m) f = record { value = f.value; pcc = address_settles (thread s t).pcc _; granules = f.granules }
 
-class_settled : (b : Board) (s : State) (t : ℕ) (c : Class) (k : Instr) (to m n : ℕ) → Settled s → IfDone (carried_out c k to (operand s t m) (operand s t n) (around b s t))
+class_settled : (b : Board) (s : State) (t : ℕ) (c : Class) (k : Instr) (to m n : ℕ) → Settled s → IfDone (carried_out c k to (operand s t m) (operand s t n) (named_by b.image (operand s t m)) (around b s t))
 class_settled b s t class.Integer k to m n h = gives_settled b s t to _ h (λ e. refl)
 class_settled b s t class.Capability k to m n h = gives_settled b s t to _ h (result_settled k (operand s t m) (operand s t n) (thread s t).pcc ((h.threads t).registers m))
 class_settled b s t class.System k to m n h = tt
@@ -151,7 +151,7 @@ class_settled b s t class.Absent k to m n h = tt
 
 next_settled : (b : Board) (s : State) (t : ℕ) (n : Next) → Settled s → Settled (goes_on b s t n).0
 next_settled b s t Returning h = returned_settled b.image s t (thread s t).frames refl h
-next_settled b s t (Instruction k) h = ends_settled b s t (operand s t (operands_of k).first) (carried_out (class_of k) k (operands_of k).to (operand s t (operands_of k).first) (operand s t (operands_of k).second) (around b s t)) h (class_settled b s t (class_of k) k (operands_of k).to (operands_of k).first (operands_of k).second h)
+next_settled b s t (Instruction k) h = ends_settled b s t (operand s t (operands_of k).first) (carried_out (class_of k) k (operands_of k).to (operand s t (operands_of k).first) (operand s t (operands_of k).second) (named_by b.image (operand s t (operands_of k).first)) (around b s t)) h (class_settled b s t (class_of k) k (operands_of k).to (operands_of k).first (operands_of k).second h)
 next_settled b s t Nothing h = trapped_settled b s t (plain_trap ILLEGAL_INSTRUCTION) h
 
 fetch_settled : (b : Board) (s : State) (t : ℕ) (o : Option Trap) → Settled s → Settled (after_fetch b s t o).0

@@ -9,7 +9,6 @@ ghost use Rattle.def_image.specs.Parts.{PartsRow};
 ghost use Rattle.def_image.specs.Sound.{Sound};
 ghost use Rattle.def_step.specs.Events.{run, told};
 ghost use Rattle.def_step.specs.declared.Event.{Event};
-ghost use Rattle.law_grants.specs.Fits.{AreServed};
 
 /// The state that a sound image boots is confined, with what stands beside, for any number of
 /// compartments, libraries and threads.
@@ -18,12 +17,11 @@ pub fn boots_confined()
     ensures keeps { (p : PartsRow) → Sound p → Keeps (image_of p) (boot_state p) }
 {}
 
-/// After any list of events from its boot the machine of every sound image, where its slots name no
-/// service past those whose entries the step takes for native ones, is confined, with what stands
-/// beside, and each deed and each span with interrupts off that it tells is licensed.
+/// After any list of events from its boot the machine of every sound image is confined, with what
+/// stands beside, and each deed and each span with interrupts off that it tells is licensed.
 pub fn lawful_runs()
-    ensures keeps { (p : PartsRow) (es : List Event) → Sound p → AreServed (image_of p)
+    ensures keeps { (p : PartsRow) (es : List Event) → Sound p
         → Keeps (image_of p) (run (board_of p) (boot_state p) es) }
-    ensures licensed { (p : PartsRow) (es : List Event) → Sound p → AreServed (image_of p)
+    ensures licensed { (p : PartsRow) (es : List Event) → Sound p
         → AllLicensed (image_of p).entries (told (board_of p) (boot_state p) es) }
 {}

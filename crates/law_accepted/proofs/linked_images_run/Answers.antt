@@ -5,6 +5,6 @@ use Rattle.law_accepted.proofs.linked_images_run.Goals as goal
 pub returns : goal.returns
 returns c = record {
   partitioned = λ d sources p l. partitioned p (faultless d sources p l);
-  confined = λ d sources p es l served. confined p es (faultless d sources p l) served;
-  licensed = λ d sources p es l served. licensed p es (faultless d sources p l) served;
+  confined = λ d sources p es l. confined p es (faultless d sources p l);
+  licensed = λ d sources p es l. licensed p es (faultless d sources p l);
 }

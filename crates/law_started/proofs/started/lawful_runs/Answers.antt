@@ -7,6 +7,6 @@ use Rattle.law_started.proofs.started.lawful_runs.Goals as goal
 
 pub returns : goal.returns
 returns c = record {
-  keeps = λ p es s served. run_keeps (board_of p) (boot_state p) es (partitioned p s) (wired p s served) (keeps p s);
-  licensed = λ p es s served. told_licensed (board_of p) (boot_state p) es (partitioned p s) (wired p s served) (keeps p s);
+  keeps = λ p es s. run_keeps (board_of p) (boot_state p) es (partitioned p s) (wired p s) (keeps p s);
+  licensed = λ p es s. told_licensed (board_of p) (boot_state p) es (partitioned p s) (wired p s) (keeps p s);
 }
