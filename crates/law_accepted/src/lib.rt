@@ -14,6 +14,7 @@ ghost use Rattle.def_step.specs.Events.{run, told};
 ghost use Rattle.def_step.specs.declared.Event.{Event};
 ghost use Rattle.law_images.specs.Tiny.{tiny};
 ghost use Rattle.law_link.specs.Links.{Links};
+ghost use Rattle.law_linked.specs.Samples.{board_rows, board_sources};
 
 use law_link_samples::samples_link;
 
@@ -41,9 +42,11 @@ pub fn linked_images_run()
         → AllLicensed (image_of p).entries (told (board_of p) (boot_state p) es) }
 {}
 
-/// The premise is met: the smallest sample's parts have no fault.
-pub fn smallest_image_is_one()
-    ensures { IsFaultless tiny }
+/// The premises are met, by what the rows and sources of two samples are linked to: the smallest
+/// one's parts, and those of the board with two compartments, a library and two threads.
+pub fn samples_are_accepted()
+    ensures tiny { IsFaultless tiny }
+    ensures board { (p : PartsRow) × Links board_rows board_sources p × IsFaultless p }
 {
     samples_link();
 }

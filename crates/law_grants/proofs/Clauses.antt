@@ -19,7 +19,7 @@ use Rattle.def_image.specs.Sound.{Sound}
 use Rattle.def_boot.specs.Boot.{image_of}
 use Rattle.def_boot.specs.Gates.{gates_of}
 use Rattle.law_grants.proofs.Sets.{is_key, no_way}
-use Rattle.law_grants.proofs.Told.{Told, Faithful, LiesAs, of_nothing, in_ram, native, device, of_key, told}
+use Rattle.law_grants.proofs.Told.{Told, Faithful, LiesAs, of_nothing, in_ram, native, device, of_key, native_low, native_high, told}
 use Rattle.law_grants.proofs.Imports.{named, reach}
 
 plain_seal : cap_seal (plain 0) ≡ 0
@@ -34,8 +34,8 @@ is_device _ = false
 key_low : (p : PartsRow) (o : Origin) (base top : ℕ) → LiesAs p o base top → o ≡ Listing kind.Key → 13 ≤ base
 key_low p o base top (of_nothing no_key none) is = no_way (sym no_key ∙ ap is_key is)
 key_low p o base top (in_ram no_key low high) is = no_way (sym no_key ∙ ap is_key is)
-key_low p o base top (native no_key own low high) is = no_way (sym no_key ∙ ap is_key is)
-key_low p o base top (device its away apart ends) is = no_way (sym (ap is_device is) ∙ ap is_device its)
+key_low p o base top (native no_key own entry) is = no_way (sym no_key ∙ ap is_key is)
+key_low p o base top (device its at) is = no_way (sym (ap is_device is) ∙ ap is_device its)
 key_low p o base top (of_key its low high) is = low
 
 -- what is sealed as this type was made for its entry
@@ -53,12 +53,15 @@ module _ (p : PartsRow) (s : Sound p) where
   pub away_of : (o : Origin) (base top : ℕ) → LiesAs p o base top → (top ≤ p.heap) ⊎ (p.ram + p.size ≤ base)
   away_of o base top (of_nothing no_key none) = inl (omega (arith, none))
   away_of o base top (in_ram no_key low high) = inl high
-  away_of o base top (native no_key own low high) =
+  away_of o base top (native no_key own entry) =
+      let low = native_low base top entry in
+      let high = native_high base top entry in
       let below = s.heap.below in
       elim s.ram.native [ inl a ↦ inr (omega (arith, a, low)) | inr a ↦ inl (omega (arith, a, high, below)) ]
-  away_of o base top (device its away apart ends) =
+  away_of o base top (device its at) =
       let below = s.heap.below in
-      elim away [ inl a ↦ inl (omega (arith, a, ends, below)) | inr a ↦ inr a ]
+      let ends = at.ends in
+      elim at.ram [ inl a ↦ inl (omega (arith, a, ends, below)) | inr a ↦ inr a ]
   away_of o base top (of_key its low high) = let below = s.heap.below in inl (omega (arith, high, below))
 
   pub roots_away : (n : ℕ) → is_root (root (image_of p) n).origin ≡ true → ((root (image_of p) n).top ≤ (image_of p).heap_base) ⊎ ((image_of p).heap_end ≤ (root (image_of p) n).base)
@@ -72,8 +75,8 @@ module _ (p : PartsRow) (s : Sound p) where
   below_end : (o : Origin) (base top : ℕ) → LiesAs p o base top → is_stack o ≡ true → top ≤ RAM_END
   below_end o base top (of_nothing no_key none) is = omega (arith, none)
   below_end o base top (in_ram no_key low high) is = let inside = s.heap.inside in let small = s.ram.end in omega (arith, high, inside, small)
-  below_end o base top (native no_key own low high) is = omega (arith, high)
-  below_end o base top (device its away apart ends) is = no_way (sym (ap is_stack its) ∙ is)
+  below_end o base top (native no_key own entry) is = let high = native_high base top entry in omega (arith, high)
+  below_end o base top (device its at) is = no_way (sym (ap is_stack its) ∙ is)
   below_end o base top (of_key its low high) is = omega (arith, high)
 
   pub stacks_are : (n : ℕ) → (root (image_of p) n).origin ≡ Listing kind.Stack → ((root (image_of p) n).rights ≡ STACK_RIGHTS) × ((root (image_of p) n).top ≤ RAM_END)

@@ -173,8 +173,10 @@ module _ (p : PartsRow) (s : Sound p) where
   native_away o base top x (in_ram no_key from to) other low high =
       let inside = s.heap.inside in
       elim s.ram.native [ inl a ↦ inl (omega (arith, a, to, high, inside)) | inr a ↦ inr (omega (arith, a, from, low)) ]
-  native_away o base top x (native no_key own from to) other low high = no_way (sym other ∙ own)
-  native_away o base top x (device its away apart ends) other low high = elim apart [ inl a ↦ inl (omega (arith, a, ends, high)) | inr a ↦ inr (omega (arith, a, low)) ]
+  native_away o base top x (native no_key own entry) other low high = no_way (sym other ∙ own)
+  native_away o base top x (device its at) other low high =
+      let ends = at.ends in
+      elim at.native [ inl a ↦ inl (omega (arith, a, ends, high)) | inr a ↦ inr (omega (arith, a, low)) ]
   native_away o base top x (of_key its from to) other low high = inl (omega (arith, to, high))
 
   heap_away : (n x : ℕ) → Reads (root (image_of p) n) → IsInside (root (image_of p) n) x → (x < (image_of p).heap_base) ⊎ ((image_of p).heap_end ≤ x)

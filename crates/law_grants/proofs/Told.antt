@@ -4,13 +4,14 @@ use Rattle.std.proofs.lemmas.Bool.{eqb-true}
 use Rattle.std.proofs.lemmas.Option.{slice_get_within}
 use Rattle.ct_entry.specs.declared.rows.Owner.{Owner}
 use Rattle.ct_entry.specs.declared.rows.Owner.TheVariants.{Compartment, Library}
+use Rattle.ct_entry.specs.Listed.{DeviceRow}
 use Rattle.ct_entry.specs.declared.rows.Entry.{Entry}
 use Rattle.ct_entry.specs.declared.rows.Gate.{Gate}
 use Rattle.ct_entry.specs.declared.rows.Mode.{Mode}
 use Rattle.ct_entry.specs.declared.rows.Mode.TheVariants.{Inherit, Disabled, Enabled}
 use Rattle.ct_entry.specs.declared.rows.Kind.TheVariants as kind
 use Rattle.def_profile.specs.declared.layout.TheConstants.{SLOT_SIZE, DEVICE_SIZE}
-use Rattle.def_profile.specs.declared.native.TheConstants.{LAST_NATIVE, NATIVE_BASE, NATIVE_END, RETURN_ENTRY}
+use Rattle.def_profile.specs.declared.native.TheConstants.{NATIVE_BASE, NATIVE_END, NATIVE_LENGTH, LAST_NATIVE, RETURN, RETURN_ENTRY}
 use Rattle.def_profile.specs.declared.rights.TheConstants.{KEY_RIGHTS}
 use Rattle.def_profile.specs.declared.seals.TheConstants.{FIRST_KEY_TYPE, RETURN_ENABLE, EXPORT_TYPE, QUOTA_TYPE}
 use Rattle.def_words.specs.declared.Cap.{Cap}
@@ -132,12 +133,35 @@ pub record Faithful (p : PartsRow) (n : ℕ) (r : Root) (d : Cap) : Type 0 where
   pub home : is_home r.origin r.owner ≡ true
   pub native : is_native r.origin ≡ true → (at ≡ RETURN_ENTRY) ⊎ Serves r.origin at r.of
 
+-- a range is of one native routine's entry
+pub record IsNativeEntry (base top : ℕ) : Type 0 where
+  pub number : ℕ
+  pub few : number ≤ LAST_NATIVE
+  pub starts : base ≡ native_address number
+  pub ends : top ≡ base + NATIVE_LENGTH
+
+pub native_low : (base top : ℕ) → IsNativeEntry base top → NATIVE_BASE ≤ base
+native_low base top e = let starts = e.starts in omega (arith, starts)
+
+pub native_high : (base top : ℕ) → IsNativeEntry base top → top ≤ NATIVE_END
+native_high base top e = let few = e.few in let starts = e.starts in let ends = e.ends in omega (arith, few, starts, ends)
+
+-- a range is of a device, away from RAM and from the native routines
+pub record IsDevice (p : PartsRow) (base top : ℕ) : Type 0 where
+  pub index : ℕ
+  pub row : DeviceRow
+  pub there : slice_get p.devices index ≡ Some row
+  pub starts : base ≡ row.base
+  pub ends : top ≡ base + DEVICE_SIZE
+  pub ram : IsAway base DEVICE_SIZE p.ram (p.ram + p.size)
+  pub native : IsAway base DEVICE_SIZE NATIVE_BASE NATIVE_END
+
 -- a range is of nothing, of RAM below the heap, of the native routines, of a device, or a key's
 pub data LiesAs (p : PartsRow) (o : Origin) (base top : ℕ) : Type 0 where
   of_nothing : is_key o ≡ false → top ≡ 0 → LiesAs p o base top
   in_ram : is_key o ≡ false → p.ram ≤ base → top ≤ p.heap → LiesAs p o base top
-  native : is_key o ≡ false → is_native o ≡ true → NATIVE_BASE ≤ base → top ≤ NATIVE_END → LiesAs p o base top
-  device : o ≡ Listing kind.Device → IsAway base DEVICE_SIZE p.ram (p.ram + p.size) → IsAway base DEVICE_SIZE NATIVE_BASE NATIVE_END → top ≡ base + DEVICE_SIZE → LiesAs p o base top
+  native : is_key o ≡ false → is_native o ≡ true → IsNativeEntry base top → LiesAs p o base top
+  device : o ≡ Listing kind.Device → IsDevice p base top → LiesAs p o base top
   of_key : o ≡ Listing kind.Key → FIRST_KEY_TYPE ≤ base → top ≤ 16 → LiesAs p o base top
 
 -- nothing was made, and the entry is of no native routine
@@ -195,7 +219,7 @@ module _ (p : PartsRow) (s : Sound p) where
       → (is_library_kind k ≡ false → (a : ℕ) × (o ≡ Compartment a)) → Told p n (listed_root (Some (slot_row p o at r k)) no_gate) (made_by p n (slot_row p o at r k) (slot_row p o at r k).kind)
   slot_told n o at r slot.Service names fits low inside owned =
       told_row p n _ _ (run_fit (Listing kind.Service) (rights_of r) (service_rights (rights_of r) fits) refl refl (λ root. refl))
-      (native refl refl (omega arith) (omega (arith, names)))
+      (native refl refl (record { number = r.first; few = names; starts = refl; ends = refl }))
       (inr (faithful p n _ (slot_made p s n o at r slot.Service names fits inside) (says_forward p _ 1 (inr refl) (omega arith) (λ e. absurd (omega (arith, e)))) refl refl (λ is. inr (record { service = refl; at_entry = refl; few = names }))))
       (λ any. neither (Listing kind.Service) refl any)
   slot_told n o at r slot.Device names fits low inside owned =
@@ -203,7 +227,15 @@ module _ (p : PartsRow) (s : Sound p) where
       let A : ℕ → Type 0 = λ b. IsAway b DEVICE_SIZE p.ram (p.ram + p.size) in
       let N : ℕ → Type 0 = λ b. IsAway b DEVICE_SIZE NATIVE_BASE NATIVE_END in
       told_row p n _ _ (data_fit (Listing kind.Device) (rights_of r) (device_set (rights_of r) fits) refl refl)
-      (device refl (subst A (sym same) (s.device r.first names.0 names.1).ram) (subst N (sym same) (s.device r.first names.0 names.1).native) refl)
+      (device refl (record {
+        index = r.first;
+        row = names.0;
+        there = names.1;
+        starts = same;
+        ends = refl;
+        ram = subst A (sym same) (s.device r.first names.0 names.1).ram;
+        native = subst N (sym same) (s.device r.first names.0 names.1).native;
+      }))
       (inr (faithful p n _ (slot_made p s n o at r slot.Device names fits inside) (says_little p _ 0 (inl refl)) refl refl (λ no. no_way no)))
       (λ any. neither (Listing kind.Device) refl any)
   slot_told n o at r slot.Shared names fits low inside owned =
@@ -263,7 +295,7 @@ module _ (p : PartsRow) (s : Sound p) where
   trusted_told = record {
     order = omega arith;
     rights = run_fit TrustedPart _ service_set refl refl (λ root. refl);
-    lies = native refl refl (omega arith) (omega arith);
+    lies = native refl refl (record { number = RETURN; few = omega arith; starts = refl; ends = refl });
     gates = λ no. no_way no;
     made = inr (record { seal = RETURN_ENABLE; at = RETURN_ENTRY; made = sentry_made; says = says_return p _ (omega arith) service_set.run; roots = refl; home = refl; native = λ is. inl refl });
     owned = λ any. neither TrustedPart refl any;

@@ -17,7 +17,7 @@ use Rattle.def_image.specs.Sound.{Sound}
 use Rattle.def_boot.specs.Boot.{image_of, board_of, bases_of}
 use Rattle.def_boot.specs.Entries.{native_address}
 use Rattle.law_grants.proofs.Sets.{clash_of}
-use Rattle.law_grants.proofs.Told.{LiesAs, of_nothing, in_ram, native, device, of_key}
+use Rattle.law_grants.proofs.Told.{LiesAs, of_nothing, in_ram, native, device, of_key, native_low, native_high}
 use Rattle.law_grants.proofs.Clauses.{told_at, interrupts}
 
 not_of : (b x : ℕ) → (x < b) ⊎ (b + DEVICE_SIZE ≤ x) → is_of b x ≡ false
@@ -68,8 +68,11 @@ module _ (p : PartsRow) (s : Sound p) where
   reached o base top x (in_ram no_key from to) key low high is =
       let inside = s.heap.inside in
       clash_of (is_some (found (bases_of p) x)) is (none_in_ram x (omega (arith, from, low)) (omega (arith, to, high, inside)))
-  reached o base top x (native no_key own from to) key low high is = clash_of (is_some (found (bases_of p) x)) is (none_native x (omega (arith, from, low)) (omega (arith, to, high)))
-  reached o base top x (device its away apart ends) key low high is = its
+  reached o base top x (native no_key own entry) key low high is =
+      let from = native_low base top entry in
+      let to = native_high base top entry in
+      clash_of (is_some (found (bases_of p) x)) is (none_native x (omega (arith, from, low)) (omega (arith, to, high)))
+  reached o base top x (device its at) key low high is = its
   reached o base top x (of_key its from to) key low high is = absurd (key its)
 
   devices : (n x : ℕ) → (bit (root (image_of p) n).rights load_data ≡ true) ⊎ (bit (root (image_of p) n).rights store_data ≡ true)
