@@ -7,7 +7,7 @@ use Rattle.def_words.specs.declared.Posture.{Posture}
 use Rattle.ct_entry.specs.declared.acts.Act.TheVariants as acts
 use Rattle.ct_entry.specs.declared.acts.Deed.{Deed}
 use Rattle.def_machine.specs.Image.{Image, area_of, frames_most, stack_base}
-use Rattle.def_machine.specs.State.{State, Thread, Frame, Object, thread, nobody}
+use Rattle.def_machine.specs.State.{State, Frame, Object, thread, nobody}
 use Rattle.def_machine.specs.Frames.{returned, unwound, left_by, answer}
 use Rattle.def_machine.specs.Registers.{written}
 use Rattle.def_machine.specs.Threads.{jumped}
@@ -23,9 +23,9 @@ use Rattle.law_calls.proofs.Pops.{returned_confined, unwound_confined}
 use Rattle.def_confined.specs.Changes.{Jumps}
 use Rattle.law_jumps.proofs.Moves.{jumps_confined}
 use Rattle.def_confined.specs.Keeps.{Beside}
-use Rattle.def_confined.specs.Swept.{HasUnpainted, FramesSwept, Swept, Bounded}
+use Rattle.def_confined.specs.Swept.{HasUnpainted, FramesSwept, Bounded}
 use Rattle.law_granules.proofs.Lists.{zeroed_at, zeroed_length}
-use Rattle.law_sweeps.proofs.Moves.{RamLeft, ThreadLeft, ram_same, moved_beside, clock_beside}
+use Rattle.law_sweeps.proofs.Moves.{RamLeft, ThreadLeft, ram_same, moved_beside}
 use Rattle.law_events.proofs.Checking.{MayTell}
 
 -- the state after stays confined, the deed is licensed, and what stands beside stays

@@ -1,5 +1,5 @@
 -- What branches and jumps leave.
-use Rattle.std.proofs.Common.{ℕ, ◌≡◌, ◌^◌, ◌<◌, Bool, inl, Option, Some, None, refl, arith}
+use Rattle.std.proofs.Common.{ℕ, ◌^◌, ◌<◌, Bool, inl, Option, Some, None, refl, arith}
 use Rattle.std.specs.Prelude.{unwrap_or}
 use Rattle.law_lists.proofs.Tests.{chosen}
 use Rattle.def_words.specs.Authority.{cap_address}
@@ -11,19 +11,18 @@ use Rattle.def_instr.specs.declared.Instr.{Instr}
 use Rattle.def_instr.specs.declared.Instr.TheVariants.{Jal, CJalr, Beq, Bne, Blt, Bge, Bltu, Bgeu}
 use Rattle.def_machine.specs.Image.{Image}
 use Rattle.def_machine.specs.State.{State, thread, register}
-use Rattle.def_step.specs.declared.Class.TheVariants as class
 use Rattle.def_profile.specs.declared.traps.TheConstants.{MISALIGNED_FETCH}
 use Rattle.def_step.specs.Accesses.{unless}
 use Rattle.def_step.specs.Jumps.{target_at, target_checks, jumped_to, passed_over, branched, is_taken, flow_result}
-use Rattle.def_step.specs.Operands.{class_of, operands_of}
-use Rattle.def_step.specs.Instructions.{Board}
+use Rattle.def_step.specs.Operands.{operands_of}
+use Rattle.def_step.specs.Instructions.{Board, operand, named_by}
 use Rattle.def_board.specs.Wired.{Wired}
 use Rattle.law_made.proofs.Results.{address_derived, address_runs}
 use Rattle.def_confined.specs.Changes.{Puts}
 use Rattle.law_registers.proofs.Moves.{untagged_puts}
 use Rattle.law_events.proofs.Checking.{by_checks, plain_tells}
 use Rattle.law_events.proofs.Goings.{FlowFits, Fetching, goes_to, goes_on, leaves_link}
-use Rattle.law_events.proofs.Returns.{jump_fits}
+use Rattle.law_events.proofs.RegisterJumps.{jump_fits}
 
 target_fits : (i : Image) (s : State) (t at : ℕ) (link : Option Cap) → at < 2 ^ 32 → Fetching i s t → Puts i s t (unwrap_or link (plain 0)) → FlowFits i s t (jumped_to (thread s t).pcc (thread s t).posture at link)
 target_fits i s t at link small x puts = by_checks
@@ -41,15 +40,16 @@ branch_fits i s t offset taken x = chosen (FlowFits i s t) taken (jumped_to (thr
     (λ is. target_fits i s t (target_at (thread s t).pcc offset) None (omega arith) x (untagged_puts i s t (plain 0) refl))
     (λ not. passed_fits i s t x)
 
--- the values are of registers m and n, or of register 1 where the return is carried out
-pub flow_fits : (b : Board) (s : State) (t m n : ℕ) (k : Instr) → Wired b → Fetching b.image s t → class_of k ≡ class.Jump → m ≡ (operands_of k).first → FlowFits b.image s t (flow_result k (register (thread s t) m) (register (thread s t) n) (thread s t).pcc (thread s t).posture 0)
+-- the values are of its registers, and the first is below 16: so a trap may tell it
+pub flow_fits : (b : Board) (s : State) (t : ℕ) (k : Instr) → Wired b → Fetching b.image s t → (operands_of k).first < 16
+    → FlowFits b.image s t (flow_result k (operand s t (operands_of k).first) (operand s t (operands_of k).second) (thread s t).pcc (thread s t).posture (named_by b.image (operand s t (operands_of k).first)))
 unfolding flow_result
-flow_fits b s t m n (Jal v0 v1) wired x jump first = target_fits b.image s t (target_at (thread s t).pcc v1) (Some (linked (thread s t).pcc (thread s t).posture)) (omega arith) x (leaves_link b.image s t x)
-flow_fits b s t m n (CJalr v0 v1 v2) wired x jump first = jump_fits b s t m v0 v1 v2 wired x jump first
-flow_fits b s t m n (Beq v0 v1 v2) wired x jump first = branch_fits b.image s t v2 (is_taken (Beq v0 v1 v2) (cap_address (register (thread s t) m)) (cap_address (register (thread s t) n))) x
-flow_fits b s t m n (Bne v0 v1 v2) wired x jump first = branch_fits b.image s t v2 (is_taken (Bne v0 v1 v2) (cap_address (register (thread s t) m)) (cap_address (register (thread s t) n))) x
-flow_fits b s t m n (Blt v0 v1 v2) wired x jump first = branch_fits b.image s t v2 (is_taken (Blt v0 v1 v2) (cap_address (register (thread s t) m)) (cap_address (register (thread s t) n))) x
-flow_fits b s t m n (Bge v0 v1 v2) wired x jump first = branch_fits b.image s t v2 (is_taken (Bge v0 v1 v2) (cap_address (register (thread s t) m)) (cap_address (register (thread s t) n))) x
-flow_fits b s t m n (Bltu v0 v1 v2) wired x jump first = branch_fits b.image s t v2 (is_taken (Bltu v0 v1 v2) (cap_address (register (thread s t) m)) (cap_address (register (thread s t) n))) x
-flow_fits b s t m n (Bgeu v0 v1 v2) wired x jump first = branch_fits b.image s t v2 (is_taken (Bgeu v0 v1 v2) (cap_address (register (thread s t) m)) (cap_address (register (thread s t) n))) x
-flow_fits b s t m n k wired x jump first = passed_fits b.image s t x
+flow_fits b s t (Jal v0 v1) wired x small = target_fits b.image s t (target_at (thread s t).pcc v1) (Some (linked (thread s t).pcc (thread s t).posture)) (omega arith) x (leaves_link b.image s t x)
+flow_fits b s t (CJalr v0 v1 v2) wired x small = jump_fits b s t v0 v1 v2 wired x small
+flow_fits b s t (Beq v0 v1 v2) wired x small = branch_fits b.image s t v2 (is_taken (Beq v0 v1 v2) (cap_address (register (thread s t) v0)) (cap_address (register (thread s t) v1))) x
+flow_fits b s t (Bne v0 v1 v2) wired x small = branch_fits b.image s t v2 (is_taken (Bne v0 v1 v2) (cap_address (register (thread s t) v0)) (cap_address (register (thread s t) v1))) x
+flow_fits b s t (Blt v0 v1 v2) wired x small = branch_fits b.image s t v2 (is_taken (Blt v0 v1 v2) (cap_address (register (thread s t) v0)) (cap_address (register (thread s t) v1))) x
+flow_fits b s t (Bge v0 v1 v2) wired x small = branch_fits b.image s t v2 (is_taken (Bge v0 v1 v2) (cap_address (register (thread s t) v0)) (cap_address (register (thread s t) v1))) x
+flow_fits b s t (Bltu v0 v1 v2) wired x small = branch_fits b.image s t v2 (is_taken (Bltu v0 v1 v2) (cap_address (register (thread s t) v0)) (cap_address (register (thread s t) v1))) x
+flow_fits b s t (Bgeu v0 v1 v2) wired x small = branch_fits b.image s t v2 (is_taken (Bgeu v0 v1 v2) (cap_address (register (thread s t) v0)) (cap_address (register (thread s t) v1))) x
+flow_fits b s t k wired x small = passed_fits b.image s t x

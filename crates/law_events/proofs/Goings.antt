@@ -1,10 +1,8 @@
 -- What the running thread may do where its fetch passed, away from native entries.
-use Rattle.std.proofs.Common.{ℕ, ◌≡◌, true, false, Result, Ok, Err, refl}
+use Rattle.std.proofs.Common.{ℕ, ◌≡◌, false, Result, Ok, Err}
 use Rattle.std.specs.Prelude.{unwrap_or}
 use Rattle.def_words.specs.declared.Cap.{Cap}
 use Rattle.def_words.specs.declared.Trap.{Trap}
-use Rattle.def_words.specs.Permissions.{has, execute}
-use Rattle.def_words.specs.Seals.{cap_seal}
 use Rattle.def_words.specs.Capability.{raised}
 use Rattle.def_words.specs.Jumped.{linked}
 use Rattle.def_memory.specs.Granules.{plain}

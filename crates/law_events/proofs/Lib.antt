@@ -2,7 +2,7 @@ pub mod Values
 pub mod Checking
 pub mod Smalls
 pub mod Goings
-pub mod Returns
+pub mod RegisterJumps
 pub mod Flows
 pub mod Fairness
 pub mod Steps

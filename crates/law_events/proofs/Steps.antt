@@ -36,7 +36,7 @@ use Rattle.def_confined.specs.Changes.{Puts}
 use Rattle.law_registers.proofs.Moves.{untagged_puts}
 use Rattle.law_events.proofs.Values.{result_puts}
 use Rattle.law_events.proofs.Checking.{MayTell, Fetched, by_checks, access_tells, counter_tells, plain_tells, fetch_tells, fetch_passes}
-use Rattle.law_events.proofs.Smalls.{IsSmall, read_small}
+use Rattle.law_events.proofs.Smalls.{IsSmall, by_small, read_small}
 use Rattle.law_events.proofs.Goings.{FlowFits, Fetching}
 use Rattle.law_events.proofs.Goings as going
 use Rattle.law_events.proofs.Flows.{flow_fits}
@@ -86,7 +86,7 @@ access_fair b s t k (Ok d) f wired runs e tells =
 
 -- ---- an instruction
 
-class_fair : (b : Board) (s : State) (t : ℕ) (k : Instr) (c : Class) → class_of k ≡ c → Wired b → s.running ≡ Some t → Fetching b.image s t → (access_of k).by < 16
+class_fair : (b : Board) (s : State) (t : ℕ) (k : Instr) (c : Class) → class_of k ≡ c → Wired b → s.running ≡ Some t → Fetching b.image s t → (operands_of k).first < 16
     → Fair b s (ends b s t (operand s t (operands_of k).first) (carried_out c k (operands_of k).to (operand s t (operands_of k).first) (operand s t (operands_of k).second) (named_by b.image (operand s t (operands_of k).first)) (around b s t)))
 class_fair b s t k class.Integer e wired runs f small =
     gives_fair b s t (operands_of k).to (integer (integer_result k (cap_address (operand s t (operands_of k).first)) (cap_address (operand s t (operands_of k).second)))) runs f (untagged_puts b.image s t _ refl)
@@ -95,12 +95,12 @@ class_fair b s t k class.Capability e wired runs f small =
     (result_puts b.image s t (operands_of k).first (operands_of k).second k f.parts f.held runs f.other)
 class_fair b s t k class.System e wired runs f small = trapped_fair b s t _ runs f.parts f.held (counter_tells SYSTEM_REGISTER_CODE (inr (inr (inr (inr refl)))))
 class_fair b s t k class.Jump e wired runs f small =
-    flow_fair b s t (operands_of k).to (operand s t (operands_of k).first) (flow_result k (operand s t (operands_of k).first) (operand s t (operands_of k).second) (thread s t).pcc (thread s t).posture 0) runs f
-    (flow_fits b s t (operands_of k).first (operands_of k).second k wired f e refl)
+    flow_fair b s t (operands_of k).to (operand s t (operands_of k).first) (flow_result k (operand s t (operands_of k).first) (operand s t (operands_of k).second) (thread s t).pcc (thread s t).posture (named_by b.image (operand s t (operands_of k).first))) runs f
+    (flow_fits b s t k wired f small)
 class_fair b s t k class.Access e wired runs f small =
     access_fair b s t k _ f wired runs refl
     (accesses_tell (around b s t) (operands_of k).to (access_result k (operand s t (operands_of k).first) (operand s t (operands_of k).second) (space_of b s))
-    (result_tells k (operand s t (operands_of k).first) (operand s t (operands_of k).second) (space_of b s) small))
+    (result_tells k (operand s t (operands_of k).first) (operand s t (operands_of k).second) (space_of b s) (by_small k small)))
 class_fair b s t k class.Fence e wired runs f small = gives_fair b s t 0 (plain 0) runs f (untagged_puts b.image s t (plain 0) refl)
 class_fair b s t k class.Call e wired runs f small = trapped_fair b s t _ runs f.parts f.held (plain_tells ENVIRONMENT_CALL (inr (inr (inr (inr (inr refl))))))
 class_fair b s t k class.Break e wired runs f small = trapped_fair b s t _ runs f.parts f.held (plain_tells BREAKPOINT (inr (inr (inl refl))))

@@ -1,6 +1,5 @@
 -- What an instruction that doesn't load may put in a register.
-use Rattle.std.proofs.Common.{ℕ, ◌≡◌, true, false, Some, refl, sym, ◌∙◌, arith}
-use Rattle.def_words.specs.declared.Cap.{Cap}
+use Rattle.std.proofs.Common.{ℕ, ◌≡◌, false, Some, refl, arith}
 use Rattle.def_words.specs.Authority.{cap_address}
 use Rattle.def_words.specs.Capability.{raised, with_address, with_bounds, with_exact_bounds, masked, sealed_by, unsealed_by}
 use Rattle.def_instr.specs.declared.Instr.{Instr}
