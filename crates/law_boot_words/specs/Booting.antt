@@ -1,4 +1,5 @@
--- RAM while an image boots: what was written is as boot makes it, and the other granules read as zero.
+-- RAM while an image boots: what was written is as boot makes it, and the other granules read as
+-- zero.
 use Rattle.std.specs.Prelude.{ℕ, ◌+◌, ◌*◌, ◌/◌, ◌%◌, ◌≡◌, ◌<◌, ◌≤◌, ◌⊎◌, List, length, replicate}
 use Rattle.def_profile.specs.declared.layout.TheConstants.{GRANULE}
 use Rattle.def_words.specs.declared.Cap.{Cap}

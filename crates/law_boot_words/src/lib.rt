@@ -1,5 +1,5 @@
-//! Laws of what a sound image boots, word by word: what stands at each place of its regions, and that
-//! all else is zero. Functions with empty bodies whose contracts are the laws.
+//! Laws of what a sound image boots, word by word: what stands at each place of its regions, and
+//! that all else is zero. Functions with empty bodies whose contracts are the laws.
 #![tactic(auto)]
 
 mod words;
