@@ -4,7 +4,6 @@ ghost use Rattle.std.specs.Prelude.{◌≡◌, length, None};
 ghost use Rattle.def_words.specs.Seals.{cap_seal};
 ghost use Rattle.def_reach.specs.Roots.{root_of};
 ghost use Rattle.def_machine.specs.State.{thread, register};
-ghost use Rattle.def_machine.specs.Image.{Fixed, HeapRam};
 ghost use Rattle.def_image.specs.Checks.{first};
 ghost use Rattle.def_image.specs.Lying.{region_checks};
 ghost use Rattle.def_image.specs.Indexes.{index_checks};
@@ -12,7 +11,6 @@ ghost use Rattle.def_image.specs.Rights.{right_checks};
 ghost use Rattle.def_boot.specs.Entries.{rows_of};
 ghost use Rattle.def_boot.specs.Gates.{entries_of};
 ghost use Rattle.def_boot.specs.Made.{made_for};
-ghost use Rattle.def_boot.specs.Contents.{boot_cap, part};
 ghost use Rattle.def_boot.specs.Boot.{boot_state};
 ghost use Rattle.law_images.specs.Board.{board};
 
@@ -29,8 +27,5 @@ pub fn board_stands()
     ensures call_type { cap_seal (made_for board 5) ≡ 9 }
     ensures library_type { cap_seal (made_for board 4) ≡ 1 }
     ensures quota_type { cap_seal (made_for board 7) ≡ 10 }
-    ensures slot { boot_cap board 0x80000008 ≡ made_for board 4 }
     ensures second_stack { (register (thread (boot_state board) 1) 2).shadow.root ≡ 17 }
-    ensures library_part { part board 0x800000f0 ≡ Fixed }
-    ensures heap_part { part board 0x80000550 ≡ HeapRam }
 {}

@@ -5,6 +5,7 @@
 
 mod altered;
 mod board;
+mod board_parts;
 mod boots;
 mod tiny;
 mod versions;
@@ -12,6 +13,7 @@ mod whole;
 
 pub use altered::{indexes_fail, limits_fail, regions_fail, rights_fail};
 pub use board::board_stands;
+pub use board_parts::{board_boots, board_regions};
 pub use boots::{tiny_boots, whole_boots};
 pub use tiny::{tiny_spelled, tiny_stands};
 pub use versions::{upgraded_fail, upgraded_stands};

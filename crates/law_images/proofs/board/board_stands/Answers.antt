@@ -63,18 +63,6 @@ pub returns-clause-quota_type : goal.returns-clause-quota_type
 unfolding derive with_address with_exact_bounds masked cap_seal cap_perms packed unpacked set_where bit form_of normal_set cap_bounds executable_root memory_root sealing_root exponent_for gate_for root_of boot_granules boot_state boot_cap region_at regions_of made_caps rows_of gates_of entries_of part
 returns-clause-quota_type c = refl
 
-pub returns-clause-slot : goal.returns-clause-slot
-unfolding derive with_address with_exact_bounds masked cap_seal cap_perms packed unpacked set_where bit form_of normal_set cap_bounds executable_root memory_root sealing_root exponent_for gate_for root_of boot_granules boot_state boot_cap region_at regions_of made_caps rows_of gates_of entries_of part
-returns-clause-slot c = refl
-
 pub returns-clause-second_stack : goal.returns-clause-second_stack
 unfolding derive with_address with_exact_bounds masked cap_seal cap_perms packed unpacked set_where bit form_of normal_set cap_bounds executable_root memory_root sealing_root exponent_for gate_for root_of boot_granules boot_state boot_cap region_at regions_of made_caps rows_of gates_of entries_of part
 returns-clause-second_stack c = refl
-
-pub returns-clause-library_part : goal.returns-clause-library_part
-unfolding derive with_address with_exact_bounds masked cap_seal cap_perms packed unpacked set_where bit form_of normal_set cap_bounds executable_root memory_root sealing_root exponent_for gate_for root_of boot_granules boot_state boot_cap region_at regions_of made_caps rows_of gates_of entries_of part
-returns-clause-library_part c = refl
-
-pub returns-clause-heap_part : goal.returns-clause-heap_part
-unfolding derive with_address with_exact_bounds masked cap_seal cap_perms packed unpacked set_where bit form_of normal_set cap_bounds executable_root memory_root sealing_root exponent_for gate_for root_of boot_granules boot_state boot_cap region_at regions_of made_caps rows_of gates_of entries_of part
-returns-clause-heap_part c = refl
