@@ -1,0 +1,4 @@
+pub mod Written
+pub mod Sharing
+pub mod Listing
+pub mod Parts
