@@ -1,5 +1,5 @@
 -- The range of each root of a sound image through which anything may be touched lies within.
-use Rattle.std.proofs.Common.{ℕ, suc, ◌≡◌, ◌+◌, ◌≤◌, ◌<◌, ◌⊎◌, inl, inr, Bool, true, false, List, [], ◌∷◌, map, Some, is_some, slice_get, refl, sym, ◌∙◌, subst, arith}
+use Rattle.std.proofs.Common.{ℕ, zero, suc, ◌≡◌, ◌+◌, ◌≤◌, ◌<◌, ◌⊎◌, inl, inr, true, false, List, [], ◌∷◌, map, Some, is_some, slice_get, refl, subst, arith}
 use Rattle.law_lists.proofs.Tests.{le_tells, lt_tells, bool_tells}
 use Rattle.ct_entry.specs.Listed.{DeviceRow}
 use Rattle.ct_entry.specs.declared.rows.Kind.TheVariants as kind
@@ -32,7 +32,7 @@ found_there : (ds : List DeviceRow) (k i x : ℕ) (d : DeviceRow) → slice_get 
     → d.base ≤ x → x < d.base + DEVICE_SIZE
     → is_some (found_from k (map (λ (z : DeviceRow). z.base) ds) x) ≡ true
 found_there [] k i x d is low high = absurd (let clash : is_some (Some d) ≡ false = cc in cc)
-found_there (e ∷ ds) k 0 x d is low high = let same : e ≡ d = cc in rw (same, is_one d.base x low high) refl
+found_there (e ∷ ds) k zero x d is low high = let same : e ≡ d = cc in rw (same, is_one d.base x low high) refl
 found_there (e ∷ ds) k (suc i) x d is low high = elim (bool_tells (is_of e.base x)) [
   | inl here ↦ rw here refl
   | inr other ↦ rw other (found_there ds (k + 1) i x d is low high)
