@@ -142,7 +142,7 @@ class_settled : (b : Board) (s : State) (t : ℕ) (c : Class) (k : Instr) (to m 
 class_settled b s t class.Integer k to m n h = gives_settled b s t to _ h (λ e. refl)
 class_settled b s t class.Capability k to m n h = gives_settled b s t to _ h (result_settled k (operand s t m) (operand s t n) (thread s t).pcc ((h.threads t).registers m))
 class_settled b s t class.System k to m n h = tt
-class_settled b s t class.Jump k to m n h = flows_settled b s t to _ h (flow_settled k (operand s t m) (operand s t n) (thread s t).pcc (thread s t).posture 0)
+class_settled b s t class.Jump k to m n h = flows_settled b s t to _ h (flow_settled k (operand s t m) (operand s t n) (thread s t).pcc (thread s t).posture (named_by b.image (operand s t m)))
 class_settled b s t class.Access k to m n h = accesses_settled b s t to _ (accessed_settled k (operand s t m) (operand s t n) (space_of b s) ((h.threads t).registers n) h.granules)
 class_settled b s t class.Fence k to m n h = gives_settled b s t 0 (plain 0) h (λ e. refl)
 class_settled b s t class.Call k to m n h = tt
