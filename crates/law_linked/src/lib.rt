@@ -2,3 +2,5 @@
 #![tactic(auto)]
 
 mod samples;
+
+pub use samples::{board_is_linked, link_faults, tiny_is_linked};

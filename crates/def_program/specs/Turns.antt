@@ -1,0 +1,102 @@
+-- The dialogue: what is due after the files that were read so far.
+use Rattle.std.specs.Prelude.{ℕ, ◌≡◌, ◌⊎◌, List, [], ◌∷◌, ◌++◌, length, Bool, true, false, Option, Some, None, Result, Ok, Err, map, slice_get}
+use Rattle.ct_entry.specs.declared.rows.Owner.{Owner}
+use Rattle.def_image.specs.Parts.{PartsRow}
+use Rattle.def_image.specs.Accepted.{IsImage, FaultAt}
+use Rattle.def_image.specs.Spelling.{image_bytes}
+use Rattle.def_description.specs.declared.faults.Fault.{Fault}
+use Rattle.def_description.specs.Rows.{CodeRow, CompartmentRow, LibraryRow, DescRow}
+use Rattle.def_description.specs.WellFormed.{WellFormed, IsFaulty}
+use Rattle.def_link.specs.declared.LinkFault.{LinkFault}
+use Rattle.def_link.specs.Linked.{linked}
+use Rattle.def_lines.specs.Report.{report_line}
+use Rattle.def_program.specs.declared.Status.{Status}
+use Rattle.def_program.specs.declared.Status.TheVariants as status
+use Rattle.def_program.specs.Commands.{Command, Audit, Image, Run, RunImage, Why, file_of, reads_image}
+use Rattle.def_program.specs.Lines.{description_line, link_status, link_text, image_line, name_line}
+use Rattle.def_program.specs.Runs.{run_text}
+use Rattle.def_program.specs.Paths.{IsWhyLine, owner_named, compartment_named}
+
+-- the file of this name is due, or this text and then this status
+pub data Turn : Type 0 where
+  Asks : List ℕ → Turn
+  Ends : Status → List ℕ → Turn
+
+-- ---- the files of sources, in the order of their owners
+
+abbrev pub with_file : Option (List ℕ) → List (List ℕ) → List (List ℕ)
+with_file None names = names
+with_file (Some name) names = name ∷ names
+
+abbrev pub files_in : List CodeRow → List (List ℕ)
+files_in [] = []
+files_in (c ∷ cs) = with_file c.file (files_in cs)
+
+abbrev pub source_names : DescRow → List (List ℕ)
+source_names d =
+    files_in
+    (map (λ (c : CompartmentRow). c.code) d.compartments
+    ++ map (λ (l : LibraryRow). l.code) d.libraries)
+
+-- ---- what a command writes of an image's parts
+
+-- two names that are looked up: both stand for something, and the line says how one reaches the other; or
+-- one of them doesn't
+abbrev pub Looked : PartsRow → Option Owner → Option ℕ → Turn → Type 0
+Looked p (Some owner) (Some c) turn =
+    (text : List ℕ) × (IsWhyLine p owner c text × (turn ≡ Ends status.Done text))
+Looked p (Some owner) None turn = turn ≡ Ends status.Name name_line
+Looked p None c turn = turn ≡ Ends status.Name name_line
+
+abbrev pub OfParts : Command → PartsRow → Turn → Type 0
+OfParts (Audit name) p turn = turn ≡ Ends status.Done (report_line p)
+OfParts (Image name) p turn = turn ≡ Ends status.Done (image_bytes p)
+OfParts (Run name limit) p turn = turn ≡ Ends status.Done (run_text p limit)
+OfParts (RunImage name limit) p turn = turn ≡ Ends status.Done (run_text p limit)
+OfParts (Why name owner compartment) p turn =
+    Looked p (owner_named p owner) (compartment_named p compartment) turn
+
+-- ---- descriptions
+
+abbrev pub OfLinked : Command → DescRow → Result PartsRow LinkFault → Turn → Type 0
+OfLinked c d (Err e) turn = turn ≡ Ends (link_status e) (link_text d e)
+OfLinked c d (Ok p) turn = OfParts c p turn
+
+-- the next source, or what all of them are linked to
+abbrev pub OfSources : Command → DescRow → List (List ℕ) → Option (List ℕ) → Turn → Type 0
+OfSources c d sources (Some name) turn = turn ≡ Asks name
+OfSources c d sources None turn = OfLinked c d (linked d sources) turn
+
+abbrev pub OfRows : Command → DescRow → List (List ℕ) → Turn → Type 0
+OfRows c d sources turn =
+    OfSources c d sources (slice_get (source_names d) (length sources)) turn
+
+abbrev pub OfDescription : Command → List ℕ → List (List ℕ) → Turn → Type 0
+OfDescription c bytes sources turn =
+    ((f : Fault) × (IsFaulty bytes f × (turn ≡ Ends status.Description (description_line f))))
+    ⊎ ((d : DescRow) × (WellFormed bytes d × OfRows c d sources turn))
+
+-- ---- images
+
+-- a fault of the bytes: its number and place
+pub record IsFlawed (bytes : List ℕ) (turn : Turn) : Type 0 where
+  pub number : ℕ
+  pub place : ℕ
+  pub fault : FaultAt bytes number place
+  pub due : turn ≡ Ends status.Image (image_line number place)
+
+abbrev pub OfImage : Command → List ℕ → Turn → Type 0
+OfImage c bytes turn =
+    IsFlawed bytes turn
+    ⊎ ((p : PartsRow) × (IsImage bytes p × OfParts c p turn))
+
+-- ---- turns
+
+abbrev pub OfFirst : Bool → Command → List ℕ → List (List ℕ) → Turn → Type 0
+OfFirst true c bytes sources turn = OfImage c bytes turn
+OfFirst false c bytes sources turn = OfDescription c bytes sources turn
+
+-- what follows after these files, in the order in which they were read
+abbrev pub Follows : Command → List (List ℕ) → Turn → Type 0
+Follows c [] turn = turn ≡ Asks (file_of c)
+Follows c (bytes ∷ sources) turn = OfFirst (reads_image c) c bytes sources turn
