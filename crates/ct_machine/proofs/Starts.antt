@@ -32,6 +32,10 @@ image_ram : (f : FirmwareRow) → f.ram ≡ (image_of f).ram
 unfolding image_of
 image_ram f = refl
 
+pub image_entries : (f : FirmwareRow) → f.entries ≡ (image_of f).entries
+unfolding image_of
+image_entries f = refl
+
 image_heap : (f : FirmwareRow) → f.heap ≡ (image_of f).heap_base
 unfolding image_of
 image_heap f = refl

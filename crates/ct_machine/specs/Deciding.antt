@@ -1,7 +1,9 @@
 -- One instruction of a thread as a decision over the thread and what is around it, and what becomes of it.
 -- That the written step is this decision, carried out, is proved.
 use Rattle.std.specs.Prelude.{ℕ, ◌≡◌, List, Option, Some, None, option_map, Result, Ok, Err}
+use Rattle.ct_entry.specs.Listed.{Listed}
 use Rattle.ct_entry.specs.declared.acts.Deed.{Deed}
+use Rattle.def_words.specs.declared.Cap.{Cap}
 use Rattle.def_words.specs.declared.Trap as trap_words
 use Rattle.ct_entry.specs.declared.acts.Act.TheVariants.{Trap}
 use Rattle.def_words.specs.Authority.{cap_address}
@@ -10,6 +12,7 @@ use Rattle.def_memory.specs.Ranges.{zeroed_from}
 use Rattle.ct_machine.specs.declared.presence.Presence.{Presence}
 use Rattle.ct_machine.specs.declared.presence.Presence.TheVariants.{Gone, Alive}
 use Rattle.def_instr.specs.declared.Instr.{Instr}
+use Rattle.def_reach.specs.Roots.{root_of}
 use Rattle.def_machine.specs.State.{State, Thread, register, thread}
 use Rattle.def_machine.specs.Threads.{jumped}
 use Rattle.def_machine.specs.Frames.{returned}
@@ -38,23 +41,31 @@ abbrev pub by_result : ℕ → Result Done trap_words.Trap → Decision
 by_result entry (Err why) = Traps why
 by_result entry (Ok d) = Goes d entry
 
-abbrev pub decide_instruction : Thread → Space → Instr → Decision
-decide_instruction w p i =
+-- the export that a capability's root names among these entries, or 0
+abbrev pub named_in : Listed → Cap → ℕ
+named_in e x = (root_of e x.shadow.root).of
+
+-- where the root of the first source names this export
+abbrev pub decide_by : ℕ → Thread → Space → Instr → Decision
+decide_by named w p i =
     by_result (register w (operands_of i).first).shadow.root
     (carried_out (class_of i) i (operands_of i).to (register w (operands_of i).first)
-    (register w (operands_of i).second) (around_of w p))
+    (register w (operands_of i).second) named (around_of w p))
 
-abbrev pub decide_next : Thread → Space → Next → Decision
-decide_next w p Returning = Returns
-decide_next w p (Instruction i) = decide_instruction w p i
-decide_next w p Nothing = Traps (plain_trap ILLEGAL_INSTRUCTION)
+abbrev pub decide_instruction : Listed → Thread → Space → Instr → Decision
+decide_instruction e w p i = decide_by (named_in e (register w (operands_of i).first)) w p i
 
-abbrev pub decide_fetched : Thread → Space → Option trap_words.Trap → Decision
-decide_fetched w p (Some why) = Traps why
-decide_fetched w p None = decide_next w p (next_at p (cap_address w.pcc))
+abbrev pub decide_next : Listed → Thread → Space → Next → Decision
+decide_next e w p Returning = Returns
+decide_next e w p (Instruction i) = decide_instruction e w p i
+decide_next e w p Nothing = Traps (plain_trap ILLEGAL_INSTRUCTION)
 
-abbrev pub decide : Thread → Space → Decision
-decide w p = decide_fetched w p (first_failed (fetch_checks w.pcc))
+abbrev pub decide_fetched : Listed → Thread → Space → Option trap_words.Trap → Decision
+decide_fetched e w p (Some why) = Traps why
+decide_fetched e w p None = decide_next e w p (next_at p (cap_address w.pcc))
+
+abbrev pub decide : Listed → Thread → Space → Decision
+decide e w p = decide_fetched e w p (first_failed (fetch_checks w.pcc))
 
 -- the decision on the whole state
 abbrev pub settle : Board → State → ℕ → Decision → State × Option Deed

@@ -1,6 +1,6 @@
 //! One instruction: fetched, and carried out on the thread, RAM and the devices.
 
-ghost use Rattle.std.specs.Prelude.{◌≡◌, ◌<◌, ◌≤◌, ◌+◌, ◌*◌, ◌%◌, ◌^◌, ◌&&◌, ◌==◌, length, nat_le, true, false};
+ghost use Rattle.std.specs.Prelude.{ℕ, ◌≡◌, ◌<◌, ◌≤◌, ◌+◌, ◌*◌, ◌%◌, ◌^◌, ◌&&◌, ◌==◌, length, nat_le, true, false};
 ghost use Rattle.def_instr.specs.Shapes.{is_access, is_capability, is_integer, is_jump, is_system};
 ghost use Rattle.def_step.specs.declared.Class.TheVariants as kinds;
 ghost use Rattle.def_instr.specs.Table.{InRange};
@@ -10,7 +10,7 @@ ghost use Rattle.def_machine.specs.Threads.{jumped};
 ghost use Rattle.def_step.specs.Checks.{first_failed};
 ghost use Rattle.def_step.specs.Operands.{class_of};
 ghost use Rattle.def_step.specs.Instructions.{fetch_checks, next_at, is_native_entry};
-ghost use Rattle.ct_machine.specs.Deciding.{decide, decide_instruction, Decided};
+ghost use Rattle.ct_machine.specs.Deciding.{decide, decide_by, decide_instruction, Decided};
 ghost use Rattle.ct_machine.specs.Parts.{space_by, fetched_in, InstructionInRange, IsHeapPlaced};
 
 use crate::active::Active;
@@ -20,12 +20,14 @@ use ct_alu::alu;
 use ct_bus::Bus;
 use ct_cap::{Live, Permission, Trap, add_address};
 use ct_capstep::capstep;
+use ct_entry::Entries;
+use ct_exports::called;
 use ct_flow::flow;
 use ct_isa::decode;
 use ct_loadstore::{Map, loadstore};
 use ct_mem::Memory;
 use def_instr::Instr;
-use def_profile::native::{NATIVE_BASE, NATIVE_UNIT, REMAINING, RETURN_ENTRY};
+use def_profile::native::{LAST_NATIVE, NATIVE_BASE, NATIVE_UNIT, RETURN_ENTRY};
 use def_profile::traps::{
     BOUNDS_CODE, BREAKPOINT, ENVIRONMENT_CALL, EXECUTE_CODE, ILLEGAL_INSTRUCTION, PCC_REGISTER,
     SEAL_CODE, SYSTEM_REGISTER_CODE, TAG_CODE,
@@ -74,7 +76,7 @@ fn fetch<M: Memory>(mem: &M, ram: u32, at: u32) -> u32
 fn is_native_entry(at: u32) -> bool
     ensures { result ≡ is_native_entry at }
 {
-    NATIVE_BASE <= at && at < NATIVE_BASE + NATIVE_UNIT * (REMAINING + 1) && at % NATIVE_UNIT == 0
+    NATIVE_BASE <= at && at < NATIVE_BASE + NATIVE_UNIT * (LAST_NATIVE + 1) && at % NATIVE_UNIT == 0
 }
 
 /// What stands at the program counter.
@@ -105,9 +107,10 @@ fn advance(active: &mut Active, to: u32, value: Live)
     active.jump(pcc, posture, to, value);
 }
 
-/// A branch or a jump.
+/// A branch or a jump. A sentry that holds interrupts off does so by the export that its root names.
 fn carry_jump<M: Memory>(
     instruction: Instr,
+    entries: &Entries,
     active: &mut Active,
     mem: &M,
     bus: &Bus,
@@ -118,7 +121,7 @@ fn carry_jump<M: Memory>(
     requires class { class_of instruction ≡ kinds.Jump }
     requires jump { is_jump instruction ≡ true }
     ensures is { Decided
-        (decide_instruction active.old (space_by ram (M.granules mem.now) bus.now time)
+        (decide_instruction entries.now active.old (space_by ram (M.granules mem.now) bus.now time)
         instruction)
         active.old (space_by ram (M.granules mem.now) bus.now time) active.new
         (M.granules mem.now) bus.now result }
@@ -127,7 +130,8 @@ fn carry_jump<M: Memory>(
     let operands = operands_of(instruction);
     let x = active.register(operands.first);
     let y = active.register(operands.second);
-    match flow(instruction, x, y, active.pcc, active.posture, 0) {
+    let named = called(entries, x.cap.shadow.root);
+    match flow(instruction, x, y, active.pcc, active.posture, named) {
         Ok(went) => {
             let link = match went.link {
                 Some(link) => link,
@@ -157,8 +161,8 @@ fn carry_access<M: Memory>(
     requires class { class_of instruction ≡ kinds.Access }
     requires access { is_access instruction ≡ true }
     requires heap { IsHeapPlaced ram heap (length (M.granules mem.old)) }
-    ensures is { Decided
-        (decide_instruction active.old (space_by ram (M.granules mem.old) bus.old time)
+    ensures is { (named : ℕ) → Decided
+        (decide_by named active.old (space_by ram (M.granules mem.old) bus.old time)
         instruction)
         active.old (space_by ram (M.granules mem.old) bus.old time) active.new
         (M.granules mem.new) bus.new result }
@@ -210,8 +214,8 @@ fn carry_value<M: Memory>(
     requires integer { class ≡ kinds.Integer → is_integer instruction ≡ true }
     requires capability { class ≡ kinds.Capability
         → (is_capability instruction ≡ true) × (is_system instruction ≡ false) }
-    ensures is { Decided
-        (decide_instruction active.old (space_by ram (M.granules mem.now) bus.now time)
+    ensures is { (named : ℕ) → Decided
+        (decide_by named active.old (space_by ram (M.granules mem.now) bus.now time)
         instruction)
         active.old (space_by ram (M.granules mem.now) bus.now time) active.new
         (M.granules mem.now) bus.now result }
@@ -262,6 +266,7 @@ fn carry_value<M: Memory>(
 /// An instruction, whole.
 fn carry_out<M: Memory>(
     instruction: Instr,
+    entries: &Entries,
     active: &mut Active,
     mem: &mut M,
     bus: &mut Bus,
@@ -272,7 +277,7 @@ fn carry_out<M: Memory>(
     requires ranged { InRange instruction }
     requires heap { IsHeapPlaced ram heap (length (M.granules mem.old)) }
     ensures is { Decided
-        (decide_instruction active.old (space_by ram (M.granules mem.old) bus.old time)
+        (decide_instruction entries.now active.old (space_by ram (M.granules mem.old) bus.old time)
         instruction)
         active.old (space_by ram (M.granules mem.old) bus.old time) active.new
         (M.granules mem.new) bus.new result }
@@ -282,7 +287,7 @@ fn carry_out<M: Memory>(
 {
     let class = class_of(instruction);
     match class {
-        Class::Jump => carry_jump(instruction, active, mem, bus, ram, time),
+        Class::Jump => carry_jump(instruction, entries, active, mem, bus, ram, time),
         Class::Access => carry_access(instruction, active, mem, bus, ram, heap, time),
         _ => carry_value(class, instruction, active, mem, bus, ram, time),
     }
@@ -290,6 +295,7 @@ fn carry_out<M: Memory>(
 
 /// The instruction or native routine at the program counter, from its fetch on.
 pub(crate) fn run_one<M: Memory>(
+    entries: &Entries,
     active: &mut Active,
     mem: &mut M,
     bus: &mut Bus,
@@ -298,7 +304,8 @@ pub(crate) fn run_one<M: Memory>(
     time: u64,
 ) -> Ran
     requires { IsHeapPlaced ram heap (length (M.granules mem.old)) }
-    ensures is { Decided (decide active.old (space_by ram (M.granules mem.old) bus.old time))
+    ensures is { Decided
+        (decide entries.now active.old (space_by ram (M.granules mem.old) bus.old time))
         active.old (space_by ram (M.granules mem.old) bus.old time) active.new
         (M.granules mem.new) bus.new result }
     ensures frames { active.new.frames ≡ active.old.frames }
@@ -312,6 +319,7 @@ pub(crate) fn run_one<M: Memory>(
         Next::Returning => Ran::Returned,
         Next::Instruction { instruction } => carry_out(
             instruction,
+            entries,
             active,
             mem,
             bus,

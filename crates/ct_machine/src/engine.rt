@@ -196,7 +196,7 @@ impl<M: Memory + Drop> Engine<M> {
         let (ram, stack, time) = (self.ram, self.stack, self.time);
         let top = self.works.active.frame_top();
         let actor = self.works.active.frame_actor();
-        let ran = run_works(&mut self.works, ram, heap, time);
+        let ran = run_works(&self.firmware, &mut self.works, ram, heap, time);
         leave(ran, &mut self.works.mem, ram, stack, top);
         self.presence = presence_after(ran);
         let deed = deed_of(actor, ran);

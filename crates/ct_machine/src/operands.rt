@@ -53,7 +53,7 @@ pub(crate) fn operands_of(instruction: Instr) -> Operands
     }
 }
 
-/// What kind of work an instruction is. Of the register jumps only the return is carried out.
+/// What kind of work an instruction is.
 pub(crate) fn class_of(instruction: Instr) -> Class
     ensures is { result ≡ class_of instruction }
     ensures integer { result ≡ kinds.Integer → is_integer instruction ≡ true }
@@ -80,12 +80,7 @@ pub(crate) fn class_of(instruction: Instr) -> Class
         | Shape::Upper { .. }
         | Shape::OneSource { .. } => Class::Capability,
         Shape::Load { .. } | Shape::Store { .. } => Class::Access,
-        Shape::Branch { .. } | Shape::Jump { .. } => Class::Jump,
-        Shape::RegisterJump { rd, rs1, immediate } => if rd == 0 && rs1 == 1 && immediate == 0 {
-            Class::Jump
-        } else {
-            Class::Absent
-        },
+        Shape::Branch { .. } | Shape::Jump { .. } | Shape::RegisterJump { .. } => Class::Jump,
         Shape::Fence { .. } => Class::Fence,
         Shape::Call => Class::Call,
         Shape::Break => Class::Break,

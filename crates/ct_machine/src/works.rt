@@ -10,6 +10,7 @@ use crate::deciding::run_one;
 use crate::ran::Ran;
 use crate::sweeping::pass;
 use ct_bus::Bus;
+use ct_entry::Firmware;
 use ct_mem::Memory;
 
 /// The thread, RAM and the devices.
@@ -20,8 +21,9 @@ pub(crate) struct Works<M: Memory + Drop> {
     pub(crate) bus: Bus,
 }
 
-/// The instruction or native routine at the program counter.
+/// The instruction or native routine at the program counter, of this firmware.
 pub(crate) fn run_works<M: Memory + Drop>(
+    firmware: &Firmware,
     works: &mut Works<M>,
     ram: u32,
     heap: u32,
@@ -29,7 +31,8 @@ pub(crate) fn run_works<M: Memory + Drop>(
 ) -> Ran
     requires { IsHeapPlaced ram heap (length (M.granules works.old.mem)) }
     ensures is { Decided
-        (decide works.old.active (space_by ram (M.granules works.old.mem) works.old.bus time))
+        (decide firmware.now.entries works.old.active
+        (space_by ram (M.granules works.old.mem) works.old.bus time))
         works.old.active (space_by ram (M.granules works.old.mem) works.old.bus time)
         works.new.active (M.granules works.new.mem) works.new.bus result }
     ensures frames { works.new.active.frames ≡ works.old.active.frames }
@@ -37,6 +40,7 @@ pub(crate) fn run_works<M: Memory + Drop>(
     ensures size { length (M.granules works.new.mem) ≡ length (M.granules works.old.mem) }
 {
     run_one(
+        &firmware.entries,
         &mut works.active,
         &mut works.mem,
         &mut works.bus,
