@@ -1,0 +1,7 @@
+pub mod Walks
+pub mod Slots
+pub mod Units
+pub mod Progress
+pub mod Codes
+pub mod Steps
+pub mod Lawfuls
