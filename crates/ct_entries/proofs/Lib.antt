@@ -1,0 +1,4 @@
+pub mod Spelled
+pub mod Standing
+pub mod Named
+pub mod Few
