@@ -365,3 +365,139 @@ fn output_reads_back(rt: HostRuntime) -> Result<(), Fail> {
     assert_eq!(rt; (totals.steps, totals.devices, totals.traps), (7, 2, 0));
     Ok(())
 }
+
+/// A program that ends with a trap of its last step, and does nothing else that is told.
+fn run_to_trap(rt: &impl Abort, alloc: Global, words: &[u32], told: Told) -> Result<(), NoMemory>
+    requires some { 1 ≤ length words.now }
+    requires few { length words.now ≤ 8 }
+{
+    let totals = run_words(rt, alloc, words, &[told], told.step, Some(End::Finished))?;
+    assert_eq!(rt;
+        (totals.steps, totals.devices, totals.traps),
+        (told.step, 0, 1)
+    );
+    Ok(())
+}
+
+/// A program that ends by the thread's return with its last step, and tells nothing.
+fn run_to_return(rt: &impl Abort, alloc: Global, words: &[u32], steps: u32) -> Result<(), NoMemory>
+    requires some { 1 ≤ length words.now }
+    requires few { length words.now ≤ 8 }
+{
+    let totals = run_words(rt, alloc, words, &[], steps, Some(End::Finished))?;
+    assert_eq!(rt; (totals.steps, totals.devices, totals.traps), (steps, 0, 0));
+    Ok(())
+}
+
+/// The globals and the stack aren't code, and an integer isn't a capability.
+#[test]
+fn jump_through_data(rt: HostRuntime) -> Result<(), Fail> {
+    let alloc = rt.alloc();
+    // cjalr c0, 0(c3)
+    run_to_trap(&rt, alloc, &[0x0001_8067], trap(1, 28, 17, 3))?;
+    // cjalr c1, 0(c2)
+    run_to_trap(&rt, alloc, &[0x0001_00E7], trap(1, 28, 17, 2))?;
+    // cjalr c0, 0(c4)
+    run_to_trap(&rt, alloc, &[0x0002_0067], trap(1, 28, 2, 4))?;
+    Ok(())
+}
+
+/// The thread's return sentry is taken through c1 alone, and with no link.
+#[test]
+fn return_sentry_by_the_wrong_register(rt: HostRuntime) -> Result<(), Fail> {
+    let alloc = rt.alloc();
+    // cmove c5, c1; cjalr c0, 0(c5)
+    run_to_trap(&rt, alloc, &[0xFEA0_82DB, 0x0002_8067], trap(2, 28, 3, 5))?;
+    // cjalr c1, 0(c1)
+    run_to_trap(&rt, alloc, &[0x0000_80E7], trap(1, 28, 3, 1))?;
+    // cjalr c0, 4(c1)
+    run_to_trap(&rt, alloc, &[0x0040_8067], trap(1, 28, 3, 1))?;
+    Ok(())
+}
+
+/// The switch's forward sentry, of type 1, is in slot 0: it takes no immediate, and with none it leads to
+/// the native entry, where nothing is carried out yet.
+#[test]
+fn forward_sentry_with_an_offset(rt: HostRuntime) -> Result<(), Fail> {
+    let alloc = rt.alloc();
+    // auipcc c5, 0; clc c5, -16(c5); cjalr c1, 4(c5)
+    run_to_trap(
+        &rt,
+        alloc,
+        &[0x0000_0297, 0xFF02_B283, 0x0042_80E7],
+        trap(3, 28, 3, 5),
+    )?;
+    // the last as cjalr c1, 0(c5), cjalr c0, 0(c5) and cjalr c7, 0(c5)
+    for jump in [0x0002_80E7, 0x0002_8067, 0x0002_83E7] {
+        run_to_trap(
+            &rt,
+            alloc,
+            &[0x0000_0297, 0xFF02_B283, jump],
+            trap(4, 2, 0, 0),
+        )?;
+    }
+    Ok(())
+}
+
+/// Through the program counter's own capability a jump goes anywhere in the text: bit 0 of the target is
+/// cleared, and the target is a multiple of 4.
+#[test]
+fn targets_are_aligned(rt: HostRuntime) -> Result<(), Fail> {
+    let alloc = rt.alloc();
+    // auipcc c5, 0; cjalr c0, 6(c5)
+    run_to_trap(&rt, alloc, &[0x0000_0297, 0x0062_8067], trap(2, 0, 0, 0))?;
+    // auipcc c5, 0; cjalr c0, 13(c5); a word that is no instruction; cjalr c0, 0(c1)
+    run_to_return(
+        &rt,
+        alloc,
+        &[0x0000_0297, 0x00D2_8067, 0x0000_0813, 0x0000_8067],
+        4,
+    )?;
+    Ok(())
+}
+
+/// The thread's return sentry is kept in the globals while c1 has the link of a jal, and taken after it.
+#[test]
+fn kept_return_sentry(rt: HostRuntime) -> Result<(), Fail> {
+    // csc c1, 0(c3); jal c1, 8; clc c1, 0(c3); cjalr c0, 0(c1): the last returns to the third, then ends
+    let words = [0x0011_B023, 0x0080_00EF, 0x0001_B083, 0x0000_8067];
+    run_to_return(&rt, rt.alloc(), &words, 6)?;
+    Ok(())
+}
+
+/// A jump leaves its link in whatever register it names, and the way back is through c1.
+#[test]
+fn link_in_another_register(rt: HostRuntime) -> Result<(), Fail> {
+    // cmove c8, c1; auipcc c5, 0; cjalr c7, 12(c5); cmove c7, c8; cmove c1, c7; cjalr c0, 0(c1): the third
+    // passes over the fourth, to which the sixth returns, and then it ends
+    let words = [
+        0xFEA0_845B,
+        0x0000_0297,
+        0x00C2_83E7,
+        0xFEA4_03DB,
+        0xFEA3_80DB,
+        0x0000_8067,
+    ];
+    run_to_return(&rt, rt.alloc(), &words, 9)?;
+    Ok(())
+}
+
+/// The link of a jal is a return sentry, of type 5 with interrupts on: no other jump takes it.
+#[test]
+fn jal_links_a_return_sentry(rt: HostRuntime) -> Result<(), Fail> {
+    // auipcc c5, 0; clc c5, -8(c5); jal c6, 8; a word that is no instruction; cgettype c10, c6;
+    // csw c10, 0(c5); cjalr c0, 0(c6)
+    let words = [
+        0x0000_0297,
+        0xFF82_B283,
+        0x0080_036F,
+        0x0000_0813,
+        0xFE13_055B,
+        0x00A2_A023,
+        0x0003_0067,
+    ];
+    let told = [store(5, 5), trap(6, 28, 3, 6)];
+    let totals = run_words(&rt, rt.alloc(), &words, &told, 6, Some(End::Finished))?;
+    assert_eq!(rt; (totals.steps, totals.devices, totals.traps), (6, 1, 1));
+    Ok(())
+}
