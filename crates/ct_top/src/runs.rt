@@ -177,12 +177,12 @@ const HOSTILE: [(&str, &str, &str); 5] = [
     (
         r#"["00028067"]"#,
         "32",
-        "1 trap t0 c0 2 0 0\nend finished steps 1 ticks 0 calls 0 devices 0 allocations 0 frees 0 traps 1\n",
+        "1 trap t0 c0 28 2 5\nend finished steps 1 ticks 0 calls 0 devices 0 allocations 0 frees 0 traps 1\n",
     ),
 ];
 
 /// The root's word stored as numbers and loaded, the stack's capability passed through the globals,
-/// bounds past the globals, a high word set, and a register jump that isn't carried out.
+/// bounds past the globals, a high word set, and a jump to an integer.
 #[test]
 fn no_authority_is_made(rt: HostRuntime) {
     for (words, size, lines) in &HOSTILE {
