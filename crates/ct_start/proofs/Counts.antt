@@ -1,0 +1,80 @@
+-- The numbers of an image's entries are sums over the members before.
+use Rattle.std.proofs.Common.{ℕ, zero, suc, ◌≡◌, ◌+◌, ◌*◌, ◌<◌, ◌≤◌, List, [], ◌∷◌, length, take, Some, slice_get, All, refl, ap, sym, ◌∙◌, arith}
+use Rattle.std.specs.Prelude.{slice_index_or}
+use Rattle.def_image.specs.Parts.{CodeRow, CompartmentRow, ThreadRow, PartsRow}
+use Rattle.def_image.specs.Members.{number_in, compartment_entries, library_entries, first_library, first_stack, code_number, globals_number, library_number, stack_number}
+use Rattle.def_image.specs.Sizes.{sum_of}
+use Rattle.def_image.specs.Sound.{Sound}
+
+-- ---- lists
+
+pub there : {A : Type 0} (xs : List A) (k : ℕ) (d : A) → k < length xs → slice_get xs k ≡ Some (slice_index_or xs k d)
+there [] k d lt = absurd (omega (arith, lt))
+there (x ∷ xs) zero d lt = refl
+there (x ∷ xs) (suc k) d lt = there xs k d (omega (arith, lt))
+
+pub all_there : {A : Type 0} (P : A → Type 0) (xs : List A) → ((i : ℕ) (x : A) → slice_get xs i ≡ Some x → P x) → All P xs
+all_there P xs one = λ k d lt. one k (slice_index_or xs k d) (there xs k d lt)
+
+pub taken : {A : Type 0} (xs : List A) (n i : ℕ) (x : A) → slice_get (take n xs) i ≡ Some x → slice_get xs i ≡ Some x
+taken xs zero i x is = cc
+taken [] (suc n) i x is = cc
+taken (y ∷ ys) (suc n) zero x is = is
+taken (y ∷ ys) (suc n) (suc i) x is = taken ys n i x is
+
+pub take_short : {A : Type 0} (xs : List A) (n : ℕ) → length (take n xs) ≤ length xs
+take_short xs zero = omega arith
+take_short [] (suc n) = omega arith
+take_short (y ∷ ys) (suc n) = let less = take_short ys n in omega (arith, less)
+
+-- ---- sums
+
+pub number_at : {A : Type 0} (entries : A → ℕ) (n : ℕ) (xs : List A) (i : ℕ) → i < length xs → number_in entries n xs i ≡ n + sum_of entries (take i xs)
+number_at entries n [] i lt = absurd (omega (arith, lt))
+number_at entries n (x ∷ xs) zero lt = omega arith
+number_at entries n (x ∷ xs) (suc i) lt = let more = number_at entries (n + entries x) xs i (omega (arith, lt)) in omega (arith, more)
+
+ones : {A : Type 0} (xs : List A) (i : ℕ) → i ≤ length xs → sum_of (λ x. 1) (take i xs) ≡ i
+ones xs zero le = refl
+ones [] (suc i) le = absurd (omega (arith, le))
+ones (x ∷ xs) (suc i) le = let more = ones xs i (omega (arith, le)) in omega (arith, more)
+
+pub stack_at : (p : PartsRow) (t : ℕ) → t < length p.threads → stack_number p t ≡ 1 + sum_of compartment_entries p.compartments + sum_of library_entries p.libraries + t
+stack_at p t lt =
+    let at = number_at (λ (x : ThreadRow). 1) (first_stack p) p.threads t lt in
+    let one = ones p.threads t (omega (arith, lt)) in
+    omega (arith, at, one)
+
+-- ---- how many each owner has, at most
+
+pub own_few : (p : PartsRow) → Sound p → (b : ℕ) (c : CompartmentRow) → slice_get p.compartments b ≡ Some c → compartment_entries c ≤ 214
+own_few p s b c is =
+    let fits = s.compartment b c is in
+    let slots = fits.slots.1 in
+    let exports = fits.code.exports in
+    omega (arith, slots, exports)
+
+pub library_few : (p : PartsRow) → Sound p → (l : ℕ) (c : CodeRow) → slice_get p.libraries l ≡ Some c → library_entries c ≤ 193
+library_few p s l c is =
+    let fits = s.library l c is in
+    let slots = fits.slots in
+    let exports = fits.code.exports in
+    omega (arith, slots, exports)
+
+pub all_own : (p : PartsRow) → Sound p → All (λ (c : CompartmentRow). compartment_entries c ≤ 214) p.compartments
+all_own p s = all_there (λ (c : CompartmentRow). compartment_entries c ≤ 214) p.compartments (own_few p s)
+
+pub some_own : (p : PartsRow) → Sound p → (n : ℕ) → All (λ (c : CompartmentRow). compartment_entries c ≤ 214) (take n p.compartments)
+some_own p s n = all_there (λ (c : CompartmentRow). compartment_entries c ≤ 214) (take n p.compartments) (λ b c is. own_few p s b c (taken p.compartments n b c is))
+
+pub all_libraries : (p : PartsRow) → Sound p → All (λ (c : CodeRow). library_entries c ≤ 193) p.libraries
+all_libraries p s = all_there (λ (c : CodeRow). library_entries c ≤ 193) p.libraries (library_few p s)
+
+pub some_libraries : (p : PartsRow) → Sound p → (n : ℕ) → All (λ (c : CodeRow). library_entries c ≤ 193) (take n p.libraries)
+some_libraries p s n = all_there (λ (c : CodeRow). library_entries c ≤ 193) (take n p.libraries) (λ l c is. library_few p s l c (taken p.libraries n l c is))
+
+pub own_short : (p : PartsRow) → Sound p → (n : ℕ) → length (take n p.compartments) ≤ 64
+own_short p s n = let few = s.few.compartments in let short = take_short p.compartments n in omega (arith, few, short)
+
+pub libraries_short : (p : PartsRow) → Sound p → (n : ℕ) → length (take n p.libraries) ≤ 32
+libraries_short p s n = let few = s.few.libraries in let short = take_short p.libraries n in omega (arith, few, short)

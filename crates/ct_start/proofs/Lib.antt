@@ -1,0 +1,5 @@
+pub mod Counts
+pub mod Fits
+pub mod Made
+pub mod Ranges
+pub mod Firsts
