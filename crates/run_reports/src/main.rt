@@ -5,7 +5,7 @@
 use ct_entries::entries;
 use ct_entry::{Entries, Mode};
 use ct_graph::Graph;
-use ct_image::{Image, accept};
+use ct_image::{Image, ImageFault, accept};
 use ct_lines::text;
 use def_refusals::NoMemory;
 use std::alloc::{AllocError, Global};
@@ -53,7 +53,10 @@ fn told(alloc: Global, bytes: &[u8]) -> Result<String, NoMemory> {
     }
     match accept(alloc, bytes) {
         Ok(image) => reported(alloc, &image),
-        Err(_) => Ok(String::from_str(alloc, "refused\n")?),
+        Err(ImageFault::NoMemory) => Err(NoMemory),
+        Err(ImageFault::At { number, place }) => {
+            Ok(format!(in alloc; "refused {number} at {place}\n")?)
+        }
     }
 }
 
