@@ -86,7 +86,8 @@ pub record TurnCause (e : Ends) (s : Status) (text : List ℕ) : Type 0 where
   pub read : AllRead e command reads
   pub due : Follows command (contents reads) (turn.Ends s text)
 
--- statuses without a cause yet can't come
+-- No text is due with a failed write or with want of memory: their answers stand below. Scripts and
+-- policies aren't read yet, so that their statuses can't come.
 abbrev pub Cause : Ends → Status → List ℕ → Type 0
 Cause e status.Done text = TurnCause e status.Done text
 Cause e status.Usage text = UsageCause e text

@@ -44,7 +44,7 @@ file_of (Run name limit) = name
 file_of (RunImage name limit) = name
 file_of (Why name owner compartment) = name
 
--- it is an image, and else a description
+-- whether that file is an image; else it is a description
 abbrev pub reads_image : Command → Bool
 reads_image (RunImage name limit) = true
 reads_image _ = false

@@ -1,4 +1,4 @@
--- What the deeds of a command's run need of the report.
+-- That each deed of the run that a command asks for is licensed by the entries of the image.
 use Rattle.std.specs.Prelude.{ℕ}
 use Rattle.def_confined.specs.Telling.{AllLicensed}
 use Rattle.def_step.specs.Events.{MachineRow, told}
@@ -13,7 +13,7 @@ abbrev pub TellsLicensed : PartsRow → MachineRow → ℕ → Type 0
 TellsLicensed p m limit =
     AllLicensed (entries_of p) (told m.board m.state (events_until m p.quantum limit))
 
--- each deed and each span with interrupts off of the run that a command asks for
+-- each deed and each span with interrupts off of the run that a command asks for is licensed
 abbrev pub IsLicensedCommand : Command → PartsRow → Type 0
 IsLicensedCommand (Run name limit) p = TellsLicensed p (booted_machine p) limit
 IsLicensedCommand (RunImage name limit) p = TellsLicensed p (booted_machine p) limit

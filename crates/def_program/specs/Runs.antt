@@ -27,8 +27,8 @@ abbrev pub unless_ended : Option End → List Event → List Event
 unless_ended None events = events
 unless_ended (Some e) events = []
 
--- the events from step k on, of at most n steps: before each the run stops where the machine has come to
--- its end
+-- the events from step k on, of at most n steps: before each the run stops where the machine has
+-- come to its end
 unfoldable pub events_from : Board → State → ℕ → ℕ → ℕ → List Event
 events_from b s quantum k zero = []
 events_from b s quantum k (suc n) =

@@ -17,7 +17,7 @@ use Rattle.def_program.specs.Lines.{description_line, link_status, link_text, im
 use Rattle.def_program.specs.Runs.{run_text}
 use Rattle.def_program.specs.Paths.{IsWhyLine, owner_named, compartment_named}
 
--- the file of this name is due, or this text and then this status
+-- the file of this name is due; or the call ends with this status, and this text is due
 pub data Turn : Type 0 where
   Asks : List ℕ → Turn
   Ends : Status → List ℕ → Turn
@@ -40,8 +40,8 @@ source_names d =
 
 -- ---- what a command writes of an image's parts
 
--- two names that are looked up: both stand for something, and the line says how one reaches the other; or
--- one of them doesn't
+-- two names that are looked up: both stand for something, and the line says how one reaches the
+-- other; or one of them doesn't
 abbrev pub Looked : PartsRow → Option Owner → Option ℕ → Turn → Type 0
 Looked p (Some owner) (Some c) turn =
     (text : List ℕ) × (IsWhyLine p owner c text × (turn ≡ Ends status.Done text))
