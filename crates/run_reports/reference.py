@@ -109,8 +109,37 @@ def edges(image):
     return sorted(map(list, out))
 
 
+def ways(image):
+    """How each compartment and library reaches each compartment, by the least path: fewest members, and among these
+    the least numbers from the left, libraries after compartments."""
+    owners = [("c", n) for n in range(len(image.owners))] + [("l", n) for n in range(len(image.libraries))]
+    steps = {owner: [] for owner in owners}
+    for a, b in edges(image):
+        steps["c", a].append(("c", b))
+        steps["c", b].append(("c", a))
+    for owner, p in zip(owners, image.owners + image.libraries):
+        for _, row, _ in p.slots:
+            if row[0] == 6:
+                steps["l", r.numbers(row)[0]].append(owner)
+    lines = []
+    for owner in owners:
+        best, front = {owner: (owner,)}, [(owner,)]
+        while front:
+            found = {}
+            for path in front:
+                for step in steps[path[-1]]:
+                    if step not in best:
+                        found[step] = min(found.get(step, path + (step,)), path + (step,))
+            best.update(found)
+            front = list(found.values())
+        for to in owners[:len(image.owners)]:
+            path = " ".join("%s%d" % member for member in best[to]) if to in best else ""
+            lines.append("why %s%d %s%d %s" % (owner + to + ("path " + path if path else "none",)))
+    return lines
+
+
 def report(data):
-    """The report line of an image, and the lines of its gates."""
+    """The report line of an image, the lines of its gates, and how its owners reach its compartments."""
     assert r.answer(data) == "ok", r.answer(data)
     image = r.read(data)
     rows, gates = entries(image)
@@ -129,19 +158,22 @@ def report(data):
         "quantum": image.quantum,
         "threads": threads,
     }
-    return [json.dumps(whole, sort_keys=True, separators=(",", ":"))] + gates
+    return [json.dumps(whole, sort_keys=True, separators=(",", ":"))] + gates + ways(image)
 
 
 # ---- the images
 
-def board():
-    """Two compartments, a library, two threads."""
+CAPABILITIES, DATA = 1, 2
+
+
+def board(passes):
+    """Two compartments, a library, two threads. What the first calls of the second passes capabilities or data."""
     app = r.owner(True, "app", 0x80000000, 112, [
         r.SWITCH, (r.import_row(6, 43, 0, 0), "digit"), (r.import_row(5, 50, 1, 0), "put"),
         (r.import_row(1, 40, 6), "allocate"), (r.import_row(7, 50, 64), "q")],
         [(r.export_row(0, 0, 6, 3, 1, 8), "main")], bytes(72), 0x80000070, 0x80000090, 16)
     driver = r.owner(True, "driver", 0x800000a0, 32, [r.SWITCH, (r.import_row(2, 49, 0), "uart")],
-                     [(r.export_row(0, 0, 1, 3, 2, 13), "put")], bytes(16), 0x800000c0, 0x800000e0, 16)
+                     [(r.export_row(0, 0, 1, 3, passes, 13), "put")], bytes(16), 0x800000c0, 0x800000e0, 16)
     hexes = r.owner(False, "hex", 0x800000f0, 16, [], [(r.export_row(0, 0, 0, 1, 1, 15), "digit")], bytes(8))
     return r.image(1, 20, 0x80000000, 4096, 0x80000300, 0x80000550, 64, "board", [("uart0", 1, 0x10000000)], [], [],
                    [app, driver], [hexes], [("t", 0x80000100, 256, 0, 0, 1, 2), ("u", 0x80000200, 256, 0, 0, 1, 2)])
@@ -156,7 +188,7 @@ def services():
                    [("ring", 0x800000b0, 16)], [], [app], [], [])
 
 
-RWC, RW, CAPABILITIES, DATA = 59, 51, 1, 2
+RWC, RW = 59, 51
 
 
 def sharing(rights, passes):
@@ -182,7 +214,8 @@ def by_hand(name, lines):
     if name == "tiny":
         with open(os.path.join(HERE, "..", "..", "samples", "tiny", "report.json")) as file:
             assert line + "\n" == file.read()
-        assert lines[1:] == ["gate 5 code 2147483664 stack 0 args 6 posture enabled passes capabilities"]
+        assert lines[1:] == ["gate 5 code 2147483664 stack 0 args 6 posture enabled passes capabilities",
+                             "why c0 c0 path c0"]
     pieces = {
         "board": [
             '{"compartments":["app","driver"],"devices":[{"base":268435456,"kind":"uart","name":"uart0"}],"edges":[],',
@@ -214,13 +247,24 @@ def by_hand(name, lines):
     if name == "board":
         assert lines[1:] == ["gate 8 code 2147483688 stack 0 args 6 posture enabled passes capabilities",
                              "gate 13 code 2147483824 stack 0 args 1 posture enabled passes data",
-                             "gate 15 code 2147483888 stack 0 args 0 posture inherit passes capabilities"]
+                             "gate 15 code 2147483888 stack 0 args 0 posture inherit passes capabilities",
+                             "why c0 c0 path c0", "why c0 c1 none", "why c1 c0 none", "why c1 c1 path c1",
+                             "why l0 c0 path l0 c0", "why l0 c1 none"]
+    reached = {
+        "open": ["why c0 c1 path c0 c1", "why l0 c1 path l0 c0 c1"],
+        "shared": ["why c0 c1 path c0 c1", "why c2 c0 none"],
+        "plain": ["why c0 c1 none"],
+        "passing": ["why c2 c0 path c2 c1 c0"],
+    }
+    for way in reached.get(name, []):
+        assert way in lines, (name, way)
 
 
 def main():
     out = sys.argv[1]
     lines = []
-    for name, data in (("tiny", r.tiny()), ("board", board()), ("shared", sharing(RWC, DATA)),
+    for name, data in (("tiny", r.tiny()), ("board", board(DATA)), ("open", board(CAPABILITIES)),
+                       ("shared", sharing(RWC, DATA)),
                        ("plain", sharing(RW, DATA)), ("passing", sharing(RWC, CAPABILITIES)),
                        ("services", services()), ("large", r.large())):
         told = report(data)

@@ -1,9 +1,12 @@
-//! Writes the report line of each image of `data`, and a line for each of its gates. reference.py
-//! works them out apart from it.
+//! Writes the report line of each image of `data`, a line for each of its gates, and how each
+//! compartment and library reaches each compartment. reference.py works them out apart from it.
 #![tactic(auto)]
 
+ghost use Rattle.std.specs.Prelude.{◌≢◌};
+ghost use Rattle.ct_entry.specs.declared.rows.Owner.TheVariants.{Trusted};
+
 use ct_entries::entries;
-use ct_entry::{Entries, Mode};
+use ct_entry::{Comp, Entries, Mode, Owner};
 use ct_graph::Graph;
 use ct_image::{Image, ImageFault, accept};
 use ct_lines::text;
@@ -37,12 +40,77 @@ fn add_gates(alloc: Global, entries: &Entries, out: &mut String) -> Result<(), A
     Ok(())
 }
 
-/// The report line, and the lines of the gates.
+/// A compartment or a library by its number.
+fn owner_word(alloc: Global, owner: Owner) -> Result<String, AllocError> {
+    match owner {
+        Owner::Compartment(n) => format!(in alloc; " c{n}"),
+        Owner::Library(n) => format!(in alloc; " l{n}"),
+        _ => String::from_str(alloc, " other"),
+    }
+}
+
+/// How an owner reaches a compartment, by the members of the path.
+fn add_way(
+    alloc: Global,
+    graph: &Graph,
+    from: Owner,
+    to: u32,
+    out: &mut String,
+) -> Result<(), NoMemory>
+    requires { from ≢ Trusted }
+{
+    let word = owner_word(alloc, from)?;
+    let front = format!(in alloc; "why{word} c{to}")?;
+    out.push_str(front.as_str())?;
+    match graph.path(alloc, from, Comp(to))? {
+        Some(path) => {
+            out.push_str(" path")?;
+            for owner in &path.owners {
+                let member = owner_word(alloc, *owner)?;
+                out.push_str(member.as_str())?;
+            }
+        }
+        None => out.push_str(" none")?,
+    }
+    out.push_str("\n")?;
+    Ok(())
+}
+
+/// So many, at most as many as a `u32` says.
+fn count(n: usize) -> u32 {
+    n.min(0xffff_ffff) as u32
+}
+
+/// How an owner reaches each compartment.
+fn add_ways(
+    alloc: Global,
+    graph: &Graph,
+    from: Owner,
+    compartments: u32,
+    out: &mut String,
+) -> Result<(), NoMemory>
+    requires { from ≢ Trusted }
+{
+    for to in 0..compartments {
+        add_way(alloc, graph, from, to, out)?;
+    }
+    Ok(())
+}
+
+/// The report line, the lines of the gates, and how owners reach compartments.
 fn reported(alloc: Global, image: &Image) -> Result<String, NoMemory> {
     let rows = entries(alloc, image)?;
     let graph = Graph::of(alloc, &rows)?;
     let mut out = text(alloc, image, &rows, &graph)?;
     add_gates(alloc, &rows, &mut out)?;
+    let parts = image.parts();
+    let compartments = count(parts.compartments.len());
+    for from in 0..compartments {
+        add_ways(alloc, &graph, Owner::Compartment(from), compartments, &mut out)?;
+    }
+    for from in 0..count(parts.libraries.len()) {
+        add_ways(alloc, &graph, Owner::Library(from), compartments, &mut out)?;
+    }
     Ok(out)
 }
 
@@ -60,9 +128,10 @@ fn told(alloc: Global, bytes: &[u8]) -> Result<String, NoMemory> {
     }
 }
 
-const NAMES: [&str; 7] = [
+const NAMES: [&str; 8] = [
     "tiny.image",
     "board.image",
+    "open.image",
     "shared.image",
     "plain.image",
     "passing.image",
