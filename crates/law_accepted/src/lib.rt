@@ -2,7 +2,7 @@
 //! and sources are linked to. Functions with empty bodies whose contracts are the laws.
 #![tactic(auto)]
 
-ghost use Rattle.std.specs.Prelude.{List, ℕ};
+ghost use Rattle.std.specs.Prelude.{List, [], ℕ};
 ghost use Rattle.def_boot.specs.Boot.{board_of, boot_state, image_of};
 ghost use Rattle.def_confined.specs.Confined.{Confined};
 ghost use Rattle.def_confined.specs.Partitioned.{Partitioned};
@@ -14,7 +14,7 @@ ghost use Rattle.def_step.specs.Events.{run, told};
 ghost use Rattle.def_step.specs.declared.Event.{Event};
 ghost use Rattle.law_images.specs.Tiny.{tiny};
 ghost use Rattle.law_link.specs.Links.{Links};
-ghost use Rattle.law_linked.specs.Samples.{board_rows, board_sources};
+ghost use Rattle.law_linked.specs.Samples.{board_rows, board_sources, tiny_rows};
 
 use law_link_samples::samples_link;
 
@@ -45,7 +45,7 @@ pub fn linked_images_run()
 /// The premises are met, by what the rows and sources of two samples are linked to: the smallest
 /// one's parts, and those of the board with two compartments, a library and two threads.
 pub fn samples_are_accepted()
-    ensures tiny { IsFaultless tiny }
+    ensures tiny { Links tiny_rows [] tiny × IsFaultless tiny }
     ensures board { (p : PartsRow) × Links board_rows board_sources p × IsFaultless p }
 {
     samples_link();

@@ -73,5 +73,5 @@ then name other bytes written text sources limit first second =
     let due : Ends status.Done written ≡ Ends status.Done (image_bytes x.parts) = x.due in
     let spelled : written ≡ image_bytes x.parts = cc in
     let runs = subst (λ p. Ends status.Done text ≡ Ends status.Done (run_text p limit))
-        (same_parts (Image name) (Run name limit) bytes sources written text x y) y.due in
+    (same_parts (Image name) (Run name limit) bytes sources written text x y) y.due in
     inr (x.parts, ((sound, spelled), runs))

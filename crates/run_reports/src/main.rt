@@ -106,7 +106,13 @@ fn reported(alloc: Global, image: &Image) -> Result<String, NoMemory> {
     let parts = image.parts();
     let compartments = count(parts.compartments.len());
     for from in 0..compartments {
-        add_ways(alloc, &graph, Owner::Compartment(from), compartments, &mut out)?;
+        add_ways(
+            alloc,
+            &graph,
+            Owner::Compartment(from),
+            compartments,
+            &mut out,
+        )?;
     }
     for from in 0..count(parts.libraries.len()) {
         add_ways(alloc, &graph, Owner::Library(from), compartments, &mut out)?;

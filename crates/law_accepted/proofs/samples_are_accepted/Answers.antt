@@ -8,6 +8,6 @@ pub returns : goal.returns
 returns c =
     let board = c.samples_link.ensures.board in
     record {
-      tiny = faultless tiny_rows [] tiny c.samples_link.ensures.words;
-      board = (board.0, (board.1, faultless board_rows board_sources board.0 board.1));
+      tiny = (c.samples_link.ensures.words, faultless tiny_rows [] tiny c.samples_link.ensures.words);
+      board = (board.0, board.1, faultless board_rows board_sources board.0 board.1);
     }
