@@ -53,19 +53,38 @@ Reads r =
     (bit r.rights load_data ≡ true) ⊎ (bit r.rights store_data ≡ true)
     ⊎ (bit r.rights execute ≡ true)
 
+-- no root's range meets the heap
+abbrev pub RootsAway : Image → Type 0
+RootsAway i =
+    (n : ℕ) → is_root (root i n).origin ≡ true
+    → ((root i n).top ≤ i.heap_base) ⊎ (i.heap_end ≤ (root i n).base)
+
+-- ---- all of them, each with who needs it
+
 pub record Facts (i : Image) : Type 0 where
+  -- calls: the callee's code, globals and stack capabilities, which the switcher hands out, are tagged
   pub made : (n : ℕ) → HasCapability i n → (made_cap i n).tag ≡ true
+  -- allocations and frees: what a native routine takes for a quota is one
   pub quotas : (n : ℕ) → cap_seal (made_cap i n) ≡ QUOTA_TYPE
       → (root i n).origin ≡ Listing kind.Quota
+  -- calls: what the switcher takes for a sealed export is a call's import
   pub calls : (n : ℕ) → cap_seal (made_cap i n) ≡ EXPORT_TYPE
       → (root i n).origin ≡ Listing kind.Call
+  -- calls: the callee is a compartment
   pub called : (n : ℕ) → (root i n).origin ≡ Listing kind.Call → IsCompartmentExport i (root i n).of
+  -- jumps: what is entered through a library's sentry is that library's code
   pub imported : (n : ℕ) → (root i n).origin ≡ Listing kind.Library
       → IsLibraryExport i n (root i n).of
+  -- calls: the callee begins at a word of its own code
   pub gates : (n : ℕ) → (root i n).origin ≡ Listing kind.Export → GateFits i n
+  -- calls: what is left of a stack below a new top has bounds that a word can spell
   pub stacks : (n : ℕ) → (root i n).origin ≡ Listing kind.Stack
       → (rounded_of (root i n).base (root i n).top).exact ≡ true
+  -- fetches: a native routine runs through a capability of its own alone
   pub natives : (n x : ℕ) → is_native (root i n).origin ≡ false → Reads (root i n)
       → IsInside (root i n) x → (x < NATIVE_BASE) ⊎ (NATIVE_END ≤ x)
+  -- loads, stores and fetches: what lies in the heap is reached through heap capabilities alone
   pub heap : (n x : ℕ) → Reads (root i n) → IsInside (root i n) x
       → (x < i.heap_base) ⊎ (i.heap_end ≤ x)
+  -- allocations: a new object is covered by no capability
+  pub away : RootsAway i

@@ -4,7 +4,7 @@ use Rattle.def_reach.specs.Roots.{root_of, gate_for, is_root}
 use Rattle.def_machine.specs.Image.{root}
 use Rattle.law_example.specs.Small.{small}
 use Rattle.law_example.proofs.Cases.{by_entry}
-use Rattle.law_fresh.specs.Fresh.{RootsAway}
+use Rattle.def_facts.specs.Facts.{RootsAway}
 
 pub roots_away : RootsAway small
 unfolding root_of gate_for

@@ -1,16 +1,8 @@
--- What is covered by a capability, and ranges of roots away from the heap.
+-- What is covered by a capability.
 use Rattle.std.specs.Prelude.{ℕ, ◌≡◌, ◌+◌, ◌≤◌, ◌<◌, ◌⊎◌, true}
 use Rattle.def_words.specs.declared.Cap.{Cap}
 use Rattle.def_words.specs.Authority.{cap_base, cap_top}
-use Rattle.def_reach.specs.Roots.{is_root}
-use Rattle.def_machine.specs.Image.{Image, root}
 use Rattle.def_machine.specs.State.{Frame, Object}
-
--- no root's range meets the heap
-abbrev pub RootsAway : Image → Type 0
-RootsAway i =
-    (n : ℕ) → is_root (root i n).origin ≡ true
-    → ((root i n).top ≤ i.heap_base) ⊎ (i.heap_end ≤ (root i n).base)
 
 -- a tagged capability whose authority isn't empty has none of an object's addresses
 abbrev pub Misses : Object → Cap → Type 0

@@ -10,7 +10,8 @@ ghost use Rattle.def_confined.specs.Confined.{Confined};
 ghost use Rattle.def_confined.specs.Partitioned.{Partitioned};
 ghost use Rattle.def_confined.specs.Changes.{NewObject};
 ghost use Rattle.law_example.specs.Small.{small};
-ghost use Rattle.law_fresh.specs.Fresh.{RootsAway, Misses, SavedMiss};
+ghost use Rattle.def_facts.specs.Facts.{RootsAway};
+ghost use Rattle.law_fresh.specs.Fresh.{Misses, SavedMiss};
 
 /// A new object is covered by nothing: no granule's capability, no register's, no program counter, nothing
 /// saved. Its granules are untagged.

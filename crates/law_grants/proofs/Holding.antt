@@ -29,7 +29,7 @@ use Rattle.law_grants.proofs.Lying.{own_there, library_there, stack_there}
 use Rattle.law_grants.proofs.Sets.{no_way}
 use Rattle.law_grants.proofs.Told.{LiesAs, of_nothing, in_ram, native, device, of_key}
 use Rattle.law_grants.proofs.Imports.{named, library_low, library_high}
-use Rattle.law_grants.proofs.Clauses.{told_at, away_of, call_sealed, quota_sealed}
+use Rattle.law_grants.proofs.Clauses.{told_at, away_of, roots_away, call_sealed, quota_sealed}
 use Rattle.law_grants.proofs.Own.{code_entry_is}
 
 -- ---- what has a capability
@@ -228,4 +228,5 @@ module _ (p : PartsRow) (s : Sound p) where
     stacks = stacks;
     natives = natives;
     heap = heap_away;
+    away = roots_away p s;
   }

@@ -12,5 +12,5 @@ mod parts;
 pub use boards::boards_wired;
 pub use facts::facts_hold;
 pub use naming::{exports_named, reach_by_import};
-pub use partitioned::{made_partition, roots_away, rows_partition};
+pub use partitioned::{made_partition, rows_partition};
 pub use parts::{makes_stand, parts_lie};

@@ -77,11 +77,3 @@ pub fn made_partition()
     ensures sentry { (p : PartsRow) → Sound p → (made_cap (image_of p) 0).tag ≡ true
         → cap_seal (made_cap (image_of p) 0) ≡ 5 }
 {}
-
-/// No root's range meets the heap.
-pub fn roots_away()
-    ensures { (p : PartsRow) → Sound p → (n : ℕ)
-        → is_root (root (image_of p) n).origin ≡ true
-        → ((root (image_of p) n).top ≤ (image_of p).heap_base)
-        ⊎ ((image_of p).heap_end ≤ (root (image_of p) n).base) }
-{}

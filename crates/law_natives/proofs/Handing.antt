@@ -24,7 +24,7 @@ use Rattle.def_step.specs.Routines.{Ran, Traps, Leaves, answers, tells, checked,
 use Rattle.def_step.specs.Quotas.{Allocation, Refused, Made, at_place, allocation, is_quota_cap, quota_in, hands_out, allocated, allocate}
 use Rattle.law_made.proofs.Found.{place_found}
 use Rattle.law_routines.proofs.Places as places
-use Rattle.law_fresh.specs.Fresh.{RootsAway}
+use Rattle.def_facts.specs.Facts.{RootsAway}
 use Rattle.law_fresh.proofs.Covering.{granule_misses, register_misses, pcc_misses, frames_miss}
 use Rattle.law_blank.proofs.Events.{heap_zero}
 use Rattle.law_natives.specs.Fresh.{IsFresh, HandsOut}

@@ -14,7 +14,7 @@ ghost use Rattle.def_machine.specs.Image.{Image, root};
 ghost use Rattle.def_machine.specs.State.{State, Frame, thread};
 ghost use Rattle.def_step.specs.Quotas.{allocate, free, remaining};
 ghost use Rattle.def_step.specs.Routines.{Leaves, switch, sleep, yield};
-ghost use Rattle.law_fresh.specs.Fresh.{RootsAway};
+ghost use Rattle.def_facts.specs.Facts.{RootsAway};
 ghost use Rattle.law_natives.specs.Callable.{Callable};
 ghost use Rattle.law_natives.specs.Clean.{CleanEntry, CleanReturn};
 ghost use Rattle.law_natives.specs.Fresh.{HandsOut};
