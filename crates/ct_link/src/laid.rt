@@ -1,0 +1,118 @@
+//! From the objects of all owners to the image.
+
+ghost use Rattle.std.specs.Prelude.{◌≡◌, ◌+◌, ◌*◌, ◌<◌, ◌^◌, Ok, IfOk, IfErr, length};
+ghost use Rattle.def_link.specs.Linked as spec;
+ghost use Rattle.ct_objects.specs.Objects.{Refuses};
+ghost use Rattle.ct_link.specs.Laid.{AreObjects, AreReady, IsPlaced, laid_of, sizes_with, parts_with};
+
+use crate::objects::{sealed_parts, shared_parts, thread_parts};
+use crate::owners::{compartment_parts, entries_of, library_parts};
+use crate::regions::region_at;
+use crate::sizes::sizes_of;
+use ct_asm::Object;
+use ct_entry::Device;
+use ct_image::Image;
+use ct_layout::{LayoutFault, Places, Sizes, place};
+use ct_parts::Parts;
+use ct_rows::Desc;
+use def_layout::Region;
+use def_link::LinkFault;
+use std::alloc::{AllocError, Global};
+
+/// Copies of devices.
+fn devices_of(alloc: Global, all: &[Device]) -> Result<Vec<Device>, AllocError>
+    ensures { IfOk result (λ v. v.items ≡ all.now) }
+{
+    let mut devices = Vec::new(alloc);
+    for device in all {
+        devices.push(Device {
+            name: device.name.clone()?,
+            kind: device.kind,
+            base: device.base,
+        })?;
+    }
+    Ok(devices)
+}
+
+/// The parts over all regions: those of compartments stand first, then of libraries, shared and
+/// sealed objects, stacks, and the trusted region. The heap begins at `heap`.
+fn parts_of(
+    alloc: Global,
+    desc: &Desc,
+    own: &[Object],
+    lent: &[Object],
+    regions: &[Region],
+    heap: u32,
+) -> Result<Parts, AllocError>
+    requires { AreObjects desc.now own.now lent.now }
+    ensures { IfOk result
+        (λ p. p ≡ parts_with desc.now own.now lent.now regions.now heap) }
+{
+    let libraries = 3 * desc.compartments.len();
+    let shared = libraries + desc.libraries.len();
+    let sealed = shared + desc.shared.len();
+    let threads = sealed + desc.sealed.len();
+    let trusted = threads + desc.threads.len();
+    let entry = 1 + entries_of(desc.compartments.as_slice());
+    Ok(Parts {
+        version: desc.version,
+        sweep: desc.sweep,
+        quantum: desc.quantum,
+        ram: desc.ram.base,
+        size: desc.ram.size,
+        trusted: region_at(regions, trusted, 0).base,
+        heap,
+        name: desc.firmware.clone()?,
+        devices: devices_of(alloc, desc.devices.as_slice())?,
+        shared: shared_parts(alloc, desc.shared.as_slice(), regions, shared)?,
+        sealed: sealed_parts(alloc, desc.sealed.as_slice(), regions, sealed)?,
+        compartments: compartment_parts(alloc, desc, own, regions)?,
+        libraries: library_parts(alloc, desc, lent, entry, regions, libraries)?,
+        threads: thread_parts(alloc, desc, regions, threads)?,
+    })
+}
+
+/// Where the regions of all owners lie, or that RAM hasn't room for them.
+fn places_of(
+    alloc: Global,
+    desc: &Desc,
+    own: &[Object],
+    lent: &[Object],
+) -> Result<Places, LinkFault>
+    requires { AreObjects desc.now own.now lent.now }
+    ensures ok { IfOk result (λ places. IsPlaced desc.now own.now lent.now places) }
+    ensures err { IfErr result (λ e. Refuses (laid_of desc.now own.now lent.now) e) }
+{
+    let Ok(regions) = sizes_of(alloc, desc, own, lent) else {
+        return Err(LinkFault::NoMemory);
+    };
+    let sizes = Sizes {
+        base: desc.ram.base,
+        size: desc.ram.size,
+        regions,
+    };
+    match place(alloc, &sizes) {
+        Ok(places) => Ok(places),
+        Err(LayoutFault::NoRoom { needed, has }) => Err(LinkFault::NoRoom { needed, has }),
+        Err(LayoutFault::NoMemory) => Err(LinkFault::NoMemory),
+    }
+}
+
+/// The image of a lawful description, by the objects of its compartments and of its libraries.
+pub(crate) fn image_of(
+    alloc: Global,
+    desc: &Desc,
+    own: &[Object],
+    lent: &[Object],
+) -> Result<Image, LinkFault>
+    requires { AreReady desc.now own.now lent.now }
+    ensures ok { IfOk result (λ i. laid_of desc.now own.now lent.now ≡ Ok i) }
+    ensures err { IfErr result (λ e. Refuses (laid_of desc.now own.now lent.now) e) }
+{
+    let places = places_of(alloc, desc, own, lent)?;
+    let regions = places.regions.as_slice();
+    let Ok(parts) = parts_of(alloc, desc, own, lent, regions, places.heap.base) else {
+        return Err(LinkFault::NoMemory);
+    };
+    Ok(Image::of(parts))
+}

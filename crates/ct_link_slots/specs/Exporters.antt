@@ -1,0 +1,44 @@
+-- What the rows of a lawful description ask of those that write tables of them: lists that 32 bits
+-- can count, numbers that a row's field can hold.
+use Rattle.std.specs.Prelude.{ℕ, ◌≡◌, ◌+◌, ◌<◌, ◌^◌, List, length}
+use Rattle.std.specs.List.{AllByRecursion}
+use Rattle.def_description.specs.Named.{export_names, library_export_names}
+use Rattle.def_description.specs.Rows.{ExportRow, CompartmentRow, LibraryRow, DescRow}
+use Rattle.def_link.specs.Slots.{Exporter}
+use Rattle.ct_asm.specs.Labels.{Assembled}
+
+-- ---- owners by the names of their exports
+
+abbrev pub exporter : CompartmentRow → Exporter
+exporter c = record { name = c.name; exports = export_names c }
+
+abbrev pub library_exporter : LibraryRow → Exporter
+library_exporter l = record { name = l.name; exports = library_export_names l }
+
+abbrev pub IsExporter : CompartmentRow → Type 0
+IsExporter c = length c.exports < 2 ^ 32
+
+abbrev pub IsLibraryExporter : LibraryRow → Type 0
+IsLibraryExporter l = length l.exports < 2 ^ 32
+
+-- lists in which a name has an index of 32 bits
+pub record AreCounted (d : DescRow) : Type 0 where
+  pub devices : length d.devices < 2 ^ 32
+  pub shared : length d.shared < 2 ^ 32
+  pub sealed : length d.sealed < 2 ^ 32
+  pub compartments : length d.compartments < 2 ^ 32
+  pub libraries : length d.libraries < 2 ^ 32
+  pub exporter : AllByRecursion IsExporter d.compartments
+  pub library_exporter : AllByRecursion IsLibraryExporter d.libraries
+
+-- ---- what a row's fields hold
+
+-- keys of 32 bits
+abbrev pub AreKeys : List ℕ → Type 0
+AreKeys keys = AllByRecursion (λ k. k < 2 ^ 32) keys
+
+-- exports of few arguments, numbered from an entry on, each beginning in a text that 32 bits count
+pub record AreGated (o : Assembled) (entry : ℕ) (exports : List ExportRow) : Type 0 where
+  pub text : length o.text < 2 ^ 32
+  pub few : entry + length exports < 2 ^ 32
+  pub args : AllByRecursion (λ (x : ExportRow). x.args < 256) exports

@@ -1,0 +1,6 @@
+pub mod Walks
+pub mod Slots
+pub mod Units
+pub mod Progress
+pub mod Codes
+pub mod Steps

@@ -1,0 +1,11 @@
+use Rattle.std.proofs.Common.{◌≡◌, map, drop}
+use Rattle.def_description.specs.Rows.{LexportRow}
+use Rattle.def_link.specs.Owners as owner
+use Rattle.ct_objects.specs.Objects.{built_of}
+use Rattle.ct_objects.proofs.exports.first_library_lost.Given as goal
+
+abbrev pub invariant-loop-export : goal.invariant-loop-export
+invariant-loop-export l =
+    (l.item ≡ l.export-index)
+    × (owner.first_lost (built_of l.object) l.item (map (λ (x : LexportRow). x.at) (drop l.export-index l.exports))
+    ≡ owner.first_lost (built_of l.object) 0 (map (λ (x : LexportRow). x.at) l.exports))

@@ -1,0 +1,194 @@
+//! The objects of all owners, or the first fault.
+
+ghost use Rattle.std.specs.Prelude.{◌≡◌, ◌≤◌, ◌<◌, ◌+◌, ◌^◌, ℕ, List, length, map, drop, MatchResult, IfOk, IfErr, OnOk};
+ghost use Rattle.std.specs.List.{AllByRecursion};
+ghost use Rattle.def_link.specs.Owners as owner;
+ghost use Rattle.ct_objects.specs.Objects.{IsLinkable, file_of, files_of, IsBuilt, AreBuilt, Adds, Refuses, IsOwn, IsShared};
+
+use crate::code::code_object;
+use crate::exports::{first_library_lost, first_lost};
+use crate::names::{library_names_of, names_of};
+use crate::sources::Sources;
+use ct_asm::Object;
+use ct_entry::Owner;
+use ct_rows::{Code, Compartment, Desc, Library};
+use def_link::LinkFault;
+use std::alloc::Global;
+
+/// The object of a compartment: a fault of its code first, then an export that begins nowhere.
+#[tactic(auto, using(crate::proofs::Units::compartment_refused, crate::proofs::Units::compartment_lost, crate::proofs::Units::compartment_placed))]
+fn compartment_object(
+    alloc: Global,
+    index: u32,
+    compartment: &Compartment,
+    source: &[u8],
+) -> Result<Object, LinkFault>
+    requires own { IsOwn compartment.now }
+    requires short { length source.now < 2 ^ 32 }
+    ensures ok { IfOk result (λ o. IsBuilt
+        (owner.unit_built (owner.compartment_unit index compartment.now) source.now) o) }
+    ensures err { IfErr result (λ e. Refuses
+        (owner.unit_built (owner.compartment_unit index compartment.now) source.now) e) }
+{
+    let owner = Owner::Compartment(index);
+    let Ok(slots) = names_of(alloc, compartment) else {
+        return Err(LinkFault::NoMemory);
+    };
+    let object = code_object(alloc, owner, &slots, &compartment.code, source)?;
+    match first_lost(&object, compartment.exports.as_slice()) {
+        Some(item) => Err(LinkFault::Export { owner, item }),
+        None => Ok(object),
+    }
+}
+
+/// The object of a library: a fault of its code first, then an export that begins nowhere, then
+/// initial bytes, which it may not have.
+#[tactic(auto, using(crate::proofs::Units::library_refused, crate::proofs::Units::library_lost, crate::proofs::Units::library_stray, crate::proofs::Units::library_placed))]
+fn library_object(
+    alloc: Global,
+    index: u32,
+    library: &Library,
+    source: &[u8],
+) -> Result<Object, LinkFault>
+    requires own { IsShared library.now }
+    requires short { length source.now < 2 ^ 32 }
+    ensures ok { IfOk result (λ o. IsBuilt
+        (owner.unit_built (owner.library_unit index library.now) source.now) o) }
+    ensures err { IfErr result (λ e. Refuses
+        (owner.unit_built (owner.library_unit index library.now) source.now) e) }
+{
+    let owner = Owner::Library(index);
+    let Ok(slots) = library_names_of(alloc, library) else {
+        return Err(LinkFault::NoMemory);
+    };
+    let object = code_object(alloc, owner, &slots, &library.code, source)?;
+    match first_library_lost(&object, library.exports.as_slice()) {
+        Some(item) => Err(LinkFault::Export { owner, item }),
+        None => {
+            if 0 < object.init.len() {
+                Err(LinkFault::Initial { owner })
+            } else {
+                Ok(object)
+            }
+        }
+    }
+}
+
+/// The text of a code that is a file, which stands next; none of a code of words.
+#[tactic(auto, using(crate::proofs::Steps::head_at, crate::proofs::Steps::short_at))]
+fn source_for<'a>(code: &Code, texts: &'a [Vec<u8>], next: usize) -> &'a [u8]
+    requires there { next + file_of code.now.file ≤ length texts.now }
+    requires short { AllByRecursion (λ (t : List ℕ). length t < 2 ^ 32)
+        (map (λ t. t.items) texts.now) }
+    ensures value { result.now
+        ≡ owner.source_for code.now.file (drop next (map (λ t. t.items) texts.now)) }
+    ensures short { length result.now < 2 ^ 32 }
+{
+    match code.file {
+        None => &[],
+        Some(_) => texts[next].as_slice(),
+    }
+}
+
+/// How many texts a code takes.
+fn files_in(code: &Code) -> usize
+    ensures { result ≡ file_of code.now.file }
+{
+    match code.file {
+        None => 0,
+        Some(_) => 1,
+    }
+}
+
+/// Adds the objects of compartments, and says how many texts these took.
+#[tactic(auto, using(crate::proofs::Progress::none_done, crate::proofs::Steps::at_each, crate::proofs::Steps::one_step, crate::proofs::Steps::fault_step, crate::proofs::Steps::room_step, crate::proofs::Steps::all_done, crate::proofs::Steps::all_taken))]
+fn add_compartments(
+    all: &mut Vec<Object>,
+    alloc: Global,
+    compartments: &[Compartment],
+    texts: &[Vec<u8>],
+) -> Result<usize, LinkFault>
+    requires own { AllByRecursion IsOwn compartments.now }
+    requires few { length compartments.now < 2 ^ 32 }
+    requires there { files_of (owner.numbered owner.compartment_unit 0 compartments.now)
+        ≤ length texts.now }
+    requires short { AllByRecursion (λ (t : List ℕ). length t < 2 ^ 32)
+        (map (λ t. t.items) texts.now) }
+    ensures used { IfOk result (λ used. used
+        ≡ files_of (owner.numbered owner.compartment_unit 0 compartments.now)) }
+    ensures ok { IfOk result (λ used. Adds
+        (owner.all_built (owner.numbered owner.compartment_unit 0 compartments.now)
+        (map (λ t. t.items) texts.now)) all.old.items all.new.items) }
+    ensures err { IfErr result (λ e. Refuses
+        (owner.all_built (owner.numbered owner.compartment_unit 0 compartments.now)
+        (map (λ t. t.items) texts.now)) e) }
+{
+    let mut index = 0;
+    let mut next = 0;
+    for compartment in compartments {
+        let source = source_for(&compartment.code, texts, next);
+        let object = compartment_object(alloc, index, compartment, source)?;
+        let Ok(()) = all.push(object) else {
+            return Err(LinkFault::NoMemory);
+        };
+        next += files_in(&compartment.code);
+        index += 1;
+    }
+    Ok(next)
+}
+
+/// Adds the objects of libraries, whose texts stand from the next on.
+#[tactic(auto, using(crate::proofs::Progress::none_done, crate::proofs::Steps::at_each, crate::proofs::Steps::one_step, crate::proofs::Steps::fault_step, crate::proofs::Steps::room_step, crate::proofs::Steps::all_done, crate::proofs::Steps::all_taken))]
+fn add_libraries(
+    all: &mut Vec<Object>,
+    alloc: Global,
+    libraries: &[Library],
+    texts: &[Vec<u8>],
+    used: usize,
+) -> Result<(), LinkFault>
+    requires own { AllByRecursion IsShared libraries.now }
+    requires few { length libraries.now < 2 ^ 32 }
+    requires there { used + files_of (owner.numbered owner.library_unit 0 libraries.now)
+        ≤ length texts.now }
+    requires short { AllByRecursion (λ (t : List ℕ). length t < 2 ^ 32)
+        (map (λ t. t.items) texts.now) }
+    ensures ok { OnOk result (Adds
+        (owner.all_built (owner.numbered owner.library_unit 0 libraries.now)
+        (drop used (map (λ t. t.items) texts.now))) all.old.items all.new.items) }
+    ensures err { IfErr result (λ e. Refuses
+        (owner.all_built (owner.numbered owner.library_unit 0 libraries.now)
+        (drop used (map (λ t. t.items) texts.now))) e) }
+{
+    let mut index = 0;
+    let mut next = used;
+    for library in libraries {
+        let source = source_for(&library.code, texts, next);
+        let object = library_object(alloc, index, library, source)?;
+        let Ok(()) = all.push(object) else {
+            return Err(LinkFault::NoMemory);
+        };
+        next += files_in(&library.code);
+        index += 1;
+    }
+    Ok(())
+}
+
+/// The object of each compartment, then of each library: its text, its initial bytes and its labels.
+///
+/// The first fault in owner order, compartments first; of one owner first a fault of its text, then
+/// L3 an import that isn't declared, then a fault of the assembly, then L1 an export that begins
+/// nowhere, then L4 a library's initial bytes. NoMemory where a growth was refused.
+///
+/// Condition: the description is lawful, and there is one text for each of its codes that is a file.
+pub fn objects(alloc: Global, desc: &Desc, sources: &Sources) -> Result<Vec<Object>, LinkFault>
+    requires { IsLinkable desc.now sources.now }
+    ensures { MatchResult result
+        (λ all. AreBuilt (owner.all_built (owner.units_of desc.now) sources.now) all.items)
+        (λ e. Refuses (owner.all_built (owner.units_of desc.now) sources.now) e) }
+{
+    let texts = sources.texts.as_slice();
+    let mut all = Vec::new(alloc);
+    let used = add_compartments(&mut all, alloc, desc.compartments.as_slice(), texts)?;
+    add_libraries(&mut all, alloc, desc.libraries.as_slice(), texts, used)?;
+    Ok(all)
+}

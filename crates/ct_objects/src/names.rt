@@ -1,0 +1,96 @@
+//! The names of an owner's slots, in slot order.
+
+ghost use Rattle.std.specs.Prelude.{◌≡◌, IfOk, OnOk, map, string_bytes};
+ghost use Rattle.def_description.specs.Names as name;
+ghost use Rattle.def_description.specs.Named.{slot_names, library_slot_names};
+ghost use Rattle.def_description.specs.Rows.{ImportRow, QuotaRow, LimportRow};
+ghost use Rattle.def_description.specs.Lawful.{AreNames};
+ghost use Rattle.ct_objects.specs.Slots.{with_slot, with_slots};
+
+use ct_asm::Names;
+use ct_rows::{Compartment, Import, Library, LibraryImport, Quota};
+use std::alloc::{AllocError, Global};
+
+/// The name of a key's slot.
+fn key_name(alloc: Global, n: u64) -> Result<String, AllocError>
+    ensures { IfOk result (λ s. string_bytes s ≡ name.key_name n) }
+{
+    format!(in alloc; "key{n}")
+}
+
+fn add(names: &mut Names, alloc: Global, name: &str) -> Result<(), AllocError>
+    ensures { OnOk result (names.new ≡ with_slot names.old name.now) }
+{
+    names.add(alloc, name)?;
+    Ok(())
+}
+
+fn add_imports(names: &mut Names, alloc: Global, imports: &[Import]) -> Result<(), AllocError>
+    ensures { OnOk result
+        (names.new ≡ with_slots names.old (map (λ (x : ImportRow). x.alias) imports.now)) }
+{
+    for import in imports {
+        add(names, alloc, import.alias.as_str())?;
+    }
+    Ok(())
+}
+
+fn add_quotas(names: &mut Names, alloc: Global, quotas: &[Quota]) -> Result<(), AllocError>
+    ensures { OnOk result
+        (names.new ≡ with_slots names.old (map (λ (q : QuotaRow). q.name) quotas.now)) }
+{
+    for quota in quotas {
+        add(names, alloc, quota.name.as_str())?;
+    }
+    Ok(())
+}
+
+fn add_keys(names: &mut Names, alloc: Global, keys: &[u64]) -> Result<(), AllocError>
+    ensures { OnOk result
+        (names.new ≡ with_slots names.old (map name.key_name keys.now)) }
+{
+    for key in keys {
+        let name = key_name(alloc, *key)?;
+        add(names, alloc, name.as_str())?;
+    }
+    Ok(())
+}
+
+/// The names of a compartment's slots: `switch`, the imports, the quotas, the keys.
+#[tactic(auto, using(crate::proofs::Slots::slots_taken))]
+pub(crate) fn names_of(alloc: Global, compartment: &Compartment) -> Result<Names, AllocError>
+    requires { AreNames (slot_names compartment.now) }
+    ensures { IfOk result (λ names. names ≡ slot_names compartment.now) }
+{
+    let mut names = Names::new(alloc);
+    add(&mut names, alloc, "switch")?;
+    add_imports(&mut names, alloc, compartment.imports.as_slice())?;
+    add_quotas(&mut names, alloc, compartment.quotas.as_slice())?;
+    add_keys(&mut names, alloc, compartment.keys.as_slice())?;
+    Ok(names)
+}
+
+fn add_library_imports(
+    names: &mut Names,
+    alloc: Global,
+    imports: &[LibraryImport],
+) -> Result<(), AllocError>
+    ensures { OnOk result
+        (names.new ≡ with_slots names.old (map (λ (x : LimportRow). x.alias) imports.now)) }
+{
+    for import in imports {
+        add(names, alloc, import.alias.as_str())?;
+    }
+    Ok(())
+}
+
+/// The names of a library's slots: its imports.
+#[tactic(auto, using(crate::proofs::Slots::once_taken))]
+pub(crate) fn library_names_of(alloc: Global, library: &Library) -> Result<Names, AllocError>
+    requires { AreNames (library_slot_names library.now) }
+    ensures { IfOk result (λ names. names ≡ library_slot_names library.now) }
+{
+    let mut names = Names::new(alloc);
+    add_library_imports(&mut names, alloc, library.imports.as_slice())?;
+    Ok(names)
+}
