@@ -1,5 +1,5 @@
 -- Rows of a lawful description with the objects of their code, as parts of an image ask for them.
-use Rattle.std.specs.Prelude.{ℕ, ◌≡◌, ◌+◌, ◌<◌, ◌≤◌, List, map, length}
+use Rattle.std.specs.Prelude.{ℕ, ◌≡◌, ◌+◌, ◌<◌, ◌≤◌, ◌^◌, List, map, length}
 use Rattle.std.specs.List.{AllByRecursion}
 use Rattle.def_profile.specs.declared.limits.TheConstants as most
 use Rattle.def_layout.specs.declared.Region.{Region}
@@ -74,3 +74,9 @@ code_in d x entry region = record {
   exports = compartment_gates x.built (entry + 2 + compartment_slot_count x.row) x.row;
   text = x.built.text;
 }
+
+-- exports of few arguments, numbered from an entry on, each beginning in a text that 32 bits count
+pub record AreGated (o : Assembled) (entry : ℕ) (exports : List ExportRow) : Type 0 where
+  pub text : length o.text < 2 ^ 32
+  pub few : entry + length exports < 2 ^ 32
+  pub args : AllByRecursion (λ (x : ExportRow). x.args < 256) exports

@@ -2,15 +2,17 @@
 //! (docs/use/description.md, "Linking").
 //!
 //! The objects of all owners come first, in ct_objects; then the sizes of all regions, their places
-//! by ct_layout, and the parts, whose rows of slots and exports come of ct_link_slots. What is linked
+//! by ct_layout, and the parts, whose slots come of ct_link_slots. What is linked
 //! is faultless by the law of law_link_limits, so that it is an image at once.
 #![tactic(auto)]
 
+mod gates;
 mod laid;
 mod objects;
 mod owners;
 mod regions;
 mod sizes;
+mod sourced;
 #[cfg(test)]
 mod tests;
 
@@ -23,6 +25,7 @@ pub use ct_objects::Sources;
 use ct_objects::objects;
 use ct_rows::Desc;
 pub use def_link::LinkFault;
+pub use sourced::are_sourced;
 use std::alloc::Global;
 
 /// The image that a description and its sources are linked to.

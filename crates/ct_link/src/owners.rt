@@ -7,10 +7,11 @@ ghost use Rattle.def_link.specs.Linked as spec;
 ghost use Rattle.ct_link.specs.Rows.{AreOwn, AreLent, IsSized, IsSmallOwner, IsSmallLibrary, own_built, lent_built, code_in, with_object, library_with_object, row_entries, library_row_entries};
 ghost use Rattle.ct_link_slots.specs.Exporters.{AreCounted};
 
+use crate::gates::{compartment_gates, library_gates};
 use crate::regions::region_at;
 use crate::sizes::slot_count;
 use ct_asm::Object;
-use ct_link_slots::{compartment_gates, compartment_slots, library_gates, library_slots};
+use ct_link_slots::{compartment_slots, library_slots};
 use ct_parts::{Code as CodePart, Compartment as CompartmentPart};
 use ct_rows::{Compartment, Desc, Library};
 use def_layout::Region;

@@ -6,7 +6,7 @@ ghost use Rattle.def_layout.specs.Placement as spec;
 use def_layout::Region;
 
 /// The region so many places past the first of a stretch; an empty one where there is none.
-#[tactic(auto, using(std::proofs::lemmas::List::get_or-drop))]
+#[tactic(auto, using(crate::proofs::Places::place_past))]
 pub(crate) fn region_at(regions: &[Region], first: usize, past: usize) -> Region
     requires { first + past < 2 ^ 32 }
     ensures { result ≡ get_or (drop first regions.now) past (spec.region 0 0) }

@@ -1,11 +1,10 @@
 -- What the rows of a lawful description ask of those that write tables of them: lists that 32 bits
 -- can count, numbers that a row's field can hold.
-use Rattle.std.specs.Prelude.{ℕ, ◌≡◌, ◌+◌, ◌<◌, ◌^◌, List, length}
+use Rattle.std.specs.Prelude.{ℕ, ◌<◌, ◌^◌, List, length}
 use Rattle.std.specs.List.{AllByRecursion}
 use Rattle.def_description.specs.Named.{export_names, library_export_names}
-use Rattle.def_description.specs.Rows.{ExportRow, CompartmentRow, LibraryRow, DescRow}
+use Rattle.def_description.specs.Rows.{CompartmentRow, LibraryRow, DescRow}
 use Rattle.def_link.specs.Slots.{Exporter}
-use Rattle.ct_asm.specs.Labels.{Assembled}
 
 -- ---- owners by the names of their exports
 
@@ -31,14 +30,6 @@ pub record AreCounted (d : DescRow) : Type 0 where
   pub exporter : AllByRecursion IsExporter d.compartments
   pub library_exporter : AllByRecursion IsLibraryExporter d.libraries
 
--- ---- what a row's fields hold
-
 -- keys of 32 bits
 abbrev pub AreKeys : List ℕ → Type 0
 AreKeys keys = AllByRecursion (λ k. k < 2 ^ 32) keys
-
--- exports of few arguments, numbered from an entry on, each beginning in a text that 32 bits count
-pub record AreGated (o : Assembled) (entry : ℕ) (exports : List ExportRow) : Type 0 where
-  pub text : length o.text < 2 ^ 32
-  pub few : entry + length exports < 2 ^ 32
-  pub args : AllByRecursion (λ (x : ExportRow). x.args < 256) exports

@@ -38,7 +38,6 @@ fn after_point(text: &[u8]) -> Option<&[u8]>
 }
 
 /// What follows `owner.` in a text. None exactly where the text doesn't begin so.
-#[tactic(auto, using(crate::proofs::Names::split_name))]
 fn after_owner<'a>(text: &'a [u8], owner: &[u8]) -> Option<&'a [u8]>
     ensures { MatchOption result
         ((name : List ℕ) → text.now ≡ export_name owner.now name → ⊥)
@@ -64,6 +63,7 @@ fn export_in<T: Named>(text: &[u8], owner: &[u8], exports: &[T]) -> u32
 }
 
 /// The export of a compartment that a text names; a lawful one names one.
+#[tactic(auto, using(crate::proofs::Members::at_each))]
 pub fn called(compartments: &[Compartment], text: &[u8]) -> Exported
     requires few { length compartments.now < 2 ^ 32 }
     requires each { AllByRecursion IsExporter compartments.now }
@@ -82,6 +82,7 @@ pub fn called(compartments: &[Compartment], text: &[u8]) -> Exported
 }
 
 /// The export of a library that a text names; a lawful one names one.
+#[tactic(auto, using(crate::proofs::Members::at_each))]
 pub(crate) fn lent(libraries: &[Library], text: &[u8]) -> Exported
     requires few { length libraries.now < 2 ^ 32 }
     requires each { AllByRecursion IsLibraryExporter libraries.now }

@@ -1,4 +1,4 @@
-//! The rows of import and export tables that a description stands for, as def_link's Slots has them
+//! The slots of import tables that a description stands for, as def_link's Slots has them
 //! (docs/use/description.md): what an import names is given by its index, and its rights by its
 //! kind.
 //!
@@ -7,7 +7,6 @@
 #![tactic(auto)]
 
 mod exports;
-mod gates;
 mod imports;
 mod named;
 mod rights;
@@ -15,5 +14,4 @@ mod rows;
 mod tables;
 
 pub use exports::{Exported, called};
-pub use gates::{compartment_gates, library_gates};
 pub use tables::{compartment_slots, library_slots};

@@ -1,6 +1,7 @@
 //! The rights of slots, in the six bits of a row.
 
-ghost use Rattle.std.specs.Prelude.{◌≡◌, ◌<◌, ◌^◌};
+ghost use Rattle.std.specs.Prelude.{◌≡◌, ◌<◌, ◌^◌, nat_eq};
+ghost use Rattle.std.specs.List.{list_any};
 ghost use Rattle.def_words.specs.Permissions.{packed as spec_packed};
 ghost use Rattle.def_description.specs.Reading.{rights_of};
 ghost use Rattle.def_link.specs.Slots as spec;
@@ -17,15 +18,27 @@ pub(crate) fn packed(rights: u32) -> u8
     Perms(rights as u16).pack()
 }
 
+/// Whether a letter stands in a text.
+fn has_letter(text: &[u8], letter: u8) -> bool
+    ensures { result ≡ list_any (nat_eq letter) text.now }
+{
+    for byte in text {
+        if letter == *byte {
+            return true;
+        }
+    }
+    false
+}
+
 /// What letters allow.
 fn letters(text: &str) -> Rights
     ensures { result ≡ rights_of text.now }
 {
     let bytes = text.as_bytes();
     Rights {
-        read: bytes.iter().any(|b| b'R' == *b),
-        write: bytes.iter().any(|b| b'W' == *b),
-        capabilities: bytes.iter().any(|b| b'C' == *b),
+        read: has_letter(bytes, b'R'),
+        write: has_letter(bytes, b'W'),
+        capabilities: has_letter(bytes, b'C'),
     }
 }
 

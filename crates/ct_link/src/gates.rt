@@ -4,7 +4,7 @@ ghost use Rattle.std.specs.Prelude.{◌≡◌, ◌+◌, ◌<◌, ◌^◌, length
 ghost use Rattle.def_link.specs.Owners as owners;
 ghost use Rattle.def_link.specs.Slots as spec;
 ghost use Rattle.ct_objects.specs.Objects.{built_of};
-ghost use Rattle.ct_link_slots.specs.Exporters.{AreGated};
+ghost use Rattle.ct_link.specs.Rows.{AreGated};
 
 use ct_asm::Object;
 use ct_objects::begin_of;
@@ -89,7 +89,8 @@ fn library_gate(
 /// The exports of a compartment whose object this is; the first has this entry.
 ///
 /// Condition: text and entries are of 32 bits, and no export has more arguments than a byte counts.
-pub fn compartment_gates(
+#[tactic(auto, using(crate::proofs::Stretches::numbered_more, crate::proofs::Stretches::at_each))]
+pub(crate) fn compartment_gates(
     alloc: Global,
     object: &Object,
     entry: u32,
@@ -111,7 +112,8 @@ pub fn compartment_gates(
 /// The exports of a library whose object this is; the first has this entry.
 ///
 /// Condition: text and entries are of 32 bits.
-pub fn library_gates(
+#[tactic(auto, using(crate::proofs::Stretches::numbered_more))]
+pub(crate) fn library_gates(
     alloc: Global,
     object: &Object,
     entry: u32,
