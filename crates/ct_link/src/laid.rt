@@ -36,6 +36,7 @@ fn devices_of(alloc: Global, all: &[Device]) -> Result<Vec<Device>, AllocError>
 
 /// The parts over all regions: those of compartments stand first, then of libraries, shared and
 /// sealed objects, stacks, and the trusted region. The heap begins at `heap`.
+#[tactic(auto, using(crate::proofs::Bounds::are_own, crate::proofs::Bounds::are_lent, crate::proofs::Bounds::are_counted))]
 fn parts_of(
     alloc: Global,
     desc: &Desc,
@@ -73,6 +74,7 @@ fn parts_of(
 }
 
 /// Where the regions of all owners lie, or that RAM hasn't room for them.
+#[tactic(auto, using(crate::proofs::Bounds::are_placeable, crate::proofs::Bounds::are_placed, crate::proofs::Bounds::room_wanted))]
 fn places_of(
     alloc: Global,
     desc: &Desc,
@@ -99,6 +101,7 @@ fn places_of(
 }
 
 /// The image of a lawful description, by the objects of its compartments and of its libraries.
+#[tactic(auto, using(crate::proofs::Ready::is_faultless, crate::proofs::Ready::laid_so))]
 pub(crate) fn image_of(
     alloc: Global,
     desc: &Desc,

@@ -27,6 +27,7 @@ fn shared_part(shared: &Shared, region: Region) -> Result<SharedPart, AllocError
 }
 
 /// The parts of shared objects, whose regions stand from `first` on.
+#[tactic(auto, using(crate::proofs::Stretches::numbered_more, crate::proofs::Parts::shared_all))]
 pub(crate) fn shared_parts(
     alloc: Global,
     all: &[Shared],
@@ -65,6 +66,7 @@ fn sealed_part(alloc: Global, sealed: &Sealed, region: Region) -> Result<SealedP
 }
 
 /// The parts of sealed objects, whose regions stand from `first` on.
+#[tactic(auto, using(crate::proofs::Stretches::numbered_more, crate::proofs::Parts::sealed_all))]
 pub(crate) fn sealed_parts(
     alloc: Global,
     all: &[Sealed],
@@ -110,6 +112,7 @@ fn thread_part(
 }
 
 /// The parts of threads, whose stacks stand from `first` on.
+#[tactic(auto, using(crate::proofs::Stretches::numbered_more, crate::proofs::Parts::thread_all))]
 pub(crate) fn thread_parts(
     alloc: Global,
     desc: &Desc,

@@ -27,6 +27,7 @@ fn entry_count(compartment: &Compartment) -> u32
 }
 
 /// How many entries compartments have together.
+#[tactic(auto, using(crate::proofs::Sums::sum_more, crate::proofs::Stretches::at_each))]
 pub(crate) fn entries_of(compartments: &[Compartment]) -> u32
     requires rows { AllByRecursion IsSmallOwner compartments.now }
     requires few { length compartments.now ≤ 64 }
@@ -97,6 +98,7 @@ fn compartment_part(
 }
 
 /// The parts of compartments, whose entries begin at 1 and whose regions come first.
+#[tactic(auto, using(crate::proofs::Sums::sum_more, crate::proofs::Stretches::at_each, crate::proofs::Parts::own_more))]
 pub(crate) fn compartment_parts(
     alloc: Global,
     desc: &Desc,
@@ -163,6 +165,7 @@ fn library_entry_count(library: &Library) -> u32
 }
 
 /// The parts of libraries, whose entries begin at `entry` and whose regions at `first`.
+#[tactic(auto, using(crate::proofs::Sums::sum_more, crate::proofs::Stretches::at_each, crate::proofs::Parts::lent_more))]
 pub(crate) fn library_parts(
     alloc: Global,
     desc: &Desc,
@@ -179,13 +182,13 @@ pub(crate) fn library_parts(
         (drop first regions.now) (lent_built desc.now.libraries objects.now)) }
 {
     let mut parts = Vec::new(alloc);
-    let mut entry = entry;
+    let mut number = entry;
     let mut at = first;
     let mut index = 0;
     for library in desc.libraries.as_slice() {
         let object = &objects[index];
-        parts.push(library_part(alloc, desc, library, object, entry, regions, at)?)?;
-        entry += library_entry_count(library);
+        parts.push(library_part(alloc, desc, library, object, number, regions, at)?)?;
+        number += library_entry_count(library);
         at += 1;
         index += 1;
     }

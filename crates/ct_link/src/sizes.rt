@@ -52,6 +52,7 @@ fn globals_size(compartment: &Compartment, object: &Object) -> u32
     compartment.globals.max(object.init.len() as u32)
 }
 
+#[tactic(auto, using(crate::proofs::Parts::own_sizes_more, crate::proofs::Stretches::at_each))]
 fn add_compartments(
     sizes: &mut Vec<u32>,
     compartments: &[Compartment],
@@ -81,6 +82,7 @@ fn library_size(library: &Library, object: &Object) -> u32
     SLOT_SIZE * library.imports.len() as u32 + object.text.len() as u32
 }
 
+#[tactic(auto, using(crate::proofs::Parts::lent_sizes_more, crate::proofs::Stretches::at_each))]
 fn add_libraries(
     sizes: &mut Vec<u32>,
     libraries: &[Library],
@@ -108,6 +110,7 @@ fn add_shared(sizes: &mut Vec<u32>, all: &[Shared]) -> Result<(), AllocError>
     Ok(())
 }
 
+#[tactic(auto, using(crate::proofs::Stretches::at_each))]
 fn add_sealed(sizes: &mut Vec<u32>, all: &[Sealed]) -> Result<(), AllocError>
     requires { AllByRecursion IsLawfulSealed all.now }
     ensures { OnOk result
@@ -130,6 +133,7 @@ fn add_stacks(sizes: &mut Vec<u32>, threads: &[Thread]) -> Result<(), AllocError
 }
 
 /// The size of the threads' areas, each with its saved registers and frames.
+#[tactic(auto, using(crate::proofs::Sums::sum_more, crate::proofs::Stretches::at_each))]
 fn areas_size(threads: &[Thread]) -> u32
     requires frames { AllByRecursion (λ (t : ThreadRow). t.frames ≤ 96) threads.now }
     requires few { length threads.now ≤ 64 }
@@ -143,6 +147,7 @@ fn areas_size(threads: &[Thread]) -> u32
 }
 
 /// The sizes of all regions.
+#[tactic(auto, using(crate::proofs::Bounds::are_own, crate::proofs::Bounds::are_lent, crate::proofs::Bounds::frames_few, crate::proofs::Bounds::threads_few, crate::proofs::Bounds::areas_few))]
 pub(crate) fn sizes_of(
     alloc: Global,
     desc: &Desc,

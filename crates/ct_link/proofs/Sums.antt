@@ -1,0 +1,13 @@
+-- Numbers of entries and sizes of areas, summed up to an index.
+use Rattle.std.proofs.Common.{ℕ, zero, suc, ◌≡◌, ◌+◌, ◌<◌, List, [], ◌∷◌, length, take, get_or, refl, ap, ◌∙◌, arith}
+use Rattle.def_image.specs.Sizes.{sum_of}
+
+sum_suc : {A : Type 0} (f : A → ℕ) (xs : List A) (k : ℕ) (d : A) → k < length xs → sum_of f (take (suc k) xs) ≡ sum_of f (take k xs) + f (get_or xs k d)
+sum_suc f [] k d low = absurd (omega (arith, low))
+sum_suc f (x ∷ xs) zero d low = let e : f x + 0 ≡ 0 + f x = omega arith in e
+sum_suc f (x ∷ xs) (suc k) d low = let rest = sum_suc f xs k d (omega (arith, low)) in omega (arith, rest)
+
+pub sum_more : {A : Type 0} (f : A → ℕ) (xs : List A) (k : ℕ) (d : A) → k < length xs → sum_of f (take (k + 1) xs) ≡ sum_of f (take k xs) + f (get_or xs k d)
+sum_more f xs k d low =
+    let on : k + 1 ≡ suc k = omega arith in
+    ap (λ n. sum_of f (take n xs)) on ∙ sum_suc f xs k d low

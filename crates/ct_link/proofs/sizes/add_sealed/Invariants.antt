@@ -1,0 +1,7 @@
+use Rattle.std.proofs.Common.{◌≡◌, ◌++◌, length, map, take}
+use Rattle.def_description.specs.Rows.{SealedRow}
+use Rattle.ct_link.proofs.sizes.add_sealed.Given as goal
+
+abbrev pub invariant-loop-sealed : goal.invariant-loop-sealed
+invariant-loop-sealed l =
+    l.sizes.items ≡ l.fn.sizes.items ++ map (λ (s : SealedRow). length s.bytes) (take l.sealed-index l.all)
