@@ -11,6 +11,10 @@ const TINY: &str = "{\"firmware\":\"tiny\",\"ram\":{\"base\":2147483648,\"size\"
 const WORDS: &str = "{\"words\":[\"00000297\",\"ff82b283\",\"04100513\",\"00a2a023\",\"00008067\"]}";
 const FILE: &str = "{\"file\":\"app.s\"}";
 const MAIN: &str = "main: cimport ct0, uart\nli a0, 65\ncsw a0, 0(ct0)\ncret\n";
+const BOARD: &str = "{\"firmware\":\"board\",\"ram\":{\"base\":2147483648,\"size\":4096},\"quantum\":20,\"devices\":[{\"name\":\"uart0\",\"kind\":\"uart\",\"base\":268435456}],\"compartments\":[{\"name\":\"app\",\"code\":{\"file\":\"app.s\"},\"imports\":[{\"as\":\"digit\",\"library\":\"hex.digit\"},{\"as\":\"put\",\"call\":\"driver.put\"},{\"as\":\"allocate\",\"service\":\"allocate\"}],\"quotas\":[{\"name\":\"q\",\"limit\":64}],\"exports\":[{\"name\":\"main\",\"at\":\"main\"}]},{\"name\":\"driver\",\"code\":{\"file\":\"driver.s\"},\"imports\":[{\"as\":\"uart\",\"device\":\"uart0\",\"rights\":\"W\"}],\"exports\":[{\"name\":\"put\",\"at\":\"put\",\"args\":1,\"passes\":\"data\"}]}],\"libraries\":[{\"name\":\"hex\",\"code\":{\"file\":\"hex.s\"},\"exports\":[{\"name\":\"digit\",\"at\":\"digit\"}]}],\"threads\":[{\"name\":\"t\",\"entry\":\"app.main\",\"priority\":1,\"stack\":256,\"frames\":2},{\"name\":\"u\",\"entry\":\"app.main\",\"priority\":1,\"stack\":256,\"frames\":2}]}";
+const APP: &str = "main: cmove cs0, cra\n cimport ca0, q\n li a1, 24\n cimport ct2, allocate\n cjalr cra, ct2\n li a0, 7\n cimport ct2, digit\n cjalr cra, ct2\n cimport ct1, put\n cimport ct2, switch\n cjalr cra, ct2\n cmove cra, cs0\n cret\n";
+const DRIVER: &str = "put: cimport ct0, uart\ncsb a0, 0(ct0)\ncret\n";
+const HEX: &str = "digit: addi a0, a0, 48\ncret\n";
 
 /// The smallest sample with another size of RAM, code, and place of its export.
 fn tiny(rt: &impl Abort, alloc: Global, size: &str, code: &str, at: &str) -> String {
@@ -125,4 +129,34 @@ fn faults_of_a_source(rt: HostRuntime) {
         let description = tiny(&rt, alloc, "4096", WORDS, at);
         assert!(rt; fault(&rt, alloc, description.as_str(), &[]) == export, "{at}");
     }
+}
+
+/// The sample with a library and two threads: its slots and exports by name and number, and faults of
+/// its owners in their order.
+#[test]
+fn board_and_its_faults(rt: HostRuntime) {
+    let alloc = rt.alloc();
+    let image = linked(&rt, alloc, BOARD, &[APP, DRIVER, HEX]).expect(&rt, "an image");
+    let parts = image.parts();
+    assert!(rt; parts.heap == 0x8000_0550);
+    assert!(rt; parts.compartments.len() == 2 && parts.libraries.len() == 1);
+    let app = &parts.compartments[0].code;
+    assert!(rt; app.slots.len() == 5 && app.exports.len() == 1);
+    for (i, name) in ["switch", "digit", "put", "allocate", "q"].iter().enumerate() {
+        assert!(rt; app.slots[i].name.as_str() == *name);
+    }
+    assert!(rt; app.slots[2].row.first == 1 && app.slots[4].row.first == 64);
+    assert!(rt; app.exports[0].row.entry == 8);
+    let driver = &parts.compartments[1].code;
+    assert!(rt; driver.exports.len() == 1 && driver.exports[0].row.entry == 13);
+    let initial = LinkFault::Initial {
+        owner: Owner::Library(0),
+    };
+    let stray = "digit: cret\n.data\n.word 1\n";
+    assert!(rt; fault(&rt, alloc, BOARD, &[APP, DRIVER, stray]) == initial);
+    let export = LinkFault::Export {
+        owner: Owner::Compartment(1),
+        item: 0,
+    };
+    assert!(rt; fault(&rt, alloc, BOARD, &[APP, "cret\n", stray]) == export);
 }

@@ -1,5 +1,5 @@
 -- What comes of an owner's code: of words, and of a source.
-use Rattle.std.proofs.Common.{ℕ, ◌≡◌, List, [], Option, Some, None, refl, ap, ap₂, ◌∙◌, subst}
+use Rattle.std.proofs.Common.{ℕ, ◌≡◌, List, [], Option, Some, None, refl, ap, ap₂, ◌∙◌}
 use Rattle.std.specs.Prelude.{Result, Ok, Err}
 use Rattle.std.specs.List.{flat_map}
 use Rattle.ct_entry.specs.declared.rows.Owner.{Owner}
@@ -12,19 +12,14 @@ use Rattle.ct_asm.specs.Labels.{Assembled, Stands}
 use Rattle.ct_objects.specs.Objects.{Holds, IsBuilt}
 
 -- the object of no statements, whose text is that of words
-words_hold : (words text : List ℕ) (slots : List (List ℕ)) (o : Assembled) → Stands [] slots o → text ≡ flat_map word_bytes words
+pub words_hold : (words text : List ℕ) (o : Assembled) → Stands [] [] o → text ≡ flat_map word_bytes words
     → IsBuilt (Ok (words_built words)) (record { text = text; init = o.init; labels = o.labels })
 unfolding initial_of label_in
-words_hold words text slots o s is = record {
+words_hold words text o s is = record {
   built = words_built words;
   is = refl;
   held = record { text = is; initial = s.init; labels = s.labels };
 }
-
--- the same of statements of which there are none
-pub no_statements : (ss : Statements) (words text : List ℕ) (slots : List (List ℕ)) (o : Assembled) → Stands ss slots o → ss ≡ [] → text ≡ flat_map word_bytes words
-    → IsBuilt (Ok (words_built words)) (record { text = text; init = o.init; labels = o.labels })
-no_statements ss words text slots o s none is = words_hold words text slots o (subst (λ (l : Statements). Stands l slots o) none s) is
 
 pub source_unread : (owner : Owner) (slots : List (List ℕ)) (source : List ℕ) (number line : ℕ) → program_of source ≡ Err (asm.At number line)
     → read_or owner slots (program_of source) ≡ Err (fault.Asm owner number line)

@@ -4,3 +4,4 @@ pub mod Units
 pub mod Progress
 pub mod Codes
 pub mod Steps
+pub mod Lawfuls

@@ -1,6 +1,6 @@
 //! The objects of all owners, or the first fault.
 
-ghost use Rattle.std.specs.Prelude.{◌≡◌, ◌≤◌, ◌<◌, ◌+◌, ◌^◌, ℕ, List, length, map, drop, MatchResult, IfOk, IfErr, OnOk};
+ghost use Rattle.std.specs.Prelude.{◌≡◌, ◌≤◌, ◌<◌, ◌+◌, ◌^◌, ℕ, List, length, drop, MatchResult, IfOk, IfErr, OnOk};
 ghost use Rattle.std.specs.List.{AllByRecursion};
 ghost use Rattle.def_link.specs.Owners as owner;
 ghost use Rattle.ct_objects.specs.Objects.{IsLinkable, file_of, files_of, IsBuilt, AreBuilt, Adds, Refuses, IsOwn, IsShared};
@@ -76,17 +76,15 @@ fn library_object(
 
 /// The text of a code that is a file, which stands next; none of a code of words.
 #[tactic(auto, using(crate::proofs::Steps::head_at, crate::proofs::Steps::short_at))]
-fn source_for<'a>(code: &Code, texts: &'a [Vec<u8>], next: usize) -> &'a [u8]
-    requires there { next + file_of code.now.file ≤ length texts.now }
-    requires short { AllByRecursion (λ (t : List ℕ). length t < 2 ^ 32)
-        (map (λ t. t.items) texts.now) }
-    ensures value { result.now
-        ≡ owner.source_for code.now.file (drop next (map (λ t. t.items) texts.now)) }
+fn source_for<'a>(code: &Code, sources: &'a Sources, next: usize) -> &'a [u8]
+    requires there { next + file_of code.now.file ≤ length sources.now }
+    requires short { AllByRecursion (λ (t : List ℕ). length t < 2 ^ 32) sources.now }
+    ensures value { result.now ≡ owner.source_for code.now.file (drop next sources.now) }
     ensures short { length result.now < 2 ^ 32 }
 {
     match code.file {
         None => &[],
-        Some(_) => texts[next].as_slice(),
+        Some(_) => sources.texts[next].as_slice(),
     }
 }
 
@@ -106,27 +104,26 @@ fn add_compartments(
     all: &mut Vec<Object>,
     alloc: Global,
     compartments: &[Compartment],
-    texts: &[Vec<u8>],
+    sources: &Sources,
 ) -> Result<usize, LinkFault>
     requires own { AllByRecursion IsOwn compartments.now }
     requires few { length compartments.now < 2 ^ 32 }
     requires there { files_of (owner.numbered owner.compartment_unit 0 compartments.now)
-        ≤ length texts.now }
-    requires short { AllByRecursion (λ (t : List ℕ). length t < 2 ^ 32)
-        (map (λ t. t.items) texts.now) }
+        ≤ length sources.now }
+    requires short { AllByRecursion (λ (t : List ℕ). length t < 2 ^ 32) sources.now }
     ensures used { IfOk result (λ used. used
         ≡ files_of (owner.numbered owner.compartment_unit 0 compartments.now)) }
     ensures ok { IfOk result (λ used. Adds
         (owner.all_built (owner.numbered owner.compartment_unit 0 compartments.now)
-        (map (λ t. t.items) texts.now)) all.old.items all.new.items) }
+        sources.now) all.old.items all.new.items) }
     ensures err { IfErr result (λ e. Refuses
         (owner.all_built (owner.numbered owner.compartment_unit 0 compartments.now)
-        (map (λ t. t.items) texts.now)) e) }
+        sources.now) e) }
 {
     let mut index = 0;
     let mut next = 0;
     for compartment in compartments {
-        let source = source_for(&compartment.code, texts, next);
+        let source = source_for(&compartment.code, sources, next);
         let object = compartment_object(alloc, index, compartment, source)?;
         let Ok(()) = all.push(object) else {
             return Err(LinkFault::NoMemory);
@@ -143,26 +140,25 @@ fn add_libraries(
     all: &mut Vec<Object>,
     alloc: Global,
     libraries: &[Library],
-    texts: &[Vec<u8>],
+    sources: &Sources,
     used: usize,
 ) -> Result<(), LinkFault>
     requires own { AllByRecursion IsShared libraries.now }
     requires few { length libraries.now < 2 ^ 32 }
     requires there { used + files_of (owner.numbered owner.library_unit 0 libraries.now)
-        ≤ length texts.now }
-    requires short { AllByRecursion (λ (t : List ℕ). length t < 2 ^ 32)
-        (map (λ t. t.items) texts.now) }
+        ≤ length sources.now }
+    requires short { AllByRecursion (λ (t : List ℕ). length t < 2 ^ 32) sources.now }
     ensures ok { OnOk result (Adds
         (owner.all_built (owner.numbered owner.library_unit 0 libraries.now)
-        (drop used (map (λ t. t.items) texts.now))) all.old.items all.new.items) }
+        (drop used sources.now)) all.old.items all.new.items) }
     ensures err { IfErr result (λ e. Refuses
         (owner.all_built (owner.numbered owner.library_unit 0 libraries.now)
-        (drop used (map (λ t. t.items) texts.now))) e) }
+        (drop used sources.now)) e) }
 {
     let mut index = 0;
     let mut next = used;
     for library in libraries {
-        let source = source_for(&library.code, texts, next);
+        let source = source_for(&library.code, sources, next);
         let object = library_object(alloc, index, library, source)?;
         let Ok(()) = all.push(object) else {
             return Err(LinkFault::NoMemory);
@@ -180,15 +176,15 @@ fn add_libraries(
 /// nowhere, then L4 a library's initial bytes. NoMemory where a growth was refused.
 ///
 /// Condition: the description is lawful, and there is one text for each of its codes that is a file.
+#[tactic(auto, using(crate::proofs::Lawfuls::own_rows, crate::proofs::Lawfuls::shared_rows, crate::proofs::Lawfuls::own_few, crate::proofs::Lawfuls::shared_few, crate::proofs::Lawfuls::texts_there, crate::proofs::Lawfuls::texts_left, crate::proofs::Lawfuls::objects_done, crate::proofs::Lawfuls::owners_refused, crate::proofs::Lawfuls::libraries_refused))]
 pub fn objects(alloc: Global, desc: &Desc, sources: &Sources) -> Result<Vec<Object>, LinkFault>
     requires { IsLinkable desc.now sources.now }
     ensures { MatchResult result
         (λ all. AreBuilt (owner.all_built (owner.units_of desc.now) sources.now) all.items)
         (λ e. Refuses (owner.all_built (owner.units_of desc.now) sources.now) e) }
 {
-    let texts = sources.texts.as_slice();
     let mut all = Vec::new(alloc);
-    let used = add_compartments(&mut all, alloc, desc.compartments.as_slice(), texts)?;
-    add_libraries(&mut all, alloc, desc.libraries.as_slice(), texts, used)?;
+    let used = add_compartments(&mut all, alloc, desc.compartments.as_slice(), sources)?;
+    add_libraries(&mut all, alloc, desc.libraries.as_slice(), sources, used)?;
     Ok(all)
 }

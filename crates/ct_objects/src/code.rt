@@ -1,10 +1,11 @@
 //! The object of one owner's code.
 
-ghost use Rattle.std.specs.Prelude.{◌≡◌, ◌++◌, ◌<◌, ◌^◌, length, IfOk, IfErr, OnOk, Ok, option_map, string_bytes};
+ghost use Rattle.std.specs.Prelude.{◌≡◌, ◌<◌, ◌^◌, [], length, IfOk, IfErr, Ok};
 ghost use Rattle.std.specs.List.{flat_map};
 ghost use Rattle.def_source.specs.Source.{program_of};
 ghost use Rattle.def_object.specs.Object.{word_bytes};
 ghost use Rattle.def_link.specs.Owners as owners;
+ghost use Rattle.ct_asm.specs.Labels.{Stands};
 ghost use Rattle.ct_objects.specs.Objects.{IsBuilt, Refuses};
 
 use ct_asm::{Names, Object, assemble, undeclared};
@@ -26,8 +27,18 @@ fn words_text(alloc: Global, words: &[u32]) -> Result<Vec<u8>, AllocError>
     Ok(text)
 }
 
+/// The object of no statements.
+fn no_object(alloc: Global) -> Result<Object, AsmFault>
+    ensures { IfOk result (λ o. Stands [] [] o) }
+{
+    let nothing = Program {
+        statements: Vec::new(alloc),
+    };
+    assemble(alloc, &nothing, &Names::new(alloc))
+}
+
 /// The object of words: their bytes alone.
-#[tactic(auto, using(crate::proofs::Codes::no_statements))]
+#[tactic(auto, using(crate::proofs::Codes::words_hold))]
 fn words_object(alloc: Global, words: &[u32]) -> Result<Object, LinkFault>
     ensures ok { IfOk result (λ o. IsBuilt (Ok (owners.words_built words.now)) o) }
     ensures err { IfErr result (λ e. Refuses (Ok (owners.words_built words.now)) e) }
@@ -35,10 +46,7 @@ fn words_object(alloc: Global, words: &[u32]) -> Result<Object, LinkFault>
     let Ok(text) = words_text(alloc, words) else {
         return Err(LinkFault::NoMemory);
     };
-    let nothing = Program {
-        statements: Vec::new(alloc),
-    };
-    match assemble(alloc, &nothing, &Names::new(alloc)) {
+    match no_object(alloc) {
         Ok(mut object) => {
             object.text = text;
             Ok(object)

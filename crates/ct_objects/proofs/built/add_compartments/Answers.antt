@@ -1,4 +1,4 @@
-use Rattle.std.proofs.Common.{◌≡◌, ◌++◌, ◌∷◌, [], length, map, drop, refl, arith}
+use Rattle.std.proofs.Common.{◌≡◌, ◌++◌, ◌∷◌, [], length, drop, refl, arith}
 use Rattle.def_link.specs.Owners.{compartment_unit, unit_built, source_for}
 use Rattle.ct_objects.specs.Objects.{file_of, IsBuilt}
 use Rattle.ct_objects.proofs.Progress.{none_done, text_there}
@@ -6,14 +6,14 @@ use Rattle.ct_objects.proofs.Steps.{met, one_more}
 use Rattle.ct_objects.proofs.built.add_compartments.Goals as goal
 
 pub loop-compartment-init : goal.loop-compartment-init
-loop-compartment-init c = none_done compartment_unit c.args.compartments.now (map (λ t. t.items) c.args.texts.now) 0 c.args.all.now.items
+loop-compartment-init c = none_done compartment_unit c.args.compartments.now c.args.sources.now 0 c.args.all.now.items
 
 pub source_for-source-requires-clause-there : goal.source_for-source-requires-clause-there
 source_for-source-requires-clause-there c =
     let l = c.loop-compartment in
     let x = c.compartment-item.result in
     let xs = c.args.compartments.now in
-    let room = text_there compartment_unit xs (map (λ t. t.items) c.args.texts.now) 0 c.args.all.now.items l.all.items l.compartment-index l.index l.next (length c.args.texts.now) x
+    let room = text_there compartment_unit xs c.args.sources.now 0 c.args.all.now.items l.all.items l.compartment-index l.index l.next (length c.args.sources.now) x
     l.invariant (met xs l.compartment-index _ x c.compartment-item.is c.loop-compartment-test.true) (let there = c.requires.there in omega (arith, there)) in
     let same : file_of c.compartment.inside.code.file ≡ file_of x.code.file = rw (← c.compartment.view_is) refl in
     omega (arith, room, same)
@@ -23,7 +23,7 @@ loop-compartment-preserved c =
     let l = c.loop-compartment in
     let x = c.compartment-item.result in
     let xs = c.args.compartments.now in
-    let texts = map (λ t. t.items) c.args.texts.now in
+    let texts = c.args.sources.now in
     let o = c.in_ok-object.object in
     let value : c.source_for-source.result.now ≡ source_for x.code.file (drop l.next texts) = rw (← c.compartment.view_is) c.source_for-source.ensures.value in
     let one : IsBuilt (unit_built (compartment_unit l.index x) (source_for x.code.file (drop l.next texts))) o = rw (← value) c.in_ok-object.ensures.ok in

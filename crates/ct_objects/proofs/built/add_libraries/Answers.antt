@@ -1,4 +1,4 @@
-use Rattle.std.proofs.Common.{◌≡◌, ◌++◌, ◌∷◌, [], length, map, drop, refl, arith}
+use Rattle.std.proofs.Common.{◌≡◌, ◌++◌, ◌∷◌, [], length, drop, refl, arith}
 use Rattle.def_link.specs.Owners.{library_unit, unit_built, source_for}
 use Rattle.ct_objects.specs.Objects.{file_of, IsBuilt}
 use Rattle.ct_objects.proofs.Progress.{none_done, text_there}
@@ -6,14 +6,14 @@ use Rattle.ct_objects.proofs.Steps.{met, one_more}
 use Rattle.ct_objects.proofs.built.add_libraries.Goals as goal
 
 pub loop-library-init : goal.loop-library-init
-loop-library-init c = none_done library_unit c.args.libraries.now (map (λ t. t.items) c.args.texts.now) c.args.used c.args.all.now.items
+loop-library-init c = none_done library_unit c.args.libraries.now c.args.sources.now c.args.used c.args.all.now.items
 
 pub source_for-source-requires-clause-there : goal.source_for-source-requires-clause-there
 source_for-source-requires-clause-there c =
     let l = c.loop-library in
     let x = c.library-item.result in
     let xs = c.args.libraries.now in
-    let room = text_there library_unit xs (map (λ t. t.items) c.args.texts.now) c.args.used c.args.all.now.items l.all.items l.library-index l.index l.next (length c.args.texts.now) x
+    let room = text_there library_unit xs c.args.sources.now c.args.used c.args.all.now.items l.all.items l.library-index l.index l.next (length c.args.sources.now) x
     l.invariant (met xs l.library-index _ x c.library-item.is c.loop-library-test.true) c.requires.there in
     let same : file_of c.library.inside.code.file ≡ file_of x.code.file = rw (← c.library.view_is) refl in
     omega (arith, room, same)
@@ -23,7 +23,7 @@ loop-library-preserved c =
     let l = c.loop-library in
     let x = c.library-item.result in
     let xs = c.args.libraries.now in
-    let texts = map (λ t. t.items) c.args.texts.now in
+    let texts = c.args.sources.now in
     let o = c.in_ok-object.object in
     let value : c.source_for-source.result.now ≡ source_for x.code.file (drop l.next texts) = rw (← c.library.view_is) c.source_for-source.ensures.value in
     let one : IsBuilt (unit_built (library_unit l.index x) (source_for x.code.file (drop l.next texts))) o = rw (← value) c.in_ok-object.ensures.ok in
