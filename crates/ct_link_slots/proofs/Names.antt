@@ -1,21 +1,85 @@
--- A text `owner.export` by its owner's name and the rest.
-use Rattle.std.proofs.Common.{ℕ, suc, ◌≡◌, ◌+◌, ◌&&◌, Bool, true, false, cond, nat_eq, List, [], ◌∷◌, ◌++◌, length, map, refl, sym, ap, ap₂, ◌∙◌, subst, arith, inl, inr}
+-- Where names stand: the first of a list, and the first export of a text `owner.export`.
+use Rattle.std.proofs.Common.{ℕ, zero, suc, ◌≡◌, ◌+◌, ◌<◌, ◌≤◌, ◌&&◌, Bool, true, false, cond, nat_eq, nat_lt, List, [], ◌∷◌, ◌++◌, length, map, take, drop, get_or, Option, Some, None, refl, sym, ap, ap₂, ◌∙◌, subst, arith, inl, inr}
 use Rattle.std.specs.Prelude.{bytes_eq}
-use Rattle.std.proofs.lemmas.List.{length-map}
+use Rattle.std.proofs.lemmas.List.{length-map, at_drop_more, take-append-drop}
 use Rattle.std.proofs.lemmas.Slice.Eq.{bytes_eq-Decides}
-use Rattle.law_lists.proofs.Tests.{eq_tells}
+use Rattle.law_lists.proofs.Tests.{eq_tells, lt_tells}
+use Rattle.def_description.specs.Named.{export_names, library_export_names}
 use Rattle.def_description.specs.References.{export_name}
-use Rattle.def_link.specs.Slots.{index_of}
+use Rattle.def_description.specs.Rows.{ExportRow, CompartmentRow, LexportRow, LibraryRow}
+use Rattle.def_link.specs.Slots.{index_of, Exported, exported, Exporter, full_names, export_from}
+use Rattle.ct_link_slots.specs.Exporters.{exporter, library_exporter, after_point, after_owner}
 
--- a text that names no export of an owner has no index among them
-pub other_owner : (text owner : List ℕ) (names : List (List ℕ)) → ((name : List ℕ) → text ≡ export_name owner name → ⊥) → index_of text (map (export_name owner) names) ≡ length names
-other_owner text owner [] h = refl
-other_owner text owner (n ∷ ns) h = by (bytes_eq text (export_name owner n)) refl (other_owner text owner ns h)
-  where
-    by : (b : Bool) → bytes_eq text (export_name owner n) ≡ b → index_of text (map (export_name owner) ns) ≡ length ns
-        → cond b 0 (index_of text (map (export_name owner) ns) + 1) ≡ suc (length ns)
-    by true is rest = absurd (h n ((bytes_eq-Decides text (export_name owner n)).0 is))
-    by false is rest = omega (arith, rest)
+-- ---- one more name
+
+pub index_met : {A : Type 0} (f : A → List ℕ) (name : List ℕ) (xs : List A) (k : ℕ) (d : A) → k < length xs → bytes_eq name (f (get_or xs k d)) ≡ true
+    → index_of name (map f (drop k xs)) ≡ 0
+index_met f name xs k d low yes =
+    at_drop_more (λ l. index_of name (map f l)) xs k d low ∙ ap (λ b. cond b 0 (index_of name (map f (drop (k + 1) xs)) + 1)) yes
+
+pub index_passed : {A : Type 0} (f : A → List ℕ) (name : List ℕ) (xs : List A) (k : ℕ) (d : A) → k < length xs → bytes_eq name (f (get_or xs k d)) ≡ false
+    → index_of name (map f (drop k xs)) ≡ index_of name (map f (drop (k + 1) xs)) + 1
+index_passed f name xs k d low no =
+    at_drop_more (λ l. index_of name (map f l)) xs k d low ∙ ap (λ b. cond b 0 (index_of name (map f (drop (k + 1) xs)) + 1)) no
+
+-- ---- one more owner
+
+owner_met : {A : Type 0} (f : A → Exporter) (name : List ℕ) (n : ℕ) (xs : List A) (k : ℕ) (d : A) → k < length xs
+    → index_of name (full_names (f (get_or xs k d))) < length (f (get_or xs k d)).exports
+    → export_from name n (map f (drop k xs)) ≡ exported n (index_of name (full_names (f (get_or xs k d))))
+owner_met f name n xs k d low less =
+    let i = index_of name (full_names (f (get_or xs k d))) in
+    let rest = export_from name (n + 1) (map f (drop (k + 1) xs)) in
+    elim (lt_tells i (length (f (get_or xs k d)).exports)) [
+      | inl h ↦ at_drop_more (λ l. export_from name n (map f l)) xs k d low ∙ ap (λ b. cond b (exported n i) rest) h.0
+      | inr h ↦ absurd (let le = h.1 in omega (arith, le, less))
+    ]
+
+owner_passed : {A : Type 0} (f : A → Exporter) (name : List ℕ) (n : ℕ) (xs : List A) (k : ℕ) (d : A) → k < length xs
+    → length (f (get_or xs k d)).exports ≤ index_of name (full_names (f (get_or xs k d)))
+    → export_from name n (map f (drop k xs)) ≡ export_from name (n + 1) (map f (drop (k + 1) xs))
+owner_passed f name n xs k d low more =
+    let i = index_of name (full_names (f (get_or xs k d))) in
+    let rest = export_from name (n + 1) (map f (drop (k + 1) xs)) in
+    elim (lt_tells i (length (f (get_or xs k d)).exports)) [
+      | inl h ↦ absurd (let less = h.1 in omega (arith, less, more))
+      | inr h ↦ at_drop_more (λ l. export_from name n (map f l)) xs k d low ∙ ap (λ b. cond b (exported n i) rest) h.0
+    ]
+
+-- the index of a text among an owner's exports is e
+pub call_met : (text : List ℕ) (n e : ℕ) (cs : List CompartmentRow) (k : ℕ) (d : CompartmentRow) → k < length cs
+    → e ≡ index_of text (map (export_name (get_or cs k d).name) (map (λ (x : ExportRow). x.name) (get_or cs k d).exports)) → e < length (get_or cs k d).exports
+    → export_from text n (map exporter (drop k cs)) ≡ exported n e
+call_met text n e cs k d low is less =
+    let c = get_or cs k d in
+    let count = length-map c.exports (λ (x : ExportRow). x.name) in
+    owner_met exporter text n cs k d low (omega (arith, count, is, less)) ∙ ap (exported n) (sym is)
+
+pub call_passed : (text : List ℕ) (n e : ℕ) (cs : List CompartmentRow) (k : ℕ) (d : CompartmentRow) → k < length cs
+    → e ≡ index_of text (map (export_name (get_or cs k d).name) (map (λ (x : ExportRow). x.name) (get_or cs k d).exports)) → length (get_or cs k d).exports ≤ e
+    → export_from text n (map exporter (drop k cs)) ≡ export_from text (n + 1) (map exporter (drop (k + 1) cs))
+call_passed text n e cs k d low is more =
+    let c = get_or cs k d in
+    let count = length-map c.exports (λ (x : ExportRow). x.name) in
+    owner_passed exporter text n cs k d low (omega (arith, count, is, more))
+
+pub lent_met : (text : List ℕ) (n e : ℕ) (ls : List LibraryRow) (k : ℕ) (d : LibraryRow) → k < length ls
+    → e ≡ index_of text (map (export_name (get_or ls k d).name) (map (λ (x : LexportRow). x.name) (get_or ls k d).exports)) → e < length (get_or ls k d).exports
+    → export_from text n (map library_exporter (drop k ls)) ≡ exported n e
+lent_met text n e ls k d low is less =
+    let l = get_or ls k d in
+    let count = length-map l.exports (λ (x : LexportRow). x.name) in
+    owner_met library_exporter text n ls k d low (omega (arith, count, is, less)) ∙ ap (exported n) (sym is)
+
+pub lent_passed : (text : List ℕ) (n e : ℕ) (ls : List LibraryRow) (k : ℕ) (d : LibraryRow) → k < length ls
+    → e ≡ index_of text (map (export_name (get_or ls k d).name) (map (λ (x : LexportRow). x.name) (get_or ls k d).exports)) → length (get_or ls k d).exports ≤ e
+    → export_from text n (map library_exporter (drop k ls)) ≡ export_from text (n + 1) (map library_exporter (drop (k + 1) ls))
+lent_passed text n e ls k d low is more =
+    let l = get_or ls k d in
+    let count = length-map l.exports (λ (x : LexportRow). x.name) in
+    owner_passed library_exporter text n ls k d low (omega (arith, count, is, more))
+
+-- ---- a text by its owner's name and the rest
 
 same_byte : (x : ℕ) → nat_eq x x ≡ true
 same_byte x = elim (eq_tells x x) [ inl h ↦ h.0 | inr h ↦ absurd (h.1 refl) ]
@@ -24,9 +88,59 @@ same_rest : (front a b : List ℕ) → bytes_eq (front ++ a) (front ++ b) ≡ by
 same_rest [] a b = refl
 same_rest (x ∷ front) a b = ap (λ t. t && bytes_eq (front ++ a) (front ++ b)) (same_byte x) ∙ same_rest front a b
 
--- with the owner's name before both
-pub own_export : (text owner name : List ℕ) (names : List (List ℕ)) → text ≡ export_name owner name → index_of text (map (export_name owner) names) ≡ index_of name names
-own_export text owner name [] is = refl
-own_export text owner name (n ∷ ns) is =
+front_taken : (front back : List ℕ) → take (length front) (front ++ back) ≡ front
+front_taken [] back = refl
+front_taken (x ∷ front) back = ap (λ l. x ∷ l) (front_taken front back)
+
+front_dropped : (front back : List ℕ) → drop (length front) (front ++ back) ≡ back
+front_dropped [] back = refl
+front_dropped (x ∷ front) back = front_dropped front back
+
+-- a name after its owner's is what follows
+follows : (owner name : List ℕ) → after_owner (export_name owner name) owner ≡ Some name
+follows owner name =
+    let front : bytes_eq (take (length owner) (export_name owner name)) owner ≡ true = (bytes_eq-Decides (take (length owner) (export_name owner name)) owner).1 (front_taken owner (46 ∷ name)) in
+    let back : after_point (drop (length owner) (export_name owner name)) ≡ Some name = ap after_point (front_dropped owner (46 ∷ name)) ∙ ap (λ b. cond b (Some name) None) (same_byte 46) in
+    ap₂ (λ b r. cond b r None) front back
+
+point_is : (bs name : List ℕ) → after_point bs ≡ Some name → bs ≡ 46 ∷ name
+point_is [] name e = absurd (let no : None ≡ Some name = e in cc)
+point_is (b ∷ bs) name e = elim (eq_tells b 46) [
+  | inl h ↦ (
+      let some : Some bs ≡ Some name = sym (ap (λ t. cond t (Some bs) None) h.0) ∙ e in
+      let same : bs ≡ name = cc in
+      ap₂ (λ x l. x ∷ l) h.1 same
+      )
+  | inr h ↦ absurd (let no : None ≡ Some name = sym (ap (λ t. cond t (Some bs) None) h.0) ∙ e in cc)
+]
+
+owner_is : (text owner name : List ℕ) → after_owner text owner ≡ Some name → text ≡ export_name owner name
+owner_is text owner name e = by (bytes_eq (take (length owner) text) owner) refl e
+  where
+    by : (b : Bool) → bytes_eq (take (length owner) text) owner ≡ b → cond b (after_point (drop (length owner) text)) None ≡ Some name → text ≡ export_name owner name
+    by false is h = absurd (let no : None ≡ Some name = h in cc)
+    by true is h =
+        let front = (bytes_eq-Decides (take (length owner) text) owner).0 is in
+        sym (take-append-drop (length owner) text) ∙ ap₂ (λ (a b : List ℕ). a ++ b) front (point_is (drop (length owner) text) name h)
+
+-- a text that doesn't begin with an owner's name has no index among its exports
+pub other_owner : {A : Type 0} (f : A → List ℕ) (text owner : List ℕ) (xs : List A) → after_owner text owner ≡ None → index_of text (map (export_name owner) (map f xs)) ≡ length xs
+other_owner f text owner [] none = refl
+other_owner f text owner (x ∷ xs) none = by (bytes_eq text (export_name owner (f x))) refl (other_owner f text owner xs none)
+  where
+    by : (b : Bool) → bytes_eq text (export_name owner (f x)) ≡ b → index_of text (map (export_name owner) (map f xs)) ≡ length xs
+        → cond b 0 (index_of text (map (export_name owner) (map f xs)) + 1) ≡ suc (length xs)
+    by true is rest =
+        let same = (bytes_eq-Decides text (export_name owner (f x))).0 is in
+        absurd (let no : None ≡ Some (f x) = sym none ∙ ap (λ t. after_owner t owner) same ∙ follows owner (f x) in cc)
+    by false is rest = omega (arith, rest)
+
+own_all : (owner name : List ℕ) (text : List ℕ) (names : List (List ℕ)) → text ≡ export_name owner name → index_of text (map (export_name owner) names) ≡ index_of name names
+own_all owner name text [] is = refl
+own_all owner name text (n ∷ ns) is =
     let same : bytes_eq text (export_name owner n) ≡ bytes_eq name n = ap (λ t. bytes_eq t (export_name owner n)) is ∙ same_rest owner (46 ∷ name) (46 ∷ n) ∙ ap (λ t. t && bytes_eq name n) (same_byte 46) in
-    ap₂ (λ b i. cond b 0 (i + 1)) same (own_export text owner name ns is)
+    ap₂ (λ b i. cond b 0 (i + 1)) same (own_all owner name text ns is)
+
+-- one that does has the index of what follows
+pub own_export : (text owner name : List ℕ) (names : List (List ℕ)) → after_owner text owner ≡ Some name → index_of text (map (export_name owner) names) ≡ index_of name names
+own_export text owner name names is = own_all owner name text names (owner_is text owner name is)

@@ -1,6 +1,6 @@
 -- What the rows of a lawful description ask of those that write tables of them: lists that 32 bits
 -- can count, numbers that a row's field can hold.
-use Rattle.std.specs.Prelude.{ℕ, ◌<◌, ◌^◌, List, length}
+use Rattle.std.specs.Prelude.{ℕ, ◌==◌, ◌<◌, ◌^◌, List, [], ◌∷◌, length, take, drop, bytes_eq, Option, Some, None, if◌then◌else◌}
 use Rattle.std.specs.List.{AllByRecursion}
 use Rattle.def_description.specs.Named.{export_names, library_export_names}
 use Rattle.def_description.specs.Rows.{CompartmentRow, LibraryRow, DescRow}
@@ -19,6 +19,22 @@ IsExporter c = length c.exports < 2 ^ 32
 
 abbrev pub IsLibraryExporter : LibraryRow → Type 0
 IsLibraryExporter l = length l.exports < 2 ^ 32
+
+-- ---- a text `owner.export`
+
+-- what follows a point
+abbrev pub after_point : List ℕ → Option (List ℕ)
+after_point [] = None
+after_point (b ∷ bs) = if b == 46 then Some bs else None
+
+-- what follows `owner.`
+abbrev pub after_owner : List ℕ → List ℕ → Option (List ℕ)
+after_owner text owner =
+    if bytes_eq (take (length owner) text) owner
+    then after_point (drop (length owner) text)
+    else None
+
+-- ---- numbers that a row's fields hold
 
 -- lists in which a name has an index of 32 bits
 pub record AreCounted (d : DescRow) : Type 0 where

@@ -1,10 +1,10 @@
 //! Exports, named as `owner.export`.
 
-ghost use Rattle.std.specs.Prelude.{◌≡◌, ◌<◌, ◌^◌, ℕ, List, ◌∷◌, length, map, MatchOption};
+ghost use Rattle.std.specs.Prelude.{◌≡◌, ◌<◌, ◌^◌, length, map, option_map};
 ghost use Rattle.std.specs.List.{AllByRecursion};
 ghost use Rattle.def_description.specs.References.{export_name};
 ghost use Rattle.def_link.specs.Slots as spec;
-ghost use Rattle.ct_link_slots.specs.Exporters.{IsExporter, IsLibraryExporter, exporter, library_exporter};
+ghost use Rattle.ct_link_slots.specs.Exporters.{IsExporter, IsLibraryExporter, exporter, library_exporter, after_point as spec_after_point, after_owner as spec_after_owner};
 
 use crate::named::{Named, index_named};
 use ct_rows::{Compartment, Library};
@@ -25,11 +25,9 @@ impl Model for Exported {
     ghost view = { λ x. record { owner = x.owner; export = x.export } };
 }
 
-/// What follows a point. None exactly where the text doesn't begin with one.
+/// What follows a point.
 fn after_point(text: &[u8]) -> Option<&[u8]>
-    ensures { MatchOption result
-        ((name : List ℕ) → text.now ≡ 46 ∷ name → ⊥)
-        (λ name. text.now ≡ 46 ∷ name.now) }
+    ensures { option_map (λ s. s.now) result ≡ spec_after_point text.now }
 {
     match text {
         [46, name @ ..] => Some(name),
@@ -37,11 +35,9 @@ fn after_point(text: &[u8]) -> Option<&[u8]>
     }
 }
 
-/// What follows `owner.` in a text. None exactly where the text doesn't begin so.
+/// What follows `owner.` in a text that begins so.
 fn after_owner<'a>(text: &'a [u8], owner: &[u8]) -> Option<&'a [u8]>
-    ensures { MatchOption result
-        ((name : List ℕ) → text.now ≡ export_name owner.now name → ⊥)
-        (λ name. text.now ≡ export_name owner.now name.now) }
+    ensures { option_map (λ s. s.now) result ≡ spec_after_owner text.now owner.now }
 {
     match text.strip_prefix(owner) {
         Some(rest) => after_point(rest),
@@ -63,7 +59,7 @@ fn export_in<T: Named>(text: &[u8], owner: &[u8], exports: &[T]) -> u32
 }
 
 /// The export of a compartment that a text names; a lawful one names one.
-#[tactic(auto, using(crate::proofs::Members::at_each))]
+#[tactic(auto, using(crate::proofs::Members::at_each, crate::proofs::Names::call_met, crate::proofs::Names::call_passed))]
 pub fn called(compartments: &[Compartment], text: &[u8]) -> Exported
     requires few { length compartments.now < 2 ^ 32 }
     requires each { AllByRecursion IsExporter compartments.now }
@@ -82,7 +78,7 @@ pub fn called(compartments: &[Compartment], text: &[u8]) -> Exported
 }
 
 /// The export of a library that a text names; a lawful one names one.
-#[tactic(auto, using(crate::proofs::Members::at_each))]
+#[tactic(auto, using(crate::proofs::Members::at_each, crate::proofs::Names::lent_met, crate::proofs::Names::lent_passed))]
 pub(crate) fn lent(libraries: &[Library], text: &[u8]) -> Exported
     requires few { length libraries.now < 2 ^ 32 }
     requires each { AllByRecursion IsLibraryExporter libraries.now }

@@ -56,6 +56,7 @@ impl Named for LibraryExport {
 }
 
 /// The index of the first of that name, or their number.
+#[tactic(auto, using(crate::proofs::Names::index_met, crate::proofs::Names::index_passed))]
 pub(crate) fn index_named<T: Named>(name: &[u8], all: &[T]) -> u32
     requires { length all.now < 2 ^ 32 }
     ensures { result ≡ index_of name.now (map T.name_of all.now) }
