@@ -46,6 +46,9 @@ object_count d sources os h =
     let e = unit_count d in
     omega (arith, a, b, c, e)
 
+pub owners_fit : (d : DescRow) (sources : List (List ℕ)) (os : List Assembled) → AreBuilt (all_built (units_of d) sources) os → length d.compartments ≤ length os
+owners_fit d sources os h = let count = object_count d sources os h in omega (arith, count)
+
 are_objects : (d : DescRow) (sources : List (List ℕ)) (os : List Assembled) → IsLawful d → AreBuilt (all_built (units_of d) sources) os
     → AreObjects d (take (length d.compartments) os) (drop (length d.compartments) os)
 are_objects d sources os lawful h =

@@ -26,7 +26,7 @@ fn devices_of(alloc: Global, all: &[Device]) -> Result<Vec<Device>, AllocError>
     let mut devices = Vec::new(alloc);
     for device in all {
         devices.push(Device {
-            name: device.name.clone()?,
+            name: String::from_str(alloc, device.name.as_str())?,
             kind: device.kind,
             base: device.base,
         })?;
@@ -63,7 +63,7 @@ fn parts_of(
         size: desc.ram.size,
         trusted: region_at(regions, trusted, 0).base,
         heap,
-        name: desc.firmware.clone()?,
+        name: String::from_str(alloc, desc.firmware.as_str())?,
         devices: devices_of(alloc, desc.devices.as_slice())?,
         shared: shared_parts(alloc, desc.shared.as_slice(), regions, shared)?,
         sealed: sealed_parts(alloc, desc.sealed.as_slice(), regions, sealed)?,

@@ -38,7 +38,7 @@ use std::alloc::Global;
 ///
 /// Condition: the description is lawful, and there is one text, of fewer than 2 to the 32 bytes, for
 /// each of its codes that is a file, compartments first.
-#[tactic(auto, using(crate::proofs::Ready::ready, crate::proofs::Ready::linked_ok, crate::proofs::Ready::linked_err, crate::proofs::Ready::owner_fault))]
+#[tactic(auto, using(crate::proofs::Ready::owners_fit, crate::proofs::Ready::ready, crate::proofs::Ready::linked_ok, crate::proofs::Ready::linked_err, crate::proofs::Ready::owner_fault))]
 pub fn link(alloc: Global, desc: &Desc, sources: &Sources) -> Result<Image, LinkFault>
     requires { IsLinkable desc.now sources.now }
     ensures linked { IfOk result (λ i. linked desc.now sources.now ≡ Ok i) }

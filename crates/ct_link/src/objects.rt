@@ -12,7 +12,7 @@ use ct_rows::{Desc, Sealed, Shared, Thread};
 use def_layout::Region;
 use std::alloc::{AllocError, Global};
 
-fn shared_part(shared: &Shared, region: Region) -> Result<SharedPart, AllocError>
+fn shared_part(alloc: Global, shared: &Shared, region: Region) -> Result<SharedPart, AllocError>
     ensures { IfOk result (λ p. p ≡ record {
       name = shared.now.name;
       base = region.base;
@@ -20,7 +20,7 @@ fn shared_part(shared: &Shared, region: Region) -> Result<SharedPart, AllocError
     }) }
 {
     Ok(SharedPart {
-        name: shared.name.clone()?,
+        name: String::from_str(alloc, shared.name.as_str())?,
         base: region.base,
         length: region.length,
     })
@@ -41,7 +41,7 @@ pub(crate) fn shared_parts(
     let mut parts = Vec::new(alloc);
     let mut at = first;
     for shared in all {
-        parts.push(shared_part(shared, region_at(regions, at, 0))?)?;
+        parts.push(shared_part(alloc, shared, region_at(regions, at, 0))?)?;
         at += 1;
     }
     Ok(parts)
@@ -57,7 +57,7 @@ fn sealed_part(alloc: Global, sealed: &Sealed, region: Region) -> Result<SealedP
     }) }
 {
     Ok(SealedPart {
-        name: sealed.name.clone()?,
+        name: String::from_str(alloc, sealed.name.as_str())?,
         base: region.base,
         length: region.length,
         seal: sealed.seal,
@@ -101,7 +101,7 @@ fn thread_part(
     let entered = called(desc.compartments.as_slice(), thread.entry.as_bytes());
     let region = region_at(regions, at, 0);
     Ok(ThreadPart {
-        name: thread.name.clone()?,
+        name: String::from_str(alloc, thread.name.as_str())?,
         stack: region.base,
         stack_length: region.length,
         compartment: entered.owner,

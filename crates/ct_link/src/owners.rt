@@ -60,7 +60,7 @@ fn code_part(
 {
     let first = entry + 2 + slot_count(compartment);
     Ok(CodePart {
-        name: compartment.name.clone()?,
+        name: String::from_str(alloc, compartment.name.as_str())?,
         base: region.base,
         length: region.length,
         slots: compartment_slots(alloc, desc, compartment)?,
@@ -146,7 +146,7 @@ fn library_part(
     let region = region_at(regions, at, 0);
     let first = entry + 1 + library.imports.len() as u32;
     Ok(CodePart {
-        name: library.name.clone()?,
+        name: String::from_str(alloc, library.name.as_str())?,
         base: region.base,
         length: region.length,
         slots: library_slots(alloc, desc, library)?,
