@@ -2,6 +2,7 @@
 use Rattle.std.proofs.Common.{ℕ, zero, suc, ◌≡◌, ◌+◌, ◌<◌, ◌≤◌, ◌&&◌, Bool, true, false, cond, nat_eq, nat_lt, List, [], ◌∷◌, ◌++◌, length, map, take, drop, get_or, Option, Some, None, refl, sym, ap, ap₂, ◌∙◌, subst, arith, inl, inr}
 use Rattle.std.specs.Prelude.{bytes_eq}
 use Rattle.std.proofs.lemmas.List.{length-map, at_drop_more, take-append-drop}
+use Rattle.std.proofs.Math.ListN.{drop_of_length-le}
 use Rattle.std.proofs.lemmas.Slice.Eq.{bytes_eq-Decides}
 use Rattle.law_lists.proofs.Tests.{eq_tells, lt_tells}
 use Rattle.def_description.specs.Named.{export_names, library_export_names}
@@ -21,6 +22,27 @@ pub index_passed : {A : Type 0} (f : A → List ℕ) (name : List ℕ) (xs : Lis
     → index_of name (map f (drop k xs)) ≡ index_of name (map f (drop (k + 1) xs)) + 1
 index_passed f name xs k d low no =
     at_drop_more (λ l. index_of name (map f l)) xs k d low ∙ ap (λ b. cond b 0 (index_of name (map f (drop (k + 1) xs)) + 1)) no
+
+-- how far a loop over names has come: at its k-th, where `whole` is the index in all of them
+pub index_here : {A : Type 0} (f : A → List ℕ) (name : List ℕ) (xs : List A) (k index whole : ℕ) (d x : A) → (index ≡ k) × (index_of name (map f (drop k xs)) + index ≡ whole)
+    → k < length xs → x ≡ get_or xs k d → bytes_eq name (f x) ≡ true → index ≡ whole
+index_here f name xs k index whole d x h low is yes =
+    let none = index_met f name xs k d low (subst (λ z. bytes_eq name (f z) ≡ true) is yes) in
+    let sum = h.1 in
+    omega (arith, none, sum)
+
+pub index_next : {A : Type 0} (f : A → List ℕ) (name : List ℕ) (xs : List A) (k index whole : ℕ) (d x : A) → (index ≡ k) × (index_of name (map f (drop k xs)) + index ≡ whole)
+    → k < length xs → x ≡ get_or xs k d → bytes_eq name (f x) ≡ false → (index + 1 ≡ k + 1) × (index_of name (map f (drop (k + 1) xs)) + (index + 1) ≡ whole)
+index_next f name xs k index whole d x h low is no =
+    let one = index_passed f name xs k d low (subst (λ z. bytes_eq name (f z) ≡ false) is no) in
+    let sum = h.1 in
+    (ap (λ n. n + 1) h.0, omega (arith, one, sum))
+
+pub index_end : {A : Type 0} (f : A → List ℕ) (name : List ℕ) (xs : List A) (k index whole : ℕ) → (index ≡ k) × (index_of name (map f (drop k xs)) + index ≡ whole) → length xs ≤ k → index ≡ whole
+index_end f name xs k index whole h end =
+    let none : index_of name (map f (drop k xs)) ≡ 0 = ap (λ l. index_of name (map f l)) (drop_of_length-le xs end) in
+    let sum = h.1 in
+    omega (arith, none, sum)
 
 -- ---- one more owner
 
@@ -78,6 +100,22 @@ lent_passed text n e ls k d low is more =
     let l = get_or ls k d in
     let count = length-map l.exports (λ (x : LexportRow). x.name) in
     owner_passed library_exporter text n ls k d low (omega (arith, count, is, more))
+
+pub call_next : (text : List ℕ) (cs : List CompartmentRow) (k owner e : ℕ) (whole : Exported) (d x : CompartmentRow) → (owner ≡ k) × (export_from text owner (map exporter (drop k cs)) ≡ whole)
+    → k < length cs → x ≡ get_or cs k d → e ≡ index_of text (map (export_name x.name) (map (λ (y : ExportRow). y.name) x.exports)) → length x.exports ≤ e
+    → (owner + 1 ≡ k + 1) × (export_from text (owner + 1) (map exporter (drop (k + 1) cs)) ≡ whole)
+call_next text cs k owner e whole d x h low is index more =
+    let index_is = subst (λ (z : CompartmentRow). e ≡ index_of text (map (export_name z.name) (map (λ (y : ExportRow). y.name) z.exports))) is index in
+    let more_is = subst (λ (z : CompartmentRow). length z.exports ≤ e) is more in
+    (ap (λ n. n + 1) h.0, sym (call_passed text owner e cs k d low index_is more_is) ∙ h.1)
+
+pub lent_next : (text : List ℕ) (ls : List LibraryRow) (k owner e : ℕ) (whole : Exported) (d x : LibraryRow) → (owner ≡ k) × (export_from text owner (map library_exporter (drop k ls)) ≡ whole)
+    → k < length ls → x ≡ get_or ls k d → e ≡ index_of text (map (export_name x.name) (map (λ (y : LexportRow). y.name) x.exports)) → length x.exports ≤ e
+    → (owner + 1 ≡ k + 1) × (export_from text (owner + 1) (map library_exporter (drop (k + 1) ls)) ≡ whole)
+lent_next text ls k owner e whole d x h low is index more =
+    let index_is = subst (λ (z : LibraryRow). e ≡ index_of text (map (export_name z.name) (map (λ (y : LexportRow). y.name) z.exports))) is index in
+    let more_is = subst (λ (z : LibraryRow). length z.exports ≤ e) is more in
+    (ap (λ n. n + 1) h.0, sym (lent_passed text owner e ls k d low index_is more_is) ∙ h.1)
 
 -- ---- a text by its owner's name and the rest
 
