@@ -15,26 +15,26 @@ use Rattle.ct_link_slots.specs.Exporters.{exporter, library_exporter, after_poin
 
 pub index_met : {A : Type 0} (f : A → List ℕ) (name : List ℕ) (xs : List A) (k : ℕ) (d : A) → k < length xs → bytes_eq name (f (get_or xs k d)) ≡ true
     → index_of name (map f (drop k xs)) ≡ 0
-index_met f name xs k d low yes =
-    at_drop_more (λ l. index_of name (map f l)) xs k d low ∙ ap (λ b. cond b 0 (index_of name (map f (drop (k + 1) xs)) + 1)) yes
+index_met f name xs k d low met =
+    at_drop_more (λ l. index_of name (map f l)) xs k d low ∙ ap (λ b. cond b 0 (index_of name (map f (drop (k + 1) xs)) + 1)) met
 
 pub index_passed : {A : Type 0} (f : A → List ℕ) (name : List ℕ) (xs : List A) (k : ℕ) (d : A) → k < length xs → bytes_eq name (f (get_or xs k d)) ≡ false
     → index_of name (map f (drop k xs)) ≡ index_of name (map f (drop (k + 1) xs)) + 1
-index_passed f name xs k d low no =
-    at_drop_more (λ l. index_of name (map f l)) xs k d low ∙ ap (λ b. cond b 0 (index_of name (map f (drop (k + 1) xs)) + 1)) no
+index_passed f name xs k d low missed =
+    at_drop_more (λ l. index_of name (map f l)) xs k d low ∙ ap (λ b. cond b 0 (index_of name (map f (drop (k + 1) xs)) + 1)) missed
 
 -- how far a loop over names has come: at its k-th, where `whole` is the index in all of them
 pub index_here : {A : Type 0} (f : A → List ℕ) (name : List ℕ) (xs : List A) (k index whole : ℕ) (d x : A) → (index ≡ k) × (index_of name (map f (drop k xs)) + index ≡ whole)
     → k < length xs → x ≡ get_or xs k d → bytes_eq name (f x) ≡ true → index ≡ whole
-index_here f name xs k index whole d x h low is yes =
-    let none = index_met f name xs k d low (subst (λ z. bytes_eq name (f z) ≡ true) is yes) in
+index_here f name xs k index whole d x h low is met =
+    let none = index_met f name xs k d low (subst (λ z. bytes_eq name (f z) ≡ true) is met) in
     let sum = h.1 in
     omega (arith, none, sum)
 
 pub index_next : {A : Type 0} (f : A → List ℕ) (name : List ℕ) (xs : List A) (k index whole : ℕ) (d x : A) → (index ≡ k) × (index_of name (map f (drop k xs)) + index ≡ whole)
     → k < length xs → x ≡ get_or xs k d → bytes_eq name (f x) ≡ false → (index + 1 ≡ k + 1) × (index_of name (map f (drop (k + 1) xs)) + (index + 1) ≡ whole)
-index_next f name xs k index whole d x h low is no =
-    let one = index_passed f name xs k d low (subst (λ z. bytes_eq name (f z) ≡ false) is no) in
+index_next f name xs k index whole d x h low is missed =
+    let one = index_passed f name xs k d low (subst (λ z. bytes_eq name (f z) ≡ false) is missed) in
     let sum = h.1 in
     (ap (λ n. n + 1) h.0, omega (arith, one, sum))
 

@@ -101,5 +101,9 @@ pub(crate) fn library_slot(
     ensures { IfOk result (λ s. s ≡ spec.slot import.now.alias
         (spec.form_row desc.now 0 Form.Library import.now.library)) }
 {
-    slot(alloc, import.alias.as_str(), library_row(desc, import.library.as_str()))
+    slot(
+        alloc,
+        import.alias.as_str(),
+        library_row(desc, import.library.as_str()),
+    )
 }

@@ -74,10 +74,18 @@ pub(crate) fn form_row(desc: &Desc, rights: u8, form: Form, name: &str) -> Impor
 {
     match form {
         Form::Device => {
-            listed_row(SlotKind::Device, rights, index_named(name.as_bytes(), desc.devices.as_slice()))
+            listed_row(
+                SlotKind::Device,
+                rights,
+                index_named(name.as_bytes(), desc.devices.as_slice()),
+            )
         }
         Form::Shared => {
-            listed_row(SlotKind::Shared, rights, index_named(name.as_bytes(), desc.shared.as_slice()))
+            listed_row(
+                SlotKind::Shared,
+                rights,
+                index_named(name.as_bytes(), desc.shared.as_slice()),
+            )
         }
         Form::Sealed => listed_row(
             SlotKind::Sealed,

@@ -70,11 +70,7 @@ pub fn compartment_slots(
 /// The slots of a library: its imports.
 ///
 /// Condition: names have an index of 32 bits.
-pub fn library_slots(
-    alloc: Global,
-    desc: &Desc,
-    library: &Library,
-) -> Result<Vec<Slot>, AllocError>
+pub fn library_slots(alloc: Global, desc: &Desc, library: &Library) -> Result<Vec<Slot>, AllocError>
     requires { AreCounted desc.now }
     ensures { IfOk result (λ v. v.items ≡ spec.library_slots desc.now library.now) }
 {
