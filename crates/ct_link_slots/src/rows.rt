@@ -66,8 +66,8 @@ pub(crate) fn library_row(desc: &Desc, name: &str) -> ImportRow
     }
 }
 
-/// The row of a slot that names something of a form; devices and shared objects have the rights that
-/// are claimed.
+/// The row of a slot that names something of a form; devices and shared objects have the rights
+/// that are claimed.
 pub(crate) fn form_row(desc: &Desc, rights: u8, form: Form, name: &str) -> ImportRow
     requires { AreCounted desc.now }
     ensures { result ≡ spec.form_row desc.now rights form name.now }
