@@ -1,6 +1,6 @@
 -- What a lawful description and its sources grant to the loops over its owners, and what comes of
 -- these.
-use Rattle.std.proofs.Common.{ℕ, ◌≡◌, ◌+◌, ◌≤◌, ◌<◌, ◌^◌, List, [], ◌∷◌, ◌++◌, length, drop, refl, sym, ap, ◌∙◌, subst, arith}
+use Rattle.std.proofs.Common.{ℕ, ◌≡◌, ◌+◌, ◌≤◌, ◌<◌, ◌^◌, List, [], ◌∷◌, ◌++◌, length, drop, Option, Some, None, refl, sym, ap, ◌∙◌, subst, arith}
 use Rattle.std.specs.Prelude.{Result, Ok, Err}
 use Rattle.std.specs.List.{AllByRecursion}
 use Rattle.def_description.specs.Lawful.{IsLawful, IsLawfulCompartment, IsLawfulLibrary}
@@ -9,7 +9,7 @@ use Rattle.def_link.specs.declared.LinkFault.{LinkFault}
 use Rattle.def_link.specs.declared.LinkFault.TheVariants as fault
 use Rattle.def_link.specs.Owners.{Unit as OwnerUnit, numbered, compartment_unit, library_unit, units_of, all_built}
 use Rattle.ct_asm.specs.Labels.{Assembled}
-use Rattle.ct_objects.specs.Objects.{files_of, AreSourced, IsLinkable, IsOwn, IsShared, AreBuilt, Adds, Refuses}
+use Rattle.ct_objects.specs.Objects.{file_of, files_of, AreSourced, IsLinkable, IsOwn, IsShared, AreBuilt, Adds, Refuses}
 use Rattle.ct_objects.proofs.Walks.{files_joined, fails_joined}
 use Rattle.ct_objects.proofs.Progress.{both_built, second_fault}
 
@@ -40,6 +40,26 @@ shared_few d sources h = let few = h.lawful.few.libraries in omega (arith, few)
 text_count : (d : DescRow) (sources : List (List ℕ)) → IsLinkable d sources
     → length sources ≡ files_of (numbered compartment_unit 0 d.compartments) + files_of (numbered library_unit 0 d.libraries)
 text_count d sources h = h.sourced.each ∙ files_joined (numbered compartment_unit 0 d.compartments) (numbered library_unit 0 d.libraries)
+
+one_file : (o : Option (List ℕ)) → file_of o ≤ 1
+one_file None = omega arith
+one_file (Some name) = omega arith
+
+few_files : {A : Type 0} (f : ℕ → A → OwnerUnit) (n : ℕ) (xs : List A) → files_of (numbered f n xs) ≤ length xs
+few_files f n [] = omega arith
+few_files f n (x ∷ xs) =
+    let rest = few_files f (n + 1) xs in
+    let one = one_file (f n x).code.file in
+    omega (arith, rest, one)
+
+pub texts_counted : (d : DescRow) (sources : List (List ℕ)) → IsLinkable d sources → length sources < 2 ^ 32
+texts_counted d sources h =
+    let count = text_count d sources h in
+    let own = few_files compartment_unit 0 d.compartments in
+    let lent = few_files library_unit 0 d.libraries in
+    let few = h.lawful.few.compartments in
+    let fewer = h.lawful.few.libraries in
+    omega (arith, count, own, lent, few, fewer)
 
 pub texts_there : (d : DescRow) (sources : List (List ℕ)) → IsLinkable d sources → files_of (numbered compartment_unit 0 d.compartments) ≤ length sources
 texts_there d sources h = let count = text_count d sources h in omega (arith, count)

@@ -40,6 +40,14 @@ fault_step f xs texts used old new k index next d source e h low same fails =
     known f xs texts used (f index x) source e
     (λ is. fault_done f xs texts used old new k index next x e h (slice_get-get_or xs k d low) (subst (λ (s : List ℕ). unit_built (f index x) s ≡ Err e) same is)) fails
 
+-- the fault of the element that a loop reads is that of all
+pub fault_more : {A : Type 0} (f : ℕ → A → OwnerUnit) (xs : List A) (texts : List (List ℕ)) (used : ℕ) (old new : List Assembled) (k index next : ℕ) (d x : A) (source : List ℕ) (e : LinkFault)
+    → Done f xs texts used old new k index next → x ≡ get_or xs k d → k < length xs → source ≡ source_for (f index x).code.file (drop next texts)
+    → Refuses (unit_built (f index x) source) e → Refuses (all_built (numbered f 0 xs) (drop used texts)) e
+fault_more f xs texts used old new k index next d x source e h is low same fails =
+    fault_step f xs texts used old new k index next d source e h low (subst (λ z. source ≡ source_for (f index z).code.file (drop next texts)) is same)
+    (subst (λ z. Refuses (unit_built (f index z) source) e) is fails)
+
 pub room_step : {A : Type 0} (f : ℕ → A → OwnerUnit) (xs : List A) (texts : List (List ℕ)) (used : ℕ) (old new : List Assembled) (k index next n : ℕ) (d : A)
     → Done f xs texts used old new k index next → k < length xs → used + files_of (numbered f 0 xs) ≤ n → next + file_of (f index (get_or xs k d)).code.file ≤ n
 room_step f xs texts used old new k index next n d h low room = text_there f xs texts used old new k index next n (get_or xs k d) h (slice_get-get_or xs k d low) room
@@ -63,10 +71,10 @@ head_at f [] k d low = absurd (omega (arith, low))
 head_at f (x ∷ xs) zero d low = refl
 head_at f (x ∷ xs) (suc k) d low = head_at f xs k d (omega (arith, low))
 
-pub short_at : {A : Type 0} (P : List ℕ → Type 0) (f : A → List ℕ) (xs : List A) (k : ℕ) (d : A) → AllByRecursion P (map f xs) → k < length xs → P (f (get_or xs k d))
-short_at P f [] k d h low = absurd (omega (arith, low))
-short_at P f (x ∷ xs) zero d h low = h.0
-short_at P f (x ∷ xs) (suc k) d h low = short_at P f xs k d h.1 (omega (arith, low))
+pub short_head : (P : List ℕ → Type 0) (xs : List (List ℕ)) (k : ℕ) → AllByRecursion P xs → k < length xs → P (head_or_none (drop k xs))
+short_head P [] k h low = absurd (omega (arith, low))
+short_head P (x ∷ xs) zero h low = h.0
+short_head P (x ∷ xs) (suc k) h low = short_head P xs k h.1 (omega (arith, low))
 
 -- the element that a loop reads stands at its index
 pub met : {A : Type 0} (xs : List A) (k : ℕ) (d x : A) → x ≡ get_or xs k d → k < length xs → slice_get xs k ≡ Some x

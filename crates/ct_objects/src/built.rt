@@ -1,6 +1,6 @@
 //! The objects of all owners, or the first fault.
 
-ghost use Rattle.std.specs.Prelude.{◌≡◌, ◌≤◌, ◌<◌, ◌+◌, ◌^◌, ℕ, List, length, drop, MatchResult, IfOk, IfErr, OnOk};
+ghost use Rattle.std.specs.Prelude.{◌≡◌, ◌≤◌, ◌<◌, ◌+◌, ◌^◌, ℕ, List, length, map, drop, nat_lt, MatchResult, IfOk, IfErr, OnOk};
 ghost use Rattle.std.specs.List.{AllByRecursion};
 ghost use Rattle.def_link.specs.Owners as owner;
 ghost use Rattle.ct_objects.specs.Objects.{IsLinkable, file_of, files_of, IsBuilt, AreBuilt, Adds, Refuses, IsOwn, IsShared};
@@ -41,6 +41,13 @@ fn compartment_object(
     }
 }
 
+/// Whether an object has initial bytes.
+fn has_initial(object: &Object) -> bool
+    ensures { result ≡ nat_lt 0 (length object.now.init) }
+{
+    0 < object.init.len()
+}
+
 /// The object of a library: a fault of its code first, then an export that begins nowhere, then
 /// initial bytes, which it may not have.
 #[tactic(auto, using(crate::proofs::Units::library_refused, crate::proofs::Units::library_lost, crate::proofs::Units::library_stray, crate::proofs::Units::library_placed))]
@@ -65,7 +72,7 @@ fn library_object(
     match first_library_lost(&object, library.exports.as_slice()) {
         Some(item) => Err(LinkFault::Export { owner, item }),
         None => {
-            if 0 < object.init.len() {
+            if has_initial(&object) {
                 Err(LinkFault::Initial { owner })
             } else {
                 Ok(object)
@@ -74,8 +81,16 @@ fn library_object(
     }
 }
 
+/// The text that stands next.
+#[tactic(auto, using(crate::proofs::Steps::head_at))]
+fn text_at(texts: &[Vec<u8>], next: usize) -> &[u8]
+    requires { next < length texts.now }
+    ensures { result.now ≡ owner.head_or_none (drop next (map (λ t. t.items) texts.now)) }
+{
+    texts[next].as_slice()
+}
+
 /// The text of a code that is a file, which stands next; none of a code of words.
-#[tactic(auto, using(crate::proofs::Steps::head_at, crate::proofs::Steps::short_at))]
 fn source_for<'a>(code: &Code, sources: &'a Sources, next: usize) -> &'a [u8]
     requires there { next + file_of code.now.file ≤ length sources.now }
     requires short { AllByRecursion (λ (t : List ℕ). length t < 2 ^ 32) sources.now }
@@ -84,7 +99,7 @@ fn source_for<'a>(code: &Code, sources: &'a Sources, next: usize) -> &'a [u8]
 {
     match code.file {
         None => &[],
-        Some(_) => sources.texts[next].as_slice(),
+        Some(_) => text_at(sources.texts.as_slice(), next),
     }
 }
 
@@ -111,6 +126,7 @@ fn add_compartments(
     requires there { files_of (owner.numbered owner.compartment_unit 0 compartments.now)
         ≤ length sources.now }
     requires short { AllByRecursion (λ (t : List ℕ). length t < 2 ^ 32) sources.now }
+    requires counted { length sources.now < 2 ^ 32 }
     ensures used { IfOk result (λ used. used
         ≡ files_of (owner.numbered owner.compartment_unit 0 compartments.now)) }
     ensures ok { IfOk result (λ used. Adds
@@ -148,6 +164,7 @@ fn add_libraries(
     requires there { used + files_of (owner.numbered owner.library_unit 0 libraries.now)
         ≤ length sources.now }
     requires short { AllByRecursion (λ (t : List ℕ). length t < 2 ^ 32) sources.now }
+    requires counted { length sources.now < 2 ^ 32 }
     ensures ok { OnOk result (Adds
         (owner.all_built (owner.numbered owner.library_unit 0 libraries.now)
         (drop used sources.now)) all.old.items all.new.items) }
@@ -176,7 +193,7 @@ fn add_libraries(
 /// nowhere, then L4 a library's initial bytes. NoMemory where a growth was refused.
 ///
 /// Condition: the description is lawful, and there is one text for each of its codes that is a file.
-#[tactic(auto, using(crate::proofs::Lawfuls::own_rows, crate::proofs::Lawfuls::shared_rows, crate::proofs::Lawfuls::own_few, crate::proofs::Lawfuls::shared_few, crate::proofs::Lawfuls::texts_there, crate::proofs::Lawfuls::texts_left, crate::proofs::Lawfuls::objects_done, crate::proofs::Lawfuls::owners_refused, crate::proofs::Lawfuls::libraries_refused))]
+#[tactic(auto, using(crate::proofs::Lawfuls::own_rows, crate::proofs::Lawfuls::shared_rows, crate::proofs::Lawfuls::own_few, crate::proofs::Lawfuls::shared_few, crate::proofs::Lawfuls::texts_there, crate::proofs::Lawfuls::texts_left, crate::proofs::Lawfuls::texts_counted, crate::proofs::Lawfuls::objects_done, crate::proofs::Lawfuls::owners_refused, crate::proofs::Lawfuls::libraries_refused))]
 pub fn objects(alloc: Global, desc: &Desc, sources: &Sources) -> Result<Vec<Object>, LinkFault>
     requires { IsLinkable desc.now sources.now }
     ensures { MatchResult result
