@@ -13,8 +13,6 @@ mod owners;
 mod regions;
 mod sizes;
 mod sourced;
-#[cfg(test)]
-mod tests;
 
 ghost use Rattle.std.specs.Prelude.{◌≡◌, Ok, IfOk, IfErr};
 ghost use Rattle.def_link.specs.Linked.{linked};

@@ -186,13 +186,14 @@ fn add_libraries(
     Ok(())
 }
 
-/// The object of each compartment, then of each library: its text, its initial bytes and its labels.
+/// The object of each compartment, then of each library: its text, initial bytes and labels.
 ///
 /// The first fault in owner order, compartments first; of one owner first a fault of its text, then
 /// L3 an import that isn't declared, then a fault of the assembly, then L1 an export that begins
 /// nowhere, then L4 a library's initial bytes. NoMemory where a growth was refused.
 ///
-/// Condition: the description is lawful, and there is one text for each of its codes that is a file.
+/// Condition: the description is lawful, and there is one text, of fewer than 2 to the 32 bytes,
+/// for each of its codes that is a file.
 #[tactic(auto, using(crate::proofs::Lawfuls::own_rows, crate::proofs::Lawfuls::shared_rows, crate::proofs::Lawfuls::own_few, crate::proofs::Lawfuls::shared_few, crate::proofs::Lawfuls::texts_there, crate::proofs::Lawfuls::texts_left, crate::proofs::Lawfuls::texts_counted, crate::proofs::Lawfuls::objects_done, crate::proofs::Lawfuls::owners_refused, crate::proofs::Lawfuls::libraries_refused))]
 pub fn objects(alloc: Global, desc: &Desc, sources: &Sources) -> Result<Vec<Object>, LinkFault>
     requires { IsLinkable desc.now sources.now }

@@ -1,6 +1,6 @@
 //! The object of each compartment and library of a description: its words, or its source read and
-//! assembled, with each export's place looked up; or the first fault of one, exactly as def_link has
-//! it (docs/use/description.md).
+//! assembled, with each export's place looked up; or the first fault of one, exactly as def_link
+//! has it (docs/use/description.md).
 #![tactic(auto)]
 
 mod built;
