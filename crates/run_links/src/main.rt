@@ -57,7 +57,9 @@ fn linked(alloc: Global, description: &str, texts: &[&str]) -> Result<String, Al
         texts: Vec::new(alloc),
     };
     for text in texts {
-        sources.texts.push(Vec::from_slice(alloc, text.as_bytes())?)?;
+        sources
+            .texts
+            .push(Vec::from_slice(alloc, text.as_bytes())?)?;
     }
     if !are_sourced(&desc, &sources) {
         return String::from_str(alloc, "other texts");
