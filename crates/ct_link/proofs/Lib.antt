@@ -6,3 +6,4 @@ pub mod Ready
 pub mod Bounds
 pub mod Sums
 pub mod Parts
+pub mod Whole

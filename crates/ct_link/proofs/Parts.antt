@@ -1,5 +1,5 @@
 -- Parts of an image list by list, up to an index: each with its regions and entries.
-use Rattle.std.proofs.Common.{ℕ, zero, suc, ◌≡◌, ◌+◌, ◌*◌, ◌<◌, max, List, [], ◌∷◌, ◌++◌, length, map, take, drop, get_or, refl, sym, ap, ap₂, ◌∙◌, arith}
+use Rattle.std.proofs.Common.{ℕ, zero, suc, ◌≡◌, ◌+◌, ◌*◌, ◌<◌, max, List, [], ◌∷◌, ◌++◌, length, map, take, drop, get_or, refl, sym, ap, ap₂, ◌∙◌, arith, append_assoc}
 use Rattle.def_layout.specs.declared.Region.{Region}
 use Rattle.def_image.specs.Parts.{SharedRow as SharedPart, SealedRow as SealedPart, CodeRow as CodePart, CompartmentRow as CompartmentPart, ThreadRow as ThreadPart}
 use Rattle.def_image.specs.Sizes.{sum_of}
@@ -12,6 +12,12 @@ use Rattle.ct_link.specs.Rows.{own_built, lent_built, with_object, library_with_
 use Rattle.ct_link.proofs.Places.{dropped}
 
 -- ---- objects and threads: the part at an index has the region there
+
+abbrev pub shared_of : Region → SharedRow → SharedPart
+shared_of r s = record { name = s.name; base = r.base; length = r.length }
+
+abbrev pub sealed_of : Region → SealedRow → SealedPart
+sealed_of r s = record { name = s.name; base = r.base; length = r.length; seal = s.seal; bytes = s.bytes }
 
 abbrev pub shared_in : List Region → ℕ → SharedRow → SharedPart
 shared_in regions at s = record { name = s.name; base = base_at (drop at regions) 0; length = length_at (drop at regions) 0 }
@@ -153,3 +159,39 @@ pub lent_sizes_more : (ls : List LibraryRow) (os : List Assembled) (k : ℕ) (dl
 lent_sizes_more ls os k dl dp low less =
     let on : k + 1 ≡ suc k = omega arith in
     ap (λ n. map library_code_size (lent_built (take n ls) (take n os))) on ∙ lent_sizes_suc ls os k dl dp low less
+
+-- ---- one more size of a loop, pushed
+
+pub lent_pushed : (ls : List LibraryRow) (os : List Assembled) (k index : ℕ) (dl x : LibraryRow) (dp o : Assembled) (front old new : List ℕ) (y : ℕ)
+    → (index ≡ k) × (old ≡ front ++ map library_code_size (lent_built (take k ls) (take k os))) → k < length ls → length ls ≡ length os → x ≡ get_or ls k dl → o ≡ get_or os index dp
+    → y ≡ library_code_size (library_with_object x o) → new ≡ old ++ y ∷ []
+    → (index + 1 ≡ k + 1) × (new ≡ front ++ map library_code_size (lent_built (take (k + 1) ls) (take (k + 1) os)))
+lent_pushed ls os k index dl x dp o front old new y h low each is at made pushed =
+    let object : o ≡ get_or os k dp = at ∙ ap (λ n. get_or os n dp) h.0 in
+    let before = map library_code_size (lent_built (take k ls) (take k os)) in
+    let last : y ≡ library_code_size (library_with_object (get_or ls k dl) (get_or os k dp)) = made ∙ ap₂ (λ l z. library_code_size (library_with_object l z)) is object in (
+      ap (λ n. n + 1) h.0,
+      pushed ∙ ap₂ (λ l z. l ++ z ∷ []) h.1 last
+      ∙ append_assoc front before (library_code_size (library_with_object (get_or ls k dl) (get_or os k dp)) ∷ [])
+      ∙ ap (λ l. front ++ l) (sym (lent_sizes_more ls os k dl dp low (omega (arith, low, each)))),
+    )
+
+pub own_pushed : (cs : List CompartmentRow) (os : List Assembled) (k index : ℕ) (dc x : CompartmentRow) (dp o : Assembled) (front old one two new : List ℕ) (a b e : ℕ)
+    → (index ≡ k) × (old ≡ front ++ compartment_sizes (own_built (take k cs) (take k os))) → k < length cs → length cs ≡ length os → x ≡ get_or cs k dc → o ≡ get_or os index dp
+    → a ≡ compartment_code_size (with_object x o) → b ≡ 16 + 16 * length x.exports → e ≡ max x.globals (length o.init)
+    → one ≡ old ++ a ∷ [] → two ≡ one ++ b ∷ [] → new ≡ two ++ e ∷ []
+    → (index + 1 ≡ k + 1) × (new ≡ front ++ compartment_sizes (own_built (take (k + 1) cs) (take (k + 1) os)))
+own_pushed cs os k index dc x dp o front old one two new a b e h low each is at code table globals first second third =
+    let object : o ≡ get_or os k dp = at ∙ ap (λ n. get_or os n dp) h.0 in
+    let before = compartment_sizes (own_built (take k cs) (take k os)) in
+    let three : List ℕ = a ∷ b ∷ e ∷ [] in
+    let last : three ≡ compartment_code_size (with_object (get_or cs k dc) (get_or os k dp)) ∷ (16 + 16 * length (get_or cs k dc).exports) ∷ max (get_or cs k dc).globals (length (get_or os k dp).init) ∷ [] =
+    ap₂ (λ m n. m ∷ n ∷ e ∷ []) code table ∙ ap (λ n. compartment_code_size (with_object x o) ∷ (16 + 16 * length x.exports) ∷ n ∷ []) globals
+    ∙ ap₂ (λ (c : CompartmentRow) (z : Assembled). compartment_code_size (with_object c z) ∷ (16 + 16 * length c.exports) ∷ max c.globals (length z.init) ∷ []) is object in (
+      ap (λ n. n + 1) h.0,
+      third ∙ ap (λ l. l ++ e ∷ []) (second ∙ ap (λ l. l ++ b ∷ []) first)
+      ∙ ap (λ l. l ++ e ∷ []) (append_assoc old (a ∷ []) (b ∷ [])) ∙ append_assoc old (a ∷ b ∷ []) (e ∷ [])
+      ∙ ap₂ (λ l r. l ++ r) h.1 last
+      ∙ append_assoc front before (compartment_code_size (with_object (get_or cs k dc) (get_or os k dp)) ∷ (16 + 16 * length (get_or cs k dc).exports) ∷ max (get_or cs k dc).globals (length (get_or os k dp).init) ∷ [])
+      ∙ ap (λ l. front ++ l) (sym (own_sizes_more cs os k dc dp low (omega (arith, low, each)))),
+    )

@@ -1,9 +1,11 @@
 //! From the objects of all owners to the image.
 
-ghost use Rattle.std.specs.Prelude.{◌≡◌, ◌+◌, ◌*◌, ◌<◌, ◌^◌, Ok, IfOk, IfErr, length};
-ghost use Rattle.def_link.specs.Linked as spec;
+ghost use Rattle.std.specs.Prelude.{◌≡◌, Ok, IfOk, IfErr};
 ghost use Rattle.ct_objects.specs.Objects.{Refuses};
-ghost use Rattle.ct_link.specs.Laid.{AreObjects, AreReady, IsPlaced, laid_of, sizes_with, parts_with};
+ghost use Rattle.ct_link.specs.Rows.{AreOwn, AreLent};
+ghost use Rattle.ct_link.specs.Starting.{AreSmallRows, AreStarts, AreFewStarts, parts_at as spec_parts_at};
+ghost use Rattle.ct_link_slots.specs.Exporters.{AreCounted};
+ghost use Rattle.ct_link.specs.Laid.{AreObjects, AreReady, IsPlaced, laid_of, parts_with};
 
 use crate::objects::{sealed_parts, shared_parts, thread_parts};
 use crate::owners::{compartment_parts, entries_of, library_parts};
@@ -34,9 +36,82 @@ fn devices_of(alloc: Global, all: &[Device]) -> Result<Vec<Device>, AllocError>
     Ok(devices)
 }
 
+/// Where the regions of each list begin among all, and the number of the first library's first
+/// entry. The regions of compartments stand first, three each.
+pub(crate) struct Starts {
+    libraries: usize,
+    shared: usize,
+    sealed: usize,
+    threads: usize,
+    trusted: usize,
+    entry: u32,
+}
+
+/// Where the regions of a description's lists begin, and its libraries' entries.
+fn starts_of(desc: &Desc) -> Starts
+    requires { AreSmallRows desc.now }
+    ensures { AreStarts desc.now result }
+{
+    let libraries = 3 * desc.compartments.len();
+    let shared = libraries + desc.libraries.len();
+    let sealed = shared + desc.shared.len();
+    let threads = sealed + desc.sealed.len();
+    let trusted = threads + desc.threads.len();
+    let entry = 1 + entries_of(desc.compartments.as_slice());
+    Starts {
+        libraries,
+        shared,
+        sealed,
+        threads,
+        trusted,
+        entry,
+    }
+}
+
+/// The parts over all regions, by where these begin. The heap begins at `heap`.
+fn parts_at(
+    alloc: Global,
+    desc: &Desc,
+    own: &[Object],
+    lent: &[Object],
+    regions: &[Region],
+    heap: u32,
+    starts: &Starts,
+) -> Result<Parts, AllocError>
+    requires counted { AreCounted desc.now }
+    requires own { AreOwn desc.now.compartments own.now }
+    requires lent { AreLent desc.now.libraries lent.now }
+    requires few { AreFewStarts desc.now starts.now }
+    ensures { IfOk result
+        (λ p. p ≡ spec_parts_at desc.now own.now lent.now regions.now heap starts.now) }
+{
+    let trusted = region_at(regions, starts.trusted, 0);
+    let shared = shared_parts(alloc, desc.shared.as_slice(), regions, starts.shared)?;
+    let sealed = sealed_parts(alloc, desc.sealed.as_slice(), regions, starts.sealed)?;
+    let compartments = compartment_parts(alloc, desc, own, regions)?;
+    let libraries = library_parts(alloc, desc, lent, starts.entry, regions, starts.libraries)?;
+    let threads = thread_parts(alloc, desc, desc.threads.as_slice(), regions, starts.threads)?;
+    Ok(Parts {
+        version: desc.version,
+        sweep: desc.sweep,
+        quantum: desc.quantum,
+        ram: desc.ram.base,
+        size: desc.ram.size,
+        trusted: trusted.base,
+        heap,
+        name: String::from_str(alloc, desc.firmware.as_str())?,
+        devices: devices_of(alloc, desc.devices.as_slice())?,
+        shared,
+        sealed,
+        compartments,
+        libraries,
+        threads,
+    })
+}
+
 /// The parts over all regions: those of compartments stand first, then of libraries, shared and
 /// sealed objects, stacks, and the trusted region. The heap begins at `heap`.
-#[tactic(auto, using(crate::proofs::Bounds::are_own, crate::proofs::Bounds::are_lent, crate::proofs::Bounds::are_counted))]
+#[tactic(auto, using(crate::proofs::Bounds::are_own, crate::proofs::Bounds::are_lent, crate::proofs::Bounds::are_counted, crate::proofs::Whole::are_small_rows, crate::proofs::Whole::are_few_starts, crate::proofs::Whole::parts_made))]
 fn parts_of(
     alloc: Global,
     desc: &Desc,
@@ -49,28 +124,8 @@ fn parts_of(
     ensures { IfOk result
         (λ p. p ≡ parts_with desc.now own.now lent.now regions.now heap) }
 {
-    let libraries = 3 * desc.compartments.len();
-    let shared = libraries + desc.libraries.len();
-    let sealed = shared + desc.shared.len();
-    let threads = sealed + desc.sealed.len();
-    let trusted = threads + desc.threads.len();
-    let entry = 1 + entries_of(desc.compartments.as_slice());
-    Ok(Parts {
-        version: desc.version,
-        sweep: desc.sweep,
-        quantum: desc.quantum,
-        ram: desc.ram.base,
-        size: desc.ram.size,
-        trusted: region_at(regions, trusted, 0).base,
-        heap,
-        name: String::from_str(alloc, desc.firmware.as_str())?,
-        devices: devices_of(alloc, desc.devices.as_slice())?,
-        shared: shared_parts(alloc, desc.shared.as_slice(), regions, shared)?,
-        sealed: sealed_parts(alloc, desc.sealed.as_slice(), regions, sealed)?,
-        compartments: compartment_parts(alloc, desc, own, regions)?,
-        libraries: library_parts(alloc, desc, lent, entry, regions, libraries)?,
-        threads: thread_parts(alloc, desc, regions, threads)?,
-    })
+    let starts = starts_of(desc);
+    parts_at(alloc, desc, own, lent, regions, heap, &starts)
 }
 
 /// Where the regions of all owners lie, or that RAM hasn't room for them.

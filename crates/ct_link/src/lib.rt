@@ -12,7 +12,6 @@ mod objects;
 mod owners;
 mod regions;
 mod sizes;
-mod sourced;
 
 ghost use Rattle.std.specs.Prelude.{◌≡◌, Ok, IfOk, IfErr};
 ghost use Rattle.def_link.specs.Linked.{linked};
@@ -23,7 +22,6 @@ pub use ct_objects::Sources;
 use ct_objects::objects;
 use ct_rows::Desc;
 pub use def_link::LinkFault;
-pub use sourced::are_sourced;
 use std::alloc::Global;
 
 /// The image that a description and its sources are linked to.

@@ -116,17 +116,18 @@ fn thread_part(
 pub(crate) fn thread_parts(
     alloc: Global,
     desc: &Desc,
+    threads: &[Thread],
     regions: &[Region],
     first: usize,
 ) -> Result<Vec<ThreadPart>, AllocError>
     requires counted { AreCounted desc.now }
-    requires few { first + length desc.now.threads < 2 ^ 32 }
+    requires few { first + length threads.now < 2 ^ 32 }
     ensures { IfOk result
-        (λ v. v.items ≡ spec.thread_parts desc.now (drop first regions.now) desc.now.threads) }
+        (λ v. v.items ≡ spec.thread_parts desc.now (drop first regions.now) threads.now) }
 {
     let mut parts = Vec::new(alloc);
     let mut at = first;
-    for thread in desc.threads.as_slice() {
+    for thread in threads {
         parts.push(thread_part(alloc, desc, thread, regions, at)?)?;
         at += 1;
     }

@@ -1,0 +1,10 @@
+use Rattle.def_link.specs.Slots.{export_gate}
+use Rattle.ct_objects.specs.Objects.{built_of}
+use Rattle.ct_link.proofs.Stretches.{numbered_pushed}
+use Rattle.ct_link.proofs.gates.compartment_gates.Goals as goal
+
+pub loop-export-preserved : goal.loop-export-preserved
+loop-export-preserved c =
+    let l = c.loop-export in
+    numbered_pushed (export_gate (built_of c.args.object.now)) c.args.entry c.args.exports.now l.export-index l.number _ c.export-item.result l.gates.items c.push.new.self.items c.in_ok-export_gate.field-0
+    l.invariant c.loop-export-test.true c.export-item.is c.in_ok-export_gate.ensures c.in_ok-push.ensures.items
