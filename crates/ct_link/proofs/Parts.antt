@@ -172,8 +172,8 @@ lent_pushed ls os k index dl x dp o front old new y h low each is at made pushed
     let last : y ≡ library_code_size (library_with_object (get_or ls k dl) (get_or os k dp)) = made ∙ ap₂ (λ l z. library_code_size (library_with_object l z)) is object in (
       ap (λ n. n + 1) h.0,
       pushed ∙ ap₂ (λ l z. l ++ z ∷ []) h.1 last
-      ∙ append_assoc front before (library_code_size (library_with_object (get_or ls k dl) (get_or os k dp)) ∷ [])
-      ∙ ap (λ l. front ++ l) (sym (lent_sizes_more ls os k dl dp low (omega (arith, low, each)))),
+          ∙ append_assoc front before (library_code_size (library_with_object (get_or ls k dl) (get_or os k dp)) ∷ [])
+          ∙ ap (λ l. front ++ l) (sym (lent_sizes_more ls os k dl dp low (omega (arith, low, each)))),
     )
 
 pub own_pushed : (cs : List CompartmentRow) (os : List Assembled) (k index : ℕ) (dc x : CompartmentRow) (dp o : Assembled) (front old one two new : List ℕ) (a b e : ℕ)
@@ -190,8 +190,8 @@ own_pushed cs os k index dc x dp o front old one two new a b e h low each is at 
     ∙ ap₂ (λ (c : CompartmentRow) (z : Assembled). compartment_code_size (with_object c z) ∷ (16 + 16 * length c.exports) ∷ max c.globals (length z.init) ∷ []) is object in (
       ap (λ n. n + 1) h.0,
       third ∙ ap (λ l. l ++ e ∷ []) (second ∙ ap (λ l. l ++ b ∷ []) first)
-      ∙ ap (λ l. l ++ e ∷ []) (append_assoc old (a ∷ []) (b ∷ [])) ∙ append_assoc old (a ∷ b ∷ []) (e ∷ [])
-      ∙ ap₂ (λ l r. l ++ r) h.1 last
-      ∙ append_assoc front before (compartment_code_size (with_object (get_or cs k dc) (get_or os k dp)) ∷ (16 + 16 * length (get_or cs k dc).exports) ∷ max (get_or cs k dc).globals (length (get_or os k dp).init) ∷ [])
-      ∙ ap (λ l. front ++ l) (sym (own_sizes_more cs os k dc dp low (omega (arith, low, each)))),
+          ∙ ap (λ l. l ++ e ∷ []) (append_assoc old (a ∷ []) (b ∷ [])) ∙ append_assoc old (a ∷ b ∷ []) (e ∷ [])
+          ∙ ap₂ (λ l r. l ++ r) h.1 last
+          ∙ append_assoc front before (compartment_code_size (with_object (get_or cs k dc) (get_or os k dp)) ∷ (16 + 16 * length (get_or cs k dc).exports) ∷ max (get_or cs k dc).globals (length (get_or os k dp).init) ∷ [])
+          ∙ ap (λ l. front ++ l) (sym (own_sizes_more cs os k dc dp low (omega (arith, low, each)))),
     )

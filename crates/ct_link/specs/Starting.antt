@@ -38,7 +38,8 @@ pub record AreFewStarts (d : DescRow) (s : Starts) : Type 0 where
   pub trusted : s.trusted < 2 ^ 15
   pub entry : s.entry < 2 ^ 15
 
-abbrev pub parts_at : DescRow → List Assembled → List Assembled → List Region → ℕ → Starts → PartsRow
+abbrev pub parts_at : DescRow → List Assembled → List Assembled → List Region → ℕ → Starts
+    → PartsRow
 parts_at d own lent regions heap s = record {
   version = d.version;
   sweep = d.sweep;

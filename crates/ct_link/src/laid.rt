@@ -38,6 +38,7 @@ fn devices_of(alloc: Global, all: &[Device]) -> Result<Vec<Device>, AllocError>
 
 /// Where the regions of each list begin among all, and the number of the first library's first
 /// entry. The regions of compartments stand first, three each.
+#[derive(Debug, Drop)]
 pub(crate) struct Starts {
     libraries: usize,
     shared: usize,
@@ -90,7 +91,13 @@ fn parts_at(
     let sealed = sealed_parts(alloc, desc.sealed.as_slice(), regions, starts.sealed)?;
     let compartments = compartment_parts(alloc, desc, own, regions)?;
     let libraries = library_parts(alloc, desc, lent, starts.entry, regions, starts.libraries)?;
-    let threads = thread_parts(alloc, desc, desc.threads.as_slice(), regions, starts.threads)?;
+    let threads = thread_parts(
+        alloc,
+        desc,
+        desc.threads.as_slice(),
+        regions,
+        starts.threads,
+    )?;
     Ok(Parts {
         version: desc.version,
         sweep: desc.sweep,

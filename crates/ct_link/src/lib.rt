@@ -32,8 +32,8 @@ use std::alloc::Global;
 /// that begins nowhere (`Export`), then a library's initial bytes (`Initial`); after all owners
 /// `NoRoom`, where the regions need more bytes than RAM has. `NoMemory` where a growth was refused.
 ///
-/// Condition: the description is lawful, and there is one text, of fewer than 2 to the 32 bytes, for
-/// each of its codes that is a file, compartments first.
+/// Condition: the description is lawful, and there is one text, of fewer than 2 to the 32 bytes,
+/// for each of its codes that is a file, compartments first.
 #[tactic(auto, using(crate::proofs::Ready::owners_fit, crate::proofs::Ready::ready, crate::proofs::Ready::linked_ok, crate::proofs::Ready::linked_err, crate::proofs::Ready::owner_fault))]
 pub fn link(alloc: Global, desc: &Desc, sources: &Sources) -> Result<Image, LinkFault>
     requires { IsLinkable desc.now sources.now }

@@ -89,7 +89,14 @@ fn compartment_part(
 {
     let globals = region_at(regions, at, 2);
     Ok(CompartmentPart {
-        code: code_part(alloc, desc, compartment, object, entry, region_at(regions, at, 0))?,
+        code: code_part(
+            alloc,
+            desc,
+            compartment,
+            object,
+            entry,
+            region_at(regions, at, 0),
+        )?,
         table: region_at(regions, at, 1).base,
         globals: globals.base,
         globals_length: globals.length,

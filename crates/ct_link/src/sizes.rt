@@ -12,9 +12,7 @@ ghost use Rattle.ct_link.specs.Rows.{AreOwn, AreLent, IsSized, IsSmallOwner, IsS
 
 use ct_asm::Object;
 use ct_rows::{Compartment, Desc, Library, Sealed, Shared, Thread};
-use def_profile::layout::{
-    AREA_HEAD, FRAME_SIZE, SLOT_SIZE, TABLE_HEAD, TABLE_ROW, TRUSTED_HEAD,
-};
+use def_profile::layout::{AREA_HEAD, FRAME_SIZE, SLOT_SIZE, TABLE_HEAD, TABLE_ROW, TRUSTED_HEAD};
 use std::alloc::{AllocError, Global};
 
 /// How many slots a compartment has: the switch, its imports, quotas and keys.
