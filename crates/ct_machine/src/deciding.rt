@@ -254,11 +254,9 @@ fn carry_value<M: Memory>(
         Class::Call => Ran::Trapped {
             trap: Trap::plain(ENVIRONMENT_CALL),
         },
-        Class::Break => Ran::Trapped {
-            trap: Trap::plain(BREAKPOINT),
-        },
+        // Only a break is left.
         _ => Ran::Trapped {
-            trap: Trap::plain(ILLEGAL_INSTRUCTION),
+            trap: Trap::plain(BREAKPOINT),
         },
     }
 }

@@ -108,7 +108,6 @@ carried_out class.Access i to x y named a = accesses a to (access_result i x y a
 carried_out class.Fence i to x y named a = Ok (gives a 0 (plain 0))
 carried_out class.Call i to x y named a = Err (plain_trap ENVIRONMENT_CALL)
 carried_out class.Break i to x y named a = Err (plain_trap BREAKPOINT)
-carried_out class.Absent i to x y named a = Err (plain_trap ILLEGAL_INSTRUCTION)
 
 -- ---- fetch
 

@@ -37,8 +37,6 @@ pub enum Class {
     Call,
     /// `ebreak`.
     Break,
-    /// An instruction that this machine doesn't carry out: a register jump other than the return.
-    Absent,
 }
 
 /// The registers of an instruction: the one that it writes, and its first and second source. One

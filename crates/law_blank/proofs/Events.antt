@@ -89,7 +89,6 @@ class_blank b s t class.Access k to m n r = accesses_blank b s t to _ (result_bl
 class_blank b s t class.Fence k to m n r = r.blank
 class_blank b s t class.Call k to m n r = tt
 class_blank b s t class.Break k to m n r = tt
-class_blank b s t class.Absent k to m n r = tt
 
 next_blank : (b : Board) (s : State) (t : ℕ) (n : Next) → Reaching b s t → Blank b.image (goes_on b s t n).0
 next_blank b s t Returning r = returned_blank b.image s t (thread s t).frames r.blank

@@ -104,7 +104,6 @@ class_fair b s t k class.Access e wired runs f small =
 class_fair b s t k class.Fence e wired runs f small = gives_fair b s t 0 (plain 0) runs f (untagged_puts b.image s t (plain 0) refl)
 class_fair b s t k class.Call e wired runs f small = trapped_fair b s t _ runs f.parts f.held (plain_tells ENVIRONMENT_CALL (inr (inr (inr (inr (inr refl))))))
 class_fair b s t k class.Break e wired runs f small = trapped_fair b s t _ runs f.parts f.held (plain_tells BREAKPOINT (inr (inr (inl refl))))
-class_fair b s t k class.Absent e wired runs f small = trapped_fair b s t _ runs f.parts f.held (plain_tells ILLEGAL_INSTRUCTION (inr (inl refl)))
 
 -- ---- what stands at the program counter
 

@@ -147,7 +147,6 @@ class_settled b s t class.Access k to m n h = accesses_settled b s t to _ (acces
 class_settled b s t class.Fence k to m n h = gives_settled b s t 0 (plain 0) h (λ e. refl)
 class_settled b s t class.Call k to m n h = tt
 class_settled b s t class.Break k to m n h = tt
-class_settled b s t class.Absent k to m n h = tt
 
 next_settled : (b : Board) (s : State) (t : ℕ) (n : Next) → Settled s → Settled (goes_on b s t n).0
 next_settled b s t Returning h = returned_settled b.image s t (thread s t).frames refl h
