@@ -2,7 +2,7 @@
 use Rattle.std.specs.Prelude.{◌≡◌, ℕ, ◌+◌, ◌≤◌, ◌⊎◌, List, [], ◌∷◌, ◌++◌, map, take, true, false, Some, None, slice_get, Option}
 use Rattle.def_port.specs.Bytes.{Rose, Appends, AppendsPart}
 use Rattle.def_port.specs.Told.{Call}
-use Rattle.def_output.specs.Answers.{Ends, IsFile, Exceeds}
+use Rattle.def_program.specs.Ends.{Ends, IsFile, Exceeds}
 use Rattle.def_program.specs.declared.Status.{Status}
 use Rattle.def_program.specs.declared.Status.TheVariants as status
 use Rattle.def_program.specs.Commands.{Command, form_of}

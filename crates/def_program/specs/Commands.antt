@@ -1,6 +1,7 @@
 -- The words of the command line.
-use Rattle.std.specs.Prelude.{ℕ, List, [], ◌∷◌, Bool, true, false, Option, Some, None, option_map, bytes_eq, codes, if◌then◌else◌}
-use Rattle.def_output.specs.Commands.{limit_of}
+use Rattle.std.specs.Prelude.{ℕ, ◌+◌, ◌-◌, ◌*◌, ◌^◌, ◌==◌, List, [], ◌∷◌, length, Bool, true, false, not, ◌&&◌, nat_le, Option, Some, None, option_map, bytes_eq, codes, if◌then◌else◌}
+use Rattle.std.specs.List.{list_all}
+use Rattle.def_profile.specs.declared.limits.TheConstants.{MOST_STEPS}
 
 -- the names of files and owners, and the limit of a run in steps
 pub data Command : Type 0 where
@@ -9,6 +10,25 @@ pub data Command : Type 0 where
   Run : List ℕ → ℕ → Command
   RunImage : List ℕ → ℕ → Command
   Why : List ℕ → List ℕ → List ℕ → Command
+
+-- ---- a limit: decimal digits without sign or leading zero, of 1 to 4,000,000,000
+
+abbrev pub is_digit : ℕ → Bool
+is_digit c = nat_le 48 c && nat_le c 57
+
+-- the number that decimal digits spell
+abbrev pub value_of : List ℕ → ℕ
+value_of [] = 0
+value_of (c ∷ cs) = (c - 48) * 10 ^ length cs + value_of cs
+
+abbrev pub is_limit : ℕ → List ℕ → Bool
+is_limit c cs = list_all is_digit (c ∷ cs) && not (c == 48) && nat_le (value_of (c ∷ cs)) MOST_STEPS
+
+abbrev pub limit_of : List ℕ → Option ℕ
+limit_of [] = None
+limit_of (c ∷ cs) = if is_limit c cs then Some (value_of (c ∷ cs)) else None
+
+-- ---- forms
 
 -- `audit DESC`, `image DESC`
 abbrev pub of_one : List ℕ → List ℕ → Option Command

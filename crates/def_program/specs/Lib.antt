@@ -1,4 +1,5 @@
 pub mod Codes
+pub mod Ends
 pub mod Commands
 pub mod Lines
 pub mod Runs
