@@ -7,8 +7,10 @@ here=$(cd "$(dirname "$0")/.." && pwd)
 program=$here/crates/bench_description/out/bench_description
 work=$(mktemp -d)
 trap 'rm -rf "$work"' EXIT
-python3 - "$here/crates/bench_description/data/tiny.json" "$work" <<'PYTHON'
-import json, sys
+python3 -B - "$here/crates/bench_description/data/tiny.json" "$work" "$here/bench" <<'PYTHON'
+import sys
+sys.path.insert(0, sys.argv[3])
+import largest
 tiny = open(sys.argv[1]).read().strip()
 def put(name, text):
     open(f"{sys.argv[2]}/{name}", "w").write(text)
@@ -23,22 +25,7 @@ for mib in (1, 4, 16):
     put(f"exports-{mib}", tiny.replace('"exports":[', '"exports":[' + "".join(export % i + "," for i in range(count))))
     put(f"words-{mib}", tiny.replace('"words":[', '"words":[' + '"00000297",' * ((size - len(tiny)) // 11)))
     put(f"brackets-{mib}", "[" * size)
-owners = [{
-    "name": f"c{i}", "code": {"words": ["00008067"] * 1024}, "globals": 8176,
-    "imports": [{"as": f"i{j}", "call": f"c{(i * 7 + j) % 64}.e{j % 64}"} for j in range(128)],
-    "quotas": [{"name": f"q{j}", "limit": 64} for j in range(16)], "keys": [13, 14, 15],
-    "exports": [{"name": f"e{j}", "at": 4 * j} for j in range(64)]} for i in range(64)]
-libraries = [{
-    "name": f"l{i}", "code": {"words": ["00008067"] * 1024},
-    "imports": [{"as": f"i{j}", "library": f"l{(i * 5 + j) % 32}.e{j % 64}"} for j in range(128)],
-    "exports": [{"name": f"e{j}", "at": 4 * j} for j in range(64)]} for i in range(32)]
-put("largest", json.dumps({
-    "firmware": "f", "ram": {"base": 2147483648, "size": 8388608},
-    "devices": [{"name": f"d{i}", "kind": "uart", "base": 268435456 + 16 * i} for i in range(16)],
-    "shared": [{"name": f"s{i}", "size": 64} for i in range(64)],
-    "sealed": [{"name": f"k{i}", "type": 13, "bytes": "00" * 64} for i in range(64)],
-    "compartments": owners, "libraries": libraries,
-    "threads": [{"name": "t", "entry": "c63.e63", "priority": 1, "stack": 256, "frames": 96}]}))
+put("largest", largest.text())
 PYTHON
 for file in $(ls -v "$work"); do
     size=$(stat -c %s "$work/$file")

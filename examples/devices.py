@@ -4,18 +4,16 @@
     bin/capfw audit FIRMWARE.json | python3 examples/devices.py
 
 An entry's owner isn't alone: a compartment that the owner reaches in the sharing graph may come to use
-the entry too. The column `reached` names them; it is the owner itself where nothing is shared. A
-library's entry is used by whoever calls the library, so its row says `callers of` it.
+the entry too. The column `reached` names them; it is the owner itself where nothing is shared. Owners
+of device entries are compartments: a library imports libraries alone.
 """
 import json
 import sys
 
 
 def reached(report, owner):
-    """The compartments that an owner reaches: the component of the sharing graph that it is in."""
+    """The compartments that a compartment reaches: the component of the sharing graph that it is in."""
     names = report["compartments"]
-    if owner not in names:
-        return [f"callers of {owner}"]
     component = {names.index(owner)}
     grown = True
     while grown:

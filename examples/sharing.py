@@ -4,8 +4,9 @@
     bin/capfw audit FIRMWARE.json | python3 examples/sharing.py | dot -Tsvg > picture.svg
 
 Boxes are compartments, folders libraries, ovals devices. A thick line without an arrow is an edge of the
-sharing graph: either side may come to use what the other owns. An arrow to a device is an entry of the
-report, with its number and what it allows. A dashed arrow is where a thread begins.
+sharing graph: either side may come to use what the other owns. An arrow is an entry of the report, with
+its number: to a device with what it allows, to an export that is called or to a library's with its name.
+A dashed arrow is where a thread begins.
 """
 import json
 import sys
@@ -20,6 +21,11 @@ def quoted(text):
 def allowed(entry):
     rights = entry["rights"].split()
     return " and ".join(LETTERS[right] for right in ("LD", "SD") if right in rights)
+
+
+def arrow(entry, end, text):
+    label = f"{entry['number']}: {text}"
+    return f"  {quoted('owner ' + entry['owner'])} -- {quoted(end)} [dir=forward, label={quoted(label)}];"
 
 
 def lines(report):
@@ -37,9 +43,10 @@ def lines(report):
         yield f"  {quoted('owner ' + names[0])} -- {quoted('owner ' + names[1])} [penwidth=3];"
     for entry in report["entries"]:
         if entry["kind"] == "device":
-            label = f"{entry['number']}: {allowed(entry)}"
-            ends = f"{quoted('owner ' + entry['owner'])} -- {quoted('device ' + entry['of'])}"
-            yield f"  {ends} [dir=forward, label={quoted(label)}];"
+            yield arrow(entry, "device " + entry["of"], allowed(entry))
+        if entry["kind"] in ("call", "library"):
+            owner, export = entry["of"].split(".")
+            yield arrow(entry, "owner " + owner, export)
     entries = {entry["number"]: entry for entry in report["entries"]}
     for thread in report["threads"]:
         gate = entries[thread["entry"]]

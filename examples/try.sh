@@ -22,6 +22,8 @@ only() {
 }
 
 if command -v python3 > /dev/null; then
+    picture=$(python3 "$here/sharing.py" < "$samples/board/report.json")
+    expect "sharing.py, calls" "$(cat "$here/board.dot")" "$picture"
     picture=$(python3 "$here/sharing.py" < "$samples/two/report.json")
     expect sharing.py "$(cat "$here/two.dot")" "$picture"
     table=$(python3 "$here/devices.py" < "$samples/two/report.json")
@@ -35,11 +37,14 @@ fi
 if command -v jq > /dev/null; then
     report=$samples/two/report.json
     expect "only.sh, allowed" "status 0" "$(only "$report" uart0 log)"
-    expect "only.sh, another owner" "$(printf 'entry 9: log may touch uart0\nstatus 1')" "$(only "$report" uart0 lamp)"
-    expect "only.sh, no such device" "$(printf 'no device uart9 in %s\nstatus 2' "$report")" "$(only "$report" uart9 log)"
+    other=$(printf 'entry 9: log may touch uart0\nstatus 1')
+    expect "only.sh, another owner" "$other" "$(only "$report" uart0 lamp)"
+    none=$(printf 'no device uart9 in %s\nstatus 2' "$report")
+    expect "only.sh, no such device" "$none" "$(only "$report" uart9 log)"
     shared=$(mktemp)
     jq '.edges = [[0, 1]]' "$report" > "$shared"
-    expect "only.sh, a shared one" "$(printf 'edge: lamp shares with log\nstatus 1')" "$(only "$shared" uart0 log)"
+    edge=$(printf 'edge: lamp shares with log\nstatus 1')
+    expect "only.sh, a shared one" "$edge" "$(only "$shared" uart0 log)"
     rm -f "$shared"
 fi
 exit $status

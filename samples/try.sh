@@ -1,19 +1,34 @@
 #!/bin/bash
 # Runs every sample through the program, unproved, and compares what it writes with what stands beside
-# the sample: report.json (audit), and run.txt after it (run, at most 100 steps). The kit builds the
-# program once for all of them, in about 40 seconds.
+# the sample: report.json (audit), run.txt after it (run, at most 100 steps), and each line of why.txt
+# (an owner, a compartment, and what why writes of them). The kit builds the program once for all of
+# them, in about a minute. The worked rows of rows.py are run with them.
 here=$(cd "$(dirname "$0")" && pwd) || exit 1
 cases=$(mktemp -d) || exit 1
-trap 'rm -rf "$cases"' EXIT
+trap 'rm -rf "$cases" "$cases"-*' EXIT
+sources=()
+
+# expect FOLDER CASE TEXT WORD..: a run of the program on a folder's description, {} among the words
+expect() {
+    local name=${1##*/}-$2
+    cp "$1/${1##*/}.json" "$cases/$name" || exit 1
+    printf '%s\n' "${@:4}" > "$cases/$name.args"
+    printf '%s\n' "$3" > "$cases/$name.stdout"
+}
+
 for report in "$here"/*/report.json; do
     folder=$(dirname "$report")
-    name=$(basename "$folder")
-    for command in audit run; do
-        cp "$folder/$name.json" "$cases/$name-$command" || exit 1
+    expect "$folder" audit "$(cat "$report")" audit {}
+    expect "$folder" run "$(cat "$report" "$folder/run.txt")" run {} 100
+    while read -r owner compartment answer; do
+        expect "$folder" "why-$owner-$compartment" "$answer" why {} "$owner" "$compartment"
+    done < <([ ! -f "$folder/why.txt" ] || cat "$folder/why.txt")
+    for source in "$folder"/*.s; do
+        [ ! -f "$source" ] || sources+=(--data "${source##*/}=$source")
     done
-    printf 'audit\n{}\n' > "$cases/$name-audit.args"
-    cp "$report" "$cases/$name-audit.stdout"
-    printf 'run\n{}\n100\n' > "$cases/$name-run.args"
-    cat "$report" "$folder/run.txt" > "$cases/$name-run.stdout"
 done
-cd "$here/../crates/ct_main" && rt try --cases "$cases"
+rows=$(python3 "$here/rows.py" "$cases") || exit 1
+while IFS= read -r row; do
+    sources+=(--data "$row")
+done <<< "$rows"
+cd "$here/../crates/ct_main" && rt try "${sources[@]}" --cases "$cases"

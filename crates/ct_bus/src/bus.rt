@@ -1,11 +1,10 @@
 //! All devices, each at its base.
 
 ghost use Rattle.std.specs.Prelude.{◌≡◌, ◌<◌, ◌≤◌, ◌*◌, ◌⊎◌, ◌^◌, length, map, IfOk, IfSome, true, is_some};
-ghost use Rattle.def_step.specs.Boot.{fresh_device};
-ghost use Rattle.def_step.specs.Devices.{IsWidth, is_of, base_of, found, bank_value, bank_read, bank_written, bank_input};
+ghost use Rattle.def_step.specs.Devices.{fresh_device, IsWidth, is_of, base_of, found, bank_value, bank_read, bank_written, bank_input};
 
 use crate::unit::Unit;
-use ct_entry::Devices;
+use ct_entry::Device;
 use def_refusals::NoMemory;
 use std::alloc::Global;
 use std::marker::Model;
@@ -53,7 +52,7 @@ impl Bus {
     /// Devices at rest, in their order: empty queues, outputs and inputs 0.
     ///
     /// `NoMemory` where the allocator has no room for them.
-    pub fn new(alloc: Global, devices: &Devices) -> Result<Bus, NoMemory>
+    pub fn new(alloc: Global, devices: &[Device]) -> Result<Bus, NoMemory>
         ensures { IfOk result
             (λ b. b
             ≡ record {
@@ -63,7 +62,7 @@ impl Bus {
     {
         let mut bases = Vec::new(alloc);
         let mut units = Vec::new(alloc);
-        for device in devices.rows.iter() {
+        for device in devices.iter() {
             bases.push(device.base)?;
             units.push(Unit::new(alloc, device.kind)?)?;
         }

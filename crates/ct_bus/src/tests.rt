@@ -2,7 +2,7 @@
 //! registers are laid out in docs/use/machine.md.
 
 use crate::Bus;
-use ct_entry::{Device, DeviceKind, Devices};
+use ct_entry::{Device, DeviceKind};
 use std::alloc::Global;
 use std::test::Fail;
 
@@ -22,7 +22,7 @@ fn three_devices(rt: HostRuntime) -> Result<(), Fail> {
     rows.push(nameless(alloc, DeviceKind::Uart, 0x1000_0000))?;
     rows.push(nameless(alloc, DeviceKind::Timer, 0x1000_0010))?;
     rows.push(nameless(alloc, DeviceKind::Gpio, 0x2000_0000))?;
-    let mut bus = Bus::new(alloc, &Devices { rows })?;
+    let mut bus = Bus::new(alloc, &rows)?;
     assert_eq!(rt; bus.count(), 3);
     assert_eq!(rt; bus.holds(0x2000_000F), true);
     assert_eq!(rt; bus.holds(0x1000_0020), false);
@@ -54,7 +54,7 @@ fn a_full_queue_drops_the_oldest(rt: HostRuntime) -> Result<(), Fail> {
     let alloc = rt.alloc();
     let mut rows = Vec::new(alloc);
     rows.push(nameless(alloc, DeviceKind::Uart, 16))?;
-    let mut bus = Bus::new(alloc, &Devices { rows })?;
+    let mut bus = Bus::new(alloc, &rows)?;
     for byte in 0..65 {
         if bus.count() == 1 {
             bus.input(0, byte);

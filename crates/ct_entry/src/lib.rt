@@ -1,5 +1,5 @@
 //! Who may do what, as plain rows: owners, the report's entries with the gates of exports, deeds and
-//! what an event did, devices, totals, and the firmware that a machine starts from.
+//! what an event did, devices, and totals.
 //!
 //! Nothing here computes: audit, sharing graph, licence and machine all speak of these rows. The
 //! types that hold a list or a text are seen by contracts as the records and lists of specs/.
@@ -8,9 +8,7 @@
 mod acts;
 mod hardware;
 mod rows;
-mod starting;
 
 pub use acts::{Act, Deed, End, Happened, Owned, Totals};
 pub use hardware::{Device, DeviceKind, Devices};
 pub use rows::{Comp, Entries, Entry, Gate, Kind, Mode, Owner};
-pub use starting::{Firmware, Starter};

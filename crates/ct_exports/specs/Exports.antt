@@ -1,14 +1,15 @@
 -- What a switch reads of the entries: the export that it enters, and where its compartment's export table begins.
-use Rattle.std.specs.Prelude.{ℕ, zero, suc, ◌+◌, ◌-◌, ◌%◌, ◌&&◌, ◌≡◌, ◌≤◌, ◌<◌, Bool, true, List, length, find, Option, None, unwrap_or, slice_get, slice_index_or}
+use Rattle.std.specs.Prelude.{ℕ, zero, suc, ◌+◌, ◌-◌, ◌%◌, ◌&&◌, ◌==◌, ◌≡◌, ◌≤◌, ◌<◌, Bool, true, false, List, length, find, Option, None, unwrap_or, slice_get, slice_index_or}
 use Rattle.std.specs.List.Sorted.{IsNonDecreasingBy}
 use Rattle.ct_entry.specs.Listed.{Listed}
 use Rattle.ct_entry.specs.declared.rows.Entry.{Entry}
 use Rattle.ct_entry.specs.declared.rows.Gate.{Gate}
-use Rattle.ct_entry.specs.declared.rows.Owner.TheVariants.{Trusted}
-use Rattle.ct_entry.specs.declared.rows.Kind.TheVariants.{Code}
+use Rattle.ct_entry.specs.declared.rows.Owner.{Owner}
+use Rattle.ct_entry.specs.declared.rows.Owner.TheVariants.{Trusted, Compartment, Library, Thread}
+use Rattle.ct_entry.specs.declared.rows.Kind.{Kind}
+use Rattle.ct_entry.specs.declared.rows.Kind.TheVariants as kind
 use Rattle.def_profile.specs.declared.layout.TheConstants.{TABLE_HEAD}
 use Rattle.def_reach.specs.Roots.{root_of, gate_for, compartment_of}
-use Rattle.def_step.specs.Boot.{is_export_kind, is_compartment}
 use Rattle.ct_exports.specs.declared.exports.Export.{Export}
 
 -- ---- rows
@@ -16,7 +17,7 @@ use Rattle.ct_exports.specs.declared.exports.Export.{Export}
 abbrev pub no_row : Entry
 no_row = record {
   owner = Trusted;
-  kind = Code;
+  kind = kind.Code;
   base = 0;
   length = 0;
   rights = 0;
@@ -32,6 +33,16 @@ row_at rows i = slice_index_or rows i no_row
 abbrev pub row_named : List Entry → ℕ → Option Entry
 row_named rows zero = None
 row_named rows (suc i) = slice_get rows i
+
+abbrev pub is_export_kind : Kind → Bool
+is_export_kind kind.Export = true
+is_export_kind _ = false
+
+abbrev pub is_compartment : ℕ → Owner → Bool
+is_compartment b Trusted = false
+is_compartment b (Compartment c) = c == b
+is_compartment b (Library l) = false
+is_compartment b (Thread t) = false
 
 -- an export of this compartment
 abbrev pub is_export_of : ℕ → Entry → Bool

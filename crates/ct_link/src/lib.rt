@@ -18,8 +18,8 @@ ghost use Rattle.def_link.specs.Linked.{linked};
 ghost use Rattle.ct_objects.specs.Objects.{IsLinkable, Refuses};
 
 use ct_image::Image;
-pub use ct_objects::Sources;
 use ct_objects::objects;
+pub use ct_objects::{Sources, are_sourced};
 use ct_rows::Desc;
 pub use def_link::LinkFault;
 use std::alloc::Global;

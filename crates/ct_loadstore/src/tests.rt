@@ -8,7 +8,7 @@ ghost use Rattle.ct_loadstore.specs.Maps.{IsMap};
 use crate::{Map, filter, loadstore};
 use ct_bus::Bus;
 use ct_cap::{Cap, Live, Shadow, Trap, expand};
-use ct_entry::{Act, Device, DeviceKind, Devices};
+use ct_entry::{Act, Device, DeviceKind};
 use ct_mem::{Memory, Plain};
 use def_instr::Instr;
 use std::alloc::Global;
@@ -31,7 +31,7 @@ fn serial(alloc: Global) -> Result<Bus, Fail> {
         kind: DeviceKind::Uart,
         base: 0x1000_0000,
     })?;
-    Ok(Bus::new(alloc, &Devices { rows })?)
+    Ok(Bus::new(alloc, &rows)?)
 }
 
 /// RAM from 0x80000000, without a heap.

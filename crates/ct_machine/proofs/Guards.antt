@@ -1,30 +1,30 @@
 -- A machine that starts is guarded, and every event keeps it so.
 use Rattle.std.proofs.Common.{◌≡◌, subst, sym}
-use Rattle.ct_entry.specs.Listed.{FirmwareRow}
 use Rattle.ct_entry.specs.declared.acts.Happened.{Happened}
 use Rattle.def_board.specs.Guarded.{Guarded}
 use Rattle.def_confined.specs.Telling.{IsLicensedEvent}
 use Rattle.def_machine.specs.State.{State}
 use Rattle.def_step.specs.declared.Event.{Event}
 use Rattle.def_step.specs.Instructions.{Board}
-use Rattle.def_step.specs.Boot.{booted_machine, board_of, boot_state, image_of}
 use Rattle.def_step.specs.Events.{MachineRow, happens}
-use Rattle.def_step.specs.Firmware.{IsLawfulFirmware}
-use Rattle.law_boot.proofs.Whole.{image_partitioned}
-use Rattle.law_entries.proofs.Wiring.{wired}
-use Rattle.law_boot.proofs.Besides.{boot_keeps}
-use Rattle.law_shut.proofs.Shutting.{shut}
-use Rattle.law_settled.proofs.Boots.{boot_settles}
+use Rattle.def_image.specs.Parts.{PartsRow}
+use Rattle.def_image.specs.Sound.{Sound}
+use Rattle.def_boot.specs.Boot.{booted_machine}
+use Rattle.law_grants.proofs.Wiring.{wired}
+use Rattle.law_booted.proofs.Whole.{partitioned}
+use Rattle.law_started.proofs.Shutting.{shut}
+use Rattle.law_started.proofs.Whole.{keeps}
+use Rattle.law_started.proofs.Settling.{boot_settles}
 use Rattle.law_settled.proofs.Events.{event_settles}
 use Rattle.law_events.proofs.Events.{event_keeps, deed_licensed, span_licensed}
 
-pub at_boot : (f : FirmwareRow) → IsLawfulFirmware f → Guarded (booted_machine f)
-at_boot f l = record {
-  partitioned = image_partitioned f l;
-  wired = wired f l;
-  shut = shut f l;
-  keeps = boot_keeps f l;
-  settled = boot_settles f;
+pub at_boot : (p : PartsRow) → Sound p → Guarded (booted_machine p)
+at_boot p s = record {
+  partitioned = partitioned p s;
+  wired = wired p s;
+  shut = shut p s;
+  keeps = keeps p s;
+  settled = boot_settles p;
 }
 
 pub after_event : (m : MachineRow) (e : Event) → Guarded m → Guarded (record { board = m.board; state = (happens m.board m.state e).0 })
@@ -53,5 +53,5 @@ told_by m n e h g same told =
     let here : IsLicensedEvent m.board.image.entries h = subst (λ (x : Happened). IsLicensedEvent m.board.image.entries x) (sym told) (event_licensed m e g) in
     subst (λ (x : MachineRow). IsLicensedEvent x.board.image.entries h) same here
 
-pub booted_by : (f : FirmwareRow) (m : MachineRow) → IsLawfulFirmware f → m ≡ booted_machine f → Guarded m
-booted_by f m l is = subst Guarded (sym is) (at_boot f l)
+pub booted_by : (p : PartsRow) (m : MachineRow) → Sound p → m ≡ booted_machine p → Guarded m
+booted_by p m s is = subst Guarded (sym is) (at_boot p s)

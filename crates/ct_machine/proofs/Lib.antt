@@ -1,7 +1,6 @@
 pub mod Clears
 pub mod Executed
 pub mod Launches
-pub mod Samples
 pub mod Sizes
 pub mod Starts
 pub mod Guards

@@ -1,4 +1,3 @@
 pub mod Parts
 pub mod Deciding
 pub mod Launching
-pub mod Sample

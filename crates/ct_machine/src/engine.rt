@@ -6,12 +6,13 @@ ghost use Rattle.def_step.specs.declared.Event.TheVariants as event;
 ghost use Rattle.ct_machine.specs.Deciding.{deed_by, presence_after, granules_by};
 ghost use Rattle.ct_machine.specs.Parts.{deeds_of, IsStackPlaced, IsRam};
 
+use crate::plan::Plan;
 use crate::presence::Presence;
 use crate::ran::Ran;
 use crate::sweeping::clear;
 use crate::tally::Tally;
 use crate::works::{Works, pass_works, run_works};
-use ct_entry::{Act, Deed, End, Firmware, Happened, Owned, Totals};
+use ct_entry::{Act, Deed, End, Happened, Owned, Totals};
 use ct_mem::Memory;
 use def_profile::limits::MOST_STEPS;
 use def_step::Event;
@@ -22,7 +23,7 @@ use std::marker::Model;
 /// Contracts see it as its board, which never changes, and its state.
 #[derive(Drop)]
 pub(crate) struct Engine<M: Memory + Drop> {
-    pub(crate) firmware: Firmware,
+    pub(crate) plan: Plan,
     pub(crate) works: Works<M>,
     pub(crate) ram: u32,
     pub(crate) stack: u32,
@@ -36,17 +37,16 @@ pub(crate) struct Engine<M: Memory + Drop> {
 impl<M: Memory + Drop> Model for Engine<M> {
     ghost use Rattle.std.specs.Prelude.{length};
     ghost use Rattle.def_step.specs.Events.{MachineRow};
-    ghost use Rattle.def_step.specs.Boot.{image_of};
     ghost use Rattle.ct_machine.specs.Parts.{state_by, top_of, IsKept, IsCounted};
 
     ghost Value = { MachineRow };
 
     ghost view = { λ m. record {
-      board = record { image = image_of m.firmware; bases = m.works.bus.bases };
+      board = record { image = m.plan; bases = m.works.bus.bases };
       state = state_by (M.granules m.works.mem) m.presence m.works.active m.running m.pending m.works.bus.states m.time m.counts;
     } };
 
-    ghost invariant = { λ m. IsKept (image_of m.firmware) m.ram m.stack (top_of m.works.active) (length (M.granules m.works.mem)) m.presence × IsCounted m.counts m.time };
+    ghost invariant = { λ m. IsKept m.plan m.ram m.stack (top_of m.works.active) (length (M.granules m.works.mem)) m.presence × IsCounted m.counts m.time };
 }
 
 impl<M: Memory + Drop> Engine<M> {
@@ -172,11 +172,10 @@ impl<M: Memory + Drop> Engine<M> {
     }
 
     /// Where the heap begins.
-    #[tactic(auto, unfolding(def_step::specs::Boot::image_of))]
     fn heap(&self) -> u32
         ensures { result ≡ self.now.board.image.heap_base }
     {
-        self.firmware.heap
+        self.plan.heap()
     }
 
     /// The running thread carries on, by one instruction or native routine.
@@ -196,7 +195,7 @@ impl<M: Memory + Drop> Engine<M> {
         let (ram, stack, time) = (self.ram, self.stack, self.time);
         let top = self.works.active.frame_top();
         let actor = self.works.active.frame_actor();
-        let ran = run_works(&self.firmware, &mut self.works, ram, heap, time);
+        let ran = run_works(&self.plan, &mut self.works, ram, heap, time);
         leave(ran, &mut self.works.mem, ram, stack, top);
         self.presence = presence_after(ran);
         let deed = deed_of(actor, ran);

@@ -1,17 +1,18 @@
 //! The thread before its first step.
 
-ghost use Rattle.std.specs.Prelude.{◌≡◌, slice_get};
-ghost use Rattle.def_step.specs.Boot.{first_thread};
-ghost use Rattle.def_step.specs.Firmware.{IsLawfulFirmware};
+ghost use Rattle.std.specs.Prelude.{◌≡◌, ◌≤◌, Some, length, option_map, slice_get};
+ghost use Rattle.def_image.specs.Sound.{Sound};
+ghost use Rattle.ct_start.specs.Starts.{starts_of};
 ghost use Rattle.ct_machine.specs.Launching.{Launched};
+ghost use Rattle.ct_machine.specs.Parts as spec;
 
 use crate::active::Active;
 use crate::presence::Presence;
-use ct_boot::{first_of, stack_base};
 use ct_cap::{Cap, Posture, Shadow, expand};
-use ct_entry::{Firmware, Starter};
+use ct_parts::{Parts, Thread};
+use ct_start::{First, Start};
 
-/// The thread of a firmware, whether it has one, and the base of its stack.
+/// The thread of an image, whether it has one, and the base of its stack.
 #[derive(Drop)]
 pub(crate) struct Launch {
     pub(crate) presence: Presence,
@@ -39,41 +40,55 @@ fn nobody() -> Active {
     }
 }
 
-/// The first thread as it starts.
-fn active_of(firmware: &Firmware, starter: Starter) -> Active
-    requires { IsLawfulFirmware firmware.now }
-    ensures { result ≡ first_thread firmware.now 0 starter }
+/// The thread that starts so, with the top of its stack.
+fn active_of(first: First, top: u32) -> Active
+    ensures { result
+        ≡ spec.thread_of first.pcc first.regs first.posture first.actor first.export top }
 {
-    let first = first_of(firmware, 0, starter);
-    let registers = first.registers;
+    let registers = first.regs;
     Active {
         pcc: first.pcc,
         registers,
         posture: first.posture,
         actor: first.actor,
         export: first.export,
-        top: first.top,
+        top,
     }
 }
 
-/// How the first thread enters, where there is one.
-fn starter_of(firmware: &Firmware) -> Option<Starter>
-    ensures { result ≡ slice_get firmware.now.threads 0 }
+/// The first thread of an image, where it has one.
+fn thread_of(parts: &Parts) -> Option<&Thread>
+    ensures { option_map (λ t. t.now) result ≡ slice_get parts.now.threads 0 }
 {
-    firmware.threads.get(0).copied()
+    parts.threads.get(0)
 }
 
-/// The thread of a firmware before its first step.
-pub(crate) fn launch_of(firmware: &Firmware) -> Launch
-    requires { IsLawfulFirmware firmware.now }
-    ensures { Launched firmware.now result.presence result.active result.stack }
+/// The one thread of an image before its first step, where boot told how its threads start.
+fn alive(parts: &Parts, thread: &Thread, start: &Start) -> Launch
+    requires sound { Sound parts.now }
+    requires one { length parts.now.threads ≤ 1 }
+    requires there { slice_get parts.now.threads 0 ≡ Some thread.now }
+    requires told { start.now.firsts ≡ starts_of parts.now }
+    ensures { Launched parts.now result.presence result.active result.stack }
 {
-    match starter_of(firmware) {
-        Some(starter) => Launch {
-            presence: Presence::Alive,
-            active: active_of(firmware, starter),
-            stack: stack_base(firmware, 0),
-        },
+    let first = start.first(0);
+    let active = active_of(first, thread.stack + thread.stack_length);
+    Launch {
+        presence: Presence::Alive,
+        active,
+        stack: thread.stack,
+    }
+}
+
+/// The thread of an image before its first step, where boot told how its threads start.
+pub(crate) fn launch_of(parts: &Parts, start: &Start) -> Launch
+    requires sound { Sound parts.now }
+    requires one { length parts.now.threads ≤ 1 }
+    requires told { start.now.firsts ≡ starts_of parts.now }
+    ensures { Launched parts.now result.presence result.active result.stack }
+{
+    match thread_of(parts) {
+        Some(thread) => alive(parts, thread, start),
         None => Launch {
             presence: Presence::Absent,
             active: nobody(),

@@ -2,12 +2,12 @@
 #![tactic(auto)]
 
 mod active;
-mod copying;
 mod deciding;
 mod engine;
 mod launching;
 mod machine;
 mod operands;
+mod plan;
 mod presence;
 mod ran;
 mod starting;

@@ -1,22 +1,22 @@
 //! The machine: an engine whose state is confined.
 
-ghost use Rattle.std.specs.Prelude.{◌≡◌, IsTrue, IfOk};
-ghost use Rattle.ct_boot.specs.Bootable.{empty_granules};
+ghost use Rattle.std.specs.Prelude.{◌≡◌, ◌≤◌, IsTrue, IfOk, length};
 ghost use Rattle.def_board.specs.Guarded.{Guarded};
+ghost use Rattle.def_boot.specs.Boot.{booted_machine};
 ghost use Rattle.def_confined.specs.Telling.{IsLicensedEvent};
-ghost use Rattle.def_step.specs.Boot.{booted_machine};
 ghost use Rattle.def_step.specs.Events.{happens, is_lawful, end_of, totals_of};
-ghost use Rattle.def_step.specs.Firmware.{IsLawfulFirmware};
+ghost use Rattle.law_boot_words.specs.Booting.{empty_granules};
 
 use crate::engine::Engine;
-use ct_entry::{End, Firmware, Happened, Totals};
+use ct_entry::{End, Happened, Totals};
+use ct_image::Image;
 use ct_mem::Memory;
 use def_refusals::NoMemory;
 use def_step::Event;
 use std::alloc::Global;
 use std::marker::Model;
 
-/// A firmware that runs, over some memory.
+/// An image that runs, over some memory.
 ///
 /// Contracts see it as its board, which never changes, and its state. Its type keeps the state
 /// *Confined* (docs/claims/confinement.md), whatever the code bytes are.
@@ -37,14 +37,15 @@ impl<M: Memory + Drop> Model for Machine<M> {
 }
 
 impl<M: Memory + Drop> Machine<M> {
-    /// The machine of a firmware, booted: its memory, devices and thread are as *Boot state* says,
-    /// and no event has come.
+    /// The machine of an image, booted: its memory, devices and thread are as *Boot state* says, and
+    /// no event has come.
     ///
-    /// The memory reads as zero and has the size of the firmware's RAM. `NoMemory` where the
-    /// allocator has no room for the devices and for the copy of the firmware that the machine keeps.
-    pub fn start(alloc: Global, image: &Firmware, mem: M) -> Result<Machine<M>, NoMemory>
-        requires lawful { IsLawfulFirmware image.now }
-        requires empty { M.granules mem ≡ empty_granules image.now.size }
+    /// Condition: the image has at most one thread; the memory reads as zero, is unmarked, and has the
+    /// size of the image's RAM. `NoMemory` where the allocator has no room for the entries, the
+    /// devices and the thread's start.
+    pub fn start(alloc: Global, image: &Image, mem: M) -> Result<Machine<M>, NoMemory>
+        requires one { length image.now.threads ≤ 1 }
+        requires empty { M.granules mem ≡ empty_granules image.now }
         ensures booted { IfOk result (λ m. m ≡ booted_machine image.now) }
         ensures guarded { IfOk result (λ m. Guarded m) }
     {

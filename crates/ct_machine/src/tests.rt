@@ -1,30 +1,32 @@
-//! A firmware of one compartment runs from its start. The programs and what they do are worked out
-//! by hand: what each word does is told in docs/use/machine.md.
+//! Images of one thread run from their start. The programs and what they do are worked out by hand:
+//! what each word does is told in docs/use/machine.md, and where each part of an image lies in
+//! docs/use/image.md.
 
-ghost use Rattle.std.specs.Prelude.{◌≡◌, ◌<◌, ◌≤◌, ◌⊎◌, ◌*◌, IfOk, length};
-ghost use Rattle.def_machine.specs.Objects.{Each};
-ghost use Rattle.def_step.specs.Firmware.{IsLawfulFirmware};
-ghost use Rattle.ct_machine.specs.Sample.{row, sample, sample_entries};
+ghost use Rattle.std.specs.Prelude.{◌≤◌, length, IfOk};
 
 use crate::{Event, Machine};
-use ct_entry::{
-    Act, Deed, Device, DeviceKind, Devices, End, Entries, Entry, Firmware, Gate, Happened, Kind,
-    Mode, Owner, Starter, Totals,
-};
+use ct_entry::{Act, Deed, Device, DeviceKind, End, Happened, Mode, Owned, Totals};
+use ct_image::{Image, ImageFault, accept};
 use ct_mem::Plain;
-use def_profile::native::{NATIVE_BASE, NATIVE_LENGTH};
-use def_profile::rights::{
-    CODE_RIGHTS, EXPORT_RIGHTS, GLOBALS_RIGHTS, SERVICE_RIGHTS, STACK_RIGHTS,
-};
+use ct_parts::{Code, Compartment, Export, Parts, Slot, Thread, written};
+use ct_tables::{ExportRow, ImportRow, SlotKind};
 use def_refusals::NoMemory;
-use std::alloc::Global;
+use std::alloc::{AllocError, Global};
 use std::process::Abort;
 use std::test::Fail;
 
+/// The bits of a slot's rights: of a device written to, of one read and written too, of a native
+/// routine, and of a library.
+const W: u8 = 49;
+
+const RW: u8 = 51;
+
+const SERVICE: u8 = 40;
+
+const LIBRARY: u8 = 43;
+
 /// The bytes of words, each low byte first.
-fn text_of(alloc: Global, words: &[u32]) -> Result<Vec<u8>, NoMemory>
-    ensures { IfOk result (λ v. length v.items ≡ 4 * length words.now) }
-{
+fn text_of(alloc: Global, words: &[u32]) -> Result<Vec<u8>, AllocError> {
     let mut text = Vec::new(alloc);
     for word in words.iter() {
         text.extend_from_slice(&word.to_le_bytes())?;
@@ -32,119 +34,119 @@ fn text_of(alloc: Global, words: &[u32]) -> Result<Vec<u8>, NoMemory>
     Ok(text)
 }
 
-/// Bytes are below 256.
-fn see_bytes(text: &[u8])
-    ensures { Each (λ x. x < 256) text.now }
-{}
-
-/// A row of an entry.
-fn row(owner: Owner, kind: Kind, base: u32, length: u32, rights: u32) -> Entry
-    ensures { result ≡ row owner kind base length rights }
-{
-    Entry {
-        owner,
+/// A slot by its row and its name; what it names has index 0.
+fn slot(alloc: Global, kind: SlotKind, rights: u8, name: &str) -> Result<Slot, AllocError> {
+    let row = ImportRow {
         kind,
-        base,
-        length,
         rights,
-        of: 0,
-        limit: 0,
-    }
+        first: 0,
+        second: 0,
+    };
+    let name = String::from_str(alloc, name)?;
+    Ok(Slot { row, name })
 }
 
-/// The entries: code, globals, switch, device, export and stack.
-fn entries_of(alloc: Global, rights: u32, length: u32) -> Result<Entries, NoMemory>
-    requires { length ≤ 4096 }
-    ensures { IfOk result (λ e. e ≡ sample_entries rights length) }
-{
-    let owner = Owner::Compartment(0);
-    let code_length = (16 + length + 15) / 16 * 16;
-    let rows = vec![in alloc;
-        row(owner, Kind::Code, 0x8000_0000, code_length, CODE_RIGHTS),
-        row(owner, Kind::Globals, 0x8000_0050, 16, GLOBALS_RIGHTS),
-        row(
-            owner,
-            Kind::Service,
-            NATIVE_BASE,
-            NATIVE_LENGTH,
-            SERVICE_RIGHTS
-        ),
-        row(owner, Kind::Device, 0x1000_0000, 16, rights),
-        row(owner, Kind::Export, 0x8000_0040, 16, EXPORT_RIGHTS),
-        row(
-            Owner::Thread(0),
-            Kind::Stack,
-            0x8000_0060,
-            256,
-            STACK_RIGHTS
-        ),
-    ]?;
-    let gates = vec![in alloc;
-        Gate {
-            entry: 5,
-            code: 0x8000_0010,
-            stack: 0,
-            args: 6,
-            posture: Mode::Enabled,
-            capabilities: true,
-        },
-    ]?;
-    Ok(Entries { rows, gates })
-}
-
-/// A firmware of one compartment with this text and a device of this kind.
-fn firmware_of(
+/// An export whose code is the first word of the text.
+fn export(
     alloc: Global,
-    kind: DeviceKind,
-    rights: u32,
-    text: Vec<u8>,
-) -> Result<Firmware, NoMemory>
-    requires { length text.items ≤ 4096 }
-    ensures { IfOk result (λ f. f ≡ sample kind rights text.items) }
-{
-    let entries = entries_of(alloc, rights, text.len() as u32)?;
-    let device = Device {
-        name: String::new(alloc),
-        kind,
-        base: 0x1000_0000,
+    name: &str,
+    args: u8,
+    posture: Mode,
+    entry: u32,
+) -> Result<Export, AllocError> {
+    let row = ExportRow {
+        offset: 0,
+        stack: 0,
+        args,
+        posture,
+        capabilities: true,
+        entry,
     };
-    let thread = Starter {
-        export: 5,
-        priority: 1,
-        frames: 2,
+    let name = String::from_str(alloc, name)?;
+    Ok(Export { row, name })
+}
+
+/// The compartment: its code at the begin of RAM with the switch and this slot before the text, its
+/// export table at 0x80000030 and its globals at 0x80000050. Its export is entry 5.
+fn app(
+    alloc: Global,
+    import: Slot,
+    posture: Mode,
+    words: &[u32],
+) -> Result<Compartment, AllocError> {
+    let slots = vec![in alloc; slot(alloc, SlotKind::Service, SERVICE, "switch")?, import]?;
+    let code = Code {
+        name: String::from_str(alloc, "app")?,
+        base: 0x8000_0000,
+        length: 48,
+        slots,
+        exports: vec![in alloc; export(alloc, "main", 6, posture, 5)?]?,
+        text: text_of(alloc, words)?,
     };
-    Ok(Firmware {
-        entries,
-        ram: 0x8000_0000,
-        size: 4096,
-        tables: vec![in alloc; 0x8000_0030]?,
-        trusted: 0x8000_0160,
-        heap: 0x8000_0290,
-        devices: Devices {
-            rows: vec![in alloc; device]?,
-        },
-        texts: vec![in alloc; text]?,
-        threads: vec![in alloc; thread]?,
+    Ok(Compartment {
+        code,
+        table: 0x8000_0030,
+        globals: 0x8000_0050,
+        globals_length: 16,
+        initial: Vec::new(alloc),
     })
 }
 
-/// A lawful firmware of these words.
-fn lawful_of(
+/// The thread, which enters the compartment's export.
+fn thread(alloc: Global) -> Result<Thread, AllocError> {
+    Ok(Thread {
+        name: String::from_str(alloc, "t")?,
+        stack: 0x8000_0070,
+        stack_length: 256,
+        compartment: 0,
+        export: 0,
+        priority: 1,
+        frames: 2,
+    })
+}
+
+/// An image of 4,096 bytes of RAM with this device, compartment and libraries.
+fn image_of(
     alloc: Global,
     kind: DeviceKind,
-    rights: u32,
+    app: Compartment,
+    libraries: Vec<Code>,
+) -> Result<Parts, AllocError> {
+    Ok(Parts {
+        version: 1,
+        sweep: 64,
+        quantum: 100,
+        ram: 0x8000_0000,
+        size: 4096,
+        trusted: 0x8000_0170,
+        heap: 0x8000_02a0,
+        name: String::from_str(alloc, "sample")?,
+        devices: vec![in alloc;
+            Device {
+                name: String::from_str(alloc, "uart0")?,
+                kind,
+                base: 0x1000_0000,
+            },
+        ]?,
+        shared: Vec::new(alloc),
+        sealed: Vec::new(alloc),
+        compartments: vec![in alloc; app]?,
+        libraries,
+        threads: vec![in alloc; thread(alloc)?]?,
+    })
+}
+
+/// The image of a compartment with a device, of these words.
+fn tiny(
+    alloc: Global,
+    kind: DeviceKind,
+    rights: u8,
+    posture: Mode,
     words: &[u32],
-) -> Result<Firmware, NoMemory>
-    requires rights { (rights ≡ 5) ⊎ (rights ≡ 37) }
-    requires some { 1 ≤ length words.now }
-    requires few { length words.now ≤ 8 }
-    ensures lawful { IfOk result (λ f. IsLawfulFirmware f) }
-    ensures size { IfOk result (λ f. f.size ≡ 4096) }
-{
-    let text = text_of(alloc, words)?;
-    see_bytes(&text);
-    let firmware = firmware_of(alloc, kind, rights, text)?;
-    Ok(firmware)
+) -> Result<Parts, AllocError> {
+    let import = slot(alloc, SlotKind::Device, rights, "uart")?;
+    let app = app(alloc, import, posture, words)?;
+    image_of(alloc, kind, app, Vec::new(alloc))
 }
 
 /// A deed that a program is to do in a step, counted from 1.
@@ -170,29 +172,75 @@ fn deed_at(told: &[Told], step: u32) -> Option<Deed> {
     None
 }
 
-/// Starts the firmware and gives it so many steps; each must do what is told of it. Where it is to
-/// end, it ends with the last step.
-fn run(
-    rt: &impl Abort,
-    alloc: Global,
-    image: &Firmware,
-    told: &[Told],
+/// A span with interrupts off that is to begin in a step, and the export by which it does.
+#[derive(Clone, Copy, Drop)]
+struct Span {
+    step: u32,
+    export: u32,
+}
+
+/// The span that begins in a step.
+fn span_at(spans: &[Span], step: u32) -> Option<Owned> {
+    for span in spans.iter() {
+        if span.step == step {
+            return Some(Owned {
+                thread: 0,
+                actor: 0,
+                export: span.export,
+            });
+        }
+    }
+    None
+}
+
+/// What the steps of a program are to tell, how many there are, and how it stands after them.
+#[derive(Drop)]
+struct Expected<'a> {
+    told: &'a [Told],
+    spans: &'a [Span],
     steps: u32,
     end: Option<End>,
-) -> Result<Totals, NoMemory>
-    requires lawful { IsLawfulFirmware image.now }
-    requires size { image.now.size ≡ 4096 }
+}
+
+/// The image of these parts, written and accepted.
+fn accepted(rt: &impl Abort, alloc: Global, parts: &Parts) -> Result<Image, NoMemory>
+    ensures { IfOk result (λ i. length i.threads ≤ 1) }
 {
-    let mem = Plain::new(alloc, 4096)?;
+    let bytes = written(alloc, parts)?;
+    assert!(rt; bytes.len() < 4096);
+    match accept(alloc, bytes.as_slice()) {
+        Ok(image) => {
+            assert!(rt; image.parts().threads.len() <= 1);
+            Ok(image)
+        }
+        Err(fault) => {
+            assert_eq!(rt; fault, ImageFault::NoMemory);
+            Err(NoMemory)
+        }
+    }
+}
+
+/// Starts the image and gives it its steps; each must tell what is told of it. Where it is to end, it
+/// ends with the last step.
+fn run_image(
+    rt: &impl Abort,
+    alloc: Global,
+    image: &Image,
+    expected: &Expected<'_>,
+) -> Result<Totals, NoMemory>
+    requires { length image.now.threads ≤ 1 }
+{
+    let mem = Plain::new(alloc, image.parts().size)?;
     let mut machine = Machine::start(alloc, image, mem)?;
-    for step in 0..steps {
+    for step in 0..expected.steps {
         assert_eq!(rt; machine.ended(), None);
         assert!(rt; machine.lawful(Event::Step));
         let happened = machine.advance(Event::Step);
-        let deed = deed_at(told, step + 1);
-        assert_eq!(rt; happened, Happened { deed, off: None }, "step {step}");
+        let deed = deed_at(expected.told, step + 1);
+        let off = span_at(expected.spans, step + 1);
+        assert_eq!(rt; happened, Happened { deed, off }, "step {step}");
     }
-    assert_eq!(rt; machine.ended(), end);
+    assert_eq!(rt; machine.ended(), expected.end);
     Ok(machine.totals(End::Limit))
 }
 
@@ -235,7 +283,26 @@ fn trap(step: u32, cause: u32, code: u32, register: u32) -> Told {
     }
 }
 
-/// Runs these words in a firmware of their own.
+/// Runs the image of a compartment with a device, of these words.
+fn run_tiny(
+    rt: &impl Abort,
+    alloc: Global,
+    parts: &Parts,
+    told: &[Told],
+    steps: u32,
+    end: Option<End>,
+) -> Result<Totals, NoMemory> {
+    let image = accepted(rt, alloc, parts)?;
+    let expected = Expected {
+        told,
+        spans: &[],
+        steps,
+        end,
+    };
+    run_image(rt, alloc, &image, &expected)
+}
+
+/// Runs these words over a serial port that they may write to.
 fn run_words(
     rt: &impl Abort,
     alloc: Global,
@@ -243,12 +310,9 @@ fn run_words(
     told: &[Told],
     steps: u32,
     end: Option<End>,
-) -> Result<Totals, NoMemory>
-    requires some { 1 ≤ length words.now }
-    requires few { length words.now ≤ 8 }
-{
-    let image = lawful_of(alloc, DeviceKind::Uart, 5, words)?;
-    run(rt, alloc, &image, told, steps, end)
+) -> Result<Totals, NoMemory> {
+    let parts = tiny(alloc, DeviceKind::Uart, W, Mode::Enabled, words)?;
+    run_tiny(rt, alloc, &parts, told, steps, end)
 }
 
 /// auipcc c5, 0; clc c5, -8(c5); addi c10, c0, 65; csw c10, 0(c5); cjalr c0, 0(c1)
@@ -359,18 +423,15 @@ fn output_reads_back(rt: HostRuntime) -> Result<(), Fail> {
         0x0002_A583,
         0x0000_8067,
     ];
-    let image = lawful_of(alloc, DeviceKind::Gpio, 37, &words)?;
+    let parts = tiny(alloc, DeviceKind::Gpio, RW, Mode::Enabled, &words)?;
     let told = [store(4, 0x41), load(5, 0x41)];
-    let totals = run(&rt, alloc, &image, &told, 7, Some(End::Finished))?;
+    let totals = run_tiny(&rt, alloc, &parts, &told, 7, Some(End::Finished))?;
     assert_eq!(rt; (totals.steps, totals.devices, totals.traps), (7, 2, 0));
     Ok(())
 }
 
 /// A program that ends with a trap of its last step, and does nothing else that is told.
-fn run_to_trap(rt: &impl Abort, alloc: Global, words: &[u32], told: Told) -> Result<(), NoMemory>
-    requires some { 1 ≤ length words.now }
-    requires few { length words.now ≤ 8 }
-{
+fn run_to_trap(rt: &impl Abort, alloc: Global, words: &[u32], told: Told) -> Result<(), NoMemory> {
     let totals = run_words(rt, alloc, words, &[told], told.step, Some(End::Finished))?;
     assert_eq!(rt;
         (totals.steps, totals.devices, totals.traps),
@@ -380,10 +441,12 @@ fn run_to_trap(rt: &impl Abort, alloc: Global, words: &[u32], told: Told) -> Res
 }
 
 /// A program that ends by the thread's return with its last step, and tells nothing.
-fn run_to_return(rt: &impl Abort, alloc: Global, words: &[u32], steps: u32) -> Result<(), NoMemory>
-    requires some { 1 ≤ length words.now }
-    requires few { length words.now ≤ 8 }
-{
+fn run_to_return(
+    rt: &impl Abort,
+    alloc: Global,
+    words: &[u32],
+    steps: u32,
+) -> Result<(), NoMemory> {
     let totals = run_words(rt, alloc, words, &[], steps, Some(End::Finished))?;
     assert_eq!(rt; (totals.steps, totals.devices, totals.traps), (steps, 0, 0));
     Ok(())
@@ -499,5 +562,80 @@ fn jal_links_a_return_sentry(rt: HostRuntime) -> Result<(), Fail> {
     let told = [store(5, 5), trap(6, 28, 3, 6)];
     let totals = run_words(&rt, rt.alloc(), &words, &told, 6, Some(End::Finished))?;
     assert_eq!(rt; (totals.steps, totals.devices, totals.traps), (6, 1, 1));
+    Ok(())
+}
+
+/// A thread that enters a disabled export holds interrupts off from its first step on, by that export.
+#[test]
+fn disabled_entry_of_a_thread(rt: HostRuntime) -> Result<(), Fail> {
+    let alloc = rt.alloc();
+    let parts = tiny(alloc, DeviceKind::Uart, W, Mode::Disabled, &TINY)?;
+    let image = accepted(&rt, alloc, &parts)?;
+    let expected = Expected {
+        told: &[store(4, 0x41)],
+        spans: &[Span { step: 1, export: 5 }],
+        steps: 6,
+        end: Some(End::Finished),
+    };
+    let totals = run_image(&rt, alloc, &image, &expected)?;
+    assert_eq!(rt; (totals.steps, totals.devices, totals.traps), (6, 1, 0));
+    Ok(())
+}
+
+/// A library of two words, whose one export is disabled and is entry 7.
+fn guard(alloc: Global) -> Result<Code, AllocError> {
+    // crit: jal c5, 4; next: cjalr c0, 0(c1)
+    let words = [0x0040_02EF, 0x0000_8067];
+    Ok(Code {
+        name: String::from_str(alloc, "guard")?,
+        base: 0x8000_0060,
+        length: 16,
+        slots: Vec::new(alloc),
+        exports: vec![in alloc; export(alloc, "crit", 0, Mode::Disabled, 7)?]?,
+        text: text_of(alloc, &words)?,
+    })
+}
+
+/// A compartment that calls the library.
+fn off(alloc: Global) -> Result<Parts, AllocError> {
+    // auipcc c7, 0; clc c7, -8(c7); cjalr c1, 0(c7); cmove c1, c5; cjalr c0, 0(c1)
+    let words = [
+        0x0000_0397,
+        0xFF83_B383,
+        0x0003_80E7,
+        0xFEA2_80DB,
+        0x0000_8067,
+    ];
+    let crit = slot(alloc, SlotKind::Library, LIBRARY, "crit")?;
+    let app = app(alloc, crit, Mode::Enabled, &words)?;
+    image_of(alloc, DeviceKind::Uart, app, vec![in alloc; guard(alloc)?]?)
+}
+
+/// The library is entered in the third step with interrupts off. The link that it takes there is a
+/// return sentry that holds them off, and names its export still when the compartment has kept it and
+/// takes it in the seventh step. From then on the library's return leads to itself.
+#[test]
+fn kept_disabling_sentry(rt: HostRuntime) -> Result<(), Fail> {
+    let alloc = rt.alloc();
+    let parts = off(alloc)?;
+    let image = accepted(&rt, alloc, &parts)?;
+    let expected = Expected {
+        told: &[],
+        spans: &[Span { step: 3, export: 7 }, Span { step: 7, export: 7 }],
+        steps: 10,
+        end: None,
+    };
+    let totals = run_image(&rt, alloc, &image, &expected)?;
+    let limit = Totals {
+        end: End::Limit,
+        steps: 10,
+        ticks: 0,
+        calls: 0,
+        devices: 0,
+        allocations: 0,
+        frees: 0,
+        traps: 0,
+    };
+    assert_eq!(rt; totals, limit);
     Ok(())
 }

@@ -7,10 +7,10 @@ ghost use Rattle.ct_machine.specs.Parts.{space_by, IsHeapPlaced};
 
 use crate::active::Active;
 use crate::deciding::run_one;
+use crate::plan::Plan;
 use crate::ran::Ran;
 use crate::sweeping::pass;
 use ct_bus::Bus;
-use ct_entry::Firmware;
 use ct_mem::Memory;
 
 /// The thread, RAM and the devices.
@@ -21,9 +21,9 @@ pub(crate) struct Works<M: Memory + Drop> {
     pub(crate) bus: Bus,
 }
 
-/// The instruction or native routine at the program counter, of this firmware.
+/// The instruction or native routine at the program counter, of this image.
 pub(crate) fn run_works<M: Memory + Drop>(
-    firmware: &Firmware,
+    plan: &Plan,
     works: &mut Works<M>,
     ram: u32,
     heap: u32,
@@ -31,7 +31,7 @@ pub(crate) fn run_works<M: Memory + Drop>(
 ) -> Ran
     requires { IsHeapPlaced ram heap (length (M.granules works.old.mem)) }
     ensures is { Decided
-        (decide firmware.now.entries works.old.active
+        (decide plan.now.entries works.old.active
         (space_by ram (M.granules works.old.mem) works.old.bus time))
         works.old.active (space_by ram (M.granules works.old.mem) works.old.bus time)
         works.new.active (M.granules works.new.mem) works.new.bus result }
@@ -40,7 +40,7 @@ pub(crate) fn run_works<M: Memory + Drop>(
     ensures size { length (M.granules works.new.mem) ≡ length (M.granules works.old.mem) }
 {
     run_one(
-        &firmware.entries,
+        plan.entries(),
         &mut works.active,
         &mut works.mem,
         &mut works.bus,

@@ -10,6 +10,7 @@ use Rattle.def_link.specs.declared.LinkFault.TheVariants as fault
 use Rattle.def_link.specs.Owners.{Unit as OwnerUnit, numbered, compartment_unit, library_unit, units_of, all_built}
 use Rattle.ct_asm.specs.Labels.{Assembled}
 use Rattle.ct_objects.specs.Objects.{file_of, files_of, AreSourced, IsLinkable, IsOwn, IsShared, AreBuilt, Adds, Refuses}
+use Rattle.ct_objects.proofs.Counts.{one_file}
 use Rattle.ct_objects.proofs.Walks.{files_joined, fails_joined}
 use Rattle.ct_objects.proofs.Progress.{both_built, second_fault}
 
@@ -40,10 +41,6 @@ shared_few d sources h = let few = h.lawful.few.libraries in omega (arith, few)
 text_count : (d : DescRow) (sources : List (List ℕ)) → IsLinkable d sources
     → length sources ≡ files_of (numbered compartment_unit 0 d.compartments) + files_of (numbered library_unit 0 d.libraries)
 text_count d sources h = h.sourced.each ∙ files_joined (numbered compartment_unit 0 d.compartments) (numbered library_unit 0 d.libraries)
-
-one_file : (o : Option (List ℕ)) → file_of o ≤ 1
-one_file None = omega arith
-one_file (Some name) = omega arith
 
 few_files : {A : Type 0} (f : ℕ → A → OwnerUnit) (n : ℕ) (xs : List A) → files_of (numbered f n xs) ≤ length xs
 few_files f n [] = omega arith

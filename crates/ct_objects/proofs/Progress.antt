@@ -1,11 +1,11 @@
 -- How far a loop over owners has come: the first of them are built, and their texts are taken.
-use Rattle.std.proofs.Common.{ℕ, zero, suc, ◌≡◌, ◌+◌, ◌≤◌, ◌<◌, List, [], ◌∷◌, ◌++◌, length, take, drop, Some, None, slice_get, refl, sym, ap, ap₂, ◌∙◌, subst, arith, append_assoc, append-nil, add-zero}
-use Rattle.std.specs.Prelude.{Result, Ok, Err}
+use Rattle.std.proofs.Common.{ℕ, zero, suc, ◌≡◌, ◌+◌, ◌≤◌, List, [], ◌∷◌, ◌++◌, take, drop, Some, slice_get, refl, sym, ap, ◌∙◌, subst, arith, append_assoc, append-nil, add-zero}
+use Rattle.std.specs.Prelude.{Ok, Err}
 use Rattle.def_link.specs.declared.LinkFault.{LinkFault}
 use Rattle.def_link.specs.Owners.{Unit as OwnerUnit, Built, numbered, unit_built, with_front, source_for, rest_of, all_built}
 use Rattle.ct_asm.specs.Labels.{Assembled}
-use Rattle.ct_objects.specs.Objects.{file_of, files_of, Holds, AllHold, IsBuilt, AreBuilt, Adds}
-use Rattle.ct_objects.proofs.Walks.{numbered_cut, numbered_one, files_joined, prepended, built_joined, fails_joined, all_joined}
+use Rattle.ct_objects.specs.Objects.{file_of, files_of, IsBuilt, Adds}
+use Rattle.ct_objects.proofs.Walks.{numbered_cut, numbered_one, files_joined, prepended, built_joined, all_joined}
 
 -- after k owners; their texts stand from `used` on
 pub record Done {A : Type 0} (f : ℕ → A → OwnerUnit) (xs : List A) (texts : List (List ℕ)) (used : ℕ) (old new : List Assembled) (k index next : ℕ) : Type 0 where

@@ -6,7 +6,7 @@ use Rattle.def_link.specs.declared.LinkFault.TheVariants as fault
 use Rattle.def_description.specs.Lawful.{AreNames, IsLawful}
 use Rattle.def_description.specs.Named.{slot_names, library_slot_names}
 use Rattle.def_description.specs.Rows.{CompartmentRow, LibraryRow, DescRow}
-use Rattle.def_link.specs.Owners.{Unit as OwnerUnit, Built, units_of, all_built}
+use Rattle.def_link.specs.Owners.{Unit as OwnerUnit, Built, units_of}
 use Rattle.ct_asm.specs.Labels.{Assembled, label_named}
 
 -- ---- sources

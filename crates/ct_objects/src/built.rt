@@ -7,6 +7,7 @@ ghost use Rattle.ct_objects.specs.Objects.{IsLinkable, file_of, files_of, IsBuil
 
 use crate::code::code_object;
 use crate::exports::{first_library_lost, first_lost};
+use crate::files::files_in;
 use crate::names::{library_names_of, names_of};
 use crate::sources::Sources;
 use ct_asm::Object;
@@ -100,16 +101,6 @@ fn source_for<'a>(code: &Code, sources: &'a Sources, next: usize) -> &'a [u8]
     match code.file {
         None => &[],
         Some(_) => text_at(sources.texts.as_slice(), next),
-    }
-}
-
-/// How many texts a code takes.
-fn files_in(code: &Code) -> usize
-    ensures { result ≡ file_of code.now.file }
-{
-    match code.file {
-        None => 0,
-        Some(_) => 1,
     }
 }
 

@@ -6,6 +6,7 @@
 mod built;
 mod code;
 mod exports;
+mod files;
 mod names;
 mod sources;
 #[cfg(test)]
@@ -13,4 +14,5 @@ mod tests;
 
 pub use built::objects;
 pub use exports::begin_of;
+pub use files::are_sourced;
 pub use sources::Sources;

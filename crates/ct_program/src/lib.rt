@@ -5,7 +5,7 @@
 
 ghost use Rattle.std.specs.Prelude.{◌≡◌};
 ghost use Rattle.std.specs.Process.{exit_status};
-ghost use Rattle.def_output.specs.Codes.{code_of};
+ghost use Rattle.def_program.specs.Codes.{code_of};
 ghost use Rattle.ct_program.specs.Ends.{EndsAs};
 
 use ct_port::{DiskFolder, WriterSink};

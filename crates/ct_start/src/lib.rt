@@ -15,3 +15,6 @@ mod starting;
 
 pub use booting::boot;
 pub use start::{First, Start};
+
+#[cfg(test)]
+mod tests;

@@ -1,7 +1,4 @@
-pub mod Pieces
-pub mod Files
-pub mod Endings
-pub mod Limits
-pub mod Counted
-pub mod Left
-pub mod Licences
+pub mod Booted
+pub mod Named
+pub mod Linkable
+pub mod Turning

@@ -1,103 +1,190 @@
-//! A command, from its form to the status.
+//! What each command writes of an image.
 
-ghost use Rattle.std.specs.Prelude.{◌≡◌, ◌≤◌, List, ℕ, None, Some, IfOk, true};
-ghost use Rattle.def_desc.specs.Placing.{is_placed};
-ghost use Rattle.def_firmware.specs.Firmware.{firmware_of};
-ghost use Rattle.def_step.specs.Boot.{booted_machine};
-ghost use Rattle.def_step.specs.Firmware.{IsLawfulFirmware};
-ghost use Rattle.def_report.specs.Report.{report_line};
-ghost use Rattle.def_output.specs.Answers.{Answers, ends};
+ghost use Rattle.std.specs.Prelude.{◌≡◌, ◌≤◌, ℕ, List, length, IfOk, option_map, string_bytes};
+ghost use Rattle.def_boot.specs.Boot.{booted_machine};
+ghost use Rattle.def_image.specs.Spelling.{image_bytes};
+ghost use Rattle.def_lines.specs.Report.{report_line};
 ghost use Rattle.def_profile.specs.declared.limits.TheConstants.{MOST_STEPS};
-ghost use Rattle.def_output.specs.Commands.{form_of};
-ghost use Rattle.def_output.specs.Runs.{due_text, run_text};
-ghost use Rattle.ct_top.specs.Forms.{command_for, command_of, IsShort};
-ghost use Rattle.ct_top.specs.Steps.{Settles};
+ghost use Rattle.def_program.specs.declared.TheConstants.{THREADS_PLACE};
+ghost use Rattle.def_program.specs.declared.Status.TheVariants as status;
+ghost use Rattle.def_program.specs.Lines.{image_line};
+ghost use Rattle.def_program.specs.Paths.{compartment_named, owner_named};
+ghost use Rattle.def_program.specs.Runs.{run_text};
+ghost use Rattle.def_program.specs.Turns as turn;
+ghost use Rattle.def_program.specs.Turns.{Ends, Looked, OfParts, run_or, threads_line};
+ghost use Rattle.ct_refusals.specs.Settled.{Settles};
+ghost use Rattle.ct_words.specs.Forms.{IsShort, command_for};
+ghost use Rattle.ct_why.specs.Found.{IsFound};
+ghost use Rattle.ct_top.specs.Done.{IsDone};
 
-use crate::output::{close, refuse};
-use crate::reading::read_description;
-use crate::running::write_whole;
-use crate::words::{Form, Task};
-use ct_desc::Desc;
+use ct_graph::Graph;
+use ct_image::Image;
 use ct_machine::Machine;
 use ct_mem::Plain;
-use ct_port::{Folder, NoMemory, Sink};
-use def_output::Status;
+use ct_port::{NoMemory, Sink};
+use ct_refusals::{close, close_text, description_line, refuse_name};
+use ct_running::write_run;
+use ct_words::Task;
+use def_description::{Fault, PartWord, Place};
+use def_program::{Status, THREADS_PLACE, THREADS_RUN};
 use std::alloc::Global;
 
-/// Writes the report line of a description.
-fn audit<S: Sink>(alloc: Global, desc: &Desc, sink: &mut S) -> Status
-    requires { is_placed desc.now ≡ true }
-    ensures { Settles (S.bytes sink.old) (S.bytes sink.new) (S.faults sink.old)
-        (S.faults sink.new) (report_line desc.now) result }
+/// The report line of an image.
+fn report_of(alloc: Global, image: &Image) -> Result<String, NoMemory>
+    ensures { IfOk result (λ s. string_bytes s ≡ report_line image.now) }
 {
-    match ct_report::text(alloc, desc) {
+    let entries = ct_entries::entries(alloc, image)?;
+    let graph = Graph::of(alloc, &entries)?;
+    ct_lines::text(alloc, image, &entries, &graph)
+}
+
+/// Writes the report line of an image.
+fn audit<S: Sink>(alloc: Global, image: &Image, sink: &mut S) -> Status
+    ensures { IsDone (S.bytes sink.old) (S.bytes sink.new) (S.faults sink.old)
+        (S.faults sink.new) (report_line image.now) result }
+{
+    match report_of(alloc, image) {
         Ok(line) => close(line.as_bytes(), Status::Done, sink),
         Err(_) => Status::NoMemory,
     }
 }
 
-/// The machine of a description, in its boot state.
-fn machine_of(alloc: Global, desc: &Desc) -> Result<Machine<Plain>, NoMemory>
-    requires placed { is_placed desc.now ≡ true }
-    requires lawful { IsLawfulFirmware (firmware_of desc.now) }
-    ensures { IfOk result (λ m. m ≡ booted_machine (firmware_of desc.now)) }
+/// Writes the bytes of an image.
+fn write_image<S: Sink>(alloc: Global, image: &Image, sink: &mut S) -> Status
+    ensures { IsDone (S.bytes sink.old) (S.bytes sink.new) (S.faults sink.old)
+        (S.faults sink.new) (image_bytes image.now) result }
 {
-    let firmware = ct_firmware::firmware(alloc, desc)?;
-    let mem = Plain::new(alloc, firmware.size)?;
-    Machine::start(alloc, &firmware, mem)
+    match ct_image::write(alloc, image) {
+        Ok(bytes) => close(bytes.as_slice(), Status::Done, sink),
+        Err(_) => Status::NoMemory,
+    }
 }
 
-/// Runs the firmware of a description, and writes its report line and the lines of the run.
-fn run<S: Sink>(alloc: Global, desc: &Desc, limit: u32, sink: &mut S) -> Status
-    requires placed { is_placed desc.now ≡ true }
-    requires lawful { IsLawfulFirmware (firmware_of desc.now) }
-    requires short { limit ≤ MOST_STEPS }
-    ensures { Settles (S.bytes sink.old) (S.bytes sink.new) (S.faults sink.old)
-        (S.faults sink.new) (run_text desc.now limit) result }
+/// The machine of an image, in its boot state.
+#[tactic(auto, using(crate::proofs::Booted::whole_granules, crate::proofs::Booted::zeros))]
+fn machine_of(alloc: Global, image: &Image) -> Result<Machine<Plain>, NoMemory>
+    requires { length image.now.threads ≤ 1 }
+    ensures { IfOk result (λ m. m ≡ booted_machine image.now) }
 {
-    let report = match ct_report::text(alloc, desc) {
+    let mem = Plain::new(alloc, image.parts().size)?;
+    Machine::start(alloc, image, mem)
+}
+
+/// Runs an image, and writes its report line and the lines of the run.
+fn run<S: Sink>(alloc: Global, image: &Image, limit: u32, sink: &mut S) -> Status
+    requires one { length image.now.threads ≤ 1 }
+    requires short { limit ≤ MOST_STEPS }
+    ensures { IsDone (S.bytes sink.old) (S.bytes sink.new) (S.faults sink.old)
+        (S.faults sink.new) (run_text image.now limit) result }
+{
+    let report = match report_of(alloc, image) {
         Ok(report) => report,
         Err(_) => return Status::NoMemory,
     };
-    let mut machine = match machine_of(alloc, desc) {
+    let mut machine = match machine_of(alloc, image) {
         Ok(machine) => machine,
         Err(_) => return Status::NoMemory,
     };
-    match write_whole(report.as_str(), &mut machine, limit, sink) {
+    let quantum = image.parts().quantum;
+    match write_run(report.as_bytes(), &mut machine, quantum, limit, sink) {
         Ok(()) => Status::Done,
         Err(_) => Status::WriteFault,
     }
 }
 
-/// What is to be done with a description.
-fn finish<S: Sink>(alloc: Global, task: Task, desc: &Desc, sink: &mut S) -> Status
-    requires placed { is_placed desc.now ≡ true }
-    requires lawful { IsLawfulFirmware (firmware_of desc.now) }
-    requires short { IsShort task }
-    ensures { (name : List ℕ)
-        → Settles (S.bytes sink.old) (S.bytes sink.new) (S.faults sink.old) (S.faults sink.new)
-        (due_text (command_for name task) desc.now) result }
+/// Whether the machine runs so many threads as the image has.
+fn are_run(image: &Image) -> bool
+    ensures { result ≡ turn.are_run image.now }
 {
-    match task {
-        Task::Audit => audit(alloc, desc, sink),
-        Task::Run { limit } => run(alloc, desc, limit, sink),
+    image.parts().threads.len() <= THREADS_RUN as usize
+}
+
+/// Runs the image of a description; more threads than the machine runs are refused.
+fn run_described<S: Sink>(alloc: Global, image: &Image, limit: u32, sink: &mut S) -> Status
+    requires { limit ≤ MOST_STEPS }
+    ensures { Settles
+        (λ t. t ≡ run_or image.now limit (Ends status.Description threads_line))
+        (S.bytes sink.old) (S.bytes sink.new) (S.faults sink.old) (S.faults sink.new) result }
+{
+    if are_run(image) {
+        return run(alloc, image, limit, sink);
+    }
+    let place = Place {
+        part: PartWord::Firmware,
+        index: 0,
+        item: 0,
+    };
+    let line = description_line(alloc, Fault { number: 6, place });
+    close_text(line, Status::Description, sink)
+}
+
+/// Runs an image that was read; more threads than the machine runs are refused.
+fn run_image<S: Sink>(alloc: Global, image: &Image, limit: u32, sink: &mut S) -> Status
+    requires { limit ≤ MOST_STEPS }
+    ensures { Settles
+        (λ t. t ≡ run_or image.now limit (Ends status.Image (image_line 3 THREADS_PLACE)))
+        (S.bytes sink.old) (S.bytes sink.new) (S.faults sink.old) (S.faults sink.new) result }
+{
+    if are_run(image) {
+        return run(alloc, image, limit, sink);
+    }
+    let line = ct_refusals::image_line(alloc, 3, THREADS_PLACE);
+    close_text(line, Status::Image, sink)
+}
+
+/// The line of how an owner reaches a compartment, both by their names; none where one of both stands
+/// for nothing.
+fn why_line(
+    alloc: Global,
+    image: &Image,
+    owner: &str,
+    compartment: &str,
+) -> Result<Option<String>, NoMemory>
+    ensures { IfOk result
+        (λ found.
+        IsFound image.now (owner_named image.now owner.now)
+        (compartment_named image.now compartment.now) (option_map string_bytes found)) }
+{
+    let entries = ct_entries::entries(alloc, image)?;
+    let graph = Graph::of(alloc, &entries)?;
+    ct_why::line(alloc, image, &graph, owner, compartment)
+}
+
+/// Writes how an owner reaches a compartment, or refuses their names.
+fn why<S: Sink>(
+    alloc: Global,
+    image: &Image,
+    owner: &str,
+    compartment: &str,
+    sink: &mut S,
+) -> Status
+    ensures { Settles
+        (Looked image.now (owner_named image.now owner.now)
+        (compartment_named image.now compartment.now))
+        (S.bytes sink.old) (S.bytes sink.new) (S.faults sink.old) (S.faults sink.new) result }
+{
+    let found = match why_line(alloc, image, owner, compartment) {
+        Ok(found) => found,
+        Err(_) => return Status::NoMemory,
+    };
+    match found {
+        Some(line) => close(line.as_bytes(), Status::Done, sink),
+        None => refuse_name(sink),
     }
 }
 
-/// Does what a form says.
-pub fn perform<F: Folder, S: Sink>(
-    alloc: Global,
-    form: &Form,
-    folder: &mut F,
-    sink: &mut S,
-) -> Status
-    requires { IsShort form.now.task }
-    ensures { (words : List (List ℕ)) → form_of words ≡ Some (command_of form.now)
-        → Answers (ends F.file F.calls F.faults S.bytes S.faults
-        words folder.old folder.new sink.old sink.new) result }
+/// What is to be done with an image.
+pub fn finish<S: Sink>(alloc: Global, task: Task, image: &Image, sink: &mut S) -> Status
+    requires { IsShort task }
+    ensures { (name : List ℕ)
+        → Settles (OfParts (command_for name task.entry) image.now)
+        (S.bytes sink.old) (S.bytes sink.new) (S.faults sink.old) (S.faults sink.new) result }
 {
-    match read_description(alloc, form.name, folder) {
-        Ok(desc) => finish(alloc, form.task, &desc, sink),
-        Err(stop) => refuse(stop, form.name, sink),
+    match task {
+        Task::Audit => audit(alloc, image, sink),
+        Task::Image => write_image(alloc, image, sink),
+        Task::Run { limit } => run_described(alloc, image, limit, sink),
+        Task::RunImage { limit } => run_image(alloc, image, limit, sink),
+        Task::Why { owner, compartment } => why(alloc, image, owner, compartment, sink),
     }
 }

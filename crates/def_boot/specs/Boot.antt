@@ -1,8 +1,6 @@
 -- *Boot state*: the image of the machine, its board, and its state at boot.
 use Rattle.std.specs.Prelude.{ℕ, zero, suc, ◌+◌, Bool, true, false, List, [], ◌∷◌, length, map, slice_get, Option, Some, None, unwrap_or, option_map, if◌then◌else◌}
 use Rattle.ct_entry.specs.Listed.{DeviceRow}
-use Rattle.ct_entry.specs.declared.hardware.DeviceKind.{DeviceKind}
-use Rattle.ct_entry.specs.declared.hardware.DeviceKind.TheVariants.{Uart, Timer, Gpio}
 use Rattle.def_words.specs.declared.Cap.{Cap}
 use Rattle.def_words.specs.declared.Posture.{Posture}
 use Rattle.def_words.specs.Capability.{with_address}
@@ -10,10 +8,11 @@ use Rattle.def_memory.specs.Granules.{plain}
 use Rattle.def_reach.specs.Roots.{is_disabled}
 use Rattle.def_machine.specs.Image.{Image}
 use Rattle.def_machine.specs.State as st
-use Rattle.def_machine.specs.State.{State, Frame, DeviceState, Serial, Clock, Pins, Counts, interrupts_on}
+use Rattle.def_machine.specs.State.{State, Frame, Counts, interrupts_on}
 use Rattle.def_profile.specs.declared.layout.TheConstants.{TRUSTED_HEAD}
 use Rattle.def_sched.specs.declared.Status.TheVariants.{Ready}
 use Rattle.def_sched.specs.Picks.{first_order}
+use Rattle.def_step.specs.Devices.{fresh_device}
 use Rattle.def_step.specs.Instructions.{Board}
 use Rattle.def_step.specs.Events.{MachineRow}
 use Rattle.def_image.specs.Parts.{GateRow, ThreadRow, PartsRow}
@@ -117,11 +116,6 @@ first_threads p n [] = []
 first_threads p n (t ∷ ts) = first_thread p n t ∷ first_threads p (n + 1) ts
 
 -- ---- the state
-
-abbrev pub fresh_device : DeviceKind → DeviceState
-fresh_device Uart = Serial []
-fresh_device Timer = Clock
-fresh_device Gpio = Pins 0 0
 
 abbrev pub no_counts : Counts
 no_counts = record {

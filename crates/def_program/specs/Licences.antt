@@ -1,12 +1,18 @@
--- That each deed of the run that a command asks for is licensed by the entries of the image.
-use Rattle.std.specs.Prelude.{ℕ}
+-- That each deed of the run that a command asks for is licensed by the entries of the image, and which
+-- parts the files of a command stand for.
+use Rattle.std.specs.Prelude.{ℕ, ◌≡◌, List, [], ◌∷◌, length, Bool, true, false, Ok}
 use Rattle.def_confined.specs.Telling.{AllLicensed}
 use Rattle.def_step.specs.Events.{MachineRow, told}
 use Rattle.def_image.specs.Parts.{PartsRow}
+use Rattle.def_image.specs.Accepted.{IsImage}
 use Rattle.def_boot.specs.Boot.{booted_machine}
 use Rattle.def_boot.specs.Gates.{entries_of}
-use Rattle.def_program.specs.Commands.{Command, Audit, Image, Run, RunImage, Why}
+use Rattle.def_description.specs.Rows.{DescRow}
+use Rattle.def_description.specs.WellFormed.{WellFormed}
+use Rattle.def_link.specs.Linked.{linked}
+use Rattle.def_program.specs.Commands.{Command, Audit, Image, Run, RunImage, Why, reads_image}
 use Rattle.def_program.specs.Runs.{events_until}
+use Rattle.def_program.specs.Turns.{source_names}
 
 -- what a machine tells, up to its end or so many steps, is licensed by the image's entries
 abbrev pub TellsLicensed : PartsRow → MachineRow → ℕ → Type 0
@@ -18,3 +24,22 @@ abbrev pub IsLicensedCommand : Command → PartsRow → Type 0
 IsLicensedCommand (Run name limit) p = TellsLicensed p (booted_machine p) limit
 IsLicensedCommand (RunImage name limit) p = TellsLicensed p (booted_machine p) limit
 IsLicensedCommand _ p = Unit {0}
+
+-- ---- files
+
+-- a well-formed description, with one source for each that it names, links to these parts
+pub record LinksTo (bytes : List ℕ) (sources : List (List ℕ)) (p : PartsRow) : Type 0 where
+  pub description : DescRow
+  pub well : WellFormed bytes description
+  pub whole : length sources ≡ length (source_names description)
+  pub links : linked description sources ≡ Ok p
+
+-- an image's bytes, or a description and its sources
+abbrev pub FirstStandsFor : Bool → List ℕ → List (List ℕ) → PartsRow → Type 0
+FirstStandsFor true bytes sources p = IsImage bytes p
+FirstStandsFor false bytes sources p = LinksTo bytes sources p
+
+-- the parts that a command's files stand for
+abbrev pub StandFor : Command → List (List ℕ) → PartsRow → Type 0
+StandFor c [] p = ⊥
+StandFor c (bytes ∷ sources) p = FirstStandsFor (reads_image c) bytes sources p

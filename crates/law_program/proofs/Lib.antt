@@ -1,2 +1,4 @@
 pub mod Sources
 pub mod Then
+pub mod Once
+pub mod Ending

@@ -1,12 +1,17 @@
 //! Laws of the program's dialogue: the forms of its words, the lines of its refusals, what is due on
-//! the samples, and that what `image` writes `runimage` runs. Functions with empty bodies whose
-//! contracts are the laws.
+//! the samples, that there are no two turns after the same files, that what `image` writes `runimage`
+//! runs, and what follows from the program's answers. Functions with empty bodies whose contracts are
+//! the laws.
 #![tactic(auto)]
 
+mod answers;
 mod dialogue;
 mod samples;
+mod turns;
 mod words;
 
+pub use answers::{answers_no_fault, completes, constant_counts_rise_not, misuse_is_usage};
 pub use dialogue::image_then_run;
 pub use samples::samples_are_told;
+pub use turns::one_turn;
 pub use words::{forms_of_words, refusal_lines, rounds};

@@ -2,9 +2,7 @@
 #![tactic(auto)]
 
 ghost use Rattle.std.specs.Prelude.{List};
-ghost use Rattle.ct_entry.specs.Listed.{FirmwareRow};
 ghost use Rattle.def_machine.specs.State.{State};
-ghost use Rattle.def_step.specs.Boot.{boot_state};
 ghost use Rattle.def_step.specs.declared.Event.{Event};
 ghost use Rattle.def_step.specs.Instructions.{Board};
 ghost use Rattle.def_step.specs.Events.{happens, run};
@@ -19,9 +17,4 @@ pub fn events_settle()
 /// So after any list of events.
 pub fn runs_settle()
     ensures { (b : Board) (s : State) (es : List Event) → Settled s → Settled (run b s es) }
-{}
-
-/// All that any firmware boots is settled.
-pub fn boots_settle()
-    ensures { (f : FirmwareRow) → Settled (boot_state f) }
 {}

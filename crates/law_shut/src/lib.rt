@@ -1,22 +1,13 @@
-//! No entry of a lawful firmware reaches what its machine hides, and no access of a confined state meets it.
+//! No access of a confined state meets what the machine hides, where no entry reaches it.
 #![tactic(auto)]
 
 ghost use Rattle.std.specs.Prelude.{◌≡◌, ◌≤◌, ◌<◌, ◌⊎◌, ℕ, Some, true, false};
-ghost use Rattle.ct_entry.specs.Listed.{FirmwareRow};
 ghost use Rattle.def_confined.specs.Confined.{Confined};
 ghost use Rattle.def_hidden.specs.Hidden.{Shut, is_hidden};
 ghost use Rattle.def_machine.specs.Image.{Image, granule_of};
 ghost use Rattle.def_machine.specs.State.{State, register, thread};
-ghost use Rattle.def_step.specs.Boot.{image_of};
-ghost use Rattle.def_step.specs.Firmware.{IsLawfulFirmware};
 ghost use Rattle.def_words.specs.Authority.{cap_base, cap_top};
 ghost use Rattle.def_words.specs.Permissions.{has, load_data, store_data};
-
-/// The image of every lawful firmware is shut: what may be loaded, stored or fetched through an entry lies outside the
-/// trusted region but for its first granules, and outside the heap.
-pub fn lawful_shut()
-    ensures { (f : FirmwareRow) → IsLawfulFirmware f → Shut (image_of f) }
-{}
 
 /// In a confined state of a shut image no granule is hidden that the running thread may load or store through a
 /// register, or that a thread may fetch from.

@@ -3,3 +3,4 @@ pub mod Threads
 pub mod Granules
 pub mod Whole
 pub mod Shutting
+pub mod Settling

@@ -3,8 +3,10 @@
 //! the threads' areas or the heap. Functions with empty bodies whose contracts are the laws.
 #![tactic(auto)]
 
+mod settled;
 mod shut;
 mod started;
 
+pub use settled::boots_settled;
 pub use shut::images_shut;
 pub use started::{boots_confined, lawful_runs};

@@ -1,4 +1,0 @@
-pub mod Bootable
-pub mod Searches
-pub mod Starting
-pub mod Growing

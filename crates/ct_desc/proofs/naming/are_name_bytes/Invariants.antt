@@ -1,7 +1,0 @@
-use Rattle.std.proofs.Common.{◌≡◌, drop}
-use Rattle.std.specs.List.{list_all}
-use Rattle.def_desc.specs.Names.{is_name_byte}
-use Rattle.ct_desc.proofs.naming.are_name_bytes.Given as goal
-
-abbrev pub invariant-loop-b : goal.invariant-loop-b
-invariant-loop-b l = list_all is_name_byte (drop l.b-index l.bytes) ≡ list_all is_name_byte l.bytes

@@ -1,7 +1,0 @@
-use Rattle.std.proofs.Common.{◌≡◌, map, take}
-use Rattle.serde_json.specs.View.{view}
-use Rattle.def_desc.specs.Reading.{device_of}
-use Rattle.ct_desc.proofs.rows.devices_of.Given as goal
-
-abbrev pub invariant-loop-value : goal.invariant-loop-value
-invariant-loop-value l = l.all.items ≡ map device_of (map view (take l.value-index l.values))

@@ -1,0 +1,233 @@
+-- Threads that start one after another.
+use Rattle.std.proofs.Common.{ℕ, zero, suc, ◌≡◌, ◌+◌, ◌*◌, ◌<◌, ◌≤◌, inl, inr, true, false, List, [], ◌∷◌, ◌++◌, length, map, take, drop, Option, None, refl, sym, ap, ◌∙◌, arith, subst}
+use Rattle.std.proofs.Math.ListN.{get_or}
+use Rattle.std.proofs.lemmas.Bool.{cases_eq}
+use Rattle.law_lists.proofs.Tests.{bool_tells}
+use Rattle.def_words.specs.declared.Cap.{Cap}
+use Rattle.def_memory.specs.declared.Granule.{Granule}
+use Rattle.def_memory.specs.Granules.{plain, granule_at, blank}
+use Rattle.def_areas.specs.Areas.{held, holding, frame_place}
+use Rattle.def_areas.specs.Touches.{Touches}
+use Rattle.law_areas.proofs.Writes.{put_other, put_same}
+use Rattle.def_veil.specs.Veil.{veiled}
+use Rattle.law_veil.proofs.Granules.{veiled_is, hidden_changes}
+use Rattle.ct_areas.specs.declared.thread.Area.{Area}
+use Rattle.ct_areas.specs.declared.thread.Thread as row
+use Rattle.ct_areas.specs.Threads.{HasArea, area_begin, area_end, thread_of}
+use Rattle.ct_areas.proofs.Places.{area_inside}
+use Rattle.ct_engine.specs.declared.rows.Region.{Region}
+use Rattle.ct_engine.specs.declared.starting.Fresh.{Fresh}
+use Rattle.ct_engine.specs.Seen.{hides, threads_of, seen_by}
+use Rattle.ct_engine.specs.Kept.{IsPlain, IsKept, AreasFrom}
+use Rattle.ct_engine.specs.Starts.{IsFresh, AreFresh, first_of, started}
+use Rattle.ct_engine.proofs.Lists.{Same, ends, within, outside, areas_same, threads_same}
+use Rattle.ct_engine.proofs.Whole.{hidden_is}
+
+-- ---- one thread
+
+pub fresh_kept : (gs hs : List Granule) (t : row.Thread) (export : ℕ) → HasArea (8 * length gs) t.area → t.depth ≡ 1 → get_or t.regs 0 (plain 0) ≡ plain 0
+    → ((k : ℕ) → area_begin t.area ≤ k → k < area_end t.area → held gs k ≡ plain 0)
+    → hs ≡ holding gs (frame_place (area_begin t.area) 0 + 5) (plain export) → Touches (area_begin t.area) (area_end t.area) gs hs → IsKept hs true t
+fresh_kept gs hs t export has one zero_ clear wrote touches = record {
+  area = rw touches.size has;
+  room = (let some = has.some in omega (arith, one, some));
+  zero = zero_;
+  alive = λ e. omega (arith, one);
+  clean = λ k lo hi. inr (rw wrote (elim (cases_eq k (frame_place (area_begin t.area) 0 + 5)) [
+    | inl e ↦ (let lt : k < length gs = (let le = area_inside (length gs) t.area has in omega (arith, hi, le)) in
+        let here : held (holding gs (frame_place (area_begin t.area) 0 + 5) (plain export)) (frame_place (area_begin t.area) 0 + 5) ≡ plain export =
+        put_same gs (frame_place (area_begin t.area) 0 + 5) (plain export) (subst (λ n. n < length gs) e lt) in
+        plain_by (held (holding gs (frame_place (area_begin t.area) 0 + 5) (plain export)) k) export
+        (ap (λ n. held (holding gs (frame_place (area_begin t.area) 0 + 5) (plain export)) n) e ∙ here))
+    | inr n ↦ plain_by (held (holding gs (frame_place (area_begin t.area) 0 + 5) (plain export)) k) 0
+        (ap (λ (g : Granule). g.cap) (put_other gs (frame_place (area_begin t.area) 0 + 5) k (plain export) n) ∙ clear k lo hi)
+  ]));
+}
+  where
+    plain_by : (c : Cap) (n : ℕ) → c ≡ plain n → IsPlain c
+    plain_by c n e = rw e refl
+
+-- ---- one more after others
+
+threads_last : (gs : List Granule) (n : ℕ) (ts : List row.Thread) (t : row.Thread)
+    → threads_of gs None n (ts ++ t ∷ []) ≡ threads_of gs None n ts ++ thread_of gs false t ∷ []
+threads_last gs n [] t = refl
+threads_last gs n (u ∷ us) t = ap (λ xs. thread_of gs false u ∷ xs) (threads_last gs (n + 1) us t)
+
+areas_last : (ram : ℕ) (gs : List Granule) (n from to : ℕ) (ts : List row.Thread) (t : row.Thread) → AreasFrom ram gs None n from to ts
+    → to ≤ t.area.trusted → t.area.ram ≡ ram → IsKept gs false t → AreasFrom ram gs None n from (t.area.trusted + t.area.trusted_length) (ts ++ t ∷ [])
+areas_last ram gs n from to [] t h above base kept = (omega (arith, h, above), base, kept, omega arith)
+areas_last ram gs n from to (u ∷ us) t h above base kept =
+    (h.0, h.1, h.2, areas_last ram gs (n + 1) (u.area.trusted + u.area.trusted_length) to us t h.3 above base kept)
+
+areas_more : (ram : ℕ) (gs : List Granule) (run : Option ℕ) (n from to more : ℕ) (ts : List row.Thread) → to ≤ more
+    → AreasFrom ram gs run n from to ts → AreasFrom ram gs run n from more ts
+areas_more ram gs run n from to more [] le h = omega (arith, h, le)
+areas_more ram gs run n from to more (t ∷ ts) le h =
+    (h.0, h.1, h.2, areas_more ram gs run (n + 1) (t.area.trusted + t.area.trusted_length) to more ts le h.3)
+
+fresh_ends : (ram size from to : ℕ) (fs : List Fresh) → AreFresh ram size from to fs → from ≤ to
+fresh_ends ram size from to [] h = h
+fresh_ends ram size from to (f ∷ fs) h =
+    let low = h.0 in
+    let rest = fresh_ends ram size (f.area.trusted + f.area.trusted_length) to fs h.3 in
+    omega (arith, low, rest)
+
+map_last : {A B : Type 0} (k : A → B) (xs : List A) (x : A) → map k (xs ++ x ∷ []) ≡ map k xs ++ k x ∷ []
+map_last k [] x = refl
+map_last k (y ∷ ys) x = ap (λ zs. k y ∷ zs) (map_last k ys x)
+
+-- where the areas of those that started end
+abbrev pub end_of : ℕ → List Fresh → ℕ
+end_of from [] = from
+end_of from (f ∷ fs) = end_of (f.area.trusted + f.area.trusted_length) fs
+
+end_last : (from : ℕ) (fs : List Fresh) (f : Fresh) → end_of from (fs ++ f ∷ []) ≡ f.area.trusted + f.area.trusted_length
+end_last from [] f = refl
+end_last from (g ∷ gs) f = end_last (g.area.trusted + g.area.trusted_length) gs f
+
+-- some started, in memory that was otherwise, and others have yet to
+pub record Begun (g : Region) (was gs : List Granule) (ts : List row.Thread) (done todo : List Fresh) : Type 0 where
+  pub size : length gs ≡ length was
+  pub veil : veiled (hides g) gs ≡ veiled (hides g) was
+  pub threads : threads_of gs None 0 ts ≡ map (λ f. first_of f) done
+  pub places : map (λ (t : row.Thread). t.area) ts ≡ map (λ (f : Fresh). f.area) done
+  pub areas : AreasFrom g.ram gs None 0 g.trusted (end_of g.trusted done) ts
+  pub clear : (k : ℕ) → end_of g.trusted done ≤ g.ram + 8 * k → g.ram + 8 * k < g.end → held gs k ≡ plain 0
+  pub rest : AreFresh g.ram (8 * length was) (end_of g.trusted done) g.end todo
+
+pub begun_first : (g : Region) (gs : List Granule) (fs : List Fresh) → AreFresh g.ram (8 * length gs) g.trusted g.end fs
+    → ((k : ℕ) → hides g k ≡ true → held gs k ≡ plain 0) → Begun g gs gs [] [] fs
+begun_first g gs fs fresh clear = record {
+  size = refl;
+  veil = refl;
+  threads = refl;
+  places = refl;
+  areas = omega arith;
+  clear = λ k lo hi. clear k (hidden_is g k lo hi);
+  rest = fresh;
+}
+
+-- the next one's area is clear
+pub next_clear : (g : Region) (was gs : List Granule) (ts : List row.Thread) (done todo : List Fresh) (f : Fresh) → Begun g was gs ts done (f ∷ todo)
+    → (k : ℕ) → area_begin f.area ≤ k → k < area_end f.area → held gs k ≡ plain 0
+next_clear g was gs ts done todo f b k lo hi =
+    let low = b.rest.0 in
+    let base = b.rest.1 in
+    let high = fresh_ends g.ram (8 * length was) (f.area.trusted + f.area.trusted_length) g.end todo b.rest.3 in
+    let w = within (8 * length was) f.area k b.rest.2.area lo hi in
+    let l = w.0 in
+    let h = w.1 in
+    b.clear k (omega (arith, low, base, l)) (omega (arith, base, high, h))
+
+pub next_fresh : (g : Region) (was gs : List Granule) (ts : List row.Thread) (done todo : List Fresh) (f : Fresh) → Begun g was gs ts done (f ∷ todo)
+    → IsFresh (8 * length gs) f
+next_fresh g was gs ts done todo f b = subst (λ n. IsFresh (8 * n) f) (sym b.size) b.rest.2
+
+pub begun_next : (g : Region) (was gs hs : List Granule) (ts : List row.Thread) (t : row.Thread) (done todo : List Fresh) (f : Fresh)
+    → Begun g was gs ts done (f ∷ todo) → Touches (area_begin f.area) (area_end f.area) gs hs → IsKept hs false t → t.area ≡ f.area
+    → thread_of hs false t ≡ first_of f → Begun g was hs (ts ++ t ∷ []) (done ++ f ∷ []) todo
+begun_next g was gs hs ts t done todo f b touches kept place same =
+    let low = b.rest.0 in
+    let base = b.rest.1 in
+    let has : HasArea (8 * length was) f.area = b.rest.2.area in
+    let high = fresh_ends g.ram (8 * length was) (f.area.trusted + f.area.trusted_length) g.end todo b.rest.3 in
+    let from = ends g.ram gs None 0 g.trusted (end_of g.trusted done) ts b.areas in
+    let end : end_of g.trusted (done ++ f ∷ []) ≡ f.area.trusted + f.area.trusted_length = end_last g.trusted done f in
+    let before : Same g.ram gs hs g.trusted (end_of g.trusted done) =
+    λ m lo hi. outside (8 * length was) f.area gs hs m has touches (inl (omega (arith, hi, low, base))) in
+    let threads : threads_of hs None 0 ts ≡ threads_of gs None 0 ts =
+    threads_same g.ram gs hs None None 0 g.trusted (end_of g.trusted done) ts b.areas before (λ u lo. refl) in
+    let areas : AreasFrom g.ram hs None 0 g.trusted (end_of g.trusted done) ts =
+    areas_same g.ram gs hs None None 0 g.trusted (end_of g.trusted done) ts b.areas touches.size before (λ u lo. refl) in
+    let last : AreasFrom g.ram hs None 0 g.trusted (t.area.trusted + t.area.trusted_length) (ts ++ t ∷ []) =
+    areas_last g.ram hs 0 g.trusted (end_of g.trusted done) ts t areas (rw place low) (rw place base) kept in
+    let to : t.area.trusted + t.area.trusted_length ≡ end_of g.trusted (done ++ f ∷ []) = ap (λ (a : Area). a.trusted + a.trusted_length) place ∙ sym end in
+    record {
+      size = touches.size ∙ b.size;
+      veil = hidden_changes (hides g) gs hs (area_begin f.area) (area_end f.area) touches
+          (λ k lo hi. let w = within (8 * length was) f.area k has lo hi in
+          let l = w.0 in
+          let h = w.1 in
+          hidden_is g k (omega (arith, from, low, base, l)) (omega (arith, high, base, h)))
+          ∙ b.veil;
+      threads = threads_last hs 0 ts t ∙ ap (λ xs. xs ++ thread_of hs false t ∷ []) (threads ∙ b.threads)
+          ∙ ap (λ x. map (λ u. first_of u) done ++ x ∷ []) same ∙ sym (map_last (λ u. first_of u) done f);
+      places = map_last (λ (u : row.Thread). u.area) ts t ∙ ap (λ xs. xs ++ t.area ∷ []) b.places
+          ∙ ap (λ a. map (λ (u : Fresh). u.area) done ++ a ∷ []) place ∙ sym (map_last (λ (u : Fresh). u.area) done f);
+      areas = subst (λ n. AreasFrom g.ram hs None 0 g.trusted n (ts ++ t ∷ [])) to last;
+      clear = λ k lo hi. (let after : f.area.trusted + f.area.trusted_length ≤ g.ram + 8 * k = subst (λ n. n ≤ g.ram + 8 * k) end lo in
+          outside (8 * length was) f.area gs hs k has touches (inr (omega (arith, after, base)))
+          ∙ b.clear k (omega (arith, after, low)) hi);
+      rest = subst (λ n. AreFresh g.ram (8 * length was) n g.end todo) (sym end) b.rest.3;
+    }
+
+-- ---- all of them
+
+take_next : {A : Type 0} (xs : List A) (i : ℕ) (d : A) → i < length xs → take (i + 1) xs ≡ take i xs ++ get_or xs i d ∷ []
+take_next [] i d lt = absurd (omega (arith, lt))
+take_next (x ∷ xs) zero d lt = refl
+take_next (x ∷ xs) (suc i) d lt = let next : suc i + 1 ≡ suc (i + 1) = omega arith in rw next (ap (λ ys. x ∷ ys) (take_next xs i d (omega (arith, lt))))
+
+drop_next : {A : Type 0} (xs : List A) (i : ℕ) (d : A) → i < length xs → drop i xs ≡ get_or xs i d ∷ drop (i + 1) xs
+drop_next [] i d lt = absurd (omega (arith, lt))
+drop_next (x ∷ xs) zero d lt = refl
+drop_next (x ∷ xs) (suc i) d lt = let next : suc i + 1 ≡ suc (i + 1) = omega arith in rw next (drop_next xs i d (omega (arith, lt)))
+
+take_whole : {A : Type 0} (xs : List A) (n : ℕ) → length xs ≤ n → take n xs ≡ xs
+take_whole [] zero le = refl
+take_whole [] (suc n) le = refl
+take_whole (x ∷ xs) zero le = absurd (omega (arith, le))
+take_whole (x ∷ xs) (suc n) le = ap (λ ys. x ∷ ys) (take_whole xs n (omega (arith, le)))
+
+drop_whole : {A : Type 0} (xs : List A) (n : ℕ) → length xs ≤ n → drop n xs ≡ []
+drop_whole [] zero le = refl
+drop_whole [] (suc n) le = refl
+drop_whole (x ∷ xs) zero le = absurd (omega (arith, le))
+drop_whole (x ∷ xs) (suc n) le = drop_whole xs n (omega (arith, le))
+
+-- so many of them started
+abbrev pub BegunTo : Region → List Granule → List Granule → List row.Thread → List Fresh → ℕ → Type 0
+BegunTo g was gs ts fs i = Begun g was gs ts (take i fs) (drop i fs)
+
+-- the one that an index gives
+pub begun_at : (g : Region) (was gs : List Granule) (ts : List row.Thread) (fs : List Fresh) (i : ℕ) (f : Fresh) → BegunTo g was gs ts fs i → i < length fs
+    → f ≡ get_or fs i f → Begun g was gs ts (take i fs) (f ∷ drop (i + 1) fs)
+begun_at g was gs ts fs i f b lt is =
+    subst (λ (xs : List Fresh). Begun g was gs ts (take i fs) xs) (drop_next fs i f lt ∙ ap (λ x. x ∷ drop (i + 1) fs) (sym is)) b
+
+pub begun_step : (g : Region) (was gs hs : List Granule) (ts us : List row.Thread) (t : row.Thread) (fs : List Fresh) (i : ℕ) (f : Fresh)
+    → BegunTo g was gs ts fs i → i < length fs → f ≡ get_or fs i f → Touches (area_begin f.area) (area_end f.area) gs hs → IsKept hs false t → t.area ≡ f.area
+    → thread_of hs false t ≡ first_of f → us ≡ ts ++ t ∷ [] → BegunTo g was hs us fs (i + 1)
+begun_step g was gs hs ts us t fs i f b lt is touches kept place same added =
+    let next : Begun g was hs (ts ++ t ∷ []) (take i fs ++ f ∷ []) (drop (i + 1) fs) =
+    begun_next g was gs hs ts t (take i fs) (drop (i + 1) fs) f (begun_at g was gs ts fs i f b lt is) touches kept place same in
+    let done : take i fs ++ f ∷ [] ≡ take (i + 1) fs = ap (λ x. take i fs ++ x ∷ []) is ∙ sym (take_next fs i f lt) in
+    rw added (subst (λ (xs : List Fresh). Begun g was hs (ts ++ t ∷ []) xs (drop (i + 1) fs)) done next)
+
+begun_all : (g : Region) (was gs : List Granule) (ts : List row.Thread) (fs : List Fresh) (i : ℕ) → BegunTo g was gs ts fs i → length fs ≤ i → Begun g was gs ts fs []
+begun_all g was gs ts fs i b le =
+    subst (λ (xs : List Fresh). Begun g was gs ts fs xs) (drop_whole fs i le)
+    (subst (λ (xs : List Fresh). Begun g was gs ts xs (drop i fs)) (take_whole fs i le) b)
+
+pub begun_areas : (g : Region) (was gs : List Granule) (ts : List row.Thread) (fs : List Fresh) (i : ℕ) → BegunTo g was gs ts fs i → length fs ≤ i
+    → AreasFrom g.ram gs None 0 g.trusted g.end ts
+begun_areas g was gs ts fs i b le =
+    let all = begun_all g was gs ts fs i b le in
+    areas_more g.ram gs None 0 g.trusted (end_of g.trusted fs) g.end ts all.rest all.areas
+
+clear_veil : (g : Region) (gs : List Granule) → ((k : ℕ) → hides g k ≡ true → held gs k ≡ plain 0) → veiled (hides g) gs ≡ gs
+clear_veil g gs clear =
+    sym (veiled_is (hides g) gs gs refl (λ k lt. elim (bool_tells (hides g k)) [
+      | inl e ↦ rw e (zero_is (granule_at gs k) (clear k e))
+      | inr e ↦ rw e refl
+    ]))
+  where
+    zero_is : (x : Granule) → x.cap ≡ plain 0 → x ≡ blank x
+    zero_is x e = ap (λ (c : Cap). let z : Granule = record { cap = c; mark = x.mark } in z) e
+
+pub begun_seen : (g : Region) (was gs : List Granule) (ts : List row.Thread) (fs : List Fresh) (i : ℕ) → BegunTo g was gs ts fs i → length fs ≤ i
+    → ((k : ℕ) → hides g k ≡ true → held was k ≡ plain 0) → seen_by gs g ts None ≡ started was g fs
+begun_seen g was gs ts fs i b le clear =
+    let all = begun_all g was gs ts fs i b le in
+    rw (all.veil, clear_veil g was clear, all.threads, all.places) refl

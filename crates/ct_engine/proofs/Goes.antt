@@ -1,0 +1,64 @@
+-- The running thread goes on.
+use Rattle.std.proofs.Common.{ℕ, zero, suc, ◌≡◌, ◌<◌, true, List, [], ◌∷◌, Some, refl, sym, ap, ◌∙◌, subst}
+use Rattle.std.proofs.Math.ListN.{get_or, set}
+use Rattle.def_words.specs.declared.Cap.{Cap}
+use Rattle.def_words.specs.declared.Posture.{Posture}
+use Rattle.def_memory.specs.declared.Granule.{Granule}
+use Rattle.def_memory.specs.Granules.{plain}
+use Rattle.def_machine.specs.State.{Thread}
+use Rattle.def_machine.specs.Threads.{jumped}
+use Rattle.def_machine.specs.Registers.{written}
+use Rattle.def_areas.specs.Touches.{Touches}
+use Rattle.ct_areas.specs.declared.thread.Thread as row
+use Rattle.ct_areas.specs.Threads.{area_begin, area_end, living, thread_of}
+use Rattle.ct_areas.proofs.Places.{alive_is}
+use Rattle.ct_engine.specs.declared.rows.Rows.{Rows}
+use Rattle.ct_engine.specs.Seen.{seen_by, seen, thread, went, row_gone}
+use Rattle.ct_engine.specs.Kept.{IsKept, AreasFrom, Holds}
+use Rattle.ct_engine.proofs.Whole.{runs_it, thread_is, seen_turn, running_kept}
+use Rattle.ct_engine.proofs.Ends.{call_areas, stays_on}
+
+-- what is seen of the running thread is its row
+pub running_is : (gs : List Granule) (rows : Rows) (t : ℕ) (r : row.Thread) → Holds gs rows → rows.running ≡ Some t → r ≡ get_or rows.list.items t r
+    → thread (seen gs rows) t ≡ living gs true r
+running_is gs rows t r holds runs is =
+    thread_is gs rows.list.items rows.running t r true (holds.runs t runs) is (runs_it rows t runs)
+    ∙ alive_is gs true r ((running_kept gs rows t r holds runs is).kept.alive refl)
+
+unchanged : (gs : List Granule) (lo hi : ℕ) → Touches lo hi gs gs
+unchanged gs lo hi = record { size = refl; marks = λ k. refl; rest = λ k out. refl }
+
+written_first : (rs : List Cap) (n : ℕ) (c : Cap) → get_or (written rs n c) 0 (plain 0) ≡ get_or rs 0 (plain 0)
+written_first rs zero c = refl
+written_first [] (suc n) c = refl
+written_first (r ∷ rs) (suc n) c = refl
+
+gone_kept : (gs : List Granule) (r : row.Thread) (pcc : Cap) (posture : Posture) (to : ℕ) (value : Cap) → IsKept gs true r → IsKept gs true (row_gone r pcc posture to value)
+gone_kept gs r pcc posture to value k = record {
+  area = k.area;
+  room = k.room;
+  zero = written_first r.regs to value ∙ k.zero;
+  alive = k.alive;
+  clean = k.clean;
+}
+
+pub go_areas : (gs : List Granule) (rows : Rows) (t : ℕ) (r q : row.Thread) (pcc : Cap) (posture : Posture) (to : ℕ) (value : Cap) → Holds gs rows → rows.running ≡ Some t
+    → r ≡ get_or rows.list.items t r → q ≡ row_gone r pcc posture to value
+    → AreasFrom rows.region.ram gs rows.running 0 rows.region.trusted rows.region.end (set rows.list.items t q)
+go_areas gs rows t r q pcc posture to value holds runs is gone =
+    subst (λ (u : row.Thread). AreasFrom rows.region.ram gs rows.running 0 rows.region.trusted rows.region.end (set rows.list.items t u)) (sym gone)
+    (call_areas gs gs rows t r (row_gone r pcc posture to value) holds runs is (unchanged gs (area_begin r.area) (area_end r.area)) refl
+    (gone_kept gs r pcc posture to value (running_kept gs rows t r holds runs is).kept))
+
+pub go_seen : (gs : List Granule) (rows : Rows) (t : ℕ) (r q : row.Thread) (pcc : Cap) (posture : Posture) (to : ℕ) (value : Cap) → Holds gs rows → rows.running ≡ Some t
+    → r ≡ get_or rows.list.items t r → q ≡ row_gone r pcc posture to value
+    → seen_by gs rows.region (set rows.list.items t q) rows.running ≡ went (seen gs rows) t pcc posture to value
+go_seen gs rows t r q pcc posture to value holds runs is gone =
+    let alive : 0 < r.depth = (running_kept gs rows t r holds runs is).kept.alive refl in
+    let new : thread_of gs true (row_gone r pcc posture to value) ≡ jumped (thread (seen gs rows) t) pcc posture to value =
+    alive_is gs true (row_gone r pcc posture to value) alive
+    ∙ ap (λ (u : Thread). jumped u pcc posture to value) (sym (running_is gs rows t r holds runs is)) in
+    subst (λ (u : row.Thread). seen_by gs rows.region (set rows.list.items t u) rows.running ≡ went (seen gs rows) t pcc posture to value) (sym gone)
+    (seen_turn rows.region gs gs rows.list.items rows.running rows.running t r (row_gone r pcc posture to value) (jumped (thread (seen gs rows) t) pcc posture to value)
+    holds.areas (holds.runs t runs) is (unchanged gs (area_begin r.area) (area_end r.area)) (stays_on rows.running t) refl
+    (subst (λ b. thread_of gs b (row_gone r pcc posture to value) ≡ jumped (thread (seen gs rows) t) pcc posture to value) (sym (runs_it rows t runs)) new))

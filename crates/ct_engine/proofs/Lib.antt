@@ -1,0 +1,9 @@
+pub mod Lists
+pub mod Whole
+pub mod Clean
+pub mod Ends
+pub mod Away
+pub mod Begins
+pub mod Regions
+pub mod Goes
+pub mod Samples

@@ -1,0 +1,55 @@
+-- The threads of the tests may start.
+use Rattle.std.proofs.Common.{ℕ, zero, suc, ◌≡◌, ◌+◌, ◌*◌, ◌%◌, ◌≤◌, List, [], ◌∷◌, length, replicate, refl, sym, ap, ◌∙◌, arith, subst}
+use Rattle.std.proofs.Math.ListN.{get_or}
+use Rattle.def_memory.specs.declared.Granule.{Granule}
+use Rattle.def_memory.specs.Granules.{plain, nothing}
+use Rattle.def_areas.specs.Areas.{held}
+use Rattle.ct_areas.specs.declared.thread.Area.{Area}
+use Rattle.ct_areas.specs.Threads.{HasArea}
+use Rattle.ct_engine.specs.declared.starting.Fresh.{Fresh}
+use Rattle.ct_engine.specs.Starts.{IsFresh, MayStart}
+
+count_of : (n : ℕ) → length (replicate n nothing) ≡ n
+count_of zero = refl
+count_of (suc n) = ap (λ m. suc m) (count_of n)
+
+none_held : (n k : ℕ) → held (replicate n nothing) k ≡ plain 0
+none_held zero k = refl
+none_held (suc n) zero = refl
+none_held (suc n) (suc k) = none_held n k
+
+abbrev sample_area : ℕ → ℕ → Area
+sample_area trusted stack = record { ram = 2147483648; stack = stack; stack_length = 256; trusted = trusted; trusted_length = 288 }
+
+has_area : (trusted stack : ℕ) → trusted % 16 ≡ 0 → 2147483648 ≤ trusted → trusted + 288 ≤ 2147485696 → HasArea 2048 (sample_area trusted stack)
+has_area trusted stack even low high = record { ram = refl; even = even; low = low; high = omega (arith, high); whole = refl; some = omega arith }
+
+fresh_is : (f : Fresh) (trusted stack : ℕ) → f.area ≡ sample_area trusted stack → get_or f.regs 0 (plain 0) ≡ plain 0
+    → HasArea 2048 (sample_area trusted stack) → stack + 256 ≤ 4294967280 → IsFresh 2048 f
+fresh_is f trusted stack is zero_ has le = record {
+  area = subst (λ (a : Area). HasArea 2048 a) (sym is) has;
+  zero = zero_;
+  stack = subst (λ (a : Area). a.stack + a.stack_length ≤ 4294967280) (sym is) le;
+}
+
+pub may_start : (gs : List Granule) (f g : Fresh) → gs ≡ replicate 256 nothing → f.area ≡ sample_area 2147483664 2147484672 → g.area ≡ sample_area 2147483952 2147484928
+    → get_or f.regs 0 (plain 0) ≡ plain 0 → get_or g.regs 0 (plain 0) ≡ plain 0
+    → MayStart gs (record { ram = 2147483648; trusted = 2147483664; end = 2147484240 }) (f ∷ g ∷ [])
+may_start gs f g is first second zero_f zero_g =
+    let size : 8 * length gs ≡ 2048 = ap (λ (xs : List Granule). 8 * length xs) is ∙ ap (λ n. 8 * n) (count_of 256) in
+    let one : IsFresh 2048 f = fresh_is f 2147483664 2147484672 first zero_f (has_area 2147483664 2147484672 refl (omega arith) (omega arith)) (omega arith) in
+    let two : IsFresh 2048 g = fresh_is g 2147483952 2147484928 second zero_g (has_area 2147483952 2147484928 refl (omega arith) (omega arith)) (omega arith) in
+    record {
+      areas = (
+        subst (λ (a : Area). 2147483664 ≤ a.trusted) (sym first) (omega arith),
+        ap (λ (a : Area). a.ram) first,
+        subst (λ n. IsFresh n f) (sym size) one,
+        (
+          subst (λ (a : Area). a.trusted + a.trusted_length ≤ g.area.trusted) (sym first) (subst (λ (a : Area). 2147483952 ≤ a.trusted) (sym second) (omega arith)),
+          ap (λ (a : Area). a.ram) second,
+          subst (λ n. IsFresh n g) (sym size) two,
+          subst (λ (a : Area). a.trusted + a.trusted_length ≤ 2147484240) (sym second) (omega arith),
+        ),
+      );
+      clear = λ k hidden. subst (λ (xs : List Granule). held xs k ≡ plain 0) (sym is) (none_held 256 k);
+    }

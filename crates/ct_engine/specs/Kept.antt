@@ -1,0 +1,46 @@
+-- What an engine keeps: where the threads' areas lie, and what stands in them.
+use Rattle.std.specs.Prelude.{ℕ, ◌+◌, ◌-◌, ◌*◌, ◌%◌, ◌≡◌, ◌≤◌, ◌<◌, ◌⊎◌, Bool, true, false, List, [], ◌∷◌, length, Option, Some}
+use Rattle.def_words.specs.declared.Cap.{Cap}
+use Rattle.def_memory.specs.declared.Granule.{Granule}
+use Rattle.def_memory.specs.Granules.{plain}
+use Rattle.def_machine.specs.Heap.{is_number}
+use Rattle.def_areas.specs.Areas.{held, frame_place}
+use Rattle.ct_areas.specs.declared.thread.Thread as row
+use Rattle.ct_areas.specs.Threads.{HasArea, area_begin, area_end, frames_most}
+use Rattle.ct_areas.specs.Parts.{register_in}
+use Rattle.ct_engine.specs.declared.rows.Rows.{Rows}
+
+abbrev pub IsPlain : Cap → Type 0
+IsPlain c = c ≡ plain c.word
+
+-- Granule k of a thread's area holds a capability that was saved: the program counter capability or a register of a
+-- stopped thread, or one of the five registers with which a frame begins.
+abbrev pub IsSaved : Bool → row.Thread → ℕ → Type 0
+IsSaved runs t k =
+    ((runs ≡ false) × (0 < t.depth) × (k < area_begin t.area + 16))
+    ⊎ (
+    (area_begin t.area + 20 ≤ k) × (k < frame_place (area_begin t.area) t.depth)
+    × ((k - (area_begin t.area + 20)) % 8 < 5)
+    )
+
+-- A row, and the area's granules: it lies in RAM and has room for the frames; register 0 is zero; who runs hasn't
+-- ended; and where nothing is saved a plain word stands.
+pub record IsKept (gs : List Granule) (runs : Bool) (t : row.Thread) : Type 0 where
+  pub area : HasArea (8 * length gs) t.area
+  pub room : t.depth ≤ frames_most t.area
+  pub zero : register_in t 0 ≡ plain 0
+  pub alive : runs ≡ true → 0 < t.depth
+  pub clean : (k : ℕ) → area_begin t.area ≤ k → k < area_end t.area
+      → IsSaved runs t k ⊎ IsPlain (held gs k)
+
+-- Areas stand one after another from one address up to another, of RAM from `ram` on; the first thread has number n.
+abbrev pub AreasFrom : ℕ → List Granule → Option ℕ → ℕ → ℕ → ℕ → List row.Thread → Type 0
+AreasFrom ram gs running n from to [] = from ≤ to
+AreasFrom ram gs running n from to (t ∷ ts) =
+    (from ≤ t.area.trusted) × (t.area.ram ≡ ram) × IsKept gs (is_number running n) t
+    × AreasFrom ram gs running (n + 1) (t.area.trusted + t.area.trusted_length) to ts
+
+-- all of them in the region, and the thread that runs is one of them
+pub record Holds (gs : List Granule) (r : Rows) : Type 0 where
+  pub areas : AreasFrom r.region.ram gs r.running 0 r.region.trusted r.region.end r.list.items
+  pub runs : (t : ℕ) → r.running ≡ Some t → t < length r.list.items

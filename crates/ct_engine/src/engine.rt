@@ -1,0 +1,216 @@
+//! The engine.
+
+ghost use Rattle.std.specs.Prelude.{ℕ, ◌≡◌, ◌*◌, ◌/◌, ◌<◌, Some, None, false, cond, length, IfOk};
+ghost use Rattle.def_memory.specs.Accesses.{IsAccess, IsPlace, loaded, stored, loaded_cap, stored_cap};
+ghost use Rattle.def_memory.specs.Ranges.{IsRange, Inside, zeroed, mark_range};
+ghost use Rattle.def_machine.specs.Memory.{filtered_in};
+ghost use Rattle.def_machine.specs.State.{register};
+ghost use Rattle.ct_areas.specs.Parts.{saved_in};
+ghost use Rattle.ct_engine.specs.Starts.{MayStart, started};
+ghost use Rattle.ct_engine.specs.Seen.{hides, thread, has_room, innermost, with_granules, with_running, resumed, went, called, left};
+
+use crate::frames::{call, leave};
+use crate::rows::{Region, Rows};
+use crate::starting::{Fresh, start};
+use crate::steps::{go, pcc, posture, register};
+use crate::turns::{pick, stop};
+use ct_areas::Saved;
+use ct_cap::{Live, Posture};
+use ct_loadstore::filter;
+use ct_mem::Memory;
+use def_refusals::NoMemory;
+use def_words::Cap;
+use std::alloc::Global;
+use std::marker::Model;
+
+/// Threads over a memory, whose frames and saved registers stand in that memory's trusted region.
+///
+/// Contracts see memory behind the veil, where the region reads as zero, and each thread as the machine's state has
+/// it; one without frames has ended. Offsets count bytes from RAM's begin. No method takes memory.
+#[derive(Drop)]
+pub struct Engine<M: Memory + Drop> {
+    mem: M,
+    rows: Rows,
+}
+
+impl<M: Memory + Drop> Model for Engine<M> {
+    ghost use Rattle.ct_engine.specs.Seen.{Seen, seen};
+    ghost use Rattle.ct_engine.specs.Kept.{Holds};
+
+    ghost Value = { Seen };
+
+    ghost view = { λ m. seen (M.granules m.mem) m.rows };
+
+    ghost invariant = { λ m. Holds (M.granules m.mem) m.rows };
+}
+
+impl<M: Memory + Drop> Engine<M> {
+    /// Threads that start over a memory whose trusted region reads as zero, in the order of their numbers: each is
+    /// stopped before its first step. The one error is `NoMemory`.
+    pub fn start(
+        alloc: Global,
+        memory: M,
+        region: Region,
+        fresh: &[Fresh],
+    ) -> Result<Engine<M>, NoMemory>
+        requires { MayStart (M.granules memory) region fresh.now }
+        ensures { IfOk result (λ e. e ≡ started (M.granules memory) region fresh.now) }
+    {
+        let mut mem = memory;
+        let rows = start(alloc, &mut mem, region, fresh)?;
+        Ok(Engine { mem, rows })
+    }
+
+    /// The bytes of RAM.
+    pub fn size(&self) -> u32
+        ensures { result ≡ 8 * length self.now.granules }
+    {
+        self.mem.size()
+    }
+
+    /// How many threads there are, those that have ended too.
+    pub fn count(&self) -> usize
+        ensures { result ≡ length self.now.threads }
+    {
+        self.rows.count()
+    }
+
+    /// The thread that runs.
+    pub fn running(&self) -> Option<u32>
+        ensures { result ≡ self.now.running }
+    {
+        self.rows.running
+    }
+
+    /// The bytes at an offset of what isn't hidden. The width is 1, 2 or 4.
+    pub fn load(&self, at: u32, width: u32) -> u32
+        requires access { IsAccess (8 * length self.now.granules) at width }
+        requires seen { hides self.now.region (at / 8) ≡ false }
+        ensures { result ≡ loaded self.now.granules at width }
+    {
+        self.mem.load(at, width)
+    }
+
+    /// The capability of a granule that isn't hidden, as it stands there.
+    pub fn load_cap(&self, at: u32) -> Cap
+        requires place { IsPlace (8 * length self.now.granules) at }
+        requires seen { hides self.now.region (at / 8) ≡ false }
+        ensures { result ≡ loaded_cap self.now.granules at }
+    {
+        self.mem.load_cap(at)
+    }
+
+    /// A capability through the load filter: without its tag where its base lies in a marked granule.
+    pub fn filter(&self, cap: Live) -> Live
+        ensures { result ≡ filtered_in self.now.region.ram self.now.granules cap }
+    {
+        filter(&self.mem, self.rows.region.ram, cap)
+    }
+
+    /// Stores the low bytes of a value where nothing is hidden. The width is 1, 2 or 4.
+    pub fn store(&mut self, at: u32, width: u32, value: u32)
+        requires access { IsAccess (8 * length self.old.granules) at width }
+        requires seen { hides self.old.region (at / 8) ≡ false }
+        ensures { self.new ≡ with_granules self.old (stored self.old.granules at width value) }
+    {
+        self.mem.store(at, width, value);
+    }
+
+    /// Stores a whole granule that isn't hidden: word, tag and shadow.
+    pub fn store_cap(&mut self, at: u32, cap: Cap)
+        requires place { IsPlace (8 * length self.old.granules) at }
+        requires seen { hides self.old.region (at / 8) ≡ false }
+        ensures { self.new ≡ with_granules self.old (stored_cap self.old.granules at cap) }
+    {
+        self.mem.store_cap(at, cap);
+    }
+
+    /// Zeroes granules that aren't hidden, from one offset to another. Marks stay.
+    pub fn zero(&mut self, from: u32, to: u32)
+        requires range { IsRange (8 * length self.old.granules) from to }
+        requires seen { (k : ℕ) → Inside from to k → hides self.old.region k ≡ false }
+        ensures { self.new ≡ with_granules self.old (zeroed from to self.old.granules) }
+    {
+        self.mem.zero(from, to);
+    }
+
+    /// Marks granules, hidden or not, from one offset to another, or takes their marks.
+    pub fn mark(&mut self, from: u32, to: u32, on: bool)
+        requires { IsRange (8 * length self.old.granules) from to }
+        ensures { self.new ≡ with_granules self.old (mark_range from to on self.old.granules) }
+    {
+        self.mem.mark(from, to, on);
+    }
+
+    /// A register of the running thread.
+    pub fn register(&self, t: u32, number: u32) -> Live
+        requires runs { self.now.running ≡ Some t }
+        requires number { number < 16 }
+        ensures { result ≡ register (thread self.now t) number }
+    {
+        register(&self.rows, t, number)
+    }
+
+    /// The program counter capability of the running thread.
+    pub fn pcc(&self, t: u32) -> Live
+        requires { self.now.running ≡ Some t }
+        ensures { result ≡ (thread self.now t).pcc }
+    {
+        pcc(&self.rows, t)
+    }
+
+    /// The posture of the running thread.
+    pub fn posture(&self, t: u32) -> Posture
+        requires { self.now.running ≡ Some t }
+        ensures { result ≡ (thread self.now t).posture }
+    {
+        posture(&self.rows, t)
+    }
+
+    /// The running thread goes on elsewhere, with this posture, and a register gets a value, which register 0 drops.
+    pub fn go(&mut self, t: u32, pcc: Live, posture: Posture, to: u32, value: Live)
+        requires runs { self.old.running ≡ Some t }
+        requires to { to < 16 }
+        ensures { self.new ≡ went self.old t pcc posture to value }
+    {
+        go(&mut self.rows, t, pcc, posture, to, value);
+    }
+
+    /// The running thread stops. Nothing else changes.
+    pub fn stop(&mut self, t: u32)
+        requires { self.old.running ≡ Some t }
+        ensures { self.new ≡ with_running self.old None }
+    {
+        stop(&mut self.rows, &mut self.mem, t);
+    }
+
+    /// A thread that hasn't ended goes on where it stopped, where none runs: its program counter capability and its
+    /// registers pass the load filter.
+    pub fn pick(&mut self, t: u32)
+        requires none { self.old.running ≡ None }
+        requires alive { 0 < length (thread self.old t).frames }
+        ensures { self.new ≡ resumed self.old t }
+    {
+        pick(&mut self.rows, &mut self.mem, t);
+    }
+
+    /// The running thread gets one frame more, of this compartment, export and top, which keeps its registers c1, c2,
+    /// c3, c8 and c9. `false` exactly where it has no room; then nothing changes.
+    pub fn push(&mut self, t: u32, actor: u32, export: u32, top: u32) -> bool
+        requires { self.old.running ≡ Some t }
+        ensures result { result ≡ has_room self.old t }
+        ensures is { self.new ≡ cond result (called self.old t actor export top) self.old }
+    {
+        call(&mut self.rows, &mut self.mem, t, actor, export, top)
+    }
+
+    /// The running thread loses its innermost frame: what that kept of its caller. Where it was the last the thread has
+    /// ended, and none runs. The thread's program counter capability and registers stay.
+    pub fn pop(&mut self, t: u32) -> Saved
+        requires { self.old.running ≡ Some t }
+        ensures saved { result ≡ saved_in (innermost self.old t) }
+        ensures is { self.new ≡ left self.old t }
+    {
+        leave(&mut self.rows, &mut self.mem, t)
+    }
+}

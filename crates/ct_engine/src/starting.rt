@@ -1,0 +1,92 @@
+//! How threads start: stopped before their first step, with one frame each.
+
+ghost use Rattle.std.specs.Prelude.{ℕ, ◌≡◌, ◌*◌, ◌≤◌, ◌<◌, true, false, length, IfOk};
+ghost use Rattle.def_memory.specs.Granules.{plain};
+ghost use Rattle.def_areas.specs.Areas.{held};
+ghost use Rattle.def_areas.specs.Touches.{Touches};
+ghost use Rattle.ct_areas.specs.Threads.{area_begin, area_end, thread_of};
+ghost use Rattle.ct_engine.specs.Kept.{IsKept, Holds};
+ghost use Rattle.ct_engine.specs.Seen.{seen};
+ghost use Rattle.ct_engine.specs.Starts.{IsFresh, MayStart, first_of, started};
+
+use crate::rows::{Region, Rows};
+use crate::turns::stop_row;
+use ct_areas::{Area, Thread};
+use ct_cap::{Live, Posture};
+use ct_mem::Memory;
+use def_refusals::NoMemory;
+use std::alloc::Global;
+
+/// A thread before its first step: its program counter capability, registers and posture, the compartment and the
+/// export of its first frame, and where its stack and its area lie.
+#[derive(Debug, Drop)]
+pub struct Fresh {
+    pub pcc: Live,
+    pub regs: [Live; 16],
+    pub posture: Posture,
+    pub actor: u32,
+    pub export: u32,
+    pub area: Area,
+}
+
+/// A row whose thread is as it starts, and runs.
+fn first_row<M: Memory>(mem: &mut M, fresh: &Fresh) -> Thread
+    requires fresh { IsFresh (8 * length (M.granules mem.old)) fresh.now }
+    requires clear { (k : ℕ) → area_begin fresh.now.area ≤ k → k < area_end fresh.now.area
+        → held (M.granules mem.old) k ≡ plain 0 }
+    ensures kept { IsKept (M.granules mem.new) true result }
+    ensures area { result.area ≡ fresh.now.area }
+    ensures thread { thread_of (M.granules mem.new) true result ≡ first_of fresh.now }
+    ensures touches { Touches (area_begin fresh.now.area) (area_end fresh.now.area)
+        (M.granules mem.old) (M.granules mem.new) }
+{
+    Thread::new(
+        mem,
+        fresh.pcc,
+        fresh.regs,
+        fresh.posture,
+        fresh.actor,
+        fresh.export,
+        fresh.area,
+    )
+}
+
+/// One thread starts, stopped.
+fn begin<M: Memory>(mem: &mut M, fresh: &Fresh) -> Thread
+    requires fresh { IsFresh (8 * length (M.granules mem.old)) fresh.now }
+    requires clear { (k : ℕ) → area_begin fresh.now.area ≤ k → k < area_end fresh.now.area
+        → held (M.granules mem.old) k ≡ plain 0 }
+    ensures kept { IsKept (M.granules mem.new) false result }
+    ensures area { result.area ≡ fresh.now.area }
+    ensures thread { thread_of (M.granules mem.new) false result ≡ first_of fresh.now }
+    ensures touches { Touches (area_begin fresh.now.area) (area_end fresh.now.area)
+        (M.granules mem.old) (M.granules mem.new) }
+{
+    let mut row = first_row(mem, fresh);
+    stop_row(&mut row, mem);
+    row
+}
+
+/// Threads start in the order of their numbers. The one error is `NoMemory`.
+pub(crate) fn start<M: Memory>(
+    alloc: Global,
+    mem: &mut M,
+    region: Region,
+    fresh: &[Fresh],
+) -> Result<Rows, NoMemory>
+    requires { MayStart (M.granules mem.old) region fresh.now }
+    ensures holds { IfOk result (λ rows. Holds (M.granules mem.new) rows) }
+    ensures seen { IfOk result (λ rows. seen (M.granules mem.new) rows
+        ≡ started (M.granules mem.old) region fresh.now) }
+{
+    let mut list = Vec::with_capacity(alloc, fresh.len())?;
+    for i in 0..fresh.len() {
+        let row = begin(mem, &fresh[i]);
+        list.push(row)?;
+    }
+    Ok(Rows {
+        region,
+        list,
+        running: None,
+    })
+}

@@ -1,0 +1,102 @@
+//! Files that are read whole.
+
+ghost use Rattle.std.specs.Prelude.{◌≡◌, ℕ, List, map, MatchResult};
+ghost use Rattle.def_program.specs.Turns as spec;
+ghost use Rattle.ct_reading.specs.Whole.{AllGiven, NotGiven, SomeGiven, WasGiven, texts};
+
+use crate::names::source_names;
+use ct_port::{Folder, ReadError};
+use ct_rows::Desc;
+use def_profile::limits::MOST_FILE;
+use std::alloc::Global;
+
+/// A file has at most this many bytes.
+const MOST: u64 = MOST_FILE as u64;
+
+/// Why a file isn't given.
+#[derive(Clone, Copy, Debug, PartialEq, Eq)]
+pub enum Stop<'a> {
+    /// The file of this name can't be read.
+    Unread(&'a str),
+    /// The file of this name has more than 16,777,216 bytes.
+    Large(&'a str),
+    /// Memory was wanted.
+    NoMemory,
+}
+
+/// Reads the file of this name whole. `Unread` comes only where the folder's count of faults rose,
+/// and `Large` exactly of a file with more than 16,777,216 bytes.
+pub fn read_file<'a, F: Folder>(
+    alloc: Global,
+    name: &'a str,
+    folder: &mut F,
+) -> Result<Vec<u8>, Stop<'a>>
+    ensures answer { MatchResult result
+        (λ v.
+        WasGiven name.now (F.file folder.old name.now) (F.calls folder.old)
+        (F.calls folder.new) (F.faults folder.old) (F.faults folder.new) v.items)
+        (λ stop.
+        NotGiven name.now (F.file folder.old name.now) (F.calls folder.old)
+        (F.calls folder.new) (F.faults folder.old) (F.faults folder.new) stop) }
+    ensures same { (n : List ℕ) → F.file folder.new n ≡ F.file folder.old n }
+{
+    let bytes = match folder.read(alloc, name, MOST) {
+        Ok(bytes) => bytes,
+        Err(ReadError::Failed) => return Err(Stop::Unread(name)),
+        Err(ReadError::NoMemory) => return Err(Stop::NoMemory),
+    };
+    if bytes.len() as u64 > MOST {
+        return Err(Stop::Large(name));
+    }
+    Ok(bytes)
+}
+
+/// Reads the files of these names, in their order.
+fn read_files<'a, F: Folder>(
+    alloc: Global,
+    names: &[&'a str],
+    folder: &mut F,
+) -> Result<Vec<Vec<u8>>, Stop<'a>>
+    ensures answer { MatchResult result
+        (λ v.
+        AllGiven (F.file folder.old) (texts names.now) (F.calls folder.old) (F.calls folder.new)
+        (F.faults folder.old) (F.faults folder.new) (map (λ t. t.items) v.items))
+        (λ stop.
+        SomeGiven (F.file folder.old) (texts names.now) (F.calls folder.old)
+        (F.calls folder.new) (F.faults folder.old) (F.faults folder.new) stop) }
+{
+    let mut all = Vec::new(alloc);
+    for name in names {
+        let bytes = match read_file(alloc, *name, folder) {
+            Ok(bytes) => bytes,
+            Err(stop) => return Err(stop),
+        };
+        match all.push(bytes) {
+            Ok(()) => {}
+            Err(_) => return Err(Stop::NoMemory),
+        }
+    }
+    Ok(all)
+}
+
+/// Reads the sources of a description, those of compartments first. Where one can't be read, those
+/// after it aren't asked for.
+pub fn read_sources<'a, F: Folder>(
+    alloc: Global,
+    desc: &'a Desc,
+    folder: &mut F,
+) -> Result<Vec<Vec<u8>>, Stop<'a>>
+    ensures { MatchResult result
+        (λ v.
+        AllGiven (F.file folder.old) (spec.source_names desc.now) (F.calls folder.old)
+        (F.calls folder.new) (F.faults folder.old) (F.faults folder.new)
+        (map (λ t. t.items) v.items))
+        (λ stop.
+        SomeGiven (F.file folder.old) (spec.source_names desc.now) (F.calls folder.old)
+        (F.calls folder.new) (F.faults folder.old) (F.faults folder.new) stop) }
+{
+    match source_names(alloc, desc) {
+        Ok(names) => read_files(alloc, names.as_slice(), folder),
+        Err(_) => Err(Stop::NoMemory),
+    }
+}

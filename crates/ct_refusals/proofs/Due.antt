@@ -1,0 +1,103 @@
+-- Files that were due when they were read.
+use Rattle.std.proofs.Common.{◌≡◌, ℕ, zero, suc, List, [], ◌∷◌, ◌++◌, length, take, false, Option, Some, None, slice_get, refl, sym, ap, ◌∙◌, subst, inr}
+use Rattle.std.specs.List.{AllByRecursion}
+use Rattle.std.proofs.lemmas.List.{append_assoc}
+use Rattle.def_port.specs.Told.{Told, Call}
+use Rattle.def_description.specs.Rows.{DescRow}
+use Rattle.def_description.specs.WellFormed.{WellFormed}
+use Rattle.def_program.specs.Commands.{Command, file_of, reads_image}
+use Rattle.def_program.specs.Ends.{Ends, IsFile}
+use Rattle.def_program.specs.Turns.{Turn, Asks, Follows, OfFirst, OfSources, OfDescription, source_names}
+use Rattle.def_program.specs.Answers.{Read, contents, read_call, read_calls, WereDue, WasDue, LastRead}
+use Rattle.ct_reading.specs.Whole.{names_of}
+
+abbrev pub first_read : Command → List ℕ → Read
+first_read c bytes = record { name = file_of c; bytes = bytes }
+
+-- ---- lists of names
+
+name_at : (done : List Read) (left : List (List ℕ)) (k : ℕ) (r : Read) → slice_get done k ≡ Some r → slice_get (names_of done ++ left) (length (contents (take k done))) ≡ Some r.name
+name_at [] left k r is = absurd (let none : None ≡ Some r = is in cc)
+name_at (x ∷ done) left zero r is = ap (λ (o : Option Read). name_in o) is
+  where
+    name_in : Option Read → Option (List ℕ)
+    name_in None = None
+    name_in (Some y) = Some y.name
+name_at (x ∷ done) left (suc k) r is = name_at done left k r is
+
+next_at : (done : List Read) (name : List ℕ) (rest : List (List ℕ)) → slice_get (names_of done ++ name ∷ rest) (length (contents done)) ≡ Some name
+next_at [] name rest = refl
+next_at (x ∷ done) name rest = next_at done name rest
+
+past_all : (done : List Read) → slice_get (names_of done ++ []) (length (contents done)) ≡ None
+past_all [] = refl
+past_all (x ∷ done) = past_all done
+
+-- ---- the first file
+
+no_read_due : (e : Ends) (c : Command) → WereDue e c []
+no_read_due e c k r is = absurd (let none : None ≡ Some r = is in cc)
+
+pub nothing_due : (e : Ends) (c : Command) → LastRead e c [] (file_of c)
+nothing_due e c = record { due = no_read_due e c; asked = refl }
+
+pub none_due : (e : Ends) (c : Command) → WereDue e c []
+none_due e c = no_read_due e c
+
+some_read : (x r : Read) → Some x ≡ Some r → x ≡ r
+some_read x r is = cc
+
+pub first_due : (e : Ends) (c : Command) (bytes : List ℕ) → IsFile (e.told (file_of c)) bytes → WereDue e c (first_read c bytes ∷ [])
+first_due e c bytes file zero r is =
+    subst (λ (x : Read). WasDue e c (first_read c bytes ∷ []) zero x) (some_read (first_read c bytes) r is) (record { asked = refl; file = file })
+first_due e c bytes file (suc k) r is = absurd (let none : None ≡ Some r = is in cc)
+
+-- ---- sources
+
+module _ (e : Ends) (c : Command) (bytes : List ℕ) (d : DescRow) (kind : reads_image c ≡ false) (lawful : WellFormed bytes d)
+    (file : IsFile (e.told (file_of c)) bytes) where
+  pub of_first : (sources : List (List ℕ)) (t : Turn) → OfDescription c bytes sources t → Follows c (bytes ∷ sources) t
+  of_first sources t due = subst (λ b. OfFirst b c bytes sources t) (sym kind) due
+
+  asks : (sources : List (List ℕ)) (name : List ℕ) → slice_get (source_names d) (length sources) ≡ Some name → Follows c (bytes ∷ sources) (Asks name)
+  asks sources name is = of_first sources (Asks name) (inr (d, (lawful, subst (λ o. OfSources c d sources o (Asks name)) (sym is) refl)))
+
+  file_at : (done : List Read) (k : ℕ) (r : Read) → AllByRecursion (λ (x : Read). IsFile (e.told x.name) x.bytes) done → slice_get done k ≡ Some r → IsFile (e.told r.name) r.bytes
+  file_at [] k r all is = absurd (let none : None ≡ Some r = is in cc)
+  file_at (x ∷ done) zero r all is = subst (λ (y : Read). IsFile (e.told y.name) y.bytes) (some_read x r is) all.0
+  file_at (x ∷ done) (suc k) r all is = file_at done k r all.1 is
+
+  pub sources_due : (done : List Read) (left : List (List ℕ)) → names_of done ++ left ≡ source_names d
+      → AllByRecursion (λ (x : Read). IsFile (e.told x.name) x.bytes) done → WereDue e c (first_read c bytes ∷ done)
+  sources_due done left names all zero r is =
+      subst (λ (x : Read). WasDue e c (first_read c bytes ∷ done) zero x) (some_read (first_read c bytes) r is) (record { asked = refl; file = file })
+  sources_due done left names all (suc k) r is = record {
+    asked = asks (contents (take k done)) r.name (subst (λ ns. slice_get ns (length (contents (take k done))) ≡ Some r.name) names (name_at done left k r is));
+    file = file_at done k r all is;
+  }
+
+  pub next_due : (done : List Read) (name : List ℕ) (rest : List (List ℕ)) → names_of done ++ name ∷ rest ≡ source_names d
+      → AllByRecursion (λ (x : Read). IsFile (e.told x.name) x.bytes) done → LastRead e c (first_read c bytes ∷ done) name
+  next_due done name rest names all = record {
+    due = sources_due done (name ∷ rest) names all;
+    asked = asks (contents done) name (subst (λ ns. slice_get ns (length (contents done)) ≡ Some name) names (next_at done name rest));
+  }
+
+  pub none_left : (done : List Read) → names_of done ++ [] ≡ source_names d → slice_get (source_names d) (length (contents done)) ≡ None
+  none_left done names = subst (λ ns. slice_get ns (length (contents done)) ≡ None) names (past_all done)
+
+-- ---- what a folder tells, before and after a read
+
+pub told_before : (told here : List ℕ → Told) (done : List Read) → ((n : List ℕ) → here n ≡ told n)
+    → AllByRecursion (λ (x : Read). IsFile (here x.name) x.bytes) done → AllByRecursion (λ (x : Read). IsFile (told x.name) x.bytes) done
+told_before told here [] kept all = tt
+told_before told here (x ∷ done) kept all = (subst (λ (t : Told). IsFile t x.bytes) (kept x.name) all.0, told_before told here done kept all.1)
+
+pub calls_both : (first mid after : List Call) (x : Read) (done : List Read) → mid ≡ first ++ read_call x ∷ [] → after ≡ mid ++ read_calls done → after ≡ first ++ read_calls (x ∷ done)
+calls_both first mid after x done one rest =
+    rest ∙ ap (λ (cs : List Call). cs ++ read_calls done) one ∙ append_assoc first (read_call x ∷ []) (read_calls done)
+
+pub calls_last : (first mid after : List Call) (x : Read) (done : List Read) (last : Call) → mid ≡ first ++ read_calls (x ∷ done) → after ≡ mid ++ last ∷ []
+    → after ≡ first ++ (read_calls (x ∷ done) ++ last ∷ [])
+calls_last first mid after x done last one rest =
+    rest ∙ ap (λ (cs : List Call). cs ++ last ∷ []) one ∙ append_assoc first (read_calls (x ∷ done)) (last ∷ [])

@@ -1,0 +1,117 @@
+-- From what was read and written to the answer of the call.
+use Rattle.std.proofs.Common.{◌≡◌, ℕ, true, false, List, ◌++◌, Option, Some, None, Result, Ok, Err, IfOk, MatchResult, refl, sym, subst, inl, inr}
+use Rattle.def_port.specs.Bytes.{Rose}
+use Rattle.def_program.specs.declared.Status.{Status}
+use Rattle.def_program.specs.declared.Status.TheVariants as status
+use Rattle.def_program.specs.Commands.{Command, form_of}
+use Rattle.def_program.specs.Ends.{Ends, Exceeds}
+use Rattle.def_program.specs.Lines.{usage_line, read_line, large_line}
+use Rattle.def_program.specs.Turns.{Turn, Follows}
+use Rattle.def_program.specs.Turns as turn
+use Rattle.def_program.specs.Answers.{Answers, Cause, TurnCause, Whole, Read, contents, read_calls, calls_to, WereDue, AllRead, LastRead}
+use Rattle.ct_refusals.specs.Closing.{Closes, Silent}
+use Rattle.ct_refusals.specs.Settled.{IsLast, Settles}
+
+-- ---- statuses
+
+-- a status that isn't WriteFault and isn't NoMemory answers where it is whole
+abbrev Speaks : Status → Type 0
+Speaks s = (e : Ends) → Whole e s → Answers e s
+
+speaks : (s : Status) → IsLast s → Speaks s
+speaks status.Done last = λ e w. w
+speaks status.Usage last = elim last [ ]
+speaks status.ReadFault last = elim last [ ]
+speaks status.TooLarge last = elim last [ ]
+speaks status.Description last = λ e w. w
+speaks status.Assembly last = λ e w. w
+speaks status.Link last = λ e w. w
+speaks status.Image last = λ e w. w
+speaks status.Script last = elim last [ ]
+speaks status.WriteFault last = elim last [ ]
+speaks status.NoMemory last = elim last [ ]
+speaks status.Name last = λ e w. w
+speaks status.Denied last = elim last [ ]
+speaks status.Policy last = elim last [ ]
+
+caused : (e : Ends) (s : Status) (text : List ℕ) → IsLast s → TurnCause e s text → Cause e s text
+caused e status.Done text last c = c
+caused e status.Usage text last c = elim last [ ]
+caused e status.ReadFault text last c = elim last [ ]
+caused e status.TooLarge text last c = elim last [ ]
+caused e status.Description text last c = c
+caused e status.Assembly text last c = c
+caused e status.Link text last c = c
+caused e status.Image text last c = c
+caused e status.Script text last c = elim last [ ]
+caused e status.WriteFault text last c = elim last [ ]
+caused e status.NoMemory text last c = elim last [ ]
+caused e status.Name text last c = c
+caused e status.Denied text last c = elim last [ ]
+caused e status.Policy text last c = elim last [ ]
+
+closed : (e : Ends) (s : Status) (text : List ℕ) (result : Status) → Speaks s → Cause e s text →
+    Closes e.bytes e.bytes_after e.write_faults e.write_faults_after text s result → Answers e result
+closed e s text result speaks cause (inl done) =
+    subst (λ r. Answers e r) (sym done.0) (speaks e (record { text = text; cause = cause; written = done.1.added; same = done.1.same }))
+closed e s text result speaks cause (inr broken) =
+    subst (λ r. Answers e r) (sym broken.0) (record { status = s; text = text; cause = cause; written = broken.1.added; rose = broken.1.rose })
+
+-- ---- the answers of a call
+
+-- memory was wanted after these files
+pub wanting : (e : Ends) (c : Command) (rs : List Read) (result : Status) → form_of e.words ≡ Some c → WereDue e c rs
+    → e.calls_after ≡ e.calls ++ read_calls rs → e.read_faults_after ≡ e.read_faults
+    → Silent e.bytes e.bytes_after e.write_faults e.write_faults_after result → Answers e result
+wanting e c rs result form due calls same silent =
+    subst (λ r. Answers e r) (sym silent.is)
+    (record { command = c; form = form; reads = rs; due = due; calls = calls; written = silent.written; read_same = same; write_same = silent.same })
+
+-- after these files the last turn came
+pub settled : (e : Ends) (c : Command) (rs : List Read) (result : Status) → form_of e.words ≡ Some c → AllRead e c rs
+    → Settles (Follows c (contents rs)) e.bytes e.bytes_after e.write_faults e.write_faults_after result → Answers e result
+settled e c rs result form read (inl s) =
+    closed e s.status s.text result (speaks s.status s.last)
+    (caused e s.status s.text s.last (record { command = c; form = form; reads = rs; read = read; due = s.due })) s.closes
+settled e c rs result form read (inr silent) = wanting e c rs result form read.due read.calls read.same silent
+
+-- after these files one couldn't be read
+pub unread : (e : Ends) (c : Command) (rs : List Read) (name : List ℕ) (result : Status) → form_of e.words ≡ Some c → LastRead e c rs name
+    → e.calls_after ≡ e.calls ++ calls_to rs (record { name = name; failed = true }) → Rose e.read_faults e.read_faults_after
+    → Closes e.bytes e.bytes_after e.write_faults e.write_faults_after (read_line name) status.ReadFault result → Answers e result
+unread e c rs name result form last calls rose closes = closed e status.ReadFault (read_line name) result (λ _ w. w)
+    (record { command = c; form = form; reads = rs; name = name; last = last; calls = calls; rose = rose; due = refl }) closes
+
+-- after these files one was too large
+pub too_large : (e : Ends) (c : Command) (rs : List Read) (name : List ℕ) (result : Status) → form_of e.words ≡ Some c → LastRead e c rs name
+    → e.calls_after ≡ e.calls ++ calls_to rs (record { name = name; failed = false }) → e.read_faults_after ≡ e.read_faults → Exceeds (e.told name)
+    → Closes e.bytes e.bytes_after e.write_faults e.write_faults_after (large_line name) status.TooLarge result → Answers e result
+too_large e c rs name result form last calls same large closes = closed e status.TooLarge (large_line name) result (λ _ w. w)
+    (record { command = c; form = form; reads = rs; name = name; last = last; calls = calls; same = same; large = large; due = refl }) closes
+
+pub misused : (e : Ends) (result : Status) → form_of e.words ≡ None → e.calls_after ≡ e.calls → e.read_faults_after ≡ e.read_faults
+    → Closes e.bytes e.bytes_after e.write_faults e.write_faults_after usage_line status.Usage result → Answers e result
+misused e result form calls same closes = closed e status.Usage usage_line result (λ _ w. w) (record { form = form; calls = calls; same = same; due = refl }) closes
+
+-- ---- last turns
+
+pub ends_with : (Due : Turn → Type 0) (s : Status) (text : List ℕ) (old new : Option (List ℕ)) (faults now : ℕ) (result : Status)
+    → IsLast s → Due (turn.Ends s text) → Closes old new faults now text s result → Settles Due old new faults now result
+ends_with Due s text old new faults now result last due closes =
+    inl (record { status = s; text = text; last = last; due = due; closes = closes })
+
+-- a turn that is due by one account is due by another
+pub due_by : (Due Other : Turn → Type 0) (old new : Option (List ℕ)) (faults now : ℕ) (result : Status) → ((t : Turn) → Due t → Other t)
+    → Settles Due old new faults now result → Settles Other old new faults now result
+due_by Due Other old new faults now result then (inl s) =
+    inl (record { status = s.status; text = s.text; last = s.last; due = then (turn.Ends s.status s.text) s.due; closes = s.closes })
+due_by Due Other old new faults now result then (inr silent) = inr silent
+
+-- a text that is built: it closes the call, or memory was wanted for it
+pub built : {A B : Type 0} (bytes_of : A → List ℕ) (text : Result A B) (Due : Turn → Type 0) (s : Status) (line : List ℕ) (old new : Option (List ℕ)) (faults now : ℕ) (result : Status)
+    → IsLast s → Due (turn.Ends s line) → IfOk text (λ t. bytes_of t ≡ line)
+    → MatchResult text (λ t. Closes old new faults now (bytes_of t) s result) (λ _. Silent old new faults now result)
+    → Settles Due old new faults now result
+built bytes_of (Ok t) Due s line old new faults now result last due is closes =
+    ends_with Due s line old new faults now result last due (subst (λ l. Closes old new faults now l s result) is closes)
+built bytes_of (Err e) Due s line old new faults now result last due is silent = inr silent

@@ -1,0 +1,4 @@
+pub mod Pieces
+pub mod Endings
+pub mod Due
+pub mod Answered

@@ -1,4 +1,0 @@
-pub mod Found
-pub mod Placed
-pub mod Plain
-pub mod Read

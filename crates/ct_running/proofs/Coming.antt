@@ -1,0 +1,124 @@
+-- Events that come one after the other, with their lines.
+use Rattle.std.proofs.Common.{◌≡◌, ℕ, ◌+◌, ◌<◌, ◌≤◌, Bool, true, false, List, [], ◌∷◌, ◌++◌, Option, refl, sym, ap, ◌∙◌, subst, arith}
+use Rattle.std.proofs.lemmas.Bool.{lt-ltb}
+use Rattle.std.proofs.lemmas.List.{append-nil}
+use Rattle.std.proofs.lemmas.Grind.{flat_map-append}
+use Rattle.std.specs.List.{flat_map}
+use Rattle.ct_entry.specs.declared.acts.Happened.{Happened}
+use Rattle.def_profile.specs.declared.limits.TheConstants.{MOST_STEPS}
+use Rattle.def_port.specs.Writes.{Writes, WriteFails}
+use Rattle.def_machine.specs.State.{State}
+use Rattle.def_step.specs.declared.Event.{Event}
+use Rattle.def_step.specs.declared.Event.TheVariants.{Step, Tick, Sweep}
+use Rattle.def_step.specs.Instructions.{Board}
+use Rattle.def_step.specs.Events.{MachineRow, happens, run, told, is_lawful}
+use Rattle.def_trace.specs.Trace.{trace_line}
+use Rattle.law_counts.specs.Kinds.{Kinds, kinds, all_more}
+use Rattle.law_counts.proofs.Counted.{run_kinds}
+use Rattle.ct_running.specs.Rounds.{Came, ticks_if, lines_of}
+use Rattle.ct_running.proofs.Pieces as pieces
+
+-- ---- lists of events
+
+pub run_append : (b : Board) (s : State) (es fs : List Event) → run b s (es ++ fs) ≡ run b (run b s es) fs
+unfolding run
+run_append b s [] fs = refl
+run_append b s (e ∷ es) fs = run_append b (happens b s e).0 es fs
+
+pub told_append : (b : Board) (s : State) (es fs : List Event) → told b s (es ++ fs) ≡ told b s es ++ told b (run b s es) fs
+unfolding told run
+told_append b s [] fs = refl
+told_append b s (e ∷ es) fs = ap (λ hs. (happens b s e).1 ∷ hs) (told_append b (happens b s e).0 es fs)
+
+lines_append : (m n : MachineRow) (k : ℕ) (es fs : List Event) → n.board ≡ m.board → n.state ≡ run m.board m.state es → lines_of m k (es ++ fs) ≡ lines_of m k es ++ lines_of n k fs
+lines_append m n k es fs board state =
+    ap (flat_map (trace_line k)) (told_append m.board m.state es fs)
+    ∙ flat_map-append (trace_line k) (told m.board m.state es) (told m.board (run m.board m.state es) fs)
+    ∙ ap (λ b. lines_of m k es ++ flat_map (trace_line k) (told b (run m.board m.state es) fs)) (sym board)
+    ∙ ap (λ s. lines_of m k es ++ flat_map (trace_line k) (told n.board s fs)) (sym state)
+
+pub one_line : (m : MachineRow) (k : ℕ) (e : Event) → lines_of m k (e ∷ []) ≡ trace_line k (happens m.board m.state e).1
+unfolding told
+one_line m k e = append-nil (trace_line k (happens m.board m.state e).1)
+
+one_event : (b : Board) (s : State) (e : Event) → run b s (e ∷ []) ≡ (happens b s e).0
+unfolding run
+one_event b s e = refl
+
+-- ---- coming
+
+pub none_came : (m : MachineRow) (k : ℕ) (before : Option (List ℕ)) (faults : ℕ) → Came m m k [] before before faults faults
+unfolding run told
+none_came m k before faults = record { board = refl; state = refl; written = pieces.nothing before faults }
+
+pub one_came : (m n : MachineRow) (k : ℕ) (e : Event) (h : Happened) (before after : Option (List ℕ)) (faults now : ℕ)
+    → n.state ≡ (happens m.board m.state e).0 → h ≡ (happens m.board m.state e).1 → n.board ≡ m.board
+    → Writes before after faults now (trace_line k h) → Came m n k (e ∷ []) before after faults now
+one_came m n k e h before after faults now state told board w = record {
+  board = board;
+  state = state ∙ sym (one_event m.board m.state e);
+  written = subst (λ t. Writes before after faults now t) (ap (λ x. trace_line k x) told ∙ sym (one_line m k e)) w;
+}
+
+pub one_fails : (m : MachineRow) (k : ℕ) (e : Event) (h : Happened) (before after : Option (List ℕ)) (faults now : ℕ)
+    → h ≡ (happens m.board m.state e).1
+    → WriteFails before after faults now (trace_line k h) → WriteFails before after faults now (lines_of m k (e ∷ []))
+one_fails m k e h before after faults now told w = subst (λ t. WriteFails before after faults now t) (ap (λ x. trace_line k x) told ∙ sym (one_line m k e)) w
+
+pub both_came : (m n o : MachineRow) (k : ℕ) (es fs : List Event) (before mid after : Option (List ℕ)) (f g h : ℕ)
+    → Came m n k es before mid f g → Came n o k fs mid after g h → Came m o k (es ++ fs) before after f h
+both_came m n o k es fs before mid after f g h a b = record {
+  board = b.board ∙ a.board;
+  state = b.state ∙ (rw (a.board, a.state) refl) ∙ sym (run_append m.board m.state es fs);
+  written = subst (λ t. Writes before after f h t) (sym (lines_append m n k es fs a.board a.state)) (pieces.both before mid after f g h (lines_of m k es) (lines_of n k fs) a.written b.written);
+}
+
+pub first_failed : (m : MachineRow) (k : ℕ) (es fs : List Event) (before after : Option (List ℕ)) (f g : ℕ)
+    → WriteFails before after f g (lines_of m k es) → WriteFails before after f g (lines_of m k (es ++ fs))
+first_failed m k es fs before after f g w =
+    let there : MachineRow = record { board = m.board; state = run m.board m.state es } in
+    subst (λ t. WriteFails before after f g t) (sym (lines_append m there k es fs refl refl)) (pieces.first_fails before after f g (lines_of m k es) (lines_of there k fs) w)
+
+pub second_failed : (m n : MachineRow) (k : ℕ) (es fs : List Event) (before mid after : Option (List ℕ)) (f g h : ℕ)
+    → Came m n k es before mid f g → WriteFails mid after g h (lines_of n k fs) → WriteFails before after f h (lines_of m k (es ++ fs))
+second_failed m n k es fs before mid after f g h a w =
+    subst (λ t. WriteFails before after f h t) (sym (lines_append m n k es fs a.board a.state)) (pieces.second_fails before mid after f g h (lines_of m k es) (lines_of n k fs) a.written w)
+
+-- ---- what was counted
+
+came_kinds : (m n : MachineRow) (k : ℕ) (es : List Event) (before after : Option (List ℕ)) (f g : ℕ) → Came m n k es before after f g → kinds n.state.counts ≡ all_more es (kinds m.state.counts)
+came_kinds m n k es before after f g c = ap (λ (s : State). kinds s.counts) c.state ∙ run_kinds m.board m.state es
+
+-- after a slice of a sweep a step may come as before
+swept_steps : (m n : MachineRow) (k : ℕ) (before after : Option (List ℕ)) (f g : ℕ) → Came m n k (Sweep ∷ []) before after f g → n.state.counts.steps ≡ m.state.counts.steps
+swept_steps m n k before after f g c = ap (λ (x : Kinds). x.steps) (came_kinds m n k (Sweep ∷ []) before after f g c)
+
+pub step_may : (m n : MachineRow) (k : ℕ) (before after : Option (List ℕ)) (f g : ℕ) → Came m n k (Sweep ∷ []) before after f g → m.state.counts.steps < MOST_STEPS → is_lawful n.state Step ≡ true
+step_may m n k before after f g c few =
+    let same = swept_steps m n k before after f g c in
+    lt-ltb n.state.counts.steps MOST_STEPS (omega (arith, same, few))
+
+pub ticked_steps : (m n : MachineRow) (due : Bool) (k : ℕ) (before after : Option (List ℕ)) (f g : ℕ) → Came m n k (ticks_if due) before after f g → n.state.counts.steps ≡ m.state.counts.steps
+ticked_steps m n true k before after f g c = ap (λ (x : Kinds). x.steps) (came_kinds m n k (Tick ∷ []) before after f g c)
+ticked_steps m n false k before after f g c = ap (λ (x : Kinds). x.steps) (came_kinds m n k [] before after f g c)
+
+pub ticked_sweeps : (m n : MachineRow) (due : Bool) (k : ℕ) (before after : Option (List ℕ)) (f g : ℕ) → Came m n k (ticks_if due) before after f g → n.state.counts.sweeps ≡ m.state.counts.sweeps
+ticked_sweeps m n true k before after f g c = ap (λ (x : Kinds). x.sweeps) (came_kinds m n k (Tick ∷ []) before after f g c)
+ticked_sweeps m n false k before after f g c = ap (λ (x : Kinds). x.sweeps) (came_kinds m n k [] before after f g c)
+
+-- a whole round
+pub round_steps : (m n : MachineRow) (due : Bool) (k : ℕ) (before after : Option (List ℕ)) (f g : ℕ) → Came m n k (ticks_if due ++ Sweep ∷ Step ∷ []) before after f g → n.state.counts.steps ≡ m.state.counts.steps + 1
+round_steps m n true k before after f g c = ap (λ (x : Kinds). x.steps) (came_kinds m n k (Tick ∷ Sweep ∷ Step ∷ []) before after f g c)
+round_steps m n false k before after f g c = ap (λ (x : Kinds). x.steps) (came_kinds m n k (Sweep ∷ Step ∷ []) before after f g c)
+
+pub round_sweeps : (m n : MachineRow) (due : Bool) (k : ℕ) (before after : Option (List ℕ)) (f g : ℕ) → Came m n k (ticks_if due ++ Sweep ∷ Step ∷ []) before after f g → n.state.counts.sweeps ≡ m.state.counts.sweeps + 1
+round_sweeps m n true k before after f g c = ap (λ (x : Kinds). x.sweeps) (came_kinds m n k (Tick ∷ Sweep ∷ Step ∷ []) before after f g c)
+round_sweeps m n false k before after f g c = ap (λ (x : Kinds). x.sweeps) (came_kinds m n k (Sweep ∷ Step ∷ []) before after f g c)
+
+pub round_ticks : (m n : MachineRow) (due : Bool) (k : ℕ) (before after : Option (List ℕ)) (f g : ℕ) → Came m n k (ticks_if due ++ Sweep ∷ Step ∷ []) before after f g → n.state.counts.ticks ≤ m.state.counts.ticks + 1
+round_ticks m n true k before after f g c =
+    let same : n.state.counts.ticks ≡ m.state.counts.ticks + 1 = ap (λ (x : Kinds). x.ticks) (came_kinds m n k (Tick ∷ Sweep ∷ Step ∷ []) before after f g c) in
+    omega (arith, same)
+round_ticks m n false k before after f g c =
+    let same : n.state.counts.ticks ≡ m.state.counts.ticks = ap (λ (x : Kinds). x.ticks) (came_kinds m n k (Sweep ∷ Step ∷ []) before after f g c) in
+    omega (arith, same)

@@ -1,0 +1,4 @@
+pub mod Pieces
+pub mod Coming
+pub mod Ticking
+pub mod Going

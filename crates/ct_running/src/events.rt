@@ -1,0 +1,99 @@
+//! One event, or the few of a round, with the lines of what they do.
+
+ghost use Rattle.std.specs.Prelude.{◌≡◌, ◌<◌, ◌++◌, [], ◌∷◌, IsTrue, MatchResult};
+ghost use Rattle.def_profile.specs.declared.limits.TheConstants.{MOST_STEPS};
+ghost use Rattle.def_port.specs.Writes.{WriteFails};
+ghost use Rattle.def_step.specs.declared.Event.TheVariants.{Step, Sweep};
+ghost use Rattle.def_step.specs.Events.{is_lawful};
+ghost use Rattle.ct_running.specs.Rounds.{Came, HasRoom, lines_of, ticks_if};
+
+use crate::lines::write_happened;
+use ct_machine::{Event, Machine};
+use ct_mem::Memory;
+use ct_port::{Sink, WriteFailed};
+
+/// An event, and its lines.
+fn write_event<M: Memory + Drop, S: Sink>(
+    machine: &mut Machine<M>,
+    event: Event,
+    number: u32,
+    sink: &mut S,
+) -> Result<(), WriteFailed>
+    requires { IsTrue (is_lawful machine.old.state event) }
+    ensures { MatchResult result
+        (λ _.
+        Came machine.old machine.new number (event ∷ []) (S.bytes sink.old) (S.bytes sink.new)
+        (S.faults sink.old) (S.faults sink.new))
+        (λ _.
+        WriteFails (S.bytes sink.old) (S.bytes sink.new) (S.faults sink.old)
+        (S.faults sink.new) (lines_of machine.old number (event ∷ []))) }
+{
+    let happened = machine.advance(event);
+    write_happened(&happened, number, sink)
+}
+
+/// A tick where it is due.
+fn write_tick<M: Memory + Drop, S: Sink>(
+    machine: &mut Machine<M>,
+    due: bool,
+    number: u32,
+    sink: &mut S,
+) -> Result<(), WriteFailed>
+    requires { machine.old.state.counts.ticks < MOST_STEPS }
+    ensures { MatchResult result
+        (λ _.
+        Came machine.old machine.new number (ticks_if due) (S.bytes sink.old)
+        (S.bytes sink.new) (S.faults sink.old) (S.faults sink.new))
+        (λ _.
+        WriteFails (S.bytes sink.old) (S.bytes sink.new) (S.faults sink.old)
+        (S.faults sink.new) (lines_of machine.old number (ticks_if due))) }
+{
+    if due {
+        return write_event(machine, Event::Tick, number, sink);
+    }
+    Ok(())
+}
+
+/// A slice of a sweep, and a step.
+fn write_step<M: Memory + Drop, S: Sink>(
+    machine: &mut Machine<M>,
+    number: u32,
+    sink: &mut S,
+) -> Result<(), WriteFailed>
+    requires steps { machine.old.state.counts.steps < MOST_STEPS }
+    requires sweeps { machine.old.state.counts.sweeps < MOST_STEPS }
+    ensures { MatchResult result
+        (λ _.
+        Came machine.old machine.new number (Sweep ∷ Step ∷ []) (S.bytes sink.old)
+        (S.bytes sink.new) (S.faults sink.old) (S.faults sink.new))
+        (λ _.
+        WriteFails (S.bytes sink.old) (S.bytes sink.new) (S.faults sink.old)
+        (S.faults sink.new) (lines_of machine.old number (Sweep ∷ Step ∷ []))) }
+{
+    match write_event(machine, Event::Sweep, number, sink) {
+        Ok(()) => write_event(machine, Event::Step, number, sink),
+        Err(failed) => Err(failed),
+    }
+}
+
+/// A step with what comes before it.
+pub(crate) fn write_round<M: Memory + Drop, S: Sink>(
+    machine: &mut Machine<M>,
+    due: bool,
+    number: u32,
+    sink: &mut S,
+) -> Result<(), WriteFailed>
+    requires { HasRoom machine.old.state.counts }
+    ensures { MatchResult result
+        (λ _.
+        Came machine.old machine.new number (ticks_if due ++ Sweep ∷ Step ∷ [])
+        (S.bytes sink.old) (S.bytes sink.new) (S.faults sink.old) (S.faults sink.new))
+        (λ _.
+        WriteFails (S.bytes sink.old) (S.bytes sink.new) (S.faults sink.old)
+        (S.faults sink.new) (lines_of machine.old number (ticks_if due ++ Sweep ∷ Step ∷ []))) }
+{
+    match write_tick(machine, due, number, sink) {
+        Ok(()) => write_step(machine, number, sink),
+        Err(failed) => Err(failed),
+    }
+}

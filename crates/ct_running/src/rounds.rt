@@ -1,0 +1,53 @@
+//! The rounds of a run, one after another.
+
+ghost use Rattle.std.specs.Prelude.{◌≡◌, ◌-◌, ◌==◌, ◌≤◌, MatchResult, if◌then◌else◌};
+ghost use Rattle.def_profile.specs.declared.limits.TheConstants.{MOST_STEPS};
+ghost use Rattle.def_port.specs.Writes.{WriteFails};
+ghost use Rattle.def_program.specs.Runs.{run_lines};
+ghost use Rattle.law_counts.specs.Kinds.{IsUncounted};
+ghost use Rattle.ct_running.specs.Rounds.{IsOver};
+
+use crate::events::write_round;
+use ct_machine::Machine;
+use ct_mem::Memory;
+use ct_port::{Sink, WriteFailed};
+
+/// How many steps are left to the next tick, once another one is made.
+fn after_step(left: u32, quantum: u32) -> u32
+    requires { 1 ≤ quantum }
+    ensures { result ≡ (if left == 0 then quantum else left) - 1 }
+{
+    if left == 0 { quantum - 1 } else { left - 1 }
+}
+
+/// All rounds up to an end of the machine or the limit, with the lines of what they do.
+pub(crate) fn write_rounds<M: Memory + Drop, S: Sink>(
+    machine: &mut Machine<M>,
+    quantum: u32,
+    limit: u32,
+    sink: &mut S,
+) -> Result<(), WriteFailed>
+    requires booted { IsUncounted machine.old.state.counts }
+    requires quantum { 1 ≤ quantum }
+    requires limit { limit ≤ MOST_STEPS }
+    ensures { MatchResult result
+        (λ _.
+        IsOver machine.old machine.new quantum limit (S.bytes sink.old) (S.bytes sink.new)
+        (S.faults sink.old) (S.faults sink.new))
+        (λ _.
+        WriteFails (S.bytes sink.old) (S.bytes sink.new) (S.faults sink.old)
+        (S.faults sink.new) (run_lines machine.old quantum limit)) }
+{
+    let mut left = quantum;
+    for done in 0..limit {
+        match machine.ended() {
+            Some(_) => return Ok(()),
+            None => match write_round(machine, left == 0, done + 1, sink) {
+                Ok(()) => {}
+                Err(failed) => return Err(failed),
+            },
+        }
+        left = after_step(left, quantum);
+    }
+    Ok(())
+}

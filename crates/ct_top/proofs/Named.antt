@@ -1,0 +1,28 @@
+-- The file of a form is the one that it names.
+use Rattle.std.proofs.Common.{◌≡◌, ℕ, List, refl, subst}
+use Rattle.def_port.specs.Told.{Told, Call}
+use Rattle.def_program.specs.Commands.{file_of}
+use Rattle.ct_words.specs.declared.Task.{Task}
+use Rattle.ct_words.specs.declared.Task.TheVariants.{Audit, Image, Run, RunImage, Why}
+use Rattle.ct_words.specs.Forms.{command_for}
+use Rattle.ct_reading.specs.declared.files.Stop.{Stop}
+use Rattle.ct_reading.specs.Whole.{WasGiven, NotGiven}
+
+file_is : (name : List ℕ) (task : Task) → name ≡ file_of (command_for name task)
+file_is name Audit = refl
+file_is name Image = refl
+file_is name (Run limit) = refl
+file_is name (RunImage limit) = refl
+file_is name (Why owner compartment) = refl
+
+pub given_by : (name : List ℕ) (task : Task) (told : List ℕ → Told) (before after : List Call) (faults now : ℕ) (bytes : List ℕ)
+    → WasGiven name (told name) before after faults now bytes
+    → WasGiven (file_of (command_for name task)) (told (file_of (command_for name task))) before after faults now bytes
+given_by name task told before after faults now bytes w =
+    subst (λ (n : List ℕ). WasGiven n (told n) before after faults now bytes) (file_is name task) w
+
+pub refused_by : (name : List ℕ) (task : Task) (told : List ℕ → Told) (before after : List Call) (faults now : ℕ) (stop : Stop)
+    → NotGiven name (told name) before after faults now stop
+    → NotGiven (file_of (command_for name task)) (told (file_of (command_for name task))) before after faults now stop
+refused_by name task told before after faults now stop w =
+    subst (λ (n : List ℕ). NotGiven n (told n) before after faults now stop) (file_is name task) w

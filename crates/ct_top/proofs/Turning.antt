@@ -1,0 +1,104 @@
+-- Turns that are due, by what was found.
+use Rattle.std.proofs.Common.{◌≡◌, ℕ, List, true, false, Option, Some, None, Result, Ok, Err, if◌then◌else◌, refl, sym, ap, subst, inl, inr}
+use Rattle.ct_entry.specs.declared.rows.Owner.{Owner}
+use Rattle.def_image.specs.Parts.{PartsRow}
+use Rattle.def_image.specs.Accepted.{IsImage}
+use Rattle.def_description.specs.Rows.{DescRow}
+use Rattle.def_description.specs.WellFormed.{fault}
+use Rattle.def_description.specs.Walk.{place}
+use Rattle.def_link.specs.declared.LinkFault.{LinkFault}
+use Rattle.def_link.specs.declared.LinkFault.TheVariants as link
+use Rattle.def_program.specs.declared.Status.{Status}
+use Rattle.def_program.specs.declared.Status.TheVariants as status
+use Rattle.def_program.specs.Commands.{Command}
+use Rattle.def_program.specs.Lines.{link_status, name_line}
+use Rattle.def_program.specs.Runs.{run_text}
+use Rattle.def_program.specs.Turns.{Turn, Ends, OfImage, OfParts, OfLinked, OfDescription, Looked, are_run, run_or}
+use Rattle.ct_description.specs.declared.DescFault.{DescFault}
+use Rattle.ct_description.specs.declared.DescFault.TheVariants as description
+use Rattle.ct_description.specs.Answers.{Refused}
+use Rattle.ct_image.specs.declared.fault.ImageFault.{ImageFault}
+use Rattle.ct_image.specs.declared.fault.ImageFault.TheVariants as image
+use Rattle.ct_image.specs.Answers.{Refuses}
+use Rattle.ct_objects.specs.Objects as object
+use Rattle.ct_refusals.specs.Closing.{Closes}
+use Rattle.ct_refusals.specs.Settled.{IsLast, Settles}
+use Rattle.ct_refusals.proofs.Endings.{ends_with}
+use Rattle.ct_why.specs.Found.{IsFound}
+use Rattle.ct_top.specs.Done.{IsDone, Faulty, Flawed, Unlinked, wants_memory}
+
+-- ---- done
+
+pub is_done : (Due : Turn → Type 0) (text : List ℕ) (old new : Option (List ℕ)) (faults now : ℕ) (result : Status)
+    → Due (Ends status.Done text) → IsDone old new faults now text result → Settles Due old new faults now result
+is_done Due text old new faults now result due (inl closes) = ends_with Due status.Done text old new faults now result tt due closes
+is_done Due text old new faults now result due (inr silent) = inr silent
+
+-- ---- runs
+
+pub runs : (p : PartsRow) (limit : ℕ) (refused : Turn) → are_run p ≡ true → Ends status.Done (run_text p limit) ≡ run_or p limit refused
+runs p limit refused is = sym (ap (λ b. if b then Ends status.Done (run_text p limit) else refused) is)
+
+pub runs_not : (p : PartsRow) (limit : ℕ) (refused : Turn) → are_run p ≡ false → refused ≡ run_or p limit refused
+runs_not p limit refused is = sym (ap (λ b. if b then Ends status.Done (run_text p limit) else refused) is)
+
+-- ---- names
+
+found_line : (p : PartsRow) (o : Option Owner) (c : Option ℕ) (text : List ℕ) → IsFound p o c (Some text) → Looked p o c (Ends status.Done text)
+found_line p (Some owner) (Some c) text found =
+    let is : Some text ≡ Some found.0 = found.1 in
+    let same : text ≡ found.0 = cc in
+    (found.0, (found.2, ap (λ t. Ends status.Done t) same))
+found_line p (Some owner) None text found = absurd (let none : Some text ≡ None = found in cc)
+found_line p None c text found = absurd (let none : Some text ≡ None = found in cc)
+
+found_none : (p : PartsRow) (o : Option Owner) (c : Option ℕ) → IsFound p o c None → Looked p o c (Ends status.Name name_line)
+found_none p (Some owner) (Some c) found = absurd (let none : None ≡ Some found.0 = found.1 in cc)
+found_none p (Some owner) None found = refl
+found_none p None c found = refl
+
+pub named : (p : PartsRow) (o : Option Owner) (c : Option ℕ) (text : List ℕ) (old new : Option (List ℕ)) (faults now : ℕ) (result : Status)
+    → IsFound p o c (Some text) → Closes old new faults now text status.Done result → Settles (Looked p o c) old new faults now result
+named p o c text old new faults now result found closes =
+    ends_with (Looked p o c) status.Done text old new faults now result tt (found_line p o c text found) closes
+
+pub unnamed : (p : PartsRow) (o : Option Owner) (c : Option ℕ) (old new : Option (List ℕ)) (faults now : ℕ) (result : Status)
+    → IsFound p o c None → Closes old new faults now name_line status.Name result → Settles (Looked p o c) old new faults now result
+unnamed p o c old new faults now result found closes =
+    ends_with (Looked p o c) status.Name name_line old new faults now result tt (found_none p o c found) closes
+
+-- ---- faults
+
+pub description_fault : (c : Command) (bytes : List ℕ) (sources : List (List ℕ)) (e : DescFault) (t : Turn) → Refused bytes e → Faulty e t → OfDescription c bytes sources t
+description_fault c bytes sources (description.At number part index item) t refused due = inl (fault number (place part index item), (refused, due))
+description_fault c bytes sources description.NoMemory t refused due = elim due [ ]
+
+pub image_fault : (c : Command) (bytes : List ℕ) (e : ImageFault) (t : Turn) → Refuses bytes e → Flawed e t → OfImage c bytes t
+image_fault c bytes (image.At number place) t refused due = inl (record { number = number; place = place; fault = refused; due = due })
+image_fault c bytes image.NoMemory t refused due = elim due [ ]
+
+pub image_parts : (c : Command) (bytes : List ℕ) (p : PartsRow) (t : Turn) → IsImage bytes p → OfParts c p t → OfImage c bytes t
+image_parts c bytes p t is due = inr (p, (is, due))
+
+pub linked_parts : (c : Command) (d : DescRow) (r : Result PartsRow LinkFault) (p : PartsRow) (t : Turn) → r ≡ Ok p → OfParts c p t → OfLinked c d r t
+linked_parts c d r p t is due = subst (λ (x : Result PartsRow LinkFault). OfLinked c d x t) (sym is) due
+
+link_is : (r : Result PartsRow LinkFault) (e : LinkFault) → object.Refuses r e → wants_memory e ≡ false → r ≡ Err e
+link_is r (link.Asm owner number line) refused some = refused
+link_is r (link.Export owner item) refused some = refused
+link_is r (link.NoRoom needed has) refused some = refused
+link_is r (link.Import owner line) refused some = refused
+link_is r (link.Initial owner) refused some = refused
+link_is r link.NoMemory refused some = absurd (let clash : true ≡ false = some in cc)
+
+pub link_fault : (c : Command) (d : DescRow) (r : Result PartsRow LinkFault) (e : LinkFault) (t : Turn) → object.Refuses r e → Unlinked d e t → OfLinked c d r t
+link_fault c d r e t refused due =
+    subst (λ (x : Result PartsRow LinkFault). OfLinked c d x t) (sym (link_is r e refused due.1)) due.0
+
+pub link_last : (e : LinkFault) → wants_memory e ≡ false → IsLast (link_status e)
+link_last (link.Asm owner number line) some = tt
+link_last (link.Export owner item) some = tt
+link_last (link.NoRoom needed has) some = tt
+link_last (link.Import owner line) some = tt
+link_last (link.Initial owner) some = tt
+link_last link.NoMemory some = absurd (let clash : true ≡ false = some in cc)

@@ -1,0 +1,19 @@
+use Rattle.std.proofs.Common.{refl}
+use Rattle.ct_refusals.proofs.Endings.{due_by}
+use Rattle.ct_top.proofs.Turning.{is_done}
+use Rattle.ct_top.proofs.commands.finish.Goals as goal
+
+pub returns-in-Audit : goal.returns-in-Audit
+returns-in-Audit g c = λ name. rw c.in-Audit.is (is_done _ _ _ _ _ _ _ refl c.audit.ensures)
+
+pub returns-in-Image : goal.returns-in-Image
+returns-in-Image g c = λ name. rw c.in-Image.is (is_done _ _ _ _ _ _ _ refl c.write_image.ensures)
+
+pub returns-in-Run : goal.returns-in-Run
+returns-in-Run g c = λ name. rw c.in-Run.is (due_by _ _ _ _ _ _ _ (λ t due. due) c.run_described.ensures)
+
+pub returns-in-RunImage : goal.returns-in-RunImage
+returns-in-RunImage g c = λ name. rw c.in-RunImage.is (due_by _ _ _ _ _ _ _ (λ t due. due) c.run_image.ensures)
+
+pub returns-in-Why : goal.returns-in-Why
+returns-in-Why g c = λ name. rw c.in-Why.is (due_by _ _ _ _ _ _ _ (λ t due. due) c.why.ensures)

@@ -1,0 +1,158 @@
+//! A command, from its form to the status: what is read, and what follows of it.
+
+ghost use Rattle.std.specs.Prelude.{◌≡◌, ◌<◌, ◌^◌, ℕ, List, length, Some};
+ghost use Rattle.def_link.specs.Linked.{linked};
+ghost use Rattle.def_program.specs.declared.Status.TheVariants as status;
+ghost use Rattle.def_program.specs.Answers.{Answers};
+ghost use Rattle.def_program.specs.Commands.{form_of};
+ghost use Rattle.def_program.specs.Ends.{ends};
+ghost use Rattle.def_program.specs.Lines.{link_text, link_status};
+ghost use Rattle.def_program.specs.Turns.{OfImage, OfLinked};
+ghost use Rattle.ct_objects.specs.Objects.{IsLinkable};
+ghost use Rattle.ct_refusals.specs.Settled.{Settles};
+ghost use Rattle.ct_words.specs.Forms.{IsShort, command_for, command_of};
+ghost use Rattle.ct_top.specs.Done as done;
+ghost use Rattle.ct_top.specs.Done.{Faulty, Flawed, Unlinked};
+
+use crate::commands::finish;
+use ct_description::DescFault;
+use ct_image::ImageFault;
+use ct_link::{LinkFault, Sources, link};
+use ct_port::{Folder, Sink};
+use ct_reading::{read_file, read_sources};
+use ct_refusals::{close_text, description_line, image_line, link_line, refuse_file};
+use ct_rows::Desc;
+use ct_words::{Form, Task};
+use def_description::{Fault, Place};
+use def_program::Status;
+use std::alloc::Global;
+
+/// Writes the line of bytes that are no description.
+fn refuse_description<S: Sink>(alloc: Global, fault: DescFault, sink: &mut S) -> Status
+    ensures { Settles (Faulty fault)
+        (S.bytes sink.old) (S.bytes sink.new) (S.faults sink.old) (S.faults sink.new) result }
+{
+    match fault {
+        DescFault::At {
+            number,
+            part,
+            index,
+            item,
+        } => {
+            let place = Place { part, index, item };
+            let line = description_line(alloc, Fault { number, place });
+            close_text(line, Status::Description, sink)
+        }
+        DescFault::NoMemory => Status::NoMemory,
+    }
+}
+
+/// Writes the line of bytes that are no image.
+fn refuse_image<S: Sink>(alloc: Global, fault: ImageFault, sink: &mut S) -> Status
+    ensures { Settles (Flawed fault)
+        (S.bytes sink.old) (S.bytes sink.new) (S.faults sink.old) (S.faults sink.new) result }
+{
+    match fault {
+        ImageFault::At { number, place } => {
+            close_text(image_line(alloc, number, place), Status::Image, sink)
+        }
+        ImageFault::NoMemory => Status::NoMemory,
+    }
+}
+
+/// The status of a fault of linking.
+fn status_of(fault: LinkFault) -> Status
+    ensures { result ≡ link_status fault }
+{
+    match fault {
+        LinkFault::Asm { .. } => Status::Assembly,
+        LinkFault::NoMemory => Status::NoMemory,
+        _ => Status::Link,
+    }
+}
+
+/// Whether memory was wanted.
+fn wants_memory(fault: LinkFault) -> bool
+    ensures { result ≡ done.wants_memory fault }
+{
+    match fault {
+        LinkFault::NoMemory => true,
+        _ => false,
+    }
+}
+
+/// Writes the line of a description and sources that don't link.
+fn refuse_link<S: Sink>(alloc: Global, desc: &Desc, fault: LinkFault, sink: &mut S) -> Status
+    ensures { Settles (Unlinked desc.now fault)
+        (S.bytes sink.old) (S.bytes sink.new) (S.faults sink.old) (S.faults sink.new) result }
+{
+    if wants_memory(fault) {
+        return Status::NoMemory;
+    }
+    close_text(link_line(alloc, desc, fault), status_of(fault), sink)
+}
+
+/// What follows after an image's bytes.
+fn of_image<S: Sink>(alloc: Global, task: Task, bytes: &[u8], sink: &mut S) -> Status
+    requires short { IsShort task }
+    requires small { length bytes.now < 2 ^ 32 }
+    ensures { (name : List ℕ)
+        → Settles (OfImage (command_for name task.entry) bytes.now)
+        (S.bytes sink.old) (S.bytes sink.new) (S.faults sink.old) (S.faults sink.new) result }
+{
+    match ct_image::accept(alloc, bytes) {
+        Ok(image) => finish(alloc, task, &image, sink),
+        Err(fault) => refuse_image(alloc, fault, sink),
+    }
+}
+
+/// What follows after a description and all of its sources.
+fn of_sources<S: Sink>(
+    alloc: Global,
+    task: Task,
+    desc: &Desc,
+    sources: &Sources,
+    sink: &mut S,
+) -> Status
+    requires short { IsShort task }
+    requires linkable { IsLinkable desc.now sources.now }
+    ensures { (name : List ℕ)
+        → Settles
+        (OfLinked (command_for name task.entry) desc.now (linked desc.now sources.now))
+        (S.bytes sink.old) (S.bytes sink.new) (S.faults sink.old) (S.faults sink.new) result }
+{
+    match link(alloc, desc, sources) {
+        Ok(image) => finish(alloc, task, &image, sink),
+        Err(fault) => refuse_link(alloc, desc, fault, sink),
+    }
+}
+
+/// Does what a form says.
+pub fn perform<F: Folder, S: Sink>(
+    alloc: Global,
+    form: &Form,
+    folder: &mut F,
+    sink: &mut S,
+) -> Status
+    requires { IsShort form.now.task }
+    ensures { (words : List (List ℕ)) → form_of words ≡ Some (command_of form.now)
+        → Answers (ends F.file F.calls F.faults S.bytes S.faults
+        words folder.old folder.new sink.old sink.new) result }
+{
+    let bytes = match read_file(alloc, form.name, folder) {
+        Ok(bytes) => bytes,
+        Err(stop) => return refuse_file(stop, sink),
+    };
+    if form.task.reads_image() {
+        return of_image(alloc, form.task, bytes.as_slice(), sink);
+    }
+    let desc = match ct_description::read(alloc, bytes.as_slice()) {
+        Ok(desc) => desc,
+        Err(fault) => return refuse_description(alloc, fault, sink),
+    };
+    let texts = match read_sources(alloc, &desc, folder) {
+        Ok(texts) => texts,
+        Err(stop) => return refuse_file(stop, sink),
+    };
+    of_sources(alloc, form.task, &desc, &Sources { texts }, sink)
+}

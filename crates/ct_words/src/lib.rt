@@ -1,0 +1,181 @@
+//! The words of the command line (docs/use/run.md).
+#![tactic(auto)]
+
+ghost use Rattle.std.specs.Prelude.{◌≡◌, ◌≤◌, map, nat_le, option_map, string_bytes, ℕ, List, IfSome, Some, None, if◌then◌else◌};
+ghost use Rattle.std.specs.List.{list_all};
+ghost use Rattle.def_profile.specs.declared.limits.TheConstants.{MOST_STEPS};
+ghost use Rattle.def_program.specs.Commands as spec;
+ghost use Rattle.ct_words.specs.Forms.{command_for, command_of, IsShort};
+
+use def_profile::limits::MOST_STEPS;
+
+/// What is done with a file that was read.
+#[derive(Clone, Copy, Debug, PartialEq, Eq)]
+pub enum Task<'a> {
+    /// The report of a description is written.
+    Audit,
+    /// The image of a description is written.
+    Image,
+    /// A description's image runs for at most so many steps.
+    Run {
+        limit: u32,
+    },
+    /// An image runs for at most so many steps.
+    RunImage {
+        limit: u32,
+    },
+    /// How an owner of a description reaches a compartment is written.
+    Why {
+        owner: &'a str,
+        compartment: &'a str,
+    },
+}
+
+impl<'a> Task<'a> {
+    /// Whether the first file is an image; else it is a description.
+    pub fn reads_image(self) -> bool
+        ensures { (name : List ℕ) → result ≡ spec.reads_image (command_for name self.entry) }
+    {
+        match self {
+            Task::RunImage { .. } => true,
+            _ => false,
+        }
+    }
+}
+
+/// A command: its first file, and what is done with it.
+#[derive(Clone, Copy, Debug)]
+pub struct Form<'a> {
+    pub name: &'a str,
+    pub task: Task<'a>,
+}
+
+fn are_digits(text: &[u8]) -> bool
+    ensures { result ≡ list_all spec.is_digit text.now }
+{
+    text.iter().all(|c| b'0' <= *c && *c <= b'9')
+}
+
+/// The number that digits spell, where it is at most 4,000,000,000.
+fn value_of(digits: &[u8]) -> Option<u32>
+    ensures small { IfSome result (λ n. n ≤ MOST_STEPS) }
+    ensures value { result
+        ≡ (if nat_le (spec.value_of digits.now) MOST_STEPS then Some (spec.value_of digits.now)
+        else None) }
+{
+    let mut value: u64 = 0;
+    for c in digits {
+        value = 10 * value + c.saturating_sub(b'0') as u64;
+        if value > MOST_STEPS as u64 {
+            return None;
+        }
+    }
+    Some(value as u32)
+}
+
+/// A limit: decimal digits without sign or leading zero, of 1 to 4,000,000,000.
+fn limit_of(text: &[u8]) -> Option<u32>
+    ensures small { IfSome result (λ n. n ≤ MOST_STEPS) }
+    ensures value { result ≡ spec.limit_of text.now }
+{
+    match text {
+        [] => None,
+        [first, ..] => {
+            if are_digits(text) && *first != b'0' {
+                value_of(text)
+            } else {
+                None
+            }
+        }
+    }
+}
+
+/// The command of these words, those after the program's name, where they are a form of the command
+/// line.
+pub fn form_of<'a>(words: &'a [String]) -> Option<Form<'a>>
+    ensures short { IfSome result (λ f. IsShort f.task) }
+    ensures command { option_map command_of result ≡ spec.form_of (map string_bytes words.now) }
+{
+    match words {
+        [word, name] => of_one(word.as_str(), name.as_str()),
+        [word, name, limit] => of_two(word.as_str(), name.as_str(), limit.as_str()),
+        [word, name, owner, compartment] => of_three(
+            word.as_str(),
+            name.as_str(),
+            owner.as_str(),
+            compartment.as_str(),
+        ),
+        _ => None,
+    }
+}
+
+/// `audit DESC`, `image DESC`.
+fn of_one<'a>(word: &str, name: &'a str) -> Option<Form<'a>>
+    ensures short { IfSome result (λ f. IsShort f.task) }
+    ensures command { option_map command_of result ≡ spec.of_one word.now name.now }
+{
+    if word == "audit" {
+        let task = Task::Audit;
+        return Some(Form { name, task });
+    }
+    if word == "image" {
+        let task = Task::Image;
+        return Some(Form { name, task });
+    }
+    None
+}
+
+/// `run DESC LIMIT`, `runimage IMAGE LIMIT`.
+fn of_two<'a>(word: &str, name: &'a str, limit: &str) -> Option<Form<'a>>
+    ensures short { IfSome result (λ f. IsShort f.task) }
+    ensures command { option_map command_of result ≡ spec.of_two word.now name.now limit.now }
+{
+    if word == "run" {
+        return run_of(name, limit);
+    }
+    if word == "runimage" {
+        return run_image_of(name, limit);
+    }
+    None
+}
+
+fn run_of<'a>(name: &'a str, limit: &str) -> Option<Form<'a>>
+    ensures short { IfSome result (λ f. IsShort f.task) }
+    ensures command { option_map command_of result
+        ≡ option_map (spec.Run name.now) (spec.limit_of limit.now) }
+{
+    match limit_of(limit.as_bytes()) {
+        Some(limit) => Some(Form {
+            name,
+            task: Task::Run { limit },
+        }),
+        None => None,
+    }
+}
+
+fn run_image_of<'a>(name: &'a str, limit: &str) -> Option<Form<'a>>
+    ensures short { IfSome result (λ f. IsShort f.task) }
+    ensures command { option_map command_of result
+        ≡ option_map (spec.RunImage name.now) (spec.limit_of limit.now) }
+{
+    match limit_of(limit.as_bytes()) {
+        Some(limit) => Some(Form {
+            name,
+            task: Task::RunImage { limit },
+        }),
+        None => None,
+    }
+}
+
+/// `why DESC OWNER COMPARTMENT`.
+fn of_three<'a>(word: &str, name: &'a str, owner: &'a str, compartment: &'a str) -> Option<Form<'a>>
+    ensures short { IfSome result (λ f. IsShort f.task) }
+    ensures command { option_map command_of result
+        ≡ spec.of_three word.now name.now owner.now compartment.now }
+{
+    if word == "why" {
+        let task = Task::Why { owner, compartment };
+        return Some(Form { name, task });
+    }
+    None
+}

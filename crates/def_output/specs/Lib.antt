@@ -1,6 +1,0 @@
-pub mod Commands
-pub mod Lines
-pub mod Runs
-pub mod Licences
-pub mod Answers
-pub mod Codes

@@ -1,3 +1,0 @@
-pub mod Rights
-pub mod Entries
-pub mod Report

@@ -1,0 +1,2 @@
+pub mod Veil
+pub mod Steps

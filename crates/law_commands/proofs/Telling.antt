@@ -1,0 +1,92 @@
+-- The lines of a run, event by event.
+use Rattle.std.proofs.Common.{◌≡◌, ℕ, zero, suc, ◌+◌, ◌-◌, ◌%◌, ◌&&◌, ◌==◌, nat_lt, Bool, true, false, List, [], ◌∷◌, ◌++◌, Option, Some, None, if◌then◌else◌, refl, sym, ap, ◌∙◌}
+use Rattle.std.proofs.lemmas.List.{append_assoc, append-nil}
+use Rattle.std.specs.List.{flat_map}
+use Rattle.ct_entry.specs.declared.acts.End.{End}
+use Rattle.def_machine.specs.State.{State}
+use Rattle.def_step.specs.declared.Event.{Event}
+use Rattle.def_step.specs.declared.Event.TheVariants.{Step, Tick, Sweep}
+use Rattle.def_step.specs.Instructions.{Board}
+use Rattle.def_step.specs.Events.{happens, run, told, end_of, MachineRow}
+use Rattle.def_trace.specs.Trace.{trace_line}
+use Rattle.def_program.specs.Runs.{round, unless_ended, events_from, events_until, last_line, or_last, lines_from, run_lines}
+use Rattle.law_commands.specs.Telling.{event_lines}
+
+-- what a list of events writes, and the summary after them
+abbrev pub text_of : Board → State → ℕ → List Event → List ℕ
+text_of b s k es = event_lines k es (told b s es) ++ last_line (run b s es)
+
+abbrev lines_of : Board → State → ℕ → List Event → List ℕ
+lines_of b s k es = flat_map (trace_line k) (told b s es)
+
+abbrev pub round_by : Bool → List Event
+round_by due = (if due then Tick ∷ [] else []) ++ Sweep ∷ Step ∷ []
+
+with_tick : (a b c more last : List ℕ) → (a ++ (b ++ (c ++ more))) ++ last ≡ (a ++ (b ++ (c ++ []))) ++ (more ++ last)
+with_tick a b c more last = simp (append_assoc, append-nil)
+
+without : (b c more last : List ℕ) → (b ++ (c ++ more)) ++ last ≡ (b ++ (c ++ [])) ++ (more ++ last)
+without b c more last = simp (append_assoc, append-nil)
+
+-- one round, and what comes after it
+round_then : (b : Board) (s : State) (k : ℕ) (due : Bool) (es : List Event)
+    → text_of b s k (round_by due ++ es) ≡ lines_of b s k (round_by due) ++ text_of b (run b s (round_by due)) (k + 1) es
+unfolding told run
+round_then b s k true es =
+    let first : State = (happens b s Tick).0 in
+    let second : State = (happens b first Sweep).0 in
+    let third : State = (happens b second Step).0 in
+    with_tick (trace_line k (happens b s Tick).1) (trace_line k (happens b first Sweep).1) (trace_line k (happens b second Step).1)
+    (event_lines (k + 1) es (told b third es)) (last_line (run b third es))
+round_then b s k false es =
+    let second : State = (happens b s Sweep).0 in
+    let third : State = (happens b second Step).0 in
+    without (trace_line k (happens b s Sweep).1) (trace_line k (happens b second Step).1)
+    (event_lines (k + 1) es (told b third es)) (last_line (run b third es))
+
+pub events_at_end : (b : Board) (s : State) (quantum k n : ℕ) (e : End) → end_of s ≡ Some e → events_from b s quantum k (suc n) ≡ []
+unfolding events_from
+events_at_end b s quantum k n e ended = ap (λ o. unless_ended o (round quantum k ++ events_from b (run b s (round quantum k)) quantum (k + 1) n)) ended
+
+pub events_on : (b : Board) (s : State) (quantum k n : ℕ) → end_of s ≡ None
+    → events_from b s quantum k (suc n) ≡ round quantum k ++ events_from b (run b s (round quantum k)) quantum (k + 1) n
+unfolding events_from
+events_on b s quantum k n on = ap (λ o. unless_ended o (round quantum k ++ events_from b (run b s (round quantum k)) quantum (k + 1) n)) on
+
+lines_at_end : (b : Board) (s : State) (quantum k n : ℕ) (e : End) → end_of s ≡ Some e → lines_from b s quantum k (suc n) ≡ last_line s
+unfolding lines_from
+lines_at_end b s quantum k n e ended = ap (λ o. or_last o s (lines_of b s k (round quantum k) ++ lines_from b (run b s (round quantum k)) quantum (k + 1) n)) ended
+
+lines_on : (b : Board) (s : State) (quantum k n : ℕ) → end_of s ≡ None
+    → lines_from b s quantum k (suc n) ≡ lines_of b s k (round quantum k) ++ lines_from b (run b s (round quantum k)) quantum (k + 1) n
+unfolding lines_from
+lines_on b s quantum k n on = ap (λ o. or_last o s (lines_of b s k (round quantum k) ++ lines_from b (run b s (round quantum k)) quantum (k + 1) n)) on
+
+none_left : (b : Board) (s : State) (k : ℕ) → text_of b s k [] ≡ last_line s
+unfolding told run
+none_left b s k = refl
+
+at_limit : (b : Board) (s : State) (quantum k : ℕ) → lines_from b s quantum k 0 ≡ text_of b s k (events_from b s quantum k 0)
+unfolding lines_from events_from told run
+at_limit b s quantum k = refl
+
+pub are_told : (b : Board) (s : State) (quantum k n : ℕ) → lines_from b s quantum k n ≡ text_of b s k (events_from b s quantum k n)
+are_told b s quantum k zero = at_limit b s quantum k
+are_told b s quantum k (suc n) = by_end (end_of s) refl (are_told b (run b s (round quantum k)) quantum (k + 1) n)
+  where
+    after : State
+    after = run b s (round quantum k)
+
+    by_end : (o : Option End) → end_of s ≡ o → lines_from b after quantum (k + 1) n ≡ text_of b after (k + 1) (events_from b after quantum (k + 1) n) → lines_from b s quantum k (suc n) ≡ text_of b s k (events_from b s quantum k (suc n))
+    by_end (Some e) ended rest =
+        lines_at_end b s quantum k n e ended
+        ∙ sym (none_left b s k)
+        ∙ ap (λ es. text_of b s k es) (sym (events_at_end b s quantum k n e ended))
+    by_end None on rest =
+        lines_on b s quantum k n on
+        ∙ ap (λ t. lines_of b s k (round quantum k) ++ t) rest
+        ∙ sym (round_then b s k (nat_lt 1 k && ((k - 1) % quantum == 0)) (events_from b (run b s (round quantum k)) quantum (k + 1) n))
+        ∙ ap (λ es. text_of b s k es) (sym (events_on b s quantum k n on))
+
+pub run_is_told : (m : MachineRow) (quantum limit : ℕ) → run_lines m quantum limit ≡ text_of m.board m.state 1 (events_until m quantum limit)
+run_is_told m quantum limit = are_told m.board m.state quantum 1 limit

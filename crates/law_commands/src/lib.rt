@@ -1,0 +1,42 @@
+//! Laws of the runs that commands ask for: each deed of one is licensed by the image's entries, and
+//! the lines that are written tell what its events did. Functions with empty bodies whose contracts
+//! are the laws.
+#![tactic(auto)]
+
+ghost use Rattle.std.specs.Prelude.{◌≡◌, ◌≤◌, ◌++◌, List, ℕ};
+ghost use Rattle.def_boot.specs.Boot.{booted_machine};
+ghost use Rattle.def_image.specs.Parts.{PartsRow};
+ghost use Rattle.def_profile.specs.declared.limits.TheConstants.{MOST_STEPS};
+ghost use Rattle.def_program.specs.Commands.{Command};
+ghost use Rattle.def_program.specs.Licences.{IsLicensedCommand, StandFor};
+ghost use Rattle.def_program.specs.Runs.{events_until, last_line, run_lines};
+ghost use Rattle.def_step.specs.Events.{AreLawful, MachineRow, run, told};
+ghost use Rattle.law_commands.specs.Telling.{event_lines};
+ghost use Rattle.law_counts.specs.Kinds.{IsUncounted};
+
+/// Of the parts that a command's files stand for, whatever bytes these are: each deed, and each span
+/// with interrupts off, of the run that the command asks for is licensed by the image's entries.
+pub fn commands_are_licensed()
+    ensures { (c : Command) (files : List (List ℕ)) (p : PartsRow)
+        → StandFor c files p → IsLicensedCommand c p }
+{}
+
+/// The lines of a run are those of what its events did, in their order, each with its step's number,
+/// and the summary of the state that they lead to.
+pub fn runs_are_told()
+    ensures { (m : MachineRow) (quantum limit : ℕ)
+        → run_lines m quantum limit
+        ≡ event_lines 1 (events_until m quantum limit)
+        (told m.board m.state (events_until m quantum limit))
+        ++ last_line (run m.board m.state (events_until m quantum limit)) }
+{}
+
+/// Each event of a run may come when it comes, where none came before; so from boot.
+pub fn runs_are_lawful()
+    ensures uncounted { (m : MachineRow) (quantum limit : ℕ)
+        → IsUncounted m.state.counts → limit ≤ MOST_STEPS
+        → AreLawful m.board m.state (events_until m quantum limit) }
+    ensures booted { (p : PartsRow) (limit : ℕ) → limit ≤ MOST_STEPS
+        → AreLawful (booted_machine p).board (booted_machine p).state
+        (events_until (booted_machine p) p.quantum limit) }
+{}

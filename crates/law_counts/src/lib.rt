@@ -1,0 +1,19 @@
+//! What events count: each counts as one of its kind. A function with an empty body whose contract is
+//! the law.
+#![tactic(auto)]
+
+ghost use Rattle.std.specs.Prelude.{◌≡◌, List};
+ghost use Rattle.def_machine.specs.State.{State};
+ghost use Rattle.def_step.specs.declared.Event.{Event};
+ghost use Rattle.def_step.specs.Instructions.{Board};
+ghost use Rattle.def_step.specs.Events.{happens, run};
+ghost use Rattle.law_counts.specs.Kinds.{all_more, kinds, one_more};
+
+/// An event counts as one of its kind, whatever it does, and the counts of the other kinds stay. So do
+/// the events of a list, one after another.
+pub fn events_are_counted()
+    ensures one { (b : Board) (s : State) (e : Event)
+        → kinds (happens b s e).0.counts ≡ one_more e (kinds s.counts) }
+    ensures all { (b : Board) (s : State) (es : List Event)
+        → kinds (run b s es).counts ≡ all_more es (kinds s.counts) }
+{}

@@ -1,0 +1,123 @@
+-- A command has a turn after any files.
+use Rattle.std.proofs.Common.{ℕ, ◌≡◌, ◌≢◌, ◌^◌, ◌<◌, inl, inr, Bool, true, false, List, [], ◌∷◌, length, Option, Some, None, Result, Ok, Err, slice_get, refl}
+use Rattle.ct_entry.specs.declared.rows.Owner.{Owner}
+use Rattle.ct_entry.specs.declared.rows.Owner.TheVariants.{Trusted, Compartment, Library}
+use Rattle.def_image.specs.Accepted.{IsFaultless}
+use Rattle.def_image.specs.Parts.{PartsRow}
+use Rattle.def_image.specs.Spelling.{image_bytes}
+use Rattle.def_boot.specs.Gates.{entries_of}
+use Rattle.def_description.specs.Rows.{DescRow}
+use Rattle.def_description.specs.WellFormed.{WellFormed}
+use Rattle.def_link.specs.declared.LinkFault.{LinkFault}
+use Rattle.def_link.specs.Linked.{linked}
+use Rattle.def_lines.specs.Report.{report_line}
+use Rattle.def_program.specs.declared.Status.TheVariants as status
+use Rattle.def_program.specs.declared.TheConstants.{THREADS_PLACE}
+use Rattle.def_program.specs.Commands.{Command, Audit, Image, Run, RunImage, Why, file_of, reads_image}
+use Rattle.def_program.specs.Lines.{description_line, link_status, link_text, image_line, name_line}
+use Rattle.def_program.specs.Paths.{IsWhyLine, none_line, path_line, or_library, compartment_named, library_named}
+use Rattle.def_program.specs.Turns.{Turn, Asks, Ends, Looked, OfParts, OfLinked, OfSources, OfDescription, OfImage, OfFirst, run_or, threads_line, source_names}
+use Rattle.law_description.proofs.Judging.{one}
+use Rattle.law_image.proofs.Sounds.{sound}
+use Rattle.law_link_limits.proofs.Whole.{faultless}
+use Rattle.law_wellformed.proofs.Lawfuls.{bytes_lawful}
+use Rattle.law_paths.specs.There.{LeadsOrNot}
+use Rattle.law_paths.proofs.There.{there}
+use Rattle.ct_entries.proofs.Few.{few_rows}
+use Rattle.ct_entries.proofs.Standing.{stands}
+use Rattle.law_dialogue.specs.Following.{IsContent, AreContents, HasTurn}
+use Rattle.law_dialogue.proofs.Images.{image_or_flaw}
+
+-- ---- of parts
+
+few : (p : PartsRow) → IsFaultless p → length (entries_of p).rows < 2 ^ 32
+unfolding entries_of
+few p f = few_rows p (stands p (sound p f))
+
+abbrev HasLine : PartsRow → Owner → ℕ → Type 0
+HasLine p o c = (text : List ℕ) × IsWhyLine p o c text
+
+line_by : (p : PartsRow) (o : Owner) (c : ℕ) → LeadsOrNot (entries_of p) o c → HasLine p o c
+line_by p o c (inl l) = (path_line p l.owners, inr (l.owners, (l.reached, l.path, refl)))
+line_by p o c (inr not) = (none_line, inl (not, refl))
+
+line_there : (p : PartsRow) (o : Owner) (c : ℕ) → IsFaultless p → o ≢ Trusted → HasLine p o c
+line_there p o c f other = line_by p o c (there (entries_of p) o c (few p f) other)
+
+compartments_differ : (c : ℕ) → Compartment c ≢ Trusted
+compartments_differ c h = absurd (let clash : Compartment c ≡ Trusted = h in cc)
+
+libraries_differ : (l : ℕ) → Library l ≢ Trusted
+libraries_differ l h = absurd (let clash : Library l ≡ Trusted = h in cc)
+
+abbrev HasLooked : PartsRow → Option Owner → Option ℕ → Type 0
+HasLooked p o c = (turn : Turn) × Looked p o c turn
+
+looked : (p : PartsRow) → IsFaultless p → (o l c : Option ℕ) → HasLooked p (or_library o l) c
+looked p f (Some o) l (Some c) = let line = line_there p (Compartment o) c f (compartments_differ o) in (Ends status.Done line.0, (line.0, (line.1, refl)))
+looked p f None (Some l) (Some c) = let line = line_there p (Library l) c f (libraries_differ l) in (Ends status.Done line.0, (line.0, (line.1, refl)))
+looked p f None None c = (Ends status.Name name_line, refl)
+looked p f (Some o) l None = (Ends status.Name name_line, refl)
+looked p f None (Some l) None = (Ends status.Name name_line, refl)
+
+abbrev HasParts : Command → PartsRow → Type 0
+HasParts c p = (turn : Turn) × OfParts c p turn
+
+of_parts : (c : Command) (p : PartsRow) → IsFaultless p → HasParts c p
+of_parts (Audit name) p f = (Ends status.Done (report_line p), refl)
+of_parts (Image name) p f = (Ends status.Done (image_bytes p), refl)
+of_parts (Run name limit) p f = (run_or p limit (Ends status.Description threads_line), refl)
+of_parts (RunImage name limit) p f = (run_or p limit (Ends status.Image (image_line 3 THREADS_PLACE)), refl)
+of_parts (Why name owner compartment) p f = looked p f (compartment_named p owner) (library_named p owner) (compartment_named p compartment)
+
+-- ---- of descriptions
+
+abbrev HasLinked : Command → DescRow → Result PartsRow LinkFault → Type 0
+HasLinked c d r = (turn : Turn) × OfLinked c d r turn
+
+of_linked : (c : Command) (bytes : List ℕ) (d : DescRow) (sources : List (List ℕ)) → WellFormed bytes d → (r : Result PartsRow LinkFault) → linked d sources ≡ r → HasLinked c d r
+of_linked c bytes d sources w (Err e) is = (Ends (link_status e) (link_text d e), refl)
+of_linked c bytes d sources w (Ok p) is = of_parts c p (faultless d sources p (record { lawful = bytes_lawful bytes d w; linked = is }))
+
+abbrev HasSources : Command → DescRow → List (List ℕ) → Option (List ℕ) → Type 0
+HasSources c d sources o = (turn : Turn) × OfSources c d sources o turn
+
+of_sources : (c : Command) (bytes : List ℕ) (d : DescRow) (sources : List (List ℕ)) → WellFormed bytes d → (o : Option (List ℕ)) → HasSources c d sources o
+of_sources c bytes d sources w (Some name) = (Asks name, refl)
+of_sources c bytes d sources w None = of_linked c bytes d sources w (linked d sources) refl
+
+abbrev HasDescription : Command → List ℕ → List (List ℕ) → Type 0
+HasDescription c bytes sources = (turn : Turn) × OfDescription c bytes sources turn
+
+of_description : (c : Command) (bytes : List ℕ) (sources : List (List ℕ)) → HasDescription c bytes sources
+of_description c bytes sources = elim (one bytes) [
+  | inl d ↦
+      let next = of_sources c bytes d.0 sources d.1 (slice_get (source_names d.0) (length sources)) in
+      (next.0, inr (d.0, (d.1, next.1)))
+  | inr f ↦ (Ends status.Description (description_line f.0), inl (f.0, (f.1, refl)))
+]
+
+-- ---- of images
+
+abbrev HasImage : Command → List ℕ → Type 0
+HasImage c bytes = (turn : Turn) × OfImage c bytes turn
+
+of_image : (c : Command) (bytes : List ℕ) → IsContent bytes → HasImage c bytes
+of_image c bytes content = elim (image_or_flaw bytes content) [
+  | inl t ↦ let next = of_parts c t.parts t.image.0 in (next.0, inr (t.parts, (t.image, next.1)))
+  | inr f ↦
+      (Ends status.Image (image_line f.number f.place), inl (record { number = f.number; place = f.place; fault = f.fault; due = refl }))
+]
+
+-- ---- of files
+
+abbrev HasFirst : Bool → Command → List ℕ → List (List ℕ) → Type 0
+HasFirst image c bytes sources = (turn : Turn) × OfFirst image c bytes sources turn
+
+of_first : (image : Bool) (c : Command) (bytes : List ℕ) (sources : List (List ℕ)) → IsContent bytes → HasFirst image c bytes sources
+of_first true c bytes sources content = of_image c bytes content
+of_first false c bytes sources content = of_description c bytes sources
+
+pub follows : (c : Command) (files : List (List ℕ)) → AreContents files → HasTurn c files
+follows c [] contents = (Asks (file_of c), refl)
+follows c (bytes ∷ sources) contents = of_first (reads_image c) c bytes sources contents.0

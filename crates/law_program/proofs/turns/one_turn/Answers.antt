@@ -1,0 +1,5 @@
+use Rattle.law_program.proofs.Once.{once}
+use Rattle.law_program.proofs.turns.one_turn.Goals as goal
+
+pub returns : goal.returns
+returns c = once

@@ -1,0 +1,81 @@
+-- What follows from the answers: the status of a call whose files the folder tells, and the statuses
+-- that are left where no fault is counted.
+use Rattle.std.specs.Prelude.{◌≡◌, ◌≤◌, ◌⊎◌, ℕ, List, [], ◌∷◌, length, Bool, true, false, Option, Some, None, if◌then◌else◌}
+use Rattle.ct_entry.specs.declared.rows.Owner.{Owner}
+use Rattle.def_port.specs.Bytes.{Rose}
+use Rattle.def_port.specs.Told.{File}
+use Rattle.def_image.specs.Accepted.{IsImage}
+use Rattle.def_image.specs.Parts.{PartsRow}
+use Rattle.def_program.specs.Commands.{Command, Audit, Image, Run, RunImage, Why, form_of, file_of, reads_image}
+use Rattle.def_program.specs.Ends.{Ends, most}
+use Rattle.def_program.specs.Licences.{LinksTo}
+use Rattle.def_program.specs.Paths.{owner_named, compartment_named}
+use Rattle.def_program.specs.Turns.{are_run, source_names}
+use Rattle.def_program.specs.declared.Status.{Status}
+use Rattle.def_program.specs.declared.Status.TheVariants as status
+
+-- no fault was counted in the call
+pub record NoFault (e : Ends) : Type 0 where
+  pub reads : Rose e.read_faults e.read_faults_after → ⊥
+  pub writes : Rose e.write_faults e.write_faults_after → ⊥
+
+-- ---- what is asked
+
+-- the folder tells a file, of a size that is taken
+pub record IsTold (e : Ends) (name bytes : List ℕ) : Type 0 where
+  pub told : e.told name ≡ File bytes
+  pub size : length bytes ≤ most
+
+-- of each name the file in its place
+abbrev pub AreTold : Ends → List (List ℕ) → List (List ℕ) → Type 0
+AreTold e [] [] = Unit {0}
+AreTold e [] (b ∷ bs) = ⊥
+AreTold e (n ∷ ns) [] = ⊥
+AreTold e (n ∷ ns) (b ∷ bs) = IsTold e n b × AreTold e ns bs
+
+-- an image's bytes, or a description whose sources the folder tells, stand for these parts
+abbrev pub Stand : Ends → Bool → List ℕ → List (List ℕ) → PartsRow → Type 0
+Stand e true bytes sources p = IsImage bytes p
+Stand e false bytes sources p =
+    (l : LinksTo bytes sources p) × AreTold e (source_names l.description) sources
+
+-- the words are a form, and the folder tells its files, which stand for these parts
+pub record IsAsked (e : Ends) (p : PartsRow) : Type 0 where
+  pub command : Command
+  pub form : form_of e.words ≡ Some command
+  pub bytes : List ℕ
+  pub sources : List (List ℕ)
+  pub first : IsTold e (file_of command) bytes
+  pub stand : Stand e (reads_image command) bytes sources p
+
+-- ---- how it ends
+
+abbrev pub looked_status : Option Owner → Option ℕ → Status
+looked_status (Some owner) (Some c) = status.Done
+looked_status (Some owner) None = status.Name
+looked_status None c = status.Name
+
+-- Done; but of names that stand for nothing Name, and a run of too many threads is refused
+abbrev pub status_of : Command → PartsRow → Status
+status_of (Audit name) p = status.Done
+status_of (Image name) p = status.Done
+status_of (Run name limit) p = if are_run p then status.Done else status.Description
+status_of (RunImage name limit) p = if are_run p then status.Done else status.Image
+status_of (Why name owner compartment) p =
+    looked_status (owner_named p owner) (compartment_named p compartment)
+
+-- where no fault is counted, what is asked of files that stand for parts ends so, or wants memory
+abbrev pub Completes : Ends → Status → Type 0
+Completes e s =
+    (p : PartsRow) (a : IsAsked e p) → NoFault e
+    → (s ≡ status_of a.command p) ⊎ (s ≡ status.NoMemory)
+
+-- words that aren't a form are a usage fault, unless its line could not be written
+abbrev pub RefusesMisuse : Ends → Status → Type 0
+RefusesMisuse e s = form_of e.words ≡ None → (s ≡ status.Usage) ⊎ (s ≡ status.WriteFault)
+
+-- a status that a folder and a sink which never fail may leave
+abbrev pub IsSteady : Status → Type 0
+IsSteady status.ReadFault = ⊥
+IsSteady status.WriteFault = ⊥
+IsSteady s = Unit {0}

@@ -1,0 +1,33 @@
+//! What follows from the program's answers.
+
+ghost use Rattle.std.specs.Prelude.{◌≡◌};
+ghost use Rattle.def_program.specs.Answers.{Answers};
+ghost use Rattle.def_program.specs.Ends.{Ends};
+ghost use Rattle.def_program.specs.declared.Status.{Status as StatusRow};
+ghost use Rattle.law_program.specs.Completing.{Completes, IsSteady, NoFault, RefusesMisuse};
+
+/// Completeness: where no fault is counted, and the words are a form whose files the folder tells and
+/// which stand for parts, the status is Done, or NoMemory. But a run of more threads than the machine
+/// runs is refused by its status, and where `why` is asked of names that stand for nothing the status
+/// is Name.
+pub fn completes()
+    ensures { (e : Ends) (s : StatusRow) → Answers e s → Completes e s }
+{}
+
+/// Where no fault is counted no status of a fault is answered.
+pub fn answers_no_fault()
+    ensures { (e : Ends) (s : StatusRow) → Answers e s → NoFault e → IsSteady s }
+{}
+
+/// A count that is the constant 0 did not rise.
+pub fn constant_counts_rise_not()
+    ensures { (e : Ends)
+        → e.read_faults ≡ 0 → e.read_faults_after ≡ 0
+        → e.write_faults ≡ 0 → e.write_faults_after ≡ 0 → NoFault e }
+{}
+
+/// Words that are not a form are answered by Usage, or by WriteFault where the line could not be
+/// written; never by want of memory.
+pub fn misuse_is_usage()
+    ensures { (e : Ends) (s : StatusRow) → Answers e s → RefusesMisuse e s }
+{}

@@ -1,0 +1,230 @@
+#!/usr/bin/env python3
+"""Worked rows of the program: writes a case for each into a folder, and prints NAME=FILE for each source.
+
+    rows.py OUT     writes OUT/NAME, OUT/NAME.args and OUT/NAME.stdout
+
+What a row must write was worked out by hand; reports and images are those of the references beside run_reports and
+run_images, which know nothing of the program. samples/try.sh runs the cases.
+"""
+import copy
+import importlib.util
+import json
+import os
+import sys
+
+HERE = os.path.dirname(os.path.abspath(__file__))
+spec = importlib.util.spec_from_file_location("reports", os.path.join(HERE, "..", "crates", "run_reports", "reference.py"))
+reports = importlib.util.module_from_spec(spec)
+sys.dont_write_bytecode = True
+spec.loader.exec_module(reports)
+images = reports.r
+
+OUT = sys.argv[1]
+RAM = 0x80000000
+TINY = json.load(open(os.path.join(HERE, "tiny", "tiny.json")))
+BOARD = json.load(open(os.path.join(HERE, "board", "board.json")))
+DEVICE_KINDS = {"uart": 1, "timer": 2, "gpio": 3}
+DEVICE_RIGHTS = {"R": 50, "W": 49, "RW": 51}
+STORE = "4 store t0 c0 e4 10000000 4 00000041"
+
+
+def case(name, words, data, wanted):
+    """One run: its words, where {} stands for a file of this data, and what it must write."""
+    for path, content in ((name, data), (name + ".args", "\n".join(words) + "\n"), (name + ".stdout", wanted)):
+        with open(os.path.join(OUT, path), "wb") as file:
+            file.write(content if isinstance(content, bytes) else content.encode())
+
+
+def source(name, lines):
+    """A source of this file name, and the option by which the kit hands it to the program."""
+    path = os.path.join(OUT, "..", os.path.basename(OUT) + "-" + name)
+    with open(path, "w") as file:
+        file.write("".join(line + "\n" for line in lines))
+    print(f"{name}={os.path.abspath(path)}")
+    return {"file": name}
+
+
+def lines(*all_lines):
+    return "".join(line + "\n" for line in all_lines)
+
+
+def ended(kind, steps, devices=0, traps=0):
+    return f"end {kind} steps {steps} ticks 0 calls 0 devices {devices} allocations 0 frees 0 traps {traps}"
+
+
+def image(firmware, text, initial=b"", posture=3):
+    """The image of a firmware of one compartment and one thread, whose text is these bytes, or so many words of it."""
+    text = text if isinstance(text, bytes) else bytes(4 * text)
+    own = firmware["compartments"][0]
+    slots = [images.SWITCH]
+    for it in own.get("imports", []):
+        at = [d["name"] for d in firmware["devices"]].index(it["device"])
+        slots.append((images.import_row(2, DEVICE_RIGHTS[it["rights"]], at), it["as"]))
+    sizes = [8 * len(slots) + len(text), 32, max(16, len(initial)), 256, 304]
+    bases = [RAM]
+    for size in sizes:
+        bases.append(bases[-1] + (size + 15) // 16 * 16)
+    code, table, data, stack, trusted, heap = bases
+    owner = images.owner(True, own["name"], code, table - code, slots,
+                         [(images.export_row(0, 0, 6, posture, 1, 3 + len(slots)), "main")], text, table,
+                         data, stack - data, initial)
+    return images.image(1, 100, RAM, firmware["ram"]["size"], trusted, heap, 64, firmware["firmware"],
+                        [(d["name"], DEVICE_KINDS[d["kind"]], d["base"]) for d in firmware.get("devices", [])], [], [],
+                        [owner], [], [("t", stack, 256, 0, 0, 1, 2)])
+
+
+def report(*firmware):
+    return reports.report(image(*firmware))[0]
+
+
+def tiny(words=None, device=None, rights=None, size=None, **members):
+    """The smallest sample with other words, another kind of device, other rights or another RAM."""
+    firmware = dict(copy.deepcopy(TINY), **members)
+    if words:
+        firmware["compartments"][0]["code"] = {"words": words}
+    if device:
+        firmware["devices"][0]["kind"] = device
+    if rights:
+        firmware["compartments"][0]["imports"][0]["rights"] = rights
+    if size:
+        firmware["ram"]["size"] = size
+    return firmware
+
+
+def run(name, firmware, text, limit, *wanted, **shape):
+    case(name, ["run", "{}", str(limit)], json.dumps(firmware), lines(reports.report(image(firmware, text, **shape))[0], *wanted))
+
+
+# ---- runs of the smallest sample with other code
+
+SLOT = ["00000297", "ff82b283"]
+run("limit", TINY, 5, 3, ended("limit", 3))
+run("past_the_device", tiny(SLOT + ["00a2a823"]), 3, 100, "3 trap t0 c0 28 1 5", ended("finished", 3, traps=1))
+run("divided_by_zero", tiny(SLOT + ["00700513", "020555b3", "00b2a023", "00008067"]), 6, 100,
+    "5 store t0 c0 e4 10000000 4 ffffffff", ended("finished", 7, devices=1))
+run("register_16", tiny(["00000813"]), 1, 100, "1 trap t0 c0 2 0 0", ended("finished", 1, traps=1))
+run("endless", tiny(["0000006f"]), 1, 5, ended("limit", 5))
+run("load_without_the_right", tiny(SLOT + ["0002a503"]), 3, 100, "3 trap t0 c0 28 18 5", ended("finished", 3, traps=1))
+run("pins", tiny(SLOT + ["04100513", "00a2a023", "0002a583", "00008067"], "gpio", "RW"), 6, 100, STORE,
+    "5 load t0 c0 e4 10000000 4 00000041", ended("finished", 7, devices=2))
+disabled = tiny()
+disabled["compartments"][0]["exports"][0]["posture"] = "disabled"
+run("disabled_entry", disabled, 5, 100, "1 off t0 c0 e5", STORE, ended("finished", 6, devices=1), posture=2)
+case("room", ["audit", "{}"], json.dumps(tiny(size=656)), lines(report(tiny(size=656), 5)))
+case("no_room", ["audit", "{}"], json.dumps(tiny(size=640)), "refused 6 link L2 656 640\n")
+case("no_steps", ["run", "{}", "0"], json.dumps(TINY), "refused 1 usage\n")
+
+
+# ---- code by sources
+
+def filed(name, source_lines, **members):
+    """The smallest sample, whose code is a file of these lines."""
+    firmware = tiny(**members)
+    firmware["compartments"][0]["code"] = source(name + ".s", source_lines)
+    firmware["compartments"][0]["exports"][0]["at"] = "main"
+    return firmware
+
+
+def hostile(name, text, limit, wanted, *source_lines):
+    """A firmware without devices, with the bytes of a capability for all of memory in its globals."""
+    firmware = filed(name, ["main: " + source_lines[0], *source_lines[1:], ".data", ".word 0", ".word 0x7E3C0100"],
+                     firmware="forge")
+    del firmware["devices"], firmware["compartments"][0]["imports"]
+    run(name, firmware, text, limit, *wanted, initial=bytes.fromhex("0000000000013c7e"))
+
+
+def trapped(step, cause, code, register):
+    return f"{step} trap t0 c0 {cause} {code} {register}", ended("finished", step, traps=1)
+
+
+hostile("forged", 2, 100, trapped(2, 28, 2, 5), "clc ct0, 0(cgp)", "clw a0, 0(ct0)")
+hostile("smuggled", 3, 100, trapped(3, 28, 2, 5), "csc csp, 0(cgp)", "clc ct0, 0(cgp)", "clw a0, 0(ct0)")
+hostile("high_word", 2, 100, trapped(2, 28, 2, 5), "csethigh ct0, cgp, ca0", "clw a0, 0(ct0)")
+hostile("wider_bounds", 2, 100, trapped(2, 28, 2, 5), "csetboundsimm ct0, cgp, 32", "clw a0, 0(ct0)")
+hostile("jump_to_data", 1, 100, trapped(1, 28, 17, 3), "cjr cgp")
+hostile("not_aligned", 1, 100, trapped(1, 4, 0, 0), "clw a0, 1(cgp)")
+hostile("store_to_code", 2, 100, trapped(2, 28, 19, 5), "auipcc ct0, 0", "csw a0, 0(ct0)")
+for name, line, wanted in (("store_past", "csw a0, 16(ct0)", trapped(3, 28, 1, 5)),
+                           ("load_of_stores", "clw a0, 0(ct0)", trapped(3, 28, 18, 5))):
+    run(name, filed(name, ["main: cimport ct0, uart", line]), 3, 100, *wanted)
+run("words_of_li", filed("words_of_li", ["main: li a0, 4096", "li a1, 4294967295", "cret"]), 4, 100, ended("finished", 5))
+case("mnemonic", ["audit", "{}"], json.dumps(filed("mnemonic", ["main: nop", "frob a0"])), "refused 5 assembly A2 app 2\n")
+case("undeclared", ["image", "{}"], json.dumps(filed("undeclared", ["main: cimport ct0, nosuch"])),
+     "refused 6 link L3 app 1\n")
+case("no_source", ["audit", "{}"], json.dumps(dict(TINY, compartments=[dict(TINY["compartments"][0],
+     code={"file": "nosuch.s"})])), "refused 2 read nosuch.s\n")
+
+# ---- descriptions that are refused
+
+nowhere = tiny()
+nowhere["compartments"][0]["imports"][0]["device"] = "uart9"
+for name, data, wanted in (("open", "{", "F1 firmware 0 0"), ("empty", "{}", "F2 firmware 0 0"),
+                           ("nowhere", json.dumps(nowhere), "F7 import 0 0"),
+                           ("sweep", json.dumps(tiny(sweep=32)), "F6 firmware 0 0")):
+    case(name, ["audit", "{}"], data, f"refused 4 description {wanted}\n")
+threads = tiny(threads=TINY["threads"] + [dict(TINY["threads"][0], name="u")])
+case("two_threads", ["run", "{}", "9"], json.dumps(threads), "refused 4 description F6 firmware 0 0\n")
+case("no_file", ["audit", "nosuch.json"], "", "refused 2 read nosuch.json\n")
+
+# ---- why
+
+passing = copy.deepcopy(BOARD)
+passing["compartments"][1]["exports"][0]["passes"] = "capabilities"
+both = dict(copy.deepcopy(BOARD), threads=BOARD["threads"] + [dict(BOARD["threads"][0], name="u")])
+both["compartments"][0]["imports"].append({"as": "allocate", "service": "allocate"})
+for name, firmware in (("small", BOARD), ("board", both)):
+    case(f"why_{name}_none", ["why", "{}", "app", "driver"], json.dumps(firmware), "none\n")
+    case(f"why_{name}_library", ["why", "{}", "hex", "app"], json.dumps(firmware), "path hex app\n")
+    case(f"why_{name}_name", ["why", "{}", "t", "app"], json.dumps(firmware), "refused 11 name\n")
+case("why_passing", ["why", "{}", "app", "driver"], json.dumps(passing), "path app driver\n")
+
+
+def sharing(rights):
+    """Compartments a and b share an object, b with these rights; c calls b, which takes data."""
+    def ring(letters):
+        return {"as": "ring", "shared": "ring", "rights": letters}
+
+    code = {"words": ["00008067"]}
+    return {"firmware": "sharing", "ram": TINY["ram"], "shared": [{"name": "ring", "size": 16}], "compartments": [
+        {"name": "a", "code": code, "imports": [ring("RWC")]},
+        {"name": "b", "code": code, "imports": [ring(rights)], "exports": [{"name": "f", "at": 0, "passes": "data"}]},
+        {"name": "c", "code": code, "imports": [{"as": "f", "call": "b.f"}]}]}
+
+
+for name, rights, ends, wanted in (("shared", "RWC", ("a", "b"), "path a b"), ("called", "RWC", ("c", "a"), "none"),
+                                   ("plain", "RW", ("a", "b"), "none")):
+    case(f"why_{name}", ["why", "{}", *ends], json.dumps(sharing(rights)), wanted + "\n")
+
+# ---- images
+
+BYTES = image(TINY, b"".join(int(word, 16).to_bytes(4, "little") for word in TINY["compartments"][0]["code"]["words"]))
+assert len(BYTES) == 412
+case("image", ["image", "{}"], json.dumps(TINY), BYTES)
+case("runimage", ["runimage", "{}", "100"], BYTES, lines(report(TINY, 5), STORE, ended("finished", 6, devices=1)))
+
+
+def altered(name, data, wanted):
+    case("altered_" + name, ["runimage", "{}", "100"], data, f"refused 7 image {wanted}\n")
+
+
+def put(at, *new):
+    return BYTES[:at] + bytes(new) + BYTES[at + len(new):]
+
+
+for size in (8, 100, 411):
+    altered(f"cut_{size}", BYTES[:size], f"I2 {size}")
+for size in (0, 7):
+    altered(f"cut_{size}", BYTES[:size], "I1 0")
+altered("longer", BYTES + b"\0", "I2 413")
+altered("begin", put(0, 0), "I1 0")
+altered("version", put(4, 9), "I1 0")
+altered("quantum", put(32, 0, 0, 0, 0), "I3 32")
+altered("heap", put(48, 0x80, 2, 0, 0x80), "I4 48")
+altered("globals", put(172, *BYTES[168:172]), "I4 172")
+altered("service", put(196, 2), "I5 192")
+altered("device", put(244, 1), "I5 240")
+altered("rights", put(241, 0x28), "I6 240")
+altered("offset", put(288, 20), "I3 288")
+altered("entry", put(300, 4), "I3 300")
+altered("compartment", put(396, 1), "I5 396")
+altered("export", put(400, 1), "I5 396")
