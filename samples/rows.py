@@ -58,11 +58,8 @@ def image(firmware, text, initial=b"", posture=3):
     own = firmware["compartments"][0]
     slots = [images.SWITCH]
     for it in own.get("imports", []):
-        if "call" in it:  # of its own one export
-            slots.append((images.import_row(5, 50, 0, 0), it["as"]))
-        else:
-            at = [d["name"] for d in firmware["devices"]].index(it["device"])
-            slots.append((images.import_row(2, DEVICE_RIGHTS[it["rights"]], at), it["as"]))
+        at = [d["name"] for d in firmware["devices"]].index(it["device"])
+        slots.append((images.import_row(2, DEVICE_RIGHTS[it["rights"]], at), it["as"]))
     sizes = [8 * len(slots) + len(text), 32, max(16, len(initial)), 256, 304]
     bases = [RAM]
     for size in sizes:
@@ -150,24 +147,12 @@ hostile("store_to_code", 2, 100, trapped(2, 28, 19, 5), "auipcc ct0, 0", "csw a0
 for name, line, wanted in (("store_past", "csw a0, 16(ct0)", trapped(3, 28, 1, 5)),
                            ("load_of_stores", "clw a0, 0(ct0)", trapped(3, 28, 18, 5))):
     run(name, filed(name, ["main: cimport ct0, uart", line]), 3, 100, *wanted)
-sealed = filed("sealed_export", ["main: cimport ct0, self", "cjr ct0"])
-sealed["compartments"][0]["imports"] = [{"as": "self", "call": "app.main"}]
-run("sealed_export", sealed, 3, 100, *trapped(3, 28, 3, 5))
 run("words_of_li", filed("words_of_li", ["main: li a0, 4096", "li a1, 4294967295", "cret"]), 4, 100, ended("finished", 5))
 case("mnemonic", ["audit", "{}"], json.dumps(filed("mnemonic", ["main: nop", "frob a0"])), "refused 5 assembly A2 app 2\n")
 case("undeclared", ["image", "{}"], json.dumps(filed("undeclared", ["main: cimport ct0, nosuch"])),
      "refused 6 link L3 app 1\n")
 case("no_source", ["audit", "{}"], json.dumps(dict(TINY, compartments=[dict(TINY["compartments"][0],
      code={"file": "nosuch.s"})])), "refused 2 read nosuch.s\n")
-
-# ---- the files of a board, read in order up to the first that isn't there
-
-for missing in range(3):
-    firmware = copy.deepcopy(BOARD)
-    for at, owner in enumerate(firmware["compartments"] + firmware["libraries"]):
-        name = f"file_{missing}_{at}"
-        owner["code"] = source(name + ".s", ["put: cret", "main: cret", "digit: cret"]) if at < missing else {"file": name}
-    case(f"missing_{missing}", ["audit", "{}"], json.dumps(firmware), f"refused 2 read file_{missing}_{missing}\n")
 
 # ---- descriptions that are refused
 

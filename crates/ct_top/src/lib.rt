@@ -80,3 +80,6 @@ fn command<F: Folder, S: Sink>(
         None => refuse_usage(sink),
     }
 }
+
+#[cfg(test)]
+mod tests;
