@@ -6,4 +6,10 @@ pub mod Away
 pub mod Begins
 pub mod Regions
 pub mod Goes
+pub mod Instructions
 pub mod Samples
+pub mod Stacks
+pub mod Turning
+pub mod Entering
+pub mod Leaving
+pub mod AsWritten

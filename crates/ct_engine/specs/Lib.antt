@@ -1,3 +1,6 @@
 pub mod Seen
 pub mod Kept
 pub mod Starts
+pub mod Steps
+pub mod Calls
+pub mod Written

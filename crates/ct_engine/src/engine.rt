@@ -1,24 +1,39 @@
 //! The engine.
 
-ghost use Rattle.std.specs.Prelude.{ℕ, ◌≡◌, ◌*◌, ◌/◌, ◌<◌, Some, None, false, cond, length, IfOk};
+ghost use Rattle.std.specs.Prelude.{ℕ, ◌≡◌, ◌*◌, ◌/◌, ◌%◌, ◌<◌, Some, None, true, false, cond, length, nat_lt, IfOk};
+ghost use Rattle.def_instr.specs.Shapes.{is_access};
 ghost use Rattle.def_memory.specs.Accesses.{IsAccess, IsPlace, loaded, stored, loaded_cap, stored_cap};
 ghost use Rattle.def_memory.specs.Ranges.{IsRange, Inside, zeroed, mark_range};
 ghost use Rattle.def_machine.specs.Memory.{filtered_in};
 ghost use Rattle.def_machine.specs.State.{register};
+ghost use Rattle.def_step.specs.Instructions.{actor_of};
+ghost use Rattle.def_veil.specs.Steps.{IsSeen, SeesAccess};
 ghost use Rattle.ct_areas.specs.Parts.{saved_in};
 ghost use Rattle.ct_engine.specs.Starts.{MayStart, started};
 ghost use Rattle.ct_engine.specs.Seen.{hides, thread, has_room, innermost, with_granules, with_running, resumed, went, called, left};
+ghost use Rattle.ct_engine.specs.Steps.{space_in, next_in, InstructionInRange, IsHeapPlaced, IsMoved};
+ghost use Rattle.ct_exports.specs.Exports.{AreSorted};
+ghost use Rattle.ct_switch.specs.Calls.{told};
+ghost use Rattle.ct_engine.specs.Calls.{TopLies, MayCall, switch_at, after_call, returned, ended_with};
 
+use crate::accesses::access;
+use crate::calls;
+use crate::fetching::next;
 use crate::frames::{call, leave};
 use crate::rows::{Region, Rows};
 use crate::starting::{Fresh, start};
-use crate::steps::{go, pcc, posture, register};
+use crate::steps::{actor, go, pcc, posture, register};
 use crate::turns::{pick, stop};
 use ct_areas::Saved;
-use ct_cap::{Live, Posture};
-use ct_loadstore::filter;
+use ct_bus::Bus;
+use ct_cap::{Live, Posture, Trap};
+use ct_entry::Entries;
+use ct_loadstore::{Moved, filter};
 use ct_mem::Memory;
+use ct_switch::Called;
+use def_instr::Instr;
 use def_refusals::NoMemory;
+use def_step::Next;
 use def_words::Cap;
 use std::alloc::Global;
 use std::marker::Model;
@@ -167,6 +182,15 @@ impl<M: Memory + Drop> Engine<M> {
         posture(&self.rows, t)
     }
 
+    /// The compartment of the running thread's innermost frame, of which it has one.
+    pub fn actor(&self, t: u32) -> u32
+        requires { self.now.running ≡ Some t }
+        ensures is { result ≡ actor_of (thread self.now t).frames }
+        ensures some { 0 < length (thread self.now t).frames }
+    {
+        actor(&self.rows, t)
+    }
+
     /// The running thread goes on elsewhere, with this posture, and a register gets a value, which register 0 drops.
     pub fn go(&mut self, t: u32, pcc: Live, posture: Posture, to: u32, value: Live)
         requires runs { self.old.running ≡ Some t }
@@ -212,5 +236,98 @@ impl<M: Memory + Drop> Engine<M> {
         ensures is { self.new ≡ left self.old t }
     {
         leave(&mut self.rows, &mut self.mem, t)
+    }
+
+    /// The running thread calls the export whose capability stands in c6, as the switcher does.
+    ///
+    /// Where a check fails, the thread is too deep or the callee's stack has too little room nothing changes; else the
+    /// thread goes on in the callee, whose stack is zeroed. No memory is taken. docs/use/machine.md.
+    pub fn call(&mut self, t: u32, e: &Entries) -> Called
+        requires runs { self.old.running ≡ Some t }
+        requires may { MayCall self.old t e.now }
+        ensures result { result
+            ≡ told (register (thread self.old t) 6) (switch_at self.old e.now t) }
+        ensures is { self.new ≡ after_call self.old e.now t (switch_at self.old e.now t) }
+    {
+        calls::call(&mut self.rows, &mut self.mem, t, e)
+    }
+
+    /// The running thread returns to its caller, with c10 and c11, untagged where the frame's export passes plain
+    /// values; the stack is zeroed up to the frame's top. `false` exactly where the frame was its last: then it has
+    /// ended, and none runs. No memory is taken. docs/use/machine.md.
+    pub fn give_back(&mut self, t: u32, e: &Entries) -> bool
+        requires runs { self.old.running ≡ Some t }
+        requires top { TopLies self.old t }
+        requires sorted { AreSorted e.now.gates }
+        ensures result { result ≡ nat_lt 1 (length (thread self.old t).frames) }
+        ensures is { self.new ≡ returned self.old e.now t }
+    {
+        calls::give_back(&mut self.rows, &mut self.mem, t, e)
+    }
+
+    /// The innermost frame of the running thread ends with a value, as its error handler says: the return with c10 =
+    /// the value and c11 = 0. `false` exactly where the frame was the thread's last. docs/use/machine.md.
+    pub fn end_with(&mut self, t: u32, e: &Entries, value: u32) -> bool
+        requires runs { self.old.running ≡ Some t }
+        requires top { TopLies self.old t }
+        ensures result { result ≡ nat_lt 1 (length (thread self.old t).frames) }
+        ensures is { self.new ≡ ended_with self.old t value }
+    {
+        calls::end_with(&mut self.rows, &mut self.mem, t, e, value)
+    }
+
+    /// The innermost frame of the running thread is unwound after a trap: the return with c10 = -1 and c11 = 0. `false`
+    /// exactly where the frame was the thread's last. docs/use/machine.md.
+    pub fn unwind(&mut self, t: u32, e: &Entries) -> bool
+        requires runs { self.old.running ≡ Some t }
+        requires top { TopLies self.old t }
+        ensures result { result ≡ nat_lt 1 (length (thread self.old t).frames) }
+        ensures is { self.new ≡ ended_with self.old t 0xFFFFFFFF }
+    {
+        calls::end_with(&mut self.rows, &mut self.mem, t, e, 0xFFFF_FFFF)
+    }
+
+    /// What stands at an address, where nothing is hidden: an instruction, the return, or nothing that is carried out.
+    pub fn next(&self, at: u32) -> Next
+        requires even { self.now.region.ram % 16 ≡ 0 }
+        requires seen { IsSeen (hides self.now.region) self.now.region.ram at }
+        ensures is { result ≡ next_in self.now at }
+        ensures ranged { InstructionInRange result }
+    {
+        next(&self.mem, self.rows.region.ram, at)
+    }
+
+    /// A load or a store through x, at x's address and the immediate, where nothing is hidden once its checks pass; y is
+    /// what a store stores. The heap lies from `heap` to RAM's end, and `time` is in ticks.
+    ///
+    /// A trap where a check fails, the first, and then nothing has changed.
+    pub fn loadstore(
+        &mut self,
+        instruction: Instr,
+        x: Live,
+        y: Live,
+        heap: u32,
+        bus: &mut Bus,
+        time: u64,
+    ) -> Result<Moved, Trap>
+        requires access { is_access instruction ≡ true }
+        requires heap { IsHeapPlaced self.old.region.ram heap (length self.old.granules) }
+        requires seen { SeesAccess (hides self.old.region) self.old.region.ram instruction x y }
+        ensures is { IsMoved instruction x y (space_in self.old bus.old time) self.new.granules
+            bus.new result }
+        ensures kept { self.new ≡ with_granules self.old self.new.granules }
+        ensures size { length self.new.granules ≡ length self.old.granules }
+        ensures bases { bus.new.bases ≡ bus.old.bases }
+    {
+        access(
+            instruction,
+            x,
+            y,
+            &mut self.mem,
+            self.rows.region.ram,
+            heap,
+            bus,
+            time,
+        )
     }
 }

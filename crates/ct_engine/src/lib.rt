@@ -6,17 +6,24 @@
 //! the layout in prose.
 #![tactic(auto)]
 
+mod accesses;
+mod calls;
 mod engine;
+mod fetching;
 mod frames;
 mod rows;
 mod starting;
 mod steps;
 mod turns;
+mod written;
 
+pub use calls::callee_given;
+pub use ct_switch::Called;
 pub use def_refusals::NoMemory;
 pub use engine::Engine;
 pub use rows::{Region, region_hidden};
 pub use starting::Fresh;
+pub use written::{calls_written, ends_written};
 
 #[cfg(test)]
 mod tests;

@@ -1,0 +1,17 @@
+//! One instruction of an engine's running thread: fetched, checked and carried out, on the thread, RAM and the devices.
+//!
+//! `execute` equals the written step's decision, by its three cases: the thread goes on, comes to the native return, or
+//! traps. The last two leave all as it is: what ends a frame is done by the caller. docs/use/machine.md tells the same
+//! in prose.
+#![tactic(auto)]
+
+mod carrying;
+mod executing;
+mod fetching;
+mod laws;
+mod operands;
+mod ran;
+
+pub use executing::execute;
+pub use laws::{executed_decided, running_opened};
+pub use ran::Ran;

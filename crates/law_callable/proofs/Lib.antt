@@ -1,0 +1,4 @@
+pub mod Rising
+pub mod Tops
+pub mod Rows
+pub mod Heads
