@@ -83,7 +83,8 @@ fn are_sorted(gates: &[Gate]) -> bool
 
 /// Before which index no row is an export of a compartment.
 fn first_export(rows: &[Entry], home: u32) -> usize
-    ensures { (k : ℕ) → k < result → is_export_of home (slice_index_or rows.now k no_row) ≡ false }
+    ensures { (k : ℕ) → k < result
+        → is_export_of home (slice_index_or rows.now k no_row) ≡ false }
 {
     for i in 0..rows.len() {
         if is_export_of(home, rows[i]) {
@@ -95,7 +96,8 @@ fn first_export(rows: &[Entry], home: u32) -> usize
 
 /// From which index on no row is an export of a compartment.
 fn last_export(rows: &[Entry], home: u32) -> usize
-    ensures none { (k : ℕ) → result ≤ k → is_export_of home (slice_index_or rows.now k no_row) ≡ false }
+    ensures none { (k : ℕ) → result ≤ k
+        → is_export_of home (slice_index_or rows.now k no_row) ≡ false }
     ensures inside { result ≤ length rows.now }
 {
     let mut end = rows.len();
@@ -154,7 +156,8 @@ fn is_callable(e: &Entries, ram: u32, size: u64, number: u32) -> bool
     false
 }
 
-/// Whether an import, where it is a tagged capability of an export's type, names an export that can be called.
+/// Whether an import, where it is a tagged capability of an export's type, names an export that
+/// can be called.
 fn names_callable(e: &Entries, ram: u32, size: u64, import: Live) -> bool
     requires sorted { AreSorted e.now.gates }
     requires small { size < 2 ^ 32 }
