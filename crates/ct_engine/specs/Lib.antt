@@ -1,3 +1,4 @@
 pub mod Seen
 pub mod Kept
 pub mod Starts
+pub mod Steps

@@ -1,0 +1,48 @@
+-- What an instruction of the running thread works on beside that thread, and what it finds and leaves there.
+use Rattle.std.specs.Prelude.{ℕ, ◌+◌, ◌*◌, ◌%◌, ◌≡◌, ◌≤◌, List, [], Result, Ok, Err, MatchResult}
+use Rattle.def_profile.specs.declared.limits.TheConstants.{RAM_END}
+use Rattle.def_words.specs.declared.Cap.{Cap}
+use Rattle.def_words.specs.declared.Trap.{Trap}
+use Rattle.def_memory.specs.declared.Granule.{Granule}
+use Rattle.def_instr.specs.declared.Instr.{Instr}
+use Rattle.def_instr.specs.Table.{InRange}
+use Rattle.def_step.specs.declared.Next.{Next}
+use Rattle.def_step.specs.declared.Next.TheVariants.{Returning, Instruction, Nothing}
+use Rattle.def_step.specs.Accesses.{Space, access_result}
+use Rattle.def_step.specs.Devices.{Bank}
+use Rattle.def_step.specs.Instructions.{next_at}
+use Rattle.ct_loadstore.specs.Shapes.{MovedRow, space_of}
+use Rattle.ct_engine.specs.Seen.{Seen}
+
+-- RAM as it is seen, with these devices at a time
+abbrev pub space_in : Seen → Bank → ℕ → Space
+space_in s k time = space_of s.region.ram s.granules k time
+
+abbrev pub no_bank : Bank
+no_bank = record { bases = []; states = [] }
+
+-- what stands at an address, whatever the devices and the time
+abbrev pub next_in : Seen → ℕ → Next
+next_in s at = next_at (space_in s no_bank 0) at
+
+abbrev pub InstructionInRange : Next → Type 0
+InstructionInRange Returning = Unit {0}
+InstructionInRange (Instruction i) = InRange i
+InstructionInRange Nothing = Unit {0}
+
+-- RAM of so many granules, and the heap from an address to RAM's end
+pub record IsHeapPlaced (ram heap granules : ℕ) : Type 0 where
+  pub even : ram % 16 ≡ 0
+  pub fits : ram + 8 * granules ≤ RAM_END
+  pub whole : (heap % 16 ≡ 0) × (8 * granules % 16 ≡ 0)
+  pub low : ram ≤ heap
+  pub high : heap ≤ ram + 8 * granules
+
+-- A load or a store through x, of y where it stores: what it leaves of RAM and of the devices, and what it gives. Where
+-- a check fails, the trap, and all is as it was.
+abbrev pub IsMoved : Instr → Cap → Cap → Space → List Granule → Bank → Result MovedRow Trap → Type 0
+IsMoved i x y p gs k r =
+    MatchResult r
+    (λ m. access_result i x y p
+    ≡ Ok (record { value = m.value; act = m.device; granules = gs; bank = k }))
+    (λ w. (access_result i x y p ≡ Err w) × (gs ≡ p.granules) × (k ≡ p.bank))

@@ -1,0 +1,96 @@
+-- One instruction of a thread as a decision over the thread and what is around it, and what becomes of it.
+-- That the written step is this decision, carried out, is proved.
+use Rattle.std.specs.Prelude.{ℕ, ◌≡◌, length, Option, Some, None, option_map, Result, Ok, Err}
+use Rattle.ct_entry.specs.Listed.{Listed}
+use Rattle.ct_entry.specs.declared.acts.Deed.{Deed}
+use Rattle.def_words.specs.declared.Cap.{Cap}
+use Rattle.def_words.specs.declared.Trap.{Trap}
+use Rattle.def_words.specs.Authority.{cap_address}
+use Rattle.def_words.specs.Traps.{plain_trap}
+use Rattle.def_instr.specs.declared.Instr.{Instr}
+use Rattle.def_reach.specs.Roots.{root_of}
+use Rattle.def_machine.specs.State.{State, Thread, register}
+use Rattle.def_machine.specs.State as state
+use Rattle.def_machine.specs.Frames.{returned}
+use Rattle.def_step.specs.declared.Next.{Next}
+use Rattle.def_step.specs.declared.Next.TheVariants.{Returning, Instruction, Nothing}
+use Rattle.def_profile.specs.declared.traps.TheConstants.{ILLEGAL_INSTRUCTION}
+use Rattle.def_step.specs.Checks.{first_failed}
+use Rattle.def_step.specs.Devices.{Bank}
+use Rattle.def_step.specs.Accesses.{Space}
+use Rattle.def_step.specs.Operands.{operands_of, class_of}
+use Rattle.def_step.specs.Instructions.{Board, Done, Around, carried_out, fetch_checks, next_at, trapped, put_done, deed}
+use Rattle.ct_engine.specs.Seen.{Seen, thread, went, with_granules}
+use Rattle.ct_engine.specs.Steps.{space_in}
+use Rattle.ct_execute.specs.declared.ran.Ran.{Ran}
+use Rattle.ct_execute.specs.declared.ran.Ran.TheVariants.{Went, Returned, Trapped}
+
+-- it goes on, and the capability that was used has this root; it returns; it traps
+pub data Decision : Type 0 where
+  Goes : Done → ℕ → Decision
+  Returns : Decision
+  Traps : Trap → Decision
+
+abbrev pub around_of : Thread → Space → Around
+around_of w p = record { pcc = w.pcc; posture = w.posture; space = p }
+
+abbrev pub by_result : ℕ → Result Done Trap → Decision
+by_result entry (Err why) = Traps why
+by_result entry (Ok d) = Goes d entry
+
+-- the export that a capability's root names among these entries, or 0
+abbrev pub named_in : Listed → Cap → ℕ
+named_in e x = (root_of e x.shadow.root).of
+
+-- where the root of the first source names this export
+abbrev pub decide_by : ℕ → Thread → Space → Instr → Decision
+decide_by named w p i =
+    by_result (register w (operands_of i).first).shadow.root
+    (carried_out (class_of i) i (operands_of i).to (register w (operands_of i).first)
+    (register w (operands_of i).second) named (around_of w p))
+
+abbrev pub decide_instruction : Listed → Thread → Space → Instr → Decision
+decide_instruction e w p i = decide_by (named_in e (register w (operands_of i).first)) w p i
+
+abbrev pub decide_next : Listed → Thread → Space → Next → Decision
+decide_next e w p Returning = Returns
+decide_next e w p (Instruction i) = decide_instruction e w p i
+decide_next e w p Nothing = Traps (plain_trap ILLEGAL_INSTRUCTION)
+
+abbrev pub decide_fetched : Listed → Thread → Space → Option Trap → Decision
+decide_fetched e w p (Some why) = Traps why
+decide_fetched e w p None = decide_next e w p (next_at p (cap_address w.pcc))
+
+abbrev pub decide : Listed → Thread → Space → Decision
+decide e w p = decide_fetched e w p (first_failed (fetch_checks w.pcc))
+
+-- the decision on the whole state
+abbrev pub settle : Board → State → ℕ → Decision → State × Option Deed
+settle b s t (Goes d entry) = (put_done s t d, option_map (deed s t entry) d.act)
+settle b s t Returns = (returned b.image s t (state.thread s t).frames, None)
+settle b s t (Traps why) = trapped b s t why
+
+-- of thread t of an engine, with these devices at a time
+abbrev pub decision : Listed → Seen → ℕ → Bank → ℕ → Decision
+decision e s t k time = decide e (thread s t) (space_in s k time)
+
+-- what the code leaves of the engine and of the devices, and answers
+abbrev pub Decided : Decision → ℕ → Seen → Bank → Seen → Bank → Ran → Type 0
+Decided (Goes d entry) t s k new bank r =
+    (new ≡ with_granules (went s t d.pcc d.posture d.to d.value) d.granules) × (bank ≡ d.bank)
+    × (r ≡ Went d.act entry)
+Decided Returns t s k new bank r = (new ≡ s) × (bank ≡ k) × (r ≡ Returned)
+Decided (Traps why) t s k new bank r = (new ≡ s) × (bank ≡ k) × (r ≡ Trapped why)
+
+-- of one instruction that ends its thread's innermost frame: it returned or trapped
+abbrev pub IfEnds : Ran → Type 0 → Type 0
+IfEnds (Went act entry) P = Unit {0}
+IfEnds Returned P = P
+IfEnds (Trapped why) P = P
+
+-- what no instruction changes of an engine
+pub record Stays (s new : Seen) : Type 0 where
+  pub running : new.running ≡ s.running
+  pub region : new.region ≡ s.region
+  pub areas : new.areas ≡ s.areas
+  pub size : length new.granules ≡ length s.granules
