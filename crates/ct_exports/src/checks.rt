@@ -8,8 +8,8 @@ use ct_cap::{Live, Permission, Trap};
 use def_profile::seals::{EXPORT_TYPE, RETURN_DISABLE, RETURN_ENABLE};
 use def_profile::traps::{BOUNDS_CODE, SEAL_CODE, STORE_CODE, TAG_CODE};
 
-/// The first check of c1 that fails: it is a return sentry.
-fn return_trap(c: Live) -> Option<Trap>
+/// The first check of c1 that fails, in every native routine but the return: it is a return sentry.
+pub fn return_trap(c: Live) -> Option<Trap>
     ensures { result ≡ first_failed (return_checks c) }
 {
     if !c.cap.tag {

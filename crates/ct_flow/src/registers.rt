@@ -28,9 +28,9 @@ fn is_jump_taken(to: u32, at: u32, kind: u32) -> bool
     kind == SENTRY_INHERIT
 }
 
-/// The posture that a jump through a type leaves: `named` is the export that the target's root entry
-/// names, `kept` the target's own source.
-fn posture_through(before: Posture, kind: u32, named: u32, kept: u32) -> Posture
+/// The posture that a jump or a return through a type leaves: `named` is the export that the target's
+/// root entry names, `kept` the target's own source (docs/use/machine.md).
+pub fn posture_through(before: Posture, kind: u32, named: u32, kept: u32) -> Posture
     ensures { result ≡ posture_through before kind named kept }
 {
     match kind {

@@ -2,7 +2,6 @@
 
 ghost use Rattle.std.specs.Prelude.{◌≡◌, ◌*◌, ◌<◌, ℕ, Bool, true, nat_lt, length};
 ghost use Rattle.def_words.specs.declared.Cap.{Cap};
-ghost use Rattle.def_words.specs.Seals.{posture_through};
 ghost use Rattle.def_memory.specs.Granules.{plain};
 ghost use Rattle.def_machine.specs.State.{Frame};
 ghost use Rattle.def_reach.specs.Roots.{root_of};
@@ -19,34 +18,9 @@ use ct_areas::{Saved, Thread, clear, innermost, pop};
 use ct_cap::{Live, Posture, open};
 use ct_entry::Entries;
 use ct_exports::export_of;
+use ct_flow::posture_through;
 use ct_loadstore::filter;
 use ct_mem::Memory;
-use def_profile::seals::{RETURN_DISABLE, RETURN_ENABLE, SENTRY_DISABLE, SENTRY_ENABLE};
-
-/// The posture that a saved c1 leaves.
-fn posture_after(before: Posture, kind: u32, kept: u32) -> Posture
-    ensures { result ≡ posture_through before kind 0 kept }
-{
-    if kind == SENTRY_DISABLE {
-        return Posture {
-            off: true,
-            source: 0,
-        };
-    }
-    if kind == RETURN_DISABLE {
-        return Posture {
-            off: true,
-            source: kept,
-        };
-    }
-    if (kind == SENTRY_ENABLE) | (kind == RETURN_ENABLE) {
-        return Posture {
-            off: false,
-            source: 0,
-        };
-    }
-    before
-}
 
 /// What a frame keeps of its caller, and the entry number of its own export.
 #[derive(Clone, Copy, Debug, Drop)]
@@ -116,7 +90,7 @@ fn restore(t: &mut Thread, saved: &Kept, kept: &Kept, first: Live, second: Live)
 {
     t.pcc = open(kept.c1);
     t.regs = restored(kept, first, second);
-    t.posture = posture_after(t.posture, saved.c1.seal, saved.c1.cap.shadow.source);
+    t.posture = posture_through(t.posture, saved.c1.seal, 0, saved.c1.cap.shadow.source);
 }
 
 /// Registers that hold nothing.
