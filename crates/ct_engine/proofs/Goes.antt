@@ -1,5 +1,5 @@
 -- The running thread goes on.
-use Rattle.std.proofs.Common.{ℕ, zero, suc, ◌≡◌, ◌<◌, true, List, [], ◌∷◌, Some, refl, sym, ap, ◌∙◌, subst}
+use Rattle.std.proofs.Common.{ℕ, zero, suc, ◌≡◌, ◌<◌, true, List, [], ◌∷◌, length, Some, refl, sym, ap, ◌∙◌, subst, arith}
 use Rattle.std.proofs.Math.ListN.{get_or, set}
 use Rattle.def_words.specs.declared.Cap.{Cap}
 use Rattle.def_words.specs.declared.Posture.{Posture}
@@ -8,10 +8,13 @@ use Rattle.def_memory.specs.Granules.{plain}
 use Rattle.def_machine.specs.State.{Thread}
 use Rattle.def_machine.specs.Threads.{jumped}
 use Rattle.def_machine.specs.Registers.{written}
+use Rattle.def_step.specs.Instructions.{actor_of}
 use Rattle.def_areas.specs.Touches.{Touches}
 use Rattle.ct_areas.specs.declared.thread.Thread as row
 use Rattle.ct_areas.specs.Threads.{area_begin, area_end, living, thread_of}
+use Rattle.ct_areas.specs.Parts.{inner_frame, outer_frames}
 use Rattle.ct_areas.proofs.Places.{alive_is}
+use Rattle.ct_areas.proofs.Rows.{frames_are}
 use Rattle.ct_engine.specs.declared.rows.Rows.{Rows}
 use Rattle.ct_engine.specs.Seen.{seen_by, seen, thread, went, row_gone}
 use Rattle.ct_engine.specs.Kept.{IsKept, AreasFrom, Holds}
@@ -24,6 +27,24 @@ pub running_is : (gs : List Granule) (rows : Rows) (t : ℕ) (r : row.Thread) �
 running_is gs rows t r holds runs is =
     thread_is gs rows.list.items rows.running t r true (holds.runs t runs) is (runs_it rows t runs)
     ∙ alive_is gs true r ((running_kept gs rows t r holds runs is).kept.alive refl)
+
+-- it has an innermost frame, of its row's compartment
+running_frames : (gs : List Granule) (rows : Rows) (t : ℕ) (r : row.Thread) → Holds gs rows → rows.running ≡ Some t → r ≡ get_or rows.list.items t r
+    → (thread (seen gs rows) t).frames ≡ inner_frame gs r ∷ outer_frames gs r
+running_frames gs rows t r holds runs is =
+    let alive : 0 < r.depth = (running_kept gs rows t r holds runs is).kept.alive refl in
+    let row_is : thread (seen gs rows) t ≡ thread_of gs true r = thread_is gs rows.list.items rows.running t r true (holds.runs t runs) is (runs_it rows t runs) in
+    ap (λ (u : Thread). u.frames) row_is ∙ frames_are gs true r alive
+
+pub running_actor : (gs : List Granule) (rows : Rows) (t : ℕ) (r : row.Thread) → Holds gs rows → rows.running ≡ Some t → r ≡ get_or rows.list.items t r
+    → actor_of (thread (seen gs rows) t).frames ≡ r.actor
+running_actor gs rows t r holds runs is = ap actor_of (running_frames gs rows t r holds runs is)
+
+pub running_some : (gs : List Granule) (rows : Rows) (t : ℕ) (r : row.Thread) → Holds gs rows → rows.running ≡ Some t → r ≡ get_or rows.list.items t r
+    → 0 < length (thread (seen gs rows) t).frames
+running_some gs rows t r holds runs is =
+    let many : length (thread (seen gs rows) t).frames ≡ suc (length (outer_frames gs r)) = ap length (running_frames gs rows t r holds runs is) in
+    omega (arith, many)
 
 unchanged : (gs : List Granule) (lo hi : ℕ) → Touches lo hi gs gs
 unchanged gs lo hi = record { size = refl; marks = λ k. refl; rest = λ k out. refl }

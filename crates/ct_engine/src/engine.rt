@@ -5,6 +5,7 @@ ghost use Rattle.def_memory.specs.Accesses.{IsAccess, IsPlace, loaded, stored, l
 ghost use Rattle.def_memory.specs.Ranges.{IsRange, Inside, zeroed, mark_range};
 ghost use Rattle.def_machine.specs.Memory.{filtered_in};
 ghost use Rattle.def_machine.specs.State.{register};
+ghost use Rattle.def_step.specs.Instructions.{actor_of};
 ghost use Rattle.ct_areas.specs.Parts.{saved_in};
 ghost use Rattle.ct_engine.specs.Starts.{MayStart, started};
 ghost use Rattle.ct_engine.specs.Seen.{hides, thread, has_room, innermost, with_granules, with_running, resumed, went, called, left};
@@ -12,7 +13,7 @@ ghost use Rattle.ct_engine.specs.Seen.{hides, thread, has_room, innermost, with_
 use crate::frames::{call, leave};
 use crate::rows::{Region, Rows};
 use crate::starting::{Fresh, start};
-use crate::steps::{go, pcc, posture, register};
+use crate::steps::{actor, go, pcc, posture, register};
 use crate::turns::{pick, stop};
 use ct_areas::Saved;
 use ct_cap::{Live, Posture};
@@ -165,6 +166,15 @@ impl<M: Memory + Drop> Engine<M> {
         ensures { result ≡ (thread self.now t).posture }
     {
         posture(&self.rows, t)
+    }
+
+    /// The compartment of the running thread's innermost frame, of which it has one.
+    pub fn actor(&self, t: u32) -> u32
+        requires { self.now.running ≡ Some t }
+        ensures is { result ≡ actor_of (thread self.now t).frames }
+        ensures some { 0 < length (thread self.now t).frames }
+    {
+        actor(&self.rows, t)
     }
 
     /// The running thread goes on elsewhere, with this posture, and a register gets a value, which register 0 drops.

@@ -5,6 +5,7 @@ ghost use Rattle.def_memory.specs.declared.Granule.{Granule};
 ghost use Rattle.def_memory.specs.Granules.{plain};
 ghost use Rattle.def_machine.specs.Registers.{written};
 ghost use Rattle.def_machine.specs.State.{register};
+ghost use Rattle.def_step.specs.Instructions.{actor_of};
 ghost use Rattle.ct_engine.specs.Kept.{Holds};
 ghost use Rattle.ct_engine.specs.Seen.{seen, thread, went, row_gone};
 
@@ -81,4 +82,16 @@ pub(crate) fn posture(rows: &Rows, t: u32) -> Posture
         → result ≡ (thread (seen gs rows.now) t).posture }
 {
     rows.list[t as usize].posture
+}
+
+/// The compartment of the running thread's innermost frame, of which it has one.
+pub(crate) fn actor(rows: &Rows, t: u32) -> u32
+    requires there { t < length rows.now.list.items }
+    requires runs { rows.now.running ≡ Some t }
+    ensures is { (gs : List Granule) → Holds gs rows.now
+        → result ≡ actor_of (thread (seen gs rows.now) t).frames }
+    ensures some { (gs : List Granule) → Holds gs rows.now
+        → 0 < length (thread (seen gs rows.now) t).frames }
+{
+    rows.list[t as usize].actor
 }
