@@ -25,21 +25,21 @@ use Rattle.ct_engine.proofs.Whole.{hidden_is}
 abbrev pub HiddenStays : List Granule → List Granule → Rows → Type 0
 HiddenStays gs hs rows = (k : ℕ) → hides rows.region k ≡ true → held hs k ≡ held gs k
 
-away_holds : (gs hs : List Granule) (rows : Rows) → Holds gs rows → length hs ≡ length gs → HiddenStays gs hs rows → Holds hs rows
+pub away_holds : (gs hs : List Granule) (rows : Rows) → Holds gs rows → length hs ≡ length gs → HiddenStays gs hs rows → Holds hs rows
 away_holds gs hs rows holds size same = record {
   areas = areas_same rows.region.ram gs hs rows.running rows.running 0 rows.region.trusted rows.region.end rows.list.items holds.areas size
       (λ m lo hi. same m (hidden_is rows.region m lo hi)) (λ u lo. refl);
   runs = holds.runs;
 }
 
-away_seen : (gs hs : List Granule) (rows : Rows) → Holds gs rows → HiddenStays gs hs rows → seen hs rows ≡ with_granules (seen gs rows) (veiled (hides rows.region) hs)
+pub away_seen : (gs hs : List Granule) (rows : Rows) → Holds gs rows → HiddenStays gs hs rows → seen hs rows ≡ with_granules (seen gs rows) (veiled (hides rows.region) hs)
 away_seen gs hs rows holds same =
     let threads : threads_of hs rows.running 0 rows.list.items ≡ threads_of gs rows.running 0 rows.list.items =
     threads_same rows.region.ram gs hs rows.running rows.running 0 rows.region.trusted rows.region.end rows.list.items holds.areas
     (λ m lo hi. same m (hidden_is rows.region m lo hi)) (λ u lo. refl) in
     rw threads refl
 
-apart : (h : ℕ → Bool) (k m : ℕ) → h m ≡ false → h k ≡ true → k ≡ m → ⊥
+pub apart : (h : ℕ → Bool) (k m : ℕ) → h m ≡ false → h k ≡ true → k ≡ m → ⊥
 apart h k m open_ hidden e = let clash : true ≡ false = sym hidden ∙ ap (λ n. h n) e ∙ open_ in cc
 
 -- ---- a store of bytes

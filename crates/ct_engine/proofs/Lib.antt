@@ -6,4 +6,5 @@ pub mod Away
 pub mod Begins
 pub mod Regions
 pub mod Goes
+pub mod Instructions
 pub mod Samples

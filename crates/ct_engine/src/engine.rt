@@ -1,25 +1,33 @@
 //! The engine.
 
-ghost use Rattle.std.specs.Prelude.{ℕ, ◌≡◌, ◌*◌, ◌/◌, ◌<◌, Some, None, false, cond, length, IfOk};
+ghost use Rattle.std.specs.Prelude.{ℕ, ◌≡◌, ◌*◌, ◌/◌, ◌%◌, ◌<◌, Some, None, true, false, cond, length, IfOk};
+ghost use Rattle.def_instr.specs.Shapes.{is_access};
 ghost use Rattle.def_memory.specs.Accesses.{IsAccess, IsPlace, loaded, stored, loaded_cap, stored_cap};
 ghost use Rattle.def_memory.specs.Ranges.{IsRange, Inside, zeroed, mark_range};
 ghost use Rattle.def_machine.specs.Memory.{filtered_in};
 ghost use Rattle.def_machine.specs.State.{register};
 ghost use Rattle.def_step.specs.Instructions.{actor_of};
+ghost use Rattle.def_veil.specs.Steps.{IsSeen, SeesAccess};
 ghost use Rattle.ct_areas.specs.Parts.{saved_in};
 ghost use Rattle.ct_engine.specs.Starts.{MayStart, started};
 ghost use Rattle.ct_engine.specs.Seen.{hides, thread, has_room, innermost, with_granules, with_running, resumed, went, called, left};
+ghost use Rattle.ct_engine.specs.Steps.{space_in, next_in, InstructionInRange, IsHeapPlaced, IsMoved};
 
+use crate::accesses::access;
+use crate::fetching::next;
 use crate::frames::{call, leave};
 use crate::rows::{Region, Rows};
 use crate::starting::{Fresh, start};
 use crate::steps::{actor, go, pcc, posture, register};
 use crate::turns::{pick, stop};
 use ct_areas::Saved;
-use ct_cap::{Live, Posture};
-use ct_loadstore::filter;
+use ct_bus::Bus;
+use ct_cap::{Live, Posture, Trap};
+use ct_loadstore::{Moved, filter};
 use ct_mem::Memory;
+use def_instr::Instr;
 use def_refusals::NoMemory;
+use def_step::Next;
 use def_words::Cap;
 use std::alloc::Global;
 use std::marker::Model;
@@ -222,5 +230,48 @@ impl<M: Memory + Drop> Engine<M> {
         ensures is { self.new ≡ left self.old t }
     {
         leave(&mut self.rows, &mut self.mem, t)
+    }
+    /// What stands at an address, where nothing is hidden: an instruction, the return, or nothing that is carried out.
+    pub fn next(&self, at: u32) -> Next
+        requires even { self.now.region.ram % 16 ≡ 0 }
+        requires seen { IsSeen (hides self.now.region) self.now.region.ram at }
+        ensures is { result ≡ next_in self.now at }
+        ensures ranged { InstructionInRange result }
+    {
+        next(&self.mem, self.rows.region.ram, at)
+    }
+
+    /// A load or a store through x, at x's address and the immediate, where nothing is hidden once its checks pass; y is
+    /// what a store stores. The heap lies from `heap` to RAM's end, and `time` is in ticks.
+    ///
+    /// A trap where a check fails, the first, and then nothing has changed.
+    pub fn loadstore(
+        &mut self,
+        instruction: Instr,
+        x: Live,
+        y: Live,
+        heap: u32,
+        bus: &mut Bus,
+        time: u64,
+    ) -> Result<Moved, Trap>
+        requires access { is_access instruction ≡ true }
+        requires heap { IsHeapPlaced self.old.region.ram heap (length self.old.granules) }
+        requires seen { SeesAccess (hides self.old.region) self.old.region.ram instruction x y }
+        ensures is { IsMoved instruction x y (space_in self.old bus.old time) self.new.granules
+            bus.new result }
+        ensures kept { self.new ≡ with_granules self.old self.new.granules }
+        ensures size { length self.new.granules ≡ length self.old.granules }
+        ensures bases { bus.new.bases ≡ bus.old.bases }
+    {
+        access(
+            instruction,
+            x,
+            y,
+            &mut self.mem,
+            self.rows.region.ram,
+            heap,
+            bus,
+            time,
+        )
     }
 }

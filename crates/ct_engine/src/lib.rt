@@ -6,7 +6,9 @@
 //! the layout in prose.
 #![tactic(auto)]
 
+mod accesses;
 mod engine;
+mod fetching;
 mod frames;
 mod rows;
 mod starting;

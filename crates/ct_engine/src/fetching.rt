@@ -1,0 +1,55 @@
+//! What stands at an address.
+
+ghost use Rattle.std.specs.Prelude.{◌≡◌, ◌+◌, ◌*◌, ◌%◌, ◌&&◌, ◌==◌, length, nat_le};
+ghost use Rattle.def_step.specs.Instructions.{fetched, next_at, is_native_entry};
+ghost use Rattle.ct_loadstore.specs.Shapes.{space_of};
+ghost use Rattle.ct_engine.specs.Steps.{no_bank, InstructionInRange};
+
+use ct_isa::decode;
+use ct_mem::Memory;
+use def_profile::native::{LAST_NATIVE, NATIVE_BASE, NATIVE_UNIT, RETURN_ENTRY};
+use def_step::Next;
+
+/// Whether an aligned word at an address lies in RAM.
+fn is_word_of_ram<M: Memory>(mem: &M, ram: u32, at: u32) -> bool
+    ensures { result ≡ nat_le ram at && nat_le (at + 4) (ram + 8 * length (M.granules mem.now))
+        && (at % 4 == 0) }
+{
+    ram <= at && at as u64 + 4 <= ram as u64 + mem.size() as u64 && at % 4 == 0
+}
+
+/// The word at an address, 0 where none can be fetched.
+fn fetch<M: Memory>(mem: &M, ram: u32, at: u32) -> u32
+    requires { ram % 16 ≡ 0 }
+    ensures { result ≡ fetched (space_of ram (M.granules mem.now) no_bank 0) at }
+{
+    if is_word_of_ram(mem, ram, at) {
+        return mem.load(at - ram, 4);
+    }
+    0
+}
+
+/// Whether a native routine stands at an address.
+fn is_native_entry(at: u32) -> bool
+    ensures { result ≡ is_native_entry at }
+{
+    NATIVE_BASE <= at && at < NATIVE_BASE + NATIVE_UNIT * (LAST_NATIVE + 1) && at % NATIVE_UNIT == 0
+}
+
+/// What stands at an address, hidden or not.
+pub(crate) fn next<M: Memory>(mem: &M, ram: u32, at: u32) -> Next
+    requires { ram % 16 ≡ 0 }
+    ensures is { result ≡ next_at (space_of ram (M.granules mem.now) no_bank 0) at }
+    ensures ranged { InstructionInRange result }
+{
+    if at == RETURN_ENTRY {
+        return Next::Returning;
+    }
+    if is_native_entry(at) {
+        return Next::Nothing;
+    }
+    match decode(fetch(mem, ram, at)) {
+        Some(instruction) => Next::Instruction { instruction },
+        None => Next::Nothing,
+    }
+}
