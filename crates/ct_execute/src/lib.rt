@@ -1,17 +1,17 @@
-//! One instruction of an engine's running thread.
+//! One instruction of an engine's running thread: fetched, checked and carried out, on the thread, RAM and the devices.
+//!
+//! `execute` equals the written step's decision, by its three cases: the thread goes on, comes to the native return, or
+//! traps. The last two leave all as it is: what ends a frame is done by the caller. docs/use/machine.md tells the same
+//! in prose.
 #![tactic(auto)]
 
-ghost use Rattle.std.specs.Prelude.{◌≡◌, ℕ};
-ghost use Rattle.def_machine.specs.State.{State, thread};
-ghost use Rattle.def_step.specs.Instructions.{Board, executed, space_of};
-ghost use Rattle.ct_execute.specs.Deciding.{decide, settle};
-
+mod carrying;
+mod executing;
+mod fetching;
+mod laws;
+mod operands;
 mod ran;
 
+pub use executing::execute;
+pub use laws::executed_decided;
 pub use ran::Ran;
-
-/// The written step of a thread is the decision over the thread and what is around it, carried out.
-pub fn executed_decided()
-    ensures { (b : Board) (s : State) (t : ℕ) → executed b s t
-        ≡ settle b s t (decide b.image.entries (thread s t) (space_of b s)) }
-{}

@@ -1,0 +1,208 @@
+//! An instruction carried out on the running thread, RAM and the devices.
+
+ghost use Rattle.std.specs.Prelude.{ℕ, ◌≡◌, ◌<◌, Some, length, true, false};
+ghost use Rattle.def_instr.specs.Shapes.{is_access, is_capability, is_integer, is_jump, is_system};
+ghost use Rattle.def_instr.specs.Table.{InRange};
+ghost use Rattle.def_words.specs.Capability.{raised};
+ghost use Rattle.def_step.specs.declared.Class.TheVariants as kinds;
+ghost use Rattle.def_step.specs.Devices.{Bank};
+ghost use Rattle.def_step.specs.Operands.{class_of};
+ghost use Rattle.ct_engine.specs.Seen.{thread, went};
+ghost use Rattle.ct_engine.specs.Steps.{space_in, IsHeapPlaced};
+ghost use Rattle.ct_execute.specs.Deciding.{decide_by, decide_instruction, Decided, Stays};
+ghost use Rattle.ct_execute.specs.Opening.{IsOpen};
+
+use crate::operands::{class_of, operands_of};
+use crate::ran::Ran;
+use ct_alu::alu;
+use ct_bus::Bus;
+use ct_cap::{Live, Trap, add_address};
+use ct_capstep::capstep;
+use ct_engine::Engine;
+use ct_entry::Entries;
+use ct_exports::called;
+use ct_flow::flow;
+use ct_mem::Memory;
+use def_instr::Instr;
+use def_profile::traps::{BREAKPOINT, ENVIRONMENT_CALL, PCC_REGISTER, SYSTEM_REGISTER_CODE};
+use def_step::Class;
+
+/// Execution goes on after the instruction, and a register gets a value.
+fn advance<M: Memory + Drop>(engine: &mut Engine<M>, t: u32, to: u32, value: Live)
+    requires runs { engine.old.running ≡ Some t }
+    requires to { to < 16 }
+    ensures { engine.new ≡ went engine.old t (raised (thread engine.old t).pcc 4)
+        (thread engine.old t).posture to value }
+{
+    let pcc = add_address(engine.pcc(t), 4);
+    let posture = engine.posture(t);
+    engine.go(t, pcc, posture, to, value);
+}
+
+/// A branch or a jump. A sentry that holds interrupts off does so by the export that its root names.
+fn carry_jump<M: Memory + Drop>(
+    instruction: Instr,
+    entries: &Entries,
+    engine: &mut Engine<M>,
+    t: u32,
+) -> Ran
+    requires runs { engine.old.running ≡ Some t }
+    requires ranged { InRange instruction }
+    requires class { class_of instruction ≡ kinds.Jump }
+    requires jump { is_jump instruction ≡ true }
+    ensures is { (k : Bank) (time : ℕ) → Decided
+        (decide_instruction entries.now (thread engine.old t) (space_in engine.old k time)
+        instruction)
+        t engine.old k engine.new k result }
+    ensures stays { Stays engine.old engine.new }
+{
+    let operands = operands_of(instruction);
+    let x = engine.register(t, operands.first);
+    let y = engine.register(t, operands.second);
+    let named = called(entries, x.cap.shadow.root);
+    match flow(instruction, x, y, engine.pcc(t), engine.posture(t), named) {
+        Ok(went) => {
+            let link = match went.link {
+                Some(link) => link,
+                None => Live::integer(0),
+            };
+            engine.go(t, went.pcc, went.posture, operands.to, link);
+            Ran::Went {
+                act: None,
+                entry: x.cap.shadow.root,
+            }
+        }
+        Err(trap) => Ran::Trapped { trap },
+    }
+}
+
+/// A load or a store.
+fn carry_access<M: Memory + Drop>(
+    instruction: Instr,
+    engine: &mut Engine<M>,
+    t: u32,
+    bus: &mut Bus,
+    heap: u32,
+    time: u64,
+) -> Ran
+    requires runs { engine.old.running ≡ Some t }
+    requires opened { IsOpen engine.old t }
+    requires heap { IsHeapPlaced engine.old.region.ram heap (length engine.old.granules) }
+    requires ranged { InRange instruction }
+    requires class { class_of instruction ≡ kinds.Access }
+    requires access { is_access instruction ≡ true }
+    ensures is { (named : ℕ) → Decided
+        (decide_by named (thread engine.old t) (space_in engine.old bus.old time) instruction)
+        t engine.old bus.old engine.new bus.new result }
+    ensures stays { Stays engine.old engine.new }
+    ensures bases { bus.new.bases ≡ bus.old.bases }
+{
+    let operands = operands_of(instruction);
+    let x = engine.register(t, operands.first);
+    let y = engine.register(t, operands.second);
+    match engine.loadstore(instruction, x, y, heap, bus, time) {
+        Ok(moved) => {
+            let value = match moved.value {
+                Some(value) => value,
+                None => Live::integer(0),
+            };
+            advance(engine, t, operands.to, value);
+            let used = x.cap.shadow.root;
+            Ran::Went {
+                act: moved.device,
+                entry: used,
+            }
+        }
+        Err(trap) => Ran::Trapped { trap },
+    }
+}
+
+/// An instruction that gives a register a value and touches nothing else, or traps.
+fn carry_value<M: Memory + Drop>(
+    class: Class,
+    instruction: Instr,
+    engine: &mut Engine<M>,
+    t: u32,
+) -> Ran
+    requires runs { engine.old.running ≡ Some t }
+    requires ranged { InRange instruction }
+    requires is { class ≡ class_of instruction }
+    requires jump { class ≡ kinds.Jump → ⊥ }
+    requires access { class ≡ kinds.Access → ⊥ }
+    requires integer { class ≡ kinds.Integer → is_integer instruction ≡ true }
+    requires capability { class ≡ kinds.Capability
+        → (is_capability instruction ≡ true) × (is_system instruction ≡ false) }
+    ensures is { (named : ℕ) (k : Bank) (time : ℕ) → Decided
+        (decide_by named (thread engine.old t) (space_in engine.old k time) instruction)
+        t engine.old k engine.new k result }
+    ensures stays { Stays engine.old engine.new }
+{
+    let operands = operands_of(instruction);
+    let x = engine.register(t, operands.first);
+    let y = engine.register(t, operands.second);
+    let went = Ran::Went {
+        act: None,
+        entry: x.cap.shadow.root,
+    };
+    match class {
+        Class::Integer => {
+            advance(
+                engine,
+                t,
+                operands.to,
+                Live::integer(alu(instruction, x.address(), y.address())),
+            );
+            went
+        }
+        Class::Capability => match capstep(instruction, x, y, engine.pcc(t)) {
+            Ok(value) => {
+                advance(engine, t, operands.to, value);
+                went
+            }
+            Err(trap) => Ran::Trapped { trap },
+        },
+        Class::Fence => {
+            advance(engine, t, 0, Live::integer(0));
+            went
+        }
+        Class::System => Ran::Trapped {
+            trap: Trap::capability(SYSTEM_REGISTER_CODE, PCC_REGISTER),
+        },
+        Class::Call => Ran::Trapped {
+            trap: Trap::plain(ENVIRONMENT_CALL),
+        },
+        // Only a break is left.
+        _ => Ran::Trapped {
+            trap: Trap::plain(BREAKPOINT),
+        },
+    }
+}
+
+/// An instruction, whole.
+pub(crate) fn carry_out<M: Memory + Drop>(
+    instruction: Instr,
+    entries: &Entries,
+    engine: &mut Engine<M>,
+    t: u32,
+    bus: &mut Bus,
+    heap: u32,
+    time: u64,
+) -> Ran
+    requires runs { engine.old.running ≡ Some t }
+    requires opened { IsOpen engine.old t }
+    requires heap { IsHeapPlaced engine.old.region.ram heap (length engine.old.granules) }
+    requires ranged { InRange instruction }
+    ensures is { Decided
+        (decide_instruction entries.now (thread engine.old t)
+        (space_in engine.old bus.old time) instruction)
+        t engine.old bus.old engine.new bus.new result }
+    ensures stays { Stays engine.old engine.new }
+    ensures bases { bus.new.bases ≡ bus.old.bases }
+{
+    let class = class_of(instruction);
+    match class {
+        Class::Jump => carry_jump(instruction, entries, engine, t),
+        Class::Access => carry_access(instruction, engine, t, bus, heap, time),
+        _ => carry_value(class, instruction, engine, t),
+    }
+}

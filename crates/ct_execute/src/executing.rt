@@ -1,0 +1,50 @@
+//! One instruction, from its fetch on.
+
+ghost use Rattle.std.specs.Prelude.{◌≡◌, Some, length};
+ghost use Rattle.ct_engine.specs.Steps.{IsHeapPlaced};
+ghost use Rattle.ct_execute.specs.Deciding.{decision, Decided, IfEnds, Stays};
+ghost use Rattle.ct_execute.specs.Opening.{IsOpen};
+
+use crate::carrying::carry_out;
+use crate::fetching::fetch_trap;
+use crate::ran::Ran;
+use ct_bus::Bus;
+use ct_cap::Trap;
+use ct_engine::Engine;
+use ct_entry::Entries;
+use ct_mem::Memory;
+use def_profile::traps::ILLEGAL_INSTRUCTION;
+use def_step::Next;
+
+/// What stands at the running thread's program counter is fetched and carried out, on the thread, RAM and the devices.
+pub fn execute<M: Memory + Drop>(
+    engine: &mut Engine<M>,
+    t: u32,
+    entries: &Entries,
+    bus: &mut Bus,
+    heap: u32,
+    time: u64,
+) -> Ran
+    requires runs { engine.old.running ≡ Some t }
+    requires opened { IsOpen engine.old t }
+    requires heap { IsHeapPlaced engine.old.region.ram heap (length engine.old.granules) }
+    ensures is { Decided (decision entries.now engine.old t bus.old time) t engine.old bus.old
+        engine.new bus.new result }
+    ensures ends { IfEnds result ((engine.new ≡ engine.old) × (bus.new ≡ bus.old)) }
+    ensures stays { Stays engine.old engine.new }
+    ensures bases { bus.new.bases ≡ bus.old.bases }
+{
+    let pcc = engine.pcc(t);
+    if let Some(trap) = fetch_trap(pcc) {
+        return Ran::Trapped { trap };
+    }
+    match engine.next(pcc.address()) {
+        Next::Returning => Ran::Returned,
+        Next::Instruction { instruction } => {
+            carry_out(instruction, entries, engine, t, bus, heap, time)
+        }
+        Next::Nothing => Ran::Trapped {
+            trap: Trap::plain(ILLEGAL_INSTRUCTION),
+        },
+    }
+}
