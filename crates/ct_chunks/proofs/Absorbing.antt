@@ -318,7 +318,7 @@ grows r gs q hs ks last left h w n going offset_is size_is some is =
       last_free = last_free w.front (free_chunk (w.pending + c.size)) last.offset (last.size + c.size) refl offset_is (omega (arith, size_is));
       touch = inr (offset_is, omega (arith, size_is), omega (arith, some));
       start = w.start;
-      keeps = keeps_then r (chunks r gs) (chunks r gs) gs hs ks (λ p spared. spared) w.keeps (keeps_store r (chunks r gs) hs ks place word (omega (arith, ram_low)) b.even (head_loose r gs (chunks r gs) place h (w.start some_last)) is);
+      keeps = keeps_then r (chunks r gs) (chunks r gs) gs hs ks (λ p spared. spared) w.keeps (keeps_store r (chunks r gs) hs ks place word refl (omega (arith, ram_low)) b.even (head_loose r gs (chunks r gs) place h (w.start some_last)) is);
     }
 
 -- what the two writes of a new last free chunk leave
@@ -359,7 +359,7 @@ begins r gs q p_ hs ks last left h w n going zero_ is range_is =
     let at_even : (at - r.ram) % 8 ≡ 0 = omega (arith, xs_even, base_even, e0, ram_low) in
     let same = others_same r gs hs ms at word h (omega (arith, ram_low)) at_even refl in
     let wrote : head_at ms r.ram at ≡ word = head_same hs r.ram at word (omega (arith, ram_low)) at_even (omega (arith, inside, sizes, sum, wide)) in
-    let keeps_one : Keeps r (chunks r gs) gs ms = keeps_then r (chunks r gs) (chunks r gs) gs hs ms (λ p spared. spared) w.keeps (keeps_store r (chunks r gs) hs ms at word (omega (arith, ram_low)) at_even (head_loose r gs (chunks r gs) at h n.starts) refl) in
+    let keeps_one : Keeps r (chunks r gs) gs ms = keeps_then r (chunks r gs) (chunks r gs) gs hs ms (λ p spared. spared) w.keeps (keeps_store r (chunks r gs) hs ms at word refl (omega (arith, ram_low)) at_even (head_loose r gs (chunks r gs) at h n.starts) refl) in
     let there : at + c.size ≡ r.base + total zs = omega (arith, new_total) in
     let mine : first_free r.base at (free_chunk c.size ∷ []) NO_CHUNK ≡ total w.xs = omega arith in
     let old_target : w.front ++ joined w.pending (c ∷ n.others) ≡ released (chunks r gs) = ap (λ (l : List Chunk). w.front ++ joined w.pending l) (sym n.rest_is) ∙ w.target in
@@ -415,7 +415,7 @@ begins r gs q p_ hs ks last left h w n going zero_ is range_is =
                       (λ p s. let lo = starts_low p (at + c.size) n.others s in both p (omega (arith, lo)) (starts_even p (at + c.size) n.others n.others_are (omega (arith, base_even, xs_even, c_whole)) s) (λ x. omega (arith, x, lo, wide)) (λ x. omega (arith, x, lo, b_fits, b_some)))
                       n.lays.1;
                   first = ap (λ (x : Range). x.first) range_is ∙ rw e.0 (w.first ∙ ap (λ (k : List Chunk). first_free r.base r.base k NO_CHUNK) l.whole ∙ first_stays r.base r.base l.above l.chunk l.used NO_CHUNK (total w.xs) l.is ∙ ap (λ (k : List Chunk). first_free r.base r.base k (total w.xs)) (sym l.whole));
-                  keeps = keeps_then r (chunks r gs) (chunks r gs) gs ms ks (λ p spared. spared) keeps_one (keeps_store r (chunks r gs) ms ks link_at link_word (omega (arith, ram_low)) b.even (head_loose r gs (chunks r gs) link_at h (w.start e.1)) is_ks);
+                  keeps = keeps_then r (chunks r gs) (chunks r gs) gs ms ks (λ p spared. spared) keeps_one (keeps_store r (chunks r gs) ms ks link_at link_word refl (omega (arith, ram_low)) b.even (head_loose r gs (chunks r gs) link_at h (w.start e.1)) is_ks);
                 }
           ]
     ] in

@@ -57,8 +57,8 @@ split_keeps r gs ms hs at size first next one two h f whole some fits is_one is_
     let there : Spared r (chunks r gs) (at + first) → ⊥ = loose r (chunks r gs) (at + first) (omega (arith, low)) (omega (arith, high, fits, size_is)) (unused (at + first) (omega arith) (omega (arith, fits))) in
     let here : Spared r (chunks r gs) at → ⊥ = loose r (chunks r gs) at low (omega (arith, high, fits, size_is, some)) (unused at (omega arith) (omega (arith, fits, some))) in
     keeps_then r (chunks r gs) (chunks r gs) gs ms hs (λ p spared. spared)
-    (keeps_store r (chunks r gs) gs ms (at + first) (plain one) (omega (arith, over)) (omega (arith, even, whole, over)) there is_one)
-    (keeps_store r (chunks r gs) ms hs at (plain two) over even here is_two)
+    (keeps_store r (chunks r gs) gs ms (at + first) (plain one) refl (omega (arith, over)) (omega (arith, even, whole, over)) there is_one)
+    (keeps_store r (chunks r gs) ms hs at (plain two) refl over even here is_two)
 
 -- where the last free chunk is
 record LastAt (r : Range) (cs : List Chunk) (before : ℕ) : Type 0 where
@@ -97,11 +97,11 @@ take_keeps r gs ms hs at size next before bsize two h t is_one is_two =
       | inr e ↦
           let b = sat r gs at size next before bsize h t e.1 in
           let fits = b.fits in
-          keeps_store r (chunks r gs) gs ms (r.base + before) (plain (bsize + next * 2 ^ 32)) (omega (arith, ram_low)) b.even
+          keeps_store r (chunks r gs) gs ms (r.base + before) (plain (bsize + next * 2 ^ 32)) refl (omega (arith, ram_low)) b.even
           (loose r (chunks r gs) (r.base + before) (omega arith) (omega (arith, fits, high, some)) (last_at r gs at size next before bsize h t e.1).unused)
           (is_one ∙ rw e.0 refl)
     ] in
-    keeps_then r (chunks r gs) (chunks r gs) gs ms hs (λ p spared. spared) first (keeps_store r (chunks r gs) ms hs at (plain two) over even here is_two)
+    keeps_then r (chunks r gs) (chunks r gs) gs ms hs (λ p spared. spared) first (keeps_store r (chunks r gs) ms hs at (plain two) refl over even here is_two)
 
 pub linkable : (r : Range) (gs : List Granule) (at size next before bsize : ℕ) → Tiled r gs → FreeLinked r gs at size next before bsize → Linkable r (length gs) before
 linkable r gs at size next before bsize h t =

@@ -44,7 +44,7 @@ state_keeps r gs hs at size number word h u is =
     let k = sits r gs at h s in
     let place = s.place in
     let starts : Starts at r.base (chunks r gs) = subst (Starts at r.base) (sym s.whole) (starts_second at r.base s.above (s.chunk ∷ s.below) (inl place)) in
-    keeps_store r (chunks r gs) gs hs at (plain word) k.over k.even (head_loose r gs (chunks r gs) at h starts) is
+    keeps_store r (chunks r gs) gs hs at (plain word) refl k.over k.even (head_loose r gs (chunks r gs) at h starts) is
 
 pub state_elsewhere : (r : Range) (gs hs : List Granule) (at size number word : ℕ) → Tiled r gs → UsedStands r gs at size number → hs ≡ stored_cap gs (at - r.ram) (plain word) → (k : ℕ) → (r.ram + 8 * k ≡ at → ⊥) → granule_at hs k ≡ granule_at gs k
 state_elsewhere r gs hs at size number word h u is k other =

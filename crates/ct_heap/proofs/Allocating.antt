@@ -20,7 +20,7 @@ use Rattle.law_chunks.proofs.Lays.{total_both, are_split, are_join}
 use Rattle.law_chunks.proofs.Reading.{sits, replaced_is}
 use Rattle.law_chunks.proofs.Joins.{gap_are, gap_total}
 use Rattle.law_chunks.proofs.Rows.{UsedStarts, objects_both, gap_rows, names_same, each_both, each_split, each_more, rows_low, rows_high, placed_between, charges_both, waiting_both, Others, distinct_between}
-use Rattle.law_chunks.proofs.Spares.{in_use_second, head_unused, free_unused, loose}
+use Rattle.law_chunks.proofs.Spares.{in_use_second, head_unused, free_unused, loose, no_tag_then, zeroed_tags}
 use Rattle.law_chunks.proofs.Kept.{SameChunks, settled_same, head_there, live_spared}
 use Rattle.ct_chunks.proofs.Cuts.{carving}
 use Rattle.ct_heap.specs.Effects.{Stays, Same}
@@ -323,6 +323,7 @@ place_done h n gs ms hs quota extent g l quota_in few p left =
       stays = record {
         size = left.zeroed.size ∙ left.keeps.size;
         marks = λ j. zero_marks (g.base - r.ram) (g.base - r.ram + extent) ms hs j left.zeroed ∙ left.keeps.marks j;
+        tags = no_tag_then gs ms hs left.keeps.tags (zeroed_tags (g.base - r.ram) (g.base - r.ram + extent) ms hs left.zeroed);
         rest = λ j seen.
             let spared : Spared r (chunks r gs) (r.ram + 8 * j) = elim seen [ inl a ↦ inl a | inr (inl b) ↦ inr (inl b) | inr (inr e) ↦ inr (inr (live_spared h gs (r.ram + 8 * j) l e)) ] in
             left.zeroed.rest j (elim (le_tells g.base (r.ram + 8 * j)) [

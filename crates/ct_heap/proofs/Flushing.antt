@@ -83,7 +83,7 @@ pub paints_none : (h : HeapRow) (gs : List Granule) → Laid h gs → h.waiting 
 unfolding objects_of
 paints_none h gs l none = record {
   objects = sym (none_painted h.names h.range.base h.range.base (chunks h.range gs) l.settled.tiled.are (none_waiting (objects_in h.names h.range.base h.range.base (chunks h.range gs)) (sym l.waiting ∙ none)));
-  stays = record { size = refl; marks = λ k. refl; rest = λ k s. refl };
+  stays = record { size = refl; marks = λ k. refl; tags = λ k tagged. refl; rest = λ k s. refl };
 }
 
 -- what is seen is spared
@@ -141,7 +141,7 @@ paint_done h gs hs l settled is keeps =
       };
       paints = record {
         objects = rows;
-        stays = record { size = keeps.size; marks = keeps.marks; rest = λ k s. keeps.rest k (seen_spared h gs (h.range.ram + 8 * k) l s) };
+        stays = record { size = keeps.size; marks = keeps.marks; tags = keeps.tags; rest = λ k s. keeps.rest k (seen_spared h gs (h.range.ram + 8 * k) l s) };
       };
     }
 
@@ -332,6 +332,7 @@ flush_done h n gs ms hs l left =
         next = left.next;
         size = left.keeps.size ∙ u.size;
         marks = λ k. left.keeps.marks k ∙ u.marks k ∙ ap (λ b. cond b false (granule_at gs k).mark) (painted_at h.names base (r.ram + 8 * k) base (chunks r gs) are);
+        tags = λ k tagged. left.keeps.tags k tagged ∙ u.caps k;
         rest = λ k s. ap (λ (g : Granule). g.cap) (left.keeps.rest k (subst (λ x. Spared r x (r.ram + 8 * k)) (sym same.chunks_are) (seen_spared h gs (r.ram + 8 * k) l s))) ∙ u.caps k;
         same = record { range = left.range; limits = λ q. ap (λ (a : Account). a.limit) (account_same q); quotas = ap length left.accounts };
       };

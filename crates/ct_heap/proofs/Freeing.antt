@@ -12,12 +12,12 @@ use Rattle.def_chunks.specs.declared.rows.Range.{Range}
 use Rattle.def_chunks.specs.declared.rows.Account.{Account}
 use Rattle.def_chunks.specs.Chunks.{Chunk, is_free, total, Starts, AreChunks, NoneTouch}
 use Rattle.def_chunks.specs.Tiles.{chunks, Tiled, Settled}
-use Rattle.def_chunks.specs.Changes.{replaced, in_state, InUse, Keeps}
+use Rattle.def_chunks.specs.Changes.{replaced, in_state, InUse, NoTagComes, Keeps}
 use Rattle.def_chunks.specs.Heaps.{HeapRow, account, no_account, is_named, quota_named, is_used_at, object_at, objects_in, objects_of, Distinct, waiting_in, Laid}
 use Rattle.law_chunks.proofs.Reading.{sits, replaced_is}
 use Rattle.law_chunks.proofs.Joins.{state_apart}
 use Rattle.law_chunks.proofs.Rows.{UsedStarts, objects_both, each_both, each_split, charges_both, waiting_both, distinct_around, distinct_same, quarantine_between}
-use Rattle.law_chunks.proofs.Spares.{in_use_second, head_unused}
+use Rattle.law_chunks.proofs.Spares.{in_use_second, head_unused, no_tag_then, zeroed_tags}
 use Rattle.law_chunks.proofs.Kept.{SameChunks, settled_same, head_there, mark_caps}
 use Rattle.ct_heap.specs.Effects.{Same}
 use Rattle.ct_heap.specs.Steps.{Freeing}
@@ -134,6 +134,7 @@ pub record Done (h n : HeapRow) (gs hs : List Granule) (number base extent quota
   pub charged : (account n quota).charged ≡ charges quota (objects_of n hs)
   pub zero : (k : ℕ) → base ≤ h.range.ram + 8 * k → h.range.ram + 8 * k < base + extent → (granule_at hs k).cap ≡ plain 0
   pub marks : (k : ℕ) → base ≤ h.range.ram + 8 * k + 8 → h.range.ram + 8 * k < base + extent → (granule_at hs k).mark ≡ true
+  pub tags : NoTagComes gs hs
   pub rest : (k : ℕ) → (h.range.ram + 8 * k + 8 < base) ⊎ (base + extent ≤ h.range.ram + 8 * k) → granule_at hs k ≡ granule_at gs k
   pub size : length hs ≡ length gs
   pub same : Same h n
@@ -274,6 +275,10 @@ free_done h n gs ms ns hs number base extent quota l f left =
       charged = charged_now quota ∙ ap (charges quota) (sym new_rows);
       zero = λ j from to. mark_caps ns hs (base - 8 - r.ram) (base - 8 - r.ram + (extent + 8)) true j left.marked (inside_zeroed j to) ∙ ap (λ (x : Granule). x.cap) (left.zeroed.zero j (omega (arith, from), omega (arith, to, over)));
       marks = λ j from to. ap (λ (x : Granule). x.mark) (left.marked.marks j (inside_zeroed j to) (omega (arith, from, over), omega (arith, to, over)));
+      tags = no_tag_then gs ms hs left.keeps.tags (no_tag_then ms ns hs (zeroed_tags (base - r.ram) (base - r.ram + extent) ms ns left.zeroed) (λ j tagged. (elim (lt_tells (r.ram + 8 * j) (base + extent)) [
+        | inl a ↦ mark_caps ns hs (base - 8 - r.ram) (base - 8 - r.ram + (extent + 8)) true j left.marked (inside_zeroed j a.1)
+        | inr a ↦ ap (λ (x : Granule). x.cap) (left.marked.rest j (inr (let past = a.1 in omega (arith, past, over))))
+      ])));
       rest = λ j out. left.marked.rest j (elim out [ inl a ↦ inl (omega (arith, a, over)) | inr b ↦ inr (omega (arith, b, over)) ])
           ∙ left.zeroed.rest j (elim out [ inl a ↦ inl (omega (arith, a, over)) | inr b ↦ inr (omega (arith, b, over)) ])
           ∙ left.elsewhere j (λ is. elim out [ inl a ↦ omega (arith, a, is, over) | inr b ↦ omega (arith, b, is, over) ]);

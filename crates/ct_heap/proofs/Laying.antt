@@ -171,11 +171,12 @@ lay_stays h gs hs e some is =
     let e0 = e.even.0 in
     let e1 = e.even.1 in
     let above = e.above in
-    let keeps : Keeps h.range [] gs hs = keeps_store h.range [] gs hs h.range.base (plain (h.range.length + NO_CHUNK * 2 ^ 32)) above (omega (arith, e0, e1, above))
+    let keeps : Keeps h.range [] gs hs = keeps_store h.range [] gs hs h.range.base (plain (h.range.length + NO_CHUNK * 2 ^ 32)) refl above (omega (arith, e0, e1, above))
     (loose h.range [] h.range.base (omega arith) (more h.range.length h.range.base some) (λ u. absurd u)) is in
     record {
       size = keeps.size;
       marks = keeps.marks;
+      tags = keeps.tags;
       rest = λ k s. keeps.rest k (elim s [ inl a ↦ inl a | inr (inl b) ↦ inr (inl b) | inr (inr x) ↦ absurd (let clash : false ≡ true = x in cc) ]);
     }
   where
@@ -239,7 +240,7 @@ lay_left h row gs same e none inside =
     record {
       laid = d.laid;
       objects = d.objects;
-      stays = record { size = refl; marks = λ k. refl; rest = λ k s. refl };
+      stays = record { size = refl; marks = λ k. refl; tags = λ k tagged. refl; rest = λ k s. refl };
       same = record { range = subst (λ (x : HeapRow). x.range ≡ record h.range { first = x.range.first }) (sym same) refl; limits = λ q. ap (λ (x : HeapRow). (account x q).limit) same; quotas = ap (λ (x : HeapRow). length x.accounts) same };
       next = ap (λ (x : HeapRow). x.next) same ∙ next_is h e;
     }

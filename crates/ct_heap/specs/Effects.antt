@@ -13,6 +13,7 @@ use Rattle.def_hidden.specs.Hidden.{is_live_at}
 use Rattle.def_chunks.specs.declared.heads.TheConstants.{NO_CHUNK}
 use Rattle.def_chunks.specs.declared.rows.Range.{Range}
 use Rattle.def_chunks.specs.declared.rows.Account.{Account}
+use Rattle.def_chunks.specs.Changes.{NoTagComes}
 use Rattle.def_chunks.specs.Heaps.{HeapRow, objects_of, account, IsHeapOf}
 use Rattle.ct_heap.specs.declared.rows.HeapRefusal.{HeapRefusal}
 use Rattle.ct_heap.specs.declared.rows.HeapRefusal.TheVariants.{Size, Quota, NoGap}
@@ -57,10 +58,11 @@ pub record Empty (h : HeapRow) : Type 0 where
 abbrev pub Seen : Range → List Object → ℕ → Type 0
 Seen r objects p = (p < r.base) ⊎ (r.base + r.length ≤ p) ⊎ (is_live_at objects p ≡ true)
 
--- what is seen stays, and so does every mark
+-- what is seen stays, and so does every mark; what isn't seen gets no capability
 pub record Stays (r : Range) (objects : List Object) (gs hs : List Granule) : Type 0 where
   pub size : length hs ≡ length gs
   pub marks : (k : ℕ) → (granule_at hs k).mark ≡ (granule_at gs k).mark
+  pub tags : NoTagComes gs hs
   pub rest : (k : ℕ) → Seen r objects (r.ram + 8 * k) → granule_at hs k ≡ granule_at gs k
 
 -- the heap lies where it lay, and its quotas have their limits
@@ -118,7 +120,8 @@ Refuses h gs quota size NoGap =
 
 -- ---- free
 
--- the live object of this quota with these bounds is quarantined, zeroed, its chunk marked, and its charge taken off
+-- The live object of this quota with these bounds is quarantined, zeroed, its chunk marked, and its charge taken off. No
+-- capability comes, and outside the chunk everything stays.
 pub record Frees (h n : HeapRow) (gs hs : List Granule)
     (quota base top number object_base object_length live : ℕ) : Type 0 where
   pub object : Object
@@ -133,6 +136,7 @@ pub record Frees (h n : HeapRow) (gs hs : List Granule)
       → (granule_at hs k).cap ≡ plain 0
   pub marks : (k : ℕ) → base ≤ h.range.ram + 8 * k + CHUNK_HEAD → h.range.ram + 8 * k < top
       → (granule_at hs k).mark ≡ true
+  pub tags : NoTagComes gs hs
   pub rest : (k : ℕ) → (h.range.ram + 8 * k + CHUNK_HEAD < base) ⊎ (top ≤ h.range.ram + 8 * k)
       → granule_at hs k ≡ granule_at gs k
   pub size : length hs ≡ length gs
@@ -151,7 +155,7 @@ NoneStale objects gs =
     (k : ℕ) → is_tagged gs k ≡ true → cap_base (granule_at gs k).cap < cap_top (granule_at gs k).cap
     → is_painted_at objects (cap_base (granule_at gs k).cap) ≡ false
 
--- the painted objects leave, and their chunks' marks are cleared
+-- the painted objects leave, and their chunks' marks are cleared; what is seen stays, what isn't gets no capability
 pub record Flushes (h n : HeapRow) (gs hs : List Granule) : Type 0 where
   pub objects : objects_of n hs ≡ unpainted (objects_of h gs)
   pub next : n.next ≡ h.next
@@ -159,6 +163,7 @@ pub record Flushes (h n : HeapRow) (gs hs : List Granule) : Type 0 where
   pub marks : (k : ℕ)
       → (granule_at hs k).mark
       ≡ cond (is_painted_at (objects_of h gs) (h.range.ram + 8 * k)) false (granule_at gs k).mark
+  pub tags : NoTagComes gs hs
   pub rest : (k : ℕ) → Seen h.range (objects_of h gs) (h.range.ram + 8 * k)
       → (granule_at hs k).cap ≡ (granule_at gs k).cap
   pub same : Same h n

@@ -12,6 +12,7 @@ use Rattle.def_chunks.specs.declared.rows.Gap.{Gap}
 use Rattle.def_chunks.specs.declared.rows.Head.{Head}
 use Rattle.def_chunks.specs.Chunks.{Chunk, is_free}
 use Rattle.def_chunks.specs.Tiles.{chunks}
+use Rattle.def_chunks.specs.Changes.{NoTagComes}
 use Rattle.def_chunks.specs.Gaps.{FreeLinked, UsedStands}
 use Rattle.def_chunks.specs.Heaps.{HeapRow, objects_of, account, is_named, quota_named, is_used_at}
 use Rattle.ct_chunks.specs.Cuts.{Fitting}
@@ -74,6 +75,7 @@ pub record Freed (h n : HeapRow) (gs hs : List Granule)
       → (granule_at hs k).cap ≡ plain 0
   pub marks : (k : ℕ) → base ≤ h.range.ram + 8 * k + CHUNK_HEAD
       → h.range.ram + 8 * k < base + length → (granule_at hs k).mark ≡ true
+  pub tags : NoTagComes gs hs
   pub rest : (k : ℕ)
       → (h.range.ram + 8 * k + CHUNK_HEAD < base) ⊎ (base + length ≤ h.range.ram + 8 * k)
       → granule_at hs k ≡ granule_at gs k

@@ -1,9 +1,10 @@
 -- What becomes of chunks: one is split, taken, given another state; what was painted is let go and joined with the
 -- free chunks that it touches. And what of memory stays meanwhile.
-use Rattle.std.specs.Prelude.{ℕ, ◌+◌, ◌-◌, ◌*◌, ◌^◌, ◌≡◌, ◌≤◌, ◌<◌, ◌⊎◌, ◌||◌, Bool, false, cond, nat_eq, List, [], ◌∷◌, ◌++◌, map, length}
+use Rattle.std.specs.Prelude.{ℕ, ◌+◌, ◌-◌, ◌*◌, ◌^◌, ◌≡◌, ◌≤◌, ◌<◌, ◌⊎◌, ◌||◌, Bool, true, false, cond, nat_eq, List, [], ◌∷◌, ◌++◌, map, length}
 use Rattle.def_memory.specs.declared.Granule.{Granule}
 use Rattle.def_memory.specs.Granules.{plain, granule_at}
 use Rattle.def_memory.specs.Accesses.{stored_cap}
+use Rattle.def_memory.specs.Ranges.{is_tagged}
 use Rattle.def_chunks.specs.declared.heads.TheConstants.{FREE, LIVE, QUARANTINED, PAINTED, NO_CHUNK}
 use Rattle.def_chunks.specs.declared.rows.Range.{Range}
 use Rattle.def_chunks.specs.Chunks.{Chunk, is_free}
@@ -72,8 +73,14 @@ InUse p at (c ∷ cs) =
 abbrev pub Spared : Range → List Chunk → ℕ → Type 0
 Spared r cs p = (p < r.base) ⊎ (r.base + r.length ≤ p) ⊎ InUse p r.base cs
 
--- heads and free chunks alone have changed, and no mark
+-- no capability came: what is tagged now stood there, tagged, before
+abbrev pub NoTagComes : List Granule → List Granule → Type 0
+NoTagComes old new =
+    (k : ℕ) → is_tagged new k ≡ true → (granule_at new k).cap ≡ (granule_at old k).cap
+
+-- heads and free chunks alone have changed, no mark has, and no capability came
 pub record Keeps (r : Range) (cs : List Chunk) (old new : List Granule) : Type 0 where
   pub size : length new ≡ length old
   pub marks : (k : ℕ) → (granule_at new k).mark ≡ (granule_at old k).mark
+  pub tags : NoTagComes old new
   pub rest : (k : ℕ) → Spared r cs (r.ram + 8 * k) → granule_at new k ≡ granule_at old k

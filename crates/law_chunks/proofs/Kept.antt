@@ -18,7 +18,7 @@ use Rattle.def_chunks.specs.Chunks.{Chunk, is_free, total, head_at, Lays, Starts
 use Rattle.def_chunks.specs.Tiles.{chunks, TiledBy, Tiled, Settled}
 use Rattle.def_chunks.specs.Changes.{InUse, Spared}
 use Rattle.def_chunks.specs.Heaps.{HeapRow, objects_in, object_at, objects_of, quota_named, is_named, is_used_at, account, Distinct, waiting_in, Laid, IsHeapOf}
-use Rattle.law_chunks.specs.Kept.{Misses, KeepsHeap}
+use Rattle.law_chunks.specs.Kept.{Misses, KeepsHeap, KeepsUntagged}
 use Rattle.law_chunks.proofs.Lays.{lays_same, starts_low, starts_high, starts_even}
 use Rattle.law_chunks.proofs.Reading.{chunks_are}
 use Rattle.law_chunks.proofs.Spares.{head_unused}
@@ -135,6 +135,17 @@ pub mark_keeps : (h : HeapRow) (gs hs : List Granule) (from to : ℕ) (on : Bool
 mark_keeps h gs hs from to on l is =
     heads_kept h gs hs l is.size
     (λ p s. let k = head_there h.range gs p l.settled.tiled s in mark_caps gs hs from to on ((p - h.range.ram) / 8) is k.inside)
+
+-- heads are untagged
+untagged_head : (gs : List Granule) (ram base at p next : ℕ) (cs : List Chunk) → Lays gs ram base at cs next → Starts p at cs → (head_at gs ram p).tag ≡ false
+untagged_head gs ram base at p next [] l s = absurd s
+untagged_head gs ram base at p next (c ∷ cs) l (inl e) = rw e (ap (λ (x : Cap). x.tag) l.0)
+untagged_head gs ram base at p next (c ∷ cs) l (inr e) = untagged_head gs ram base (at + c.size) p next cs l.1 e
+
+pub untag_keeps : (h : HeapRow) (gs hs : List Granule) → Laid h gs → KeepsUntagged gs hs → KeepsHeap h gs hs
+untag_keeps h gs hs l is =
+    heads_kept h gs hs l is.size
+    (λ p s. is.same ((p - h.range.ram) / 8) (untagged_head gs h.range.ram h.range.base h.range.base p NO_CHUNK (chunks h.range gs) l.settled.tiled.lays s))
 
 -- ---- live objects
 

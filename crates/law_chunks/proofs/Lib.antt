@@ -6,3 +6,4 @@ pub mod Places
 pub mod Joins
 pub mod Rows
 pub mod Kept
+pub mod Standing

@@ -1,16 +1,18 @@
 -- What a change of heads and free chunks leaves alone.
 use Rattle.std.proofs.Common.{ℕ, zero, suc, ◌≡◌, ◌+◌, ◌-◌, ◌*◌, ◌/◌, ◌%◌, ◌^◌, ◌<◌, ◌≤◌, ◌⊎◌, inl, inr, Bool, true, false, cond, nat_eq, List, [], ◌∷◌, ◌++◌, length, refl, sym, ap, ◌∙◌, arith, subst}
 use Rattle.std.proofs.lemmas.Bool.{cases_eq}
-use Rattle.law_lists.proofs.Tests.{bool_tells, eq_tells}
+use Rattle.law_lists.proofs.Sets.{after_set_at}
+use Rattle.law_lists.proofs.Tests.{bool_tells, eq_tells, lt_tells, le_tells}
 use Rattle.def_words.specs.declared.Cap.{Cap}
 use Rattle.def_memory.specs.declared.Granule.{Granule}
-use Rattle.def_memory.specs.Granules.{granule_at}
+use Rattle.def_memory.specs.Granules.{nothing, granule_at}
 use Rattle.def_memory.specs.Accesses.{stored_cap}
+use Rattle.def_memory.specs.Ranges.{IsZeroed}
 use Rattle.law_granules.proofs.Lists.{cap_rest, cap_marks}
 use Rattle.def_chunks.specs.declared.rows.Range.{Range}
 use Rattle.def_chunks.specs.Chunks.{Chunk, is_free, total, Starts, IsChunk, AreChunks}
 use Rattle.def_chunks.specs.Tiles.{TiledBy}
-use Rattle.def_chunks.specs.Changes.{InUse, Spared, Keeps}
+use Rattle.def_chunks.specs.Changes.{InUse, Spared, Keeps, NoTagComes}
 use Rattle.law_chunks.proofs.Lays.{are_split, total_both, starts_low, starts_high}
 use Rattle.law_chunks.proofs.Carves.{store_length}
 
@@ -77,21 +79,40 @@ free_unused p at xs c ys free_ low high h = elim (in_use_split p at xs (c ∷ ys
 
 -- ---- changes
 
+pub no_tag_then : (gs ms hs : List Granule) → NoTagComes gs ms → NoTagComes ms hs → NoTagComes gs hs
+no_tag_then gs ms hs a b = λ k tagged. (let same = b k tagged in same ∙ a k (ap (λ (c : Cap). c.tag) (sym same) ∙ tagged))
+
+pub zeroed_tags : (from to : ℕ) (gs hs : List Granule) → IsZeroed from to gs hs → NoTagComes gs hs
+zeroed_tags from to gs hs z = λ k tagged. elim (le_tells from (8 * k)) [
+  | inl a ↦ elim (lt_tells (8 * k) to) [
+    | inl b ↦ absurd (let blank_ = ap (λ (g : Granule). g.cap.tag) (z.zero k (a.1, b.1)) in let clash : true ≡ false = sym tagged ∙ blank_ in cc)
+    | inr b ↦ ap (λ (g : Granule). g.cap) (z.rest k (inr b.1))
+  ]
+  | inr a ↦ ap (λ (g : Granule). g.cap) (z.rest k (inl a.1))
+]
+
+plain_stored : (gs : List Granule) (at : ℕ) (c : Cap) → c.tag ≡ false → NoTagComes gs (stored_cap gs at c)
+plain_stored gs at c untagged = λ k.
+    let P : ℕ → Granule → Type 0 = λ n g. g.cap.tag ≡ true → g.cap ≡ (granule_at gs n).cap in
+    after_set_at P gs (at / 8) k (record { cap = c; mark = (granule_at gs (at / 8)).mark }) nothing (λ tagged. absurd (let clash : true ≡ false = sym tagged ∙ untagged in cc)) (λ tagged. refl)
+
 pub keeps_same : (r : Range) (cs : List Chunk) (gs hs : List Granule) → hs ≡ gs → Keeps r cs gs hs
-keeps_same r cs gs hs same = record { size = ap length same; marks = λ k. ap (λ l. (granule_at l k).mark) same; rest = λ k spared. ap (λ l. granule_at l k) same }
+keeps_same r cs gs hs same = record { size = ap length same; marks = λ k. ap (λ l. (granule_at l k).mark) same; tags = λ k tagged. ap (λ l. (granule_at l k).cap) same; rest = λ k spared. ap (λ l. granule_at l k) same }
 
 pub keeps_then : (r : Range) (cs ds : List Chunk) (gs ms hs : List Granule) → ((p : ℕ) → Spared r cs p → Spared r ds p) → Keeps r cs gs ms → Keeps r ds ms hs → Keeps r cs gs hs
 keeps_then r cs ds gs ms hs spared a b = record {
   size = b.size ∙ a.size;
   marks = λ k. b.marks k ∙ a.marks k;
+  tags = no_tag_then gs ms hs a.tags b.tags;
   rest = λ k s. b.rest k (spared (r.ram + 8 * k) s) ∙ a.rest k s;
 }
 
--- a granule is written that isn't spared
-pub keeps_store : (r : Range) (cs : List Chunk) (gs hs : List Granule) (at : ℕ) (c : Cap) → r.ram ≤ at → (at - r.ram) % 8 ≡ 0 → (Spared r cs at → ⊥) → hs ≡ stored_cap gs (at - r.ram) c → Keeps r cs gs hs
-keeps_store r cs gs hs at c over even loose is = record {
+-- a plain word is written in a granule that isn't spared
+pub keeps_store : (r : Range) (cs : List Chunk) (gs hs : List Granule) (at : ℕ) (c : Cap) → c.tag ≡ false → r.ram ≤ at → (at - r.ram) % 8 ≡ 0 → (Spared r cs at → ⊥) → hs ≡ stored_cap gs (at - r.ram) c → Keeps r cs gs hs
+keeps_store r cs gs hs at c untagged over even loose is = record {
   size = ap length is ∙ store_length gs (at - r.ram) c;
   marks = λ k. ap (λ l. (granule_at l k).mark) is ∙ cap_marks gs (at - r.ram) c k;
+  tags = subst (NoTagComes gs) (sym is) (plain_stored gs (at - r.ram) c untagged);
   rest = λ k s. ap (λ l. granule_at l k) is ∙ cap_rest gs (at - r.ram) c k (λ e. loose (let same : r.ram + 8 * k ≡ at = omega (arith, e, over, even) in subst (Spared r cs) same s));
 }
 
