@@ -1,0 +1,23 @@
+//! How a routine answers.
+
+ghost use Rattle.std.specs.Prelude.{◌≡◌, Some};
+ghost use Rattle.ct_services.specs.Served.{answered_in};
+
+use ct_cap::{Live, open};
+use ct_engine::Engine;
+use ct_flow::posture_through;
+use ct_mem::Memory;
+
+/// The running thread goes on where its c1 leads, by the posture of that return sentry, with a value in
+/// c10 and 0 in c11.
+#[tactic(auto, using(crate::proofs::Answers::answers))]
+pub fn answer<M: Memory + Drop>(engine: &mut Engine<M>, t: u32, value: Live)
+    requires { engine.old.running ≡ Some t }
+    ensures { engine.new ≡ answered_in engine.old t value }
+{
+    let link = engine.register(t, 1);
+    let posture = posture_through(engine.posture(t), link.seal, 0, link.cap.shadow.source);
+    engine.go(t, open(link), posture, 10, value);
+    let pcc = engine.pcc(t);
+    engine.go(t, pcc, posture, 11, Live::integer(0));
+}
