@@ -13,5 +13,5 @@ mod operands;
 mod ran;
 
 pub use executing::execute;
-pub use laws::executed_decided;
+pub use laws::{executed_decided, running_opened};
 pub use ran::Ran;
