@@ -1,5 +1,5 @@
 -- Changes of memory that meet nothing hidden leave the threads, and what is kept of them.
-use Rattle.std.proofs.Common.{ℕ, zero, suc, ◌≡◌, ◌*◌, ◌/◌, ◌<◌, ◌≤◌, ◌⊎◌, inl, inr, Bool, true, false, List, [], ◌∷◌, length, refl, sym, ap, ◌∙◌, arith, subst}
+use Rattle.std.proofs.Common.{ℕ, zero, suc, ◌≡◌, ◌*◌, ◌/◌, ◌<◌, ◌≤◌, ◌⊎◌, inl, inr, Bool, true, false, List, [], ◌∷◌, length, map, refl, sym, ap, ◌∙◌, arith, subst}
 use Rattle.std.proofs.lemmas.List.{length-set}
 use Rattle.law_lists.proofs.Tests.{lt_tells, le_tells}
 use Rattle.law_granules.proofs.Lists.{store_rest, cap_rest, zeroed_is, marked_is}
@@ -13,11 +13,13 @@ use Rattle.def_veil.specs.Veil.{veiled}
 use Rattle.law_veil.proofs.Granules.{veiled_length, load_seen, store_seen, load_cap_seen, store_cap_seen, zeroed_seen, marked_seen}
 use Rattle.law_veil.proofs.Steps.{filtered_same}
 use Rattle.def_machine.specs.Memory.{filtered_in}
+use Rattle.def_machine.specs.Objects.{Each}
 use Rattle.def_machine.specs.State.{Thread, nobody}
 use Rattle.std.proofs.Math.ListN.{get_or}
+use Rattle.ct_areas.specs.declared.thread.Thread as row
 use Rattle.ct_engine.specs.declared.rows.Rows.{Rows}
 use Rattle.ct_engine.specs.Seen.{Seen, hides, threads_of, seen, thread, with_granules}
-use Rattle.ct_engine.specs.Kept.{Holds}
+use Rattle.ct_engine.specs.Kept.{StackLies, Holds}
 use Rattle.ct_engine.proofs.Lists.{areas_same, threads_same, how_many}
 use Rattle.ct_engine.proofs.Whole.{hidden_is}
 
@@ -30,6 +32,7 @@ away_holds gs hs rows holds size same = record {
   areas = areas_same rows.region.ram gs hs rows.running rows.running 0 rows.region.trusted rows.region.end rows.list.items holds.areas size
       (λ m lo hi. same m (hidden_is rows.region m lo hi)) (λ u lo. refl);
   runs = holds.runs;
+  stacks = subst (λ n. Each (StackLies rows.region (8 * n)) (map (λ (t : row.Thread). t.area) rows.list.items)) (sym size) holds.stacks;
 }
 
 pub away_seen : (gs hs : List Granule) (rows : Rows) → Holds gs rows → HiddenStays gs hs rows → seen hs rows ≡ with_granules (seen gs rows) (veiled (hides rows.region) hs)

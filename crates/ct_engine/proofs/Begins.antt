@@ -6,6 +6,7 @@ use Rattle.law_lists.proofs.Tests.{bool_tells}
 use Rattle.def_words.specs.declared.Cap.{Cap}
 use Rattle.def_memory.specs.declared.Granule.{Granule}
 use Rattle.def_memory.specs.Granules.{plain, granule_at, blank}
+use Rattle.def_machine.specs.Objects.{Each}
 use Rattle.def_areas.specs.Areas.{held, holding, frame_place}
 use Rattle.def_areas.specs.Touches.{Touches}
 use Rattle.law_areas.proofs.Writes.{put_other, put_same}
@@ -18,7 +19,7 @@ use Rattle.ct_areas.proofs.Places.{area_inside}
 use Rattle.ct_engine.specs.declared.rows.Region.{Region}
 use Rattle.ct_engine.specs.declared.starting.Fresh.{Fresh}
 use Rattle.ct_engine.specs.Seen.{hides, threads_of, seen_by}
-use Rattle.ct_engine.specs.Kept.{IsPlain, IsKept, AreasFrom}
+use Rattle.ct_engine.specs.Kept.{IsPlain, IsKept, AreasFrom, StackLies}
 use Rattle.ct_engine.specs.Starts.{IsFresh, AreFresh, first_of, started}
 use Rattle.ct_engine.proofs.Lists.{Same, ends, within, outside, areas_same, threads_same}
 use Rattle.ct_engine.proofs.Whole.{hidden_is}
@@ -225,6 +226,14 @@ clear_veil g gs clear =
   where
     zero_is : (x : Granule) → x.cap ≡ plain 0 → x ≡ blank x
     zero_is x e = ap (λ (c : Cap). let z : Granule = record { cap = c; mark = x.mark } in z) e
+
+-- the stacks are where they were
+pub begun_stacks : (g : Region) (was gs : List Granule) (ts : List row.Thread) (fs : List Fresh) (i : ℕ) → BegunTo g was gs ts fs i → length fs ≤ i
+    → Each (StackLies g (8 * length was)) (map (λ (f : Fresh). f.area) fs) → Each (StackLies g (8 * length gs)) (map (λ (t : row.Thread). t.area) ts)
+begun_stacks g was gs ts fs i b le stacks =
+    let all = begun_all g was gs ts fs i b le in
+    subst (λ (as_ : List Area). Each (StackLies g (8 * length gs)) as_) (sym all.places)
+    (subst (λ n. Each (StackLies g (8 * n)) (map (λ (f : Fresh). f.area) fs)) (sym all.size) stacks)
 
 pub begun_seen : (g : Region) (was gs : List Granule) (ts : List row.Thread) (fs : List Fresh) (i : ℕ) → BegunTo g was gs ts fs i → length fs ≤ i
     → ((k : ℕ) → hides g k ≡ true → held was k ≡ plain 0) → seen_by gs g ts None ≡ started was g fs

@@ -22,13 +22,13 @@ use Rattle.ct_engine.proofs.Whole.{itself, other, runs_it, thread_is, depth_is, 
 
 -- ---- a thread without its innermost frame
 
-ended_is : (gs : List Granule) (runs : Bool) (u : row.Thread) → u.depth ≡ 0 → thread_of gs runs u ≡ nobody
+pub ended_is : (gs : List Granule) (runs : Bool) (u : row.Thread) → u.depth ≡ 0 → thread_of gs runs u ≡ nobody
 ended_is gs runs u e = rw e refl
 
 lt_false : (n : ℕ) → n ≡ 0 → nat_lt 0 n ≡ false
 lt_false n e = elim (lt_tells 0 n) [ inl a ↦ absurd (let h = a.1 in omega (arith, h, e)) | inr a ↦ a.0 ]
 
-lt_true : (n : ℕ) → 0 < n → nat_lt 0 n ≡ true
+pub lt_true : (n : ℕ) → 0 < n → nat_lt 0 n ≡ true
 lt_true n lt = elim (lt_tells 0 n) [ inl a ↦ a.0 | inr a ↦ absurd (let h = a.1 in omega (arith, h, lt)) ]
 
 none_left : (fs : List Frame) → length fs ≡ 0 → fs ≡ []
@@ -71,7 +71,7 @@ popped_thread gs hs t some frames =
 pub long_enough : (size : ℕ) (a : Area) → HasArea size a → 160 ≤ a.trusted_length
 long_enough size a has = let whole = has.whole in omega (arith, whole)
 
-area_of_row : (ts : List row.Thread) (t : ℕ) (d : Area) (r : row.Thread) → t < length ts → get_or (map (λ (u : row.Thread). u.area) ts) t d ≡ (get_or ts t r).area
+pub area_of_row : (ts : List row.Thread) (t : ℕ) (d : Area) (r : row.Thread) → t < length ts → get_or (map (λ (u : row.Thread). u.area) ts) t d ≡ (get_or ts t r).area
 area_of_row [] t d r lt = absurd (omega (arith, lt))
 area_of_row (u ∷ us) zero d r lt = refl
 area_of_row (u ∷ us) (suc t) d r lt = area_of_row us t d r (omega (arith, lt))
@@ -112,11 +112,11 @@ call_seen gs hs rows t r q actor export top holds runs is touches place same =
 
 -- ---- the running thread loses a frame
 
-number_is : (more : Bool) (t : ℕ) → is_number (cond more (Some t) None) t ≡ more
+pub number_is : (more : Bool) (t : ℕ) → is_number (cond more (Some t) None) t ≡ more
 number_is true t = itself t
 number_is false t = refl
 
-goes_or_ends : (run : Option ℕ) (t : ℕ) (more : Bool) → run ≡ Some t → OthersRun run (cond more (Some t) None) t
+pub goes_or_ends : (run : Option ℕ) (t : ℕ) (more : Bool) → run ≡ Some t → OthersRun run (cond more (Some t) None) t
 goes_or_ends run t true runs = λ u no_. other t u no_ ∙ sym (ap (λ o. is_number o u) runs ∙ other t u no_)
 goes_or_ends run t false runs = λ u no_. sym (ap (λ o. is_number o u) runs ∙ other t u no_)
 

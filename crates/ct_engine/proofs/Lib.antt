@@ -8,3 +8,7 @@ pub mod Regions
 pub mod Goes
 pub mod Instructions
 pub mod Samples
+pub mod Stacks
+pub mod Turning
+pub mod Entering
+pub mod Leaving

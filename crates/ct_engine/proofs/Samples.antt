@@ -1,5 +1,5 @@
 -- The threads of the tests may start.
-use Rattle.std.proofs.Common.{ℕ, zero, suc, ◌≡◌, ◌+◌, ◌*◌, ◌%◌, ◌≤◌, List, [], ◌∷◌, length, replicate, refl, sym, ap, ◌∙◌, arith, subst}
+use Rattle.std.proofs.Common.{ℕ, zero, suc, ◌≡◌, ◌+◌, ◌*◌, ◌%◌, ◌≤◌, inr, List, [], ◌∷◌, length, replicate, refl, sym, ap, ◌∙◌, arith, subst}
 use Rattle.std.proofs.Math.ListN.{get_or}
 use Rattle.def_memory.specs.declared.Granule.{Granule}
 use Rattle.def_memory.specs.Granules.{plain, nothing}
@@ -7,6 +7,8 @@ use Rattle.def_areas.specs.Areas.{held}
 use Rattle.ct_areas.specs.declared.thread.Area.{Area}
 use Rattle.ct_areas.specs.Threads.{HasArea}
 use Rattle.ct_engine.specs.declared.starting.Fresh.{Fresh}
+use Rattle.ct_engine.specs.declared.rows.Region.{Region}
+use Rattle.ct_engine.specs.Kept.{StackLies}
 use Rattle.ct_engine.specs.Starts.{IsFresh, MayStart}
 
 count_of : (n : ℕ) → length (replicate n nothing) ≡ n
@@ -32,9 +34,15 @@ fresh_is f trusted stack is zero_ has le = record {
   stack = subst (λ (a : Area). a.stack + a.stack_length ≤ 4294967280) (sym is) le;
 }
 
+abbrev sample_region : Region
+sample_region = record { ram = 2147483648; trusted = 2147483664; end = 2147484240 }
+
+stack_lies : (trusted stack : ℕ) → stack % 16 ≡ 0 → 2147484240 ≤ stack → stack + 256 ≤ 2147485696 → StackLies sample_region 2048 (sample_area trusted stack)
+stack_lies trusted stack even low high = record { even = even; whole = refl; low = omega (arith, low); high = omega (arith, high); apart = inr low }
+
 pub may_start : (gs : List Granule) (f g : Fresh) → gs ≡ replicate 256 nothing → f.area ≡ sample_area 2147483664 2147484672 → g.area ≡ sample_area 2147483952 2147484928
     → get_or f.regs 0 (plain 0) ≡ plain 0 → get_or g.regs 0 (plain 0) ≡ plain 0
-    → MayStart gs (record { ram = 2147483648; trusted = 2147483664; end = 2147484240 }) (f ∷ g ∷ [])
+    → MayStart gs sample_region (f ∷ g ∷ [])
 may_start gs f g is first second zero_f zero_g =
     let size : 8 * length gs ≡ 2048 = ap (λ (xs : List Granule). 8 * length xs) is ∙ ap (λ n. 8 * n) (count_of 256) in
     let one : IsFresh 2048 f = fresh_is f 2147483664 2147484672 first zero_f (has_area 2147483664 2147484672 refl (omega arith) (omega arith)) (omega arith) in
@@ -50,6 +58,11 @@ may_start gs f g is first second zero_f zero_g =
           subst (λ n. IsFresh n g) (sym size) two,
           subst (λ (a : Area). a.trusted + a.trusted_length ≤ 2147484240) (sym second) (omega arith),
         ),
+      );
+      stacks = subst (λ n. StackLies sample_region n f.area × StackLies sample_region n g.area × Unit {0}) (sym size) (
+        subst (λ (a : Area). StackLies sample_region 2048 a) (sym first) (stack_lies 2147483664 2147484672 refl (omega arith) (omega arith)),
+        subst (λ (a : Area). StackLies sample_region 2048 a) (sym second) (stack_lies 2147483952 2147484928 refl (omega arith) (omega arith)),
+        tt,
       );
       clear = λ k hidden. subst (λ (xs : List Granule). held xs k ≡ plain 0) (sym is) (none_held 256 k);
     }

@@ -98,7 +98,7 @@ thread_is gs ts run t r runs lt is who =
 
 -- ---- one thread's turn
 
-set_self : {A : Type 0} (xs : List A) (t : ℕ) (d : A) → set xs t (get_or xs t d) ≡ xs
+pub set_self : {A : Type 0} (xs : List A) (t : ℕ) (d : A) → set xs t (get_or xs t d) ≡ xs
 set_self [] t d = refl
 set_self (x ∷ xs) zero d = refl
 set_self (x ∷ xs) (suc t) d = ap (λ r. x ∷ r) (set_self xs t d)

@@ -1,13 +1,16 @@
 -- What an engine keeps: where the threads' areas lie, and what stands in them.
-use Rattle.std.specs.Prelude.{ℕ, ◌+◌, ◌-◌, ◌*◌, ◌%◌, ◌≡◌, ◌≤◌, ◌<◌, ◌⊎◌, Bool, true, false, List, [], ◌∷◌, length, Option, Some}
+use Rattle.std.specs.Prelude.{ℕ, ◌+◌, ◌-◌, ◌*◌, ◌%◌, ◌≡◌, ◌≤◌, ◌<◌, ◌⊎◌, Bool, true, false, List, [], ◌∷◌, length, map, Option, Some}
 use Rattle.def_words.specs.declared.Cap.{Cap}
 use Rattle.def_memory.specs.declared.Granule.{Granule}
 use Rattle.def_memory.specs.Granules.{plain}
 use Rattle.def_machine.specs.Heap.{is_number}
+use Rattle.def_machine.specs.Objects.{Each}
 use Rattle.def_areas.specs.Areas.{held, frame_place}
+use Rattle.ct_areas.specs.declared.thread.Area.{Area}
 use Rattle.ct_areas.specs.declared.thread.Thread as row
 use Rattle.ct_areas.specs.Threads.{HasArea, area_begin, area_end, frames_most}
 use Rattle.ct_areas.specs.Parts.{register_in}
+use Rattle.ct_engine.specs.declared.rows.Region.{Region}
 use Rattle.ct_engine.specs.declared.rows.Rows.{Rows}
 
 abbrev pub IsPlain : Cap → Type 0
@@ -40,7 +43,17 @@ AreasFrom ram gs running n from to (t ∷ ts) =
     (from ≤ t.area.trusted) × (t.area.ram ≡ ram) × IsKept gs (is_number running n) t
     × AreasFrom ram gs running (n + 1) (t.area.trusted + t.area.trusted_length) to ts
 
--- all of them in the region, and the thread that runs is one of them
+-- a stack lies in RAM of so many bytes, in multiples of 16, and doesn't meet the region
+pub record StackLies (g : Region) (size : ℕ) (a : Area) : Type 0 where
+  pub even : a.stack % 16 ≡ 0
+  pub whole : a.stack_length % 16 ≡ 0
+  pub low : g.ram ≤ a.stack
+  pub high : a.stack + a.stack_length ≤ g.ram + size
+  pub apart : (a.stack + a.stack_length ≤ g.trusted) ⊎ (g.end ≤ a.stack)
+
+-- all of them in the region, the thread that runs is one of them, and their stacks lie apart from the region
 pub record Holds (gs : List Granule) (r : Rows) : Type 0 where
   pub areas : AreasFrom r.region.ram gs r.running 0 r.region.trusted r.region.end r.list.items
   pub runs : (t : ℕ) → r.running ≡ Some t → t < length r.list.items
+  pub stacks : Each (StackLies r.region (8 * length gs))
+      (map (λ (t : row.Thread). t.area) r.list.items)

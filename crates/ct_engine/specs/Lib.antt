@@ -2,3 +2,4 @@ pub mod Seen
 pub mod Kept
 pub mod Starts
 pub mod Steps
+pub mod Calls

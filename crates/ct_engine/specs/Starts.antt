@@ -3,11 +3,13 @@ use Rattle.std.specs.Prelude.{ℕ, ◌+◌, ◌*◌, ◌≡◌, ◌≤◌, true,
 use Rattle.def_memory.specs.declared.Granule.{Granule}
 use Rattle.def_memory.specs.Granules.{plain}
 use Rattle.def_machine.specs.State.{Thread}
+use Rattle.def_machine.specs.Objects.{Each}
 use Rattle.def_areas.specs.Areas.{held}
 use Rattle.ct_areas.specs.Threads.{HasArea, first}
 use Rattle.ct_engine.specs.declared.rows.Region.{Region}
 use Rattle.ct_engine.specs.declared.starting.Fresh.{Fresh}
 use Rattle.ct_engine.specs.Seen.{Seen, hides}
+use Rattle.ct_engine.specs.Kept.{StackLies}
 
 -- its area lies in RAM of so many bytes, register 0 is zero, and its stack ends below the last granules of addresses
 pub record IsFresh (size : ℕ) (f : Fresh) : Type 0 where
@@ -22,9 +24,11 @@ AreFresh ram size from to (f ∷ fs) =
     (from ≤ f.area.trusted) × (f.area.ram ≡ ram) × IsFresh size f
     × AreFresh ram size (f.area.trusted + f.area.trusted_length) to fs
 
--- Memory in which threads may start: their areas stand in a region that reads as zero.
+-- Memory in which threads may start: their areas stand in a region that reads as zero, and their stacks lie apart
+-- from it.
 pub record MayStart (gs : List Granule) (g : Region) (fs : List Fresh) : Type 0 where
   pub areas : AreFresh g.ram (8 * length gs) g.trusted g.end fs
+  pub stacks : Each (StackLies g (8 * length gs)) (map (λ (f : Fresh). f.area) fs)
   pub clear : (k : ℕ) → hides g k ≡ true → held gs k ≡ plain 0
 
 -- the thread as the machine's state has it: its one frame's top is the stack's end

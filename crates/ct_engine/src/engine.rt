@@ -1,6 +1,6 @@
 //! The engine.
 
-ghost use Rattle.std.specs.Prelude.{ℕ, ◌≡◌, ◌*◌, ◌/◌, ◌%◌, ◌<◌, Some, None, true, false, cond, length, IfOk};
+ghost use Rattle.std.specs.Prelude.{ℕ, ◌≡◌, ◌*◌, ◌/◌, ◌%◌, ◌<◌, Some, None, true, false, cond, length, nat_lt, IfOk};
 ghost use Rattle.def_instr.specs.Shapes.{is_access};
 ghost use Rattle.def_memory.specs.Accesses.{IsAccess, IsPlace, loaded, stored, loaded_cap, stored_cap};
 ghost use Rattle.def_memory.specs.Ranges.{IsRange, Inside, zeroed, mark_range};
@@ -12,8 +12,12 @@ ghost use Rattle.ct_areas.specs.Parts.{saved_in};
 ghost use Rattle.ct_engine.specs.Starts.{MayStart, started};
 ghost use Rattle.ct_engine.specs.Seen.{hides, thread, has_room, innermost, with_granules, with_running, resumed, went, called, left};
 ghost use Rattle.ct_engine.specs.Steps.{space_in, next_in, InstructionInRange, IsHeapPlaced, IsMoved};
+ghost use Rattle.ct_exports.specs.Exports.{AreSorted};
+ghost use Rattle.ct_switch.specs.Calls.{told};
+ghost use Rattle.ct_engine.specs.Calls.{TopLies, MayCall, switch_at, after_call, returned, ended_with};
 
 use crate::accesses::access;
+use crate::calls;
 use crate::fetching::next;
 use crate::frames::{call, leave};
 use crate::rows::{Region, Rows};
@@ -23,8 +27,10 @@ use crate::turns::{pick, stop};
 use ct_areas::Saved;
 use ct_bus::Bus;
 use ct_cap::{Live, Posture, Trap};
+use ct_entry::Entries;
 use ct_loadstore::{Moved, filter};
 use ct_mem::Memory;
+use ct_switch::Called;
 use def_instr::Instr;
 use def_refusals::NoMemory;
 use def_step::Next;
@@ -231,6 +237,56 @@ impl<M: Memory + Drop> Engine<M> {
     {
         leave(&mut self.rows, &mut self.mem, t)
     }
+
+    /// The running thread calls the export whose capability stands in c6, as the switcher does.
+    ///
+    /// Where a check fails, the thread is too deep or the callee's stack has too little room nothing changes; else the
+    /// thread goes on in the callee, whose stack is zeroed. No memory is taken. docs/use/machine.md.
+    pub fn call(&mut self, t: u32, e: &Entries) -> Called
+        requires runs { self.old.running ≡ Some t }
+        requires may { MayCall self.old t e.now }
+        ensures result { result
+            ≡ told (register (thread self.old t) 6) (switch_at self.old e.now t) }
+        ensures is { self.new ≡ after_call self.old e.now t (switch_at self.old e.now t) }
+    {
+        calls::call(&mut self.rows, &mut self.mem, t, e)
+    }
+
+    /// The running thread returns to its caller, with c10 and c11, untagged where the frame's export passes plain
+    /// values; the stack is zeroed up to the frame's top. `false` exactly where the frame was its last: then it has
+    /// ended, and none runs. No memory is taken. docs/use/machine.md.
+    pub fn give_back(&mut self, t: u32, e: &Entries) -> bool
+        requires runs { self.old.running ≡ Some t }
+        requires top { TopLies self.old t }
+        requires sorted { AreSorted e.now.gates }
+        ensures result { result ≡ nat_lt 1 (length (thread self.old t).frames) }
+        ensures is { self.new ≡ returned self.old e.now t }
+    {
+        calls::give_back(&mut self.rows, &mut self.mem, t, e)
+    }
+
+    /// The innermost frame of the running thread ends with a value, as its error handler says: the return with c10 =
+    /// the value and c11 = 0. `false` exactly where the frame was the thread's last. docs/use/machine.md.
+    pub fn end_with(&mut self, t: u32, e: &Entries, value: u32) -> bool
+        requires runs { self.old.running ≡ Some t }
+        requires top { TopLies self.old t }
+        ensures result { result ≡ nat_lt 1 (length (thread self.old t).frames) }
+        ensures is { self.new ≡ ended_with self.old t value }
+    {
+        calls::end_with(&mut self.rows, &mut self.mem, t, e, value)
+    }
+
+    /// The innermost frame of the running thread is unwound after a trap: the return with c10 = -1 and c11 = 0. `false`
+    /// exactly where the frame was the thread's last. docs/use/machine.md.
+    pub fn unwind(&mut self, t: u32, e: &Entries) -> bool
+        requires runs { self.old.running ≡ Some t }
+        requires top { TopLies self.old t }
+        ensures result { result ≡ nat_lt 1 (length (thread self.old t).frames) }
+        ensures is { self.new ≡ ended_with self.old t 0xFFFFFFFF }
+    {
+        calls::end_with(&mut self.rows, &mut self.mem, t, e, 0xFFFF_FFFF)
+    }
+
     /// What stands at an address, where nothing is hidden: an instruction, the return, or nothing that is carried out.
     pub fn next(&self, at: u32) -> Next
         requires even { self.now.region.ram % 16 ≡ 0 }

@@ -77,7 +77,7 @@ pub(crate) fn call<M: Memory>(
 }
 
 /// Who runs after a frame's end.
-fn still(t: u32, more: bool) -> Option<u32>
+pub(crate) fn still(t: u32, more: bool) -> Option<u32>
     ensures { result ≡ cond more (Some t) None }
 {
     if more { Some(t) } else { None }

@@ -7,6 +7,7 @@
 #![tactic(auto)]
 
 mod accesses;
+mod calls;
 mod engine;
 mod fetching;
 mod frames;
@@ -15,6 +16,7 @@ mod starting;
 mod steps;
 mod turns;
 
+pub use ct_switch::Called;
 pub use def_refusals::NoMemory;
 pub use engine::Engine;
 pub use rows::{Region, region_hidden};

@@ -1,6 +1,7 @@
 use Rattle.std.proofs.Common.{◌*◌, length, sym, ◌∙◌, arith}
 use Rattle.std.proofs.lemmas.List.{length-set}
 use Rattle.ct_engine.proofs.Whole.{running_kept}
+use Rattle.ct_engine.proofs.Stacks.{stacks_turn}
 use Rattle.ct_engine.proofs.Ends.{long_enough, room_is, call_areas, call_seen}
 use Rattle.ct_engine.proofs.frames.call.Goals as goal
 
@@ -23,6 +24,8 @@ returns-clause-holds g c = record {
   areas = call_areas (g.M.Memory.granules c.args.mem.now) (g.M.Memory.granules c.push_row.new.mem) c.args.rows.now c.args.t c.index_mut.result.now c.push_row.new.t
       c.requires.holds c.requires.runs c.index_mut.ensures.value c.push_row.ensures.touches c.push_row.ensures.area c.push_row.ensures.kept;
   runs = λ u e. (let lt = c.requires.holds.runs u e in let size = length-set c.args.rows.now.list.items c.args.t c.push_row.new.t in omega (arith, lt, size));
+  stacks = stacks_turn (g.M.Memory.granules c.args.mem.now) (g.M.Memory.granules c.push_row.new.mem) c.args.rows.now c.args.t c.index_mut.result.now c.push_row.new.t
+      c.requires.holds (c.requires.holds.runs c.args.t c.requires.runs) c.index_mut.ensures.value c.push_row.ensures.touches.size c.push_row.ensures.area;
 }
 
 pub returns-clause-result : goal.returns-clause-result

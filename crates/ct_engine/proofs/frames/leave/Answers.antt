@@ -5,6 +5,7 @@ use Rattle.ct_areas.specs.Parts.{saved_in}
 use Rattle.ct_engine.specs.Seen.{seen_by, seen, left}
 use Rattle.ct_engine.specs.Kept.{AreasFrom}
 use Rattle.ct_engine.proofs.Whole.{running_kept}
+use Rattle.ct_engine.proofs.Stacks.{stacks_turn}
 use Rattle.ct_engine.proofs.Ends.{leave_areas, leave_seen, innermost_is, runs_in}
 use Rattle.ct_engine.proofs.frames.leave.Goals as goal
 
@@ -22,6 +23,8 @@ returns-clause-holds g c =
           c.requires.holds c.requires.runs c.index_mut.ensures.value c.pop_row-saved.ensures.touches c.pop_row-saved.ensures.area c.pop_row-saved.ensures.kept);
       runs = λ u e. (let lt = runs_in c.pop_row-saved.result.1 c.args.t u (length rows.list.items) (sym c.still-rows.ensures ∙ e) (c.requires.holds.runs c.args.t c.requires.runs) in
           let size = length-set rows.list.items c.args.t c.pop_row-saved.new.t in omega (arith, lt, size));
+      stacks = stacks_turn (g.M.Memory.granules c.args.mem.now) hs rows c.args.t c.index_mut.result.now c.pop_row-saved.new.t
+          c.requires.holds (c.requires.holds.runs c.args.t c.requires.runs) c.index_mut.ensures.value c.pop_row-saved.ensures.touches.size c.pop_row-saved.ensures.area;
     }
 
 pub returns-clause-saved : goal.returns-clause-saved

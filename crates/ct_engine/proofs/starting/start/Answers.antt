@@ -1,6 +1,6 @@
 use Rattle.std.proofs.Common.{◌+◌, ◌≤◌, length, take, drop, arith}
 use Rattle.ct_engine.proofs.Whole.{none_is}
-use Rattle.ct_engine.proofs.Begins.{next_clear, begun_at, begun_step, begun_areas, begun_seen}
+use Rattle.ct_engine.proofs.Begins.{next_clear, begun_at, begun_step, begun_areas, begun_stacks, begun_seen}
 use Rattle.ct_engine.proofs.starting.start.Goals as goal
 
 pub begin-row-requires-clause-clear : goal.begin-row-requires-clause-clear
@@ -23,6 +23,7 @@ returns-clause-holds g c =
     record {
       areas = begun_areas c.args.region (g.M.Memory.granules c.args.mem.now) (g.M.Memory.granules c.loop-i.mem) c.loop-i.list.items c.args.fresh.now c.loop-i.i c.loop-i.invariant end;
       runs = λ u e. none_is u e;
+      stacks = begun_stacks c.args.region (g.M.Memory.granules c.args.mem.now) (g.M.Memory.granules c.loop-i.mem) c.loop-i.list.items c.args.fresh.now c.loop-i.i c.loop-i.invariant end c.requires.stacks;
     }
 
 pub returns-clause-seen : goal.returns-clause-seen

@@ -1,0 +1,156 @@
+-- Stacks that lie apart from the region: they stay where they are, and zeroing one meets nothing hidden.
+use Rattle.std.proofs.Common.{ℕ, zero, suc, ◌≡◌, ◌+◌, ◌*◌, ◌%◌, ◌<◌, ◌≤◌, ◌⊎◌, inl, inr, ◌&&◌, Bool, true, false, nat_le, nat_lt, List, [], ◌∷◌, length, map, Option, Some, refl, sym, ap, ◌∙◌, arith, subst}
+use Rattle.std.proofs.Math.ListN.{get_or, set}
+use Rattle.std.proofs.lemmas.Bool.{leb-true}
+use Rattle.law_lists.proofs.Tests.{both_left, both_right, lt_tells}
+use Rattle.law_granules.proofs.Lists.{zeroed_length, zeroed_at}
+use Rattle.def_memory.specs.declared.Granule.{Granule}
+use Rattle.def_memory.specs.Granules.{granule_at, blank}
+use Rattle.def_memory.specs.Ranges.{zeroed_from}
+use Rattle.def_machine.specs.State.{Thread, Frame}
+use Rattle.def_machine.specs.Objects.{Each}
+use Rattle.def_step.specs.Switch.{frame_top}
+use Rattle.def_areas.specs.Areas.{held}
+use Rattle.def_areas.specs.Touches.{Touches}
+use Rattle.def_veil.specs.Veil.{veiled}
+use Rattle.law_veil.proofs.Granules.{zeroed_seen}
+use Rattle.ct_areas.specs.declared.thread.Area.{Area}
+use Rattle.ct_areas.specs.declared.thread.Thread as row
+use Rattle.ct_areas.specs.Threads.{HasArea, thread_of}
+use Rattle.ct_areas.proofs.Rows.{frames_are}
+use Rattle.ct_switch.specs.Ready.{HasStack, IsReady}
+use Rattle.ct_engine.specs.declared.rows.Region.{Region}
+use Rattle.ct_engine.specs.declared.rows.Rows.{Rows}
+use Rattle.ct_engine.specs.Seen.{hides, seen, thread, with_granules, no_area, area_at}
+use Rattle.ct_engine.specs.Kept.{StackLies, Holds}
+use Rattle.ct_engine.specs.Calls.{TopLies}
+use Rattle.ct_engine.proofs.Lists.{Lies, places_put}
+use Rattle.ct_engine.proofs.Whole.{runs_it, thread_is, running_kept}
+use Rattle.ct_engine.proofs.Ends.{area_of_row}
+use Rattle.ct_engine.proofs.Away.{HiddenStays, away_holds, away_seen}
+
+-- ---- where they lie
+
+-- a row that changes, and keeps its area, leaves the stacks where they are
+pub stacks_put : (g : Region) (gs hs : List Granule) (ts : List row.Thread) (t : ℕ) (d q : row.Thread)
+    → Each (StackLies g (8 * length gs)) (map (λ (u : row.Thread). u.area) ts) → length hs ≡ length gs → q.area ≡ (get_or ts t d).area → t < length ts
+    → Each (StackLies g (8 * length hs)) (map (λ (u : row.Thread). u.area) (set ts t q))
+stacks_put g gs hs ts t d q stacks size is lt =
+    subst (λ (as_ : List Area). Each (StackLies g (8 * length hs)) as_) (sym (places_put ts t d q is lt))
+    (subst (λ n. Each (StackLies g (8 * n)) (map (λ (u : row.Thread). u.area) ts)) (sym size) stacks)
+
+pub stacks_turn : (gs hs : List Granule) (rows : Rows) (t : ℕ) (r q : row.Thread) → Holds gs rows → t < length rows.list.items → r ≡ get_or rows.list.items t r
+    → length hs ≡ length gs → q.area ≡ r.area → Each (StackLies rows.region (8 * length hs)) (map (λ (u : row.Thread). u.area) (set rows.list.items t q))
+stacks_turn gs hs rows t r q holds lt is size place =
+    stacks_put rows.region gs hs rows.list.items t r q holds.stacks size (place ∙ ap (λ (u : row.Thread). u.area) is) lt
+
+pub stack_at : (g : Region) (size : ℕ) (ts : List row.Thread) (t : ℕ) (d : row.Thread) → Each (StackLies g size) (map (λ (u : row.Thread). u.area) ts)
+    → t < length ts → StackLies g size (get_or ts t d).area
+stack_at g size [] t d stacks lt = absurd (omega (arith, lt))
+stack_at g size (u ∷ us) zero d stacks lt = stacks.0
+stack_at g size (u ∷ us) (suc t) d stacks lt = stack_at g size us t d stacks.1 (omega (arith, lt))
+
+-- of the running thread
+pub running_stack : (gs : List Granule) (rows : Rows) (t : ℕ) (r : row.Thread) → Holds gs rows → rows.running ≡ Some t → r ≡ get_or rows.list.items t r
+    → StackLies rows.region (8 * length gs) r.area
+running_stack gs rows t r holds runs is =
+    subst (λ (u : row.Thread). StackLies rows.region (8 * length gs) u.area) (sym is) (stack_at rows.region (8 * length gs) rows.list.items t r holds.stacks (holds.runs t runs))
+
+pub running_area : (gs : List Granule) (rows : Rows) (t : ℕ) (r : row.Thread) → Holds gs rows → rows.running ≡ Some t → r ≡ get_or rows.list.items t r
+    → area_at (seen gs rows) t ≡ r.area
+running_area gs rows t r holds runs is = area_of_row rows.list.items t no_area r (holds.runs t runs) ∙ ap (λ (u : row.Thread). u.area) (sym is)
+
+pub running_thread : (gs : List Granule) (rows : Rows) (t : ℕ) (r : row.Thread) → Holds gs rows → rows.running ≡ Some t → r ≡ get_or rows.list.items t r
+    → thread (seen gs rows) t ≡ thread_of gs true r
+running_thread gs rows t r holds runs is = thread_is gs rows.list.items rows.running t r true (holds.runs t runs) is (runs_it rows t runs)
+
+pub running_top : (gs : List Granule) (rows : Rows) (t : ℕ) (r : row.Thread) → Holds gs rows → rows.running ≡ Some t → r ≡ get_or rows.list.items t r
+    → frame_top (thread (seen gs rows) t).frames ≡ r.top
+running_top gs rows t r holds runs is =
+    ap (λ (u : Thread). frame_top u.frames) (running_thread gs rows t r holds runs is)
+    ∙ ap (λ (fs : List Frame). frame_top fs) (frames_are gs true r ((running_kept gs rows t r holds runs is).kept.alive refl))
+
+has_stack : (g : Region) (gs : List Granule) (runs : Bool) (t : row.Thread) → Lies g.ram gs runs g.trusted g.end t → StackLies g (8 * length gs) t.area
+    → HasStack (8 * length gs) t.area
+has_stack g gs runs t l s =
+    let base = l.base in
+    let low = s.low in
+    let high = s.high in
+    let from = l.low in
+    let to = l.high in
+    record {
+      even = s.even;
+      whole = s.whole;
+      low = omega (arith, base, low);
+      high = omega (arith, base, high);
+      apart = elim s.apart [ inl a ↦ inl (omega (arith, a, from)) | inr b ↦ inr (omega (arith, b, to)) ];
+    }
+
+-- what a call and a frame's end ask of the row
+pub ready_is : (gs : List Granule) (rows : Rows) (t : ℕ) (r : row.Thread) → Holds gs rows → rows.running ≡ Some t → r ≡ get_or rows.list.items t r
+    → TopLies (seen gs rows) t → IsReady gs r
+ready_is gs rows t r holds runs is top =
+    let l = running_kept gs rows t r holds runs is in
+    let area = running_area gs rows t r holds runs is in
+    let here = running_top gs rows t r holds runs is in
+    let low : (area_at (seen gs rows) t).stack ≤ r.top = subst (λ n. (area_at (seen gs rows) t).stack ≤ n) here top.low in
+    let high : r.top ≤ (area_at (seen gs rows) t).stack + (area_at (seen gs rows) t).stack_length =
+    subst (λ n. n ≤ (area_at (seen gs rows) t).stack + (area_at (seen gs rows) t).stack_length) here top.high in
+    record {
+      area = l.kept.area;
+      stack = has_stack rows.region gs true r l (running_stack gs rows t r holds runs is);
+      alive = l.kept.alive refl;
+      room = l.kept.room;
+      low = subst (λ (a : Area). a.stack ≤ r.top) area low;
+      high = subst (λ (a : Area). r.top ≤ a.stack + a.stack_length) area high;
+      even = subst (λ n. n % 16 ≡ 0) here top.even;
+    }
+
+-- ---- one is zeroed
+
+hidden_place : (g : Region) (k : ℕ) → hides g k ≡ true → (g.trusted ≤ g.ram + 8 * k) × (g.ram + 8 * k < g.end)
+hidden_place g k hidden = (
+  leb-true g.trusted (g.ram + 8 * k) (both_left (nat_le g.trusted (g.ram + 8 * k)) (nat_lt (g.ram + 8 * k) g.end) hidden),
+  below (g.ram + 8 * k) g.end (both_right (nat_le g.trusted (g.ram + 8 * k)) (nat_lt (g.ram + 8 * k) g.end) hidden),
+)
+  where
+    below : (a b : ℕ) → nat_lt a b ≡ true → a < b
+    below a b e = elim (lt_tells a b) [ inl x ↦ x.1 | inr x ↦ absurd (let clash : true ≡ false = sym e ∙ x.0 in cc) ]
+
+stack_stays : (gs : List Granule) (rows : Rows) (a : Area) (high : ℕ) → StackLies rows.region (8 * length gs) a → high ≤ a.stack + a.stack_length
+    → HiddenStays gs (zeroed_from a.stack high rows.region.ram gs) rows
+stack_stays gs rows a high s le = λ k hidden.
+    let place = hidden_place rows.region k hidden in
+    let from = place.0 in
+    let to = place.1 in
+    zeroed_at a.stack high rows.region.ram gs k (λ (g : Granule). g.cap ≡ held gs k)
+    (λ lo hi. absurd (elim s.apart [ inl x ↦ omega (arith, from, hi, x, le) | inr x ↦ omega (arith, to, lo, x) ]))
+    (λ out. refl)
+
+pub zeroed_holds : (gs : List Granule) (rows : Rows) (a : Area) (high : ℕ) → Holds gs rows → StackLies rows.region (8 * length gs) a
+    → high ≤ a.stack + a.stack_length → Holds (zeroed_from a.stack high rows.region.ram gs) rows
+zeroed_holds gs rows a high holds s le =
+    away_holds gs (zeroed_from a.stack high rows.region.ram gs) rows holds (zeroed_length a.stack high rows.region.ram gs) (stack_stays gs rows a high s le)
+
+pub zeroed_is_seen : (gs : List Granule) (rows : Rows) (a : Area) (high : ℕ) → Holds gs rows → StackLies rows.region (8 * length gs) a
+    → high ≤ a.stack + a.stack_length
+    → seen (zeroed_from a.stack high rows.region.ram gs) rows ≡ with_granules (seen gs rows) (zeroed_from a.stack high rows.region.ram (seen gs rows).granules)
+zeroed_is_seen gs rows a high holds s le =
+    away_seen gs (zeroed_from a.stack high rows.region.ram gs) rows holds (stack_stays gs rows a high s le)
+    ∙ ap (λ xs. with_granules (seen gs rows) xs) (sym (zeroed_seen (hides rows.region) gs a.stack high rows.region.ram))
+
+-- a change of a range, before and after other granules are zeroed
+pub zeroed_touches : (lo hi from to place : ℕ) (gs hs : List Granule) → Touches lo hi gs hs → Touches lo hi (zeroed_from from to place gs) (zeroed_from from to place hs)
+zeroed_touches lo hi from to place gs hs touches = record {
+  size = zeroed_length from to place hs ∙ touches.size ∙ sym (zeroed_length from to place gs);
+  marks = λ k. mark_is hs k ∙ touches.marks k ∙ sym (mark_is gs k);
+  rest = λ k out. zeroed_at from to place hs k (λ (g : Granule). g ≡ granule_at (zeroed_from from to place gs) k)
+      (λ a b. zeroed_at from to place gs k (λ (g : Granule). blank (granule_at hs k) ≡ g) (λ c d. ap blank (touches.rest k out)) (λ o. absurd (never k a b o)))
+      (λ o. zeroed_at from to place gs k (λ (g : Granule). granule_at hs k ≡ g) (λ c d. absurd (never k c d o)) (λ p. touches.rest k out));
+}
+  where
+    mark_is : (xs : List Granule) (k : ℕ) → (granule_at (zeroed_from from to place xs) k).mark ≡ (granule_at xs k).mark
+    mark_is xs k = zeroed_at from to place xs k (λ (g : Granule). g.mark ≡ (granule_at xs k).mark) (λ a b. refl) (λ o. refl)
+
+    never : (k : ℕ) → from ≤ place + 8 * k → place + 8 * k < to → (place + 8 * k < from) ⊎ (to ≤ place + 8 * k) → ⊥
+    never k a b o = elim o [ inl c ↦ omega (arith, a, c) | inr c ↦ omega (arith, b, c) ]

@@ -1,0 +1,55 @@
+use Rattle.std.proofs.Common.{ℕ, ◌≡◌, Option, length, refl, sym, ◌∙◌, arith, subst}
+use Rattle.std.proofs.Math.ListN.{set}
+use Rattle.std.proofs.lemmas.List.{length-set}
+use Rattle.def_memory.specs.Granules.{plain}
+use Rattle.ct_engine.specs.Seen.{seen_by, seen}
+use Rattle.ct_engine.specs.Kept.{AreasFrom}
+use Rattle.ct_engine.specs.Calls.{ended_with}
+use Rattle.ct_engine.proofs.Whole.{running_kept}
+use Rattle.ct_engine.proofs.Ends.{runs_in}
+use Rattle.ct_engine.proofs.Stacks.{stacks_turn, ready_is}
+use Rattle.ct_engine.proofs.Leaving.{end_areas, end_size, end_tells, end_sees}
+use Rattle.ct_engine.proofs.calls.end_with.Goals as goal
+
+pub end_row-more-requires-clause-kept : goal.end_row-more-requires-clause-kept
+end_row-more-requires-clause-kept g c =
+    (running_kept (g.M.Memory.granules c.args.mem.now) c.args.rows.now c.args.t c.index_mut.result.now c.requires.holds c.requires.runs c.index_mut.ensures.value).kept
+
+pub end_row-more-requires-clause-ready : goal.end_row-more-requires-clause-ready
+end_row-more-requires-clause-ready g c =
+    ready_is (g.M.Memory.granules c.args.mem.now) c.args.rows.now c.args.t c.index_mut.result.now c.requires.holds c.requires.runs c.index_mut.ensures.value c.requires.top
+
+pub returns-clause-holds : goal.returns-clause-holds
+returns-clause-holds g c =
+    let gs = g.M.Memory.granules c.args.mem.now in
+    let hs = g.M.Memory.granules c.end_row-more.new.mem in
+    let rows = c.args.rows.now in
+    let r = c.index_mut.result.now in
+    let q = c.end_row-more.new.t in
+    let lt = c.requires.holds.runs c.args.t c.requires.runs in
+    record {
+      areas = subst (λ (o : Option ℕ). AreasFrom rows.region.ram hs o 0 rows.region.trusted rows.region.end (set rows.list.items c.args.t q)) (sym c.still-rows.ensures)
+          (end_areas gs hs rows c.args.t r q c.end_row-more.result (λ f. plain c.args.value) (λ f. plain 0) c.requires.holds c.requires.runs c.index_mut.ensures.value c.requires.top c.end_row-more.ensures);
+      runs = λ u e. (let less = runs_in c.end_row-more.result c.args.t u (length rows.list.items) (sym c.still-rows.ensures ∙ e) lt in
+          let size = length-set rows.list.items c.args.t q in omega (arith, less, size));
+      stacks = stacks_turn gs hs rows c.args.t r q c.requires.holds lt c.index_mut.ensures.value
+          (end_size gs hs r q c.end_row-more.result (λ f. plain c.args.value) (λ f. plain 0) c.end_row-more.ensures) c.end_row-more.ensures.area;
+    }
+
+pub returns-clause-result : goal.returns-clause-result
+returns-clause-result g c =
+    end_tells (g.M.Memory.granules c.args.mem.now) (g.M.Memory.granules c.end_row-more.new.mem) c.args.rows.now c.args.t c.index_mut.result.now c.end_row-more.new.t c.end_row-more.result
+    (λ f. plain c.args.value) (λ f. plain 0) c.requires.holds c.requires.runs c.index_mut.ensures.value c.end_row-more.ensures
+
+pub returns-clause-seen : goal.returns-clause-seen
+returns-clause-seen g c =
+    let gs = g.M.Memory.granules c.args.mem.now in
+    let hs = g.M.Memory.granules c.end_row-more.new.mem in
+    let rows = c.args.rows.now in
+    let r = c.index_mut.result.now in
+    let q = c.end_row-more.new.t in
+    subst (λ (o : Option ℕ). seen_by hs rows.region (set rows.list.items c.args.t q) o ≡ ended_with (seen gs rows) c.args.t c.args.value) (sym c.still-rows.ensures)
+    (end_sees gs hs rows c.args.t r q c.end_row-more.result (λ f. plain c.args.value) (λ f. plain 0)
+    (λ f. plain c.args.value) (λ f. plain 0)
+    c.requires.holds c.requires.runs c.index_mut.ensures.value c.requires.top c.end_row-more.ensures
+    (λ f. refl) (λ f. refl))

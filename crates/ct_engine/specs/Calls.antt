@@ -1,0 +1,124 @@
+-- A call and a frame's end of the running thread: what they ask, what they come to, and what they leave of all that is
+-- seen.
+use Rattle.std.specs.Prelude.{ℕ, ◌+◌, ◌-◌, ◌*◌, ◌/◌, ◌%◌, ◌≡◌, ◌≤◌, Bool, true, false, nat_lt, List, [], ◌∷◌, length, Option, None, slice_set}
+use Rattle.ct_entry.specs.Listed.{Listed}
+use Rattle.def_profile.specs.declared.layout.TheConstants.{GRANULE}
+use Rattle.def_profile.specs.declared.seals.TheConstants.{EXPORT_TYPE}
+use Rattle.def_words.specs.declared.Cap.{Cap}
+use Rattle.def_words.specs.Capability.{with_address}
+use Rattle.def_words.specs.Seals.{cap_seal}
+use Rattle.def_memory.specs.declared.Granule.{Granule}
+use Rattle.def_memory.specs.Granules.{plain}
+use Rattle.def_memory.specs.Ranges.{zeroed_from}
+use Rattle.def_reach.specs.Roots.{root_of, gate_for}
+use Rattle.def_boot.specs.Made.{return_sentry}
+use Rattle.def_machine.specs.State.{Thread, Frame, nobody, register}
+use Rattle.def_machine.specs.Memory.{filtered_in}
+use Rattle.def_machine.specs.Frames.{Given, entered_by, answer_by, left_with}
+use Rattle.def_step.specs.Switch.{Switched, Enters, switch_of, frame_top}
+use Rattle.def_areas.specs.Areas.{held}
+use Rattle.def_areas.specs.Touches.{Touches}
+use Rattle.ct_areas.specs.declared.thread.Thread as row
+use Rattle.ct_areas.specs.Threads.{area_begin, area_end, frames_most, thread_of}
+use Rattle.ct_exports.specs.Exports.{AreSorted, IsCallable, callee_of, table_of}
+use Rattle.ct_switch.specs.Calls.{stack_cap, thread_left}
+use Rattle.ct_engine.specs.Seen.{Seen, hides, thread, area_at}
+use Rattle.ct_engine.specs.Kept.{IsKept}
+
+-- ---- what they ask
+
+-- the top of a thread's innermost frame is a multiple of 16 in its stack
+pub record TopLies (s : Seen) (t : ℕ) : Type 0 where
+  pub even : frame_top (thread s t).frames % 16 ≡ 0
+  pub low : (area_at s t).stack ≤ frame_top (thread s t).frames
+  pub high : frame_top (thread s t).frames ≤ (area_at s t).stack + (area_at s t).stack_length
+
+-- the granule with which the table of an export begins
+abbrev pub head_at : Seen → Listed → ℕ → ℕ
+head_at s e export = (table_of e (callee_of e export) - s.region.ram) / GRANULE
+
+-- an export that can be called, and the head of whose table isn't hidden
+pub record IsOpen (s : Seen) (e : Listed) (export : ℕ) : Type 0 where
+  pub callable : IsCallable e s.region.ram (8 * length s.granules) export
+  pub code : hides s.region (head_at s e export) ≡ false
+  pub globals : hides s.region (head_at s e export + 1) ≡ false
+
+-- Of a call: beside the top, gates stand by their numbers, and where c6 is a tagged capability of an export's type, its
+-- root is an entry that names an open export.
+pub record MayCall (s : Seen) (t : ℕ) (e : Listed) : Type 0 where
+  pub top : TopLies s t
+  pub sorted : AreSorted e.gates
+  pub import : (register (thread s t) 6).tag ≡ true
+      → cap_seal (register (thread s t) 6) ≡ EXPORT_TYPE
+      → IsOpen s e (root_of e (register (thread s t) 6).shadow.root).of
+
+-- ---- a call
+
+-- what the switch comes to
+abbrev pub switch_at : Seen → Listed → ℕ → Switched
+switch_at s e t =
+    switch_of e (area_at s t).stack (frame_top (thread s t).frames) (frames_most (area_at s t))
+    (thread s t)
+
+-- What the callee is given: its code and its globals stand in the head of its export table.
+abbrev pub given_at : Seen → Listed → ℕ → ℕ → ℕ → Given
+given_at s e t export high = record {
+  pcc = with_address (held s.granules (head_at s e export)) (gate_for e.gates export).code;
+  back = return_sentry;
+  stack = stack_cap (area_at s t).stack high (register (thread s t) 2).shadow;
+  globals = held s.granules (head_at s e export + 1);
+}
+
+-- a thread changes whole, its stack from its base up to an address is zeroed, and who runs is told
+abbrev pub switched : Seen → ℕ → ℕ → Thread → Option ℕ → Seen
+switched s t high new run = record s {
+  granules = zeroed_from (area_at s t).stack high s.region.ram s.granules;
+  threads = slice_set s.threads t new;
+  running = run;
+}
+
+-- where the switch enters, the thread goes on in the callee; else nothing changes
+abbrev pub after_call : Seen → Listed → ℕ → Switched → Seen
+after_call s e t (Enters export high) =
+    switched s t high
+    (entered_by e (thread s t) (callee_of e export) export high (given_at s e t export high))
+    s.running
+after_call s e t _ = s
+
+-- ---- a frame's end
+
+-- The innermost frame ends with results that may go by the frame. Without one below it the thread ends, and none runs.
+abbrev pub ended_by : Seen → ℕ → (Frame → Cap) → (Frame → Cap) → List Frame → Seen
+ended_by s t first second [] = s
+ended_by s t first second (f ∷ []) = switched s t f.top nobody None
+ended_by s t first second (f ∷ g ∷ fs) =
+    switched s t f.top
+    (left_with (filtered_in s.region.ram s.granules) (thread s t) f (g ∷ fs) (first f) (second f))
+    s.running
+
+-- the return, and the end with a value
+abbrev pub returned : Seen → Listed → ℕ → Seen
+returned s e t =
+    ended_by s t (λ f. answer_by e (thread s t) f 10) (λ f. answer_by e (thread s t) f 11)
+    (thread s t).frames
+
+abbrev pub ended_with : Seen → ℕ → ℕ → Seen
+ended_with s t value = ended_by s t (λ f. plain value) (λ f. plain 0) (thread s t).frames
+
+-- ---- of a row
+
+-- where the switch enters, memory before a frame is written: the stack is zeroed up to the new top
+abbrev pub cleared : List Granule → row.Thread → Switched → List Granule
+cleared gs t (Enters export high) = zeroed_from t.area.stack high t.area.ram gs
+cleared gs t _ = gs
+
+-- The innermost frame of a row's thread ended with these results, by the frame; `more` tells whether another goes on.
+-- Beside the stack, which was zeroed up to the frame's top, its area alone changed.
+pub record Ends (gs hs : List Granule) (t new : row.Thread) (more : Bool)
+    (first second : Frame → Cap) : Type 0 where
+  pub result : more ≡ nat_lt 1 t.depth
+  pub kept : IsKept hs more new
+  pub area : new.area ≡ t.area
+  pub thread : thread_of hs more new ≡ thread_left gs t first second
+  pub touches : Touches (area_begin t.area) (area_end t.area)
+      (zeroed_from t.area.stack t.top t.area.ram gs) hs
