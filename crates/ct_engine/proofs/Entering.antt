@@ -1,5 +1,5 @@
 -- A call: what the switch comes to, by what is seen, and what is left.
-use Rattle.std.proofs.Common.{ℕ, ◌≡◌, ◌+◌, ◌-◌, ◌*◌, ◌/◌, ◌^◌, ◌==◌, ◌<◌, ◌≤◌, ◌++◌, inl, inr, Bool, true, false, nat_lt, List, [], ◌∷◌, length, Option, Some, None, refl, sym, ap, ◌∙◌, arith, subst}
+use Rattle.std.proofs.Common.{ℕ, ◌≡◌, ◌+◌, ◌-◌, ◌*◌, ◌/◌, ◌^◌, ◌==◌, ◌<◌, ◌≤◌, inl, inr, Bool, true, false, nat_lt, List, length, Option, Some, None, refl, sym, ap, ◌∙◌, arith, subst}
 use Rattle.std.proofs.Math.ListN.{get_or, set}
 use Rattle.std.proofs.Math.Nat.{div-mul-le_self}
 use Rattle.std.proofs.lemmas.Bool.{eqb-false}
@@ -11,14 +11,14 @@ use Rattle.def_words.specs.Authority.{cap_address}
 use Rattle.def_words.specs.Capability.{with_address}
 use Rattle.def_words.specs.Seals.{cap_seal}
 use Rattle.def_memory.specs.declared.Granule.{Granule}
-use Rattle.def_memory.specs.Granules.{plain}
 use Rattle.def_memory.specs.Ranges.{zeroed_from}
 use Rattle.def_reach.specs.Roots.{root_of, gate_for}
 use Rattle.def_boot.specs.Made.{return_sentry}
+use Rattle.def_machine.specs.Image.{Image, made_cap, code_entry, globals_entry, stack_base}
 use Rattle.def_machine.specs.State.{Thread, nobody, register}
-use Rattle.def_machine.specs.Frames.{Given, entered_by}
+use Rattle.def_machine.specs.Frames.{Given, given, entered_by}
 use Rattle.def_step.specs.Checks.{first_failed}
-use Rattle.def_step.specs.Switch.{Switched, Trapped, TooDeep, NoStack, Enters, switch_checks, room_of, room_exponent, new_top, called, with_room, with_depth, past_checks, switch_of, frame_top}
+use Rattle.def_step.specs.Switch.{Switched, Trapped, TooDeep, NoStack, Enters, switch_checks, room_of, room_exponent, new_top, called, with_room, past_checks, switch_of, frame_top}
 use Rattle.def_areas.specs.Areas.{held}
 use Rattle.def_areas.specs.Touches.{Touches}
 use Rattle.law_veil.proofs.Granules.{veiled_length, seen_at}
@@ -26,7 +26,7 @@ use Rattle.law_granules.proofs.Lists.{zeroed_length}
 use Rattle.ct_areas.specs.declared.thread.Area.{Area}
 use Rattle.ct_areas.specs.declared.thread.Thread as row
 use Rattle.ct_areas.specs.Threads.{area_begin, area_end, frames_most, thread_of}
-use Rattle.ct_areas.specs.Parts.{register_in, with_frame, deeper}
+use Rattle.ct_areas.specs.Parts.{register_in, deeper}
 use Rattle.ct_areas.proofs.Rows.{pushed_touches}
 use Rattle.ct_exports.specs.Exports.{IsCallable, callee_of, table_of, export_of}
 use Rattle.ct_switch.specs.Ready as ready
@@ -35,7 +35,7 @@ use Rattle.ct_switch.proofs.Failing.{checks_passed}
 use Rattle.ct_engine.specs.declared.rows.Rows.{Rows}
 use Rattle.ct_engine.specs.Seen.{Seen, hides, seen_by, seen, thread, area_at}
 use Rattle.ct_engine.specs.Kept.{IsKept, AreasFrom, Holds}
-use Rattle.ct_engine.specs.Calls.{IsOpen, MayCall, head_at, switch_at, given_at, switched, after_call, cleared}
+use Rattle.ct_engine.specs.Calls.{HeadStands, IsOpen, MayCall, head_at, switch_at, given_at, switched, after_call, cleared}
 use Rattle.ct_engine.proofs.Whole.{runs_it, thread_depth, running_kept, set_self, seen_turn}
 use Rattle.ct_engine.proofs.Ends.{stays_on, call_areas}
 use Rattle.ct_engine.proofs.Clean.{pushed_kept}
@@ -200,6 +200,21 @@ given_is gs rows t r e export high holds runs is open_ =
     ap (λ c. made (with_address c code) (stack_cap r.area.stack high (register_in r 2).shadow) (held gs ((table_of e (callee_of e export) - r.area.ram) / 8 + 1))) first
     ∙ ap (λ c. made (with_address (held (seen gs rows).granules head) code) c (held gs ((table_of e (callee_of e export) - r.area.ram) / 8 + 1))) stack
     ∙ ap (λ c. made (with_address (held (seen gs rows).granules head) code) (stack_cap (area_at (seen gs rows) t).stack high (register (thread (seen gs rows) t) 2).shadow) c) second
+
+pub given_made : (i : Image) (s : Seen) (t export high : ℕ) → HeadStands i s t export
+    → given_at s i.entries t export high ≡ given i (thread s t) t (callee_of i.entries export) export high
+given_made i s t export high h =
+    let callee : ℕ = callee_of i.entries export in
+    let code : ℕ = (gate_for i.entries.gates export).code in
+    let head : ℕ = head_at s i.entries export in
+    let stack : ℕ → Cap = λ b. stack_cap b high (register (thread s t) 2).shadow in
+    all_made (with_address (held s.granules head) code) return_sentry (stack (area_at s t).stack) (held s.granules (head + 1))
+    (with_address (made_cap i (code_entry i callee)) code) (made_cap i 0) (stack (stack_base i t)) (made_cap i (globals_entry i callee))
+    (ap (λ c. with_address c code) h.code) (sym h.back) (ap stack (sym h.stack)) h.globals
+  where
+    all_made : (p b s g q c u l : Cap) → p ≡ q → b ≡ c → s ≡ u → g ≡ l
+        → (let x : Given = record { pcc = p; back = b; stack = s; globals = g } in x) ≡ record { pcc = q; back = c; stack = u; globals = l }
+    all_made p b s g q c u l one two three four = rw (one, two, three, four) refl
 
 -- the export that is entered is open
 open_is : (gs : List Granule) (rows : Rows) (t : ℕ) (r : row.Thread) (e : Listed) (export high : ℕ) → Holds gs rows → rows.running ≡ Some t

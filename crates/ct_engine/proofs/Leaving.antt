@@ -1,16 +1,14 @@
 -- A frame's end: what it leaves of a row, and of all that is seen.
-use Rattle.std.proofs.Common.{ℕ, ◌≡◌, ◌+◌, ◌-◌, ◌*◌, ◌==◌, ◌<◌, ◌≤◌, inl, inr, Bool, true, false, cond, nat_lt, List, [], ◌∷◌, length, Option, Some, None, refl, sym, ap, ◌∙◌, arith, subst}
+use Rattle.std.proofs.Common.{ℕ, ◌≡◌, ◌-◌, ◌*◌, ◌==◌, ◌<◌, inl, inr, Bool, true, false, cond, nat_lt, List, [], ◌∷◌, length, Option, Some, None, refl, sym, ap, ◌∙◌, arith, subst}
 use Rattle.std.proofs.Math.ListN.{get_or, set}
 use Rattle.std.proofs.lemmas.Bool.{eqb-true}
 use Rattle.law_lists.proofs.Tests.{chosen, lt_tells}
 use Rattle.law_granules.proofs.Lists.{zeroed_length}
 use Rattle.def_words.specs.declared.Cap.{Cap}
-use Rattle.def_words.specs.Jumped.{opened}
 use Rattle.def_memory.specs.declared.Granule.{Granule}
 use Rattle.def_memory.specs.Granules.{plain}
 use Rattle.def_memory.specs.Ranges.{zeroed_from}
 use Rattle.def_machine.specs.State.{Thread, Frame, nobody}
-use Rattle.def_machine.specs.Heap.{is_number}
 use Rattle.def_machine.specs.Frames.{left_with}
 use Rattle.def_machine.specs.Memory.{filtered_in}
 use Rattle.def_step.specs.Switch.{frame_top}
@@ -27,7 +25,7 @@ use Rattle.ct_engine.specs.Seen.{Seen, hides, seen_by, seen, thread}
 use Rattle.ct_engine.specs.Kept.{IsKept, AreasFrom, Holds}
 use Rattle.ct_engine.specs.Calls.{TopLies, switched, ended_by, Ends}
 use Rattle.ct_engine.proofs.Whole.{runs_it, depth_is, running_kept}
-use Rattle.ct_engine.proofs.Ends.{ended_is, lt_true, number_is, goes_or_ends}
+use Rattle.ct_engine.proofs.Ends.{ended_is, number_is, goes_or_ends}
 use Rattle.ct_engine.proofs.Clean.{popped_kept}
 use Rattle.ct_engine.proofs.Stacks.{running_thread, running_top, ready_is, zeroed_touches}
 use Rattle.ct_engine.proofs.Turning.{kept_as, kept_beside, switched_areas, switched_seen}

@@ -3,6 +3,7 @@ use Rattle.std.proofs.Common.{ℕ, zero, suc, ◌≡◌, ◌+◌, ◌*◌, ◌%�
 use Rattle.std.proofs.Math.ListN.{get_or}
 use Rattle.def_memory.specs.declared.Granule.{Granule}
 use Rattle.def_memory.specs.Granules.{plain, nothing}
+use Rattle.def_machine.specs.Objects.{Each}
 use Rattle.def_areas.specs.Areas.{held}
 use Rattle.ct_areas.specs.declared.thread.Area.{Area}
 use Rattle.ct_areas.specs.Threads.{HasArea}
@@ -59,10 +60,9 @@ may_start gs f g is first second zero_f zero_g =
           subst (λ (a : Area). a.trusted + a.trusted_length ≤ 2147484240) (sym second) (omega arith),
         ),
       );
-      stacks = subst (λ n. StackLies sample_region n f.area × StackLies sample_region n g.area × Unit {0}) (sym size) (
+      stacks = subst (λ n. Each (StackLies sample_region n) (f.area ∷ g.area ∷ [])) (sym size) (
         subst (λ (a : Area). StackLies sample_region 2048 a) (sym first) (stack_lies 2147483664 2147484672 refl (omega arith) (omega arith)),
-        subst (λ (a : Area). StackLies sample_region 2048 a) (sym second) (stack_lies 2147483952 2147484928 refl (omega arith) (omega arith)),
-        tt,
+        (subst (λ (a : Area). StackLies sample_region 2048 a) (sym second) (stack_lies 2147483952 2147484928 refl (omega arith) (omega arith)), tt),
       );
       clear = λ k hidden. subst (λ (xs : List Granule). held xs k ≡ plain 0) (sym is) (none_held 256 k);
     }

@@ -1,5 +1,5 @@
 -- Stacks that lie apart from the region: they stay where they are, and zeroing one meets nothing hidden.
-use Rattle.std.proofs.Common.{ℕ, zero, suc, ◌≡◌, ◌+◌, ◌*◌, ◌%◌, ◌<◌, ◌≤◌, ◌⊎◌, inl, inr, ◌&&◌, Bool, true, false, nat_le, nat_lt, List, [], ◌∷◌, length, map, Option, Some, refl, sym, ap, ◌∙◌, arith, subst}
+use Rattle.std.proofs.Common.{ℕ, zero, suc, ◌≡◌, ◌+◌, ◌*◌, ◌%◌, ◌<◌, ◌≤◌, ◌⊎◌, inl, inr, Bool, true, false, nat_le, nat_lt, List, [], ◌∷◌, length, map, Some, refl, sym, ap, ◌∙◌, arith, subst}
 use Rattle.std.proofs.Math.ListN.{get_or, set}
 use Rattle.std.proofs.lemmas.Bool.{leb-true}
 use Rattle.law_lists.proofs.Tests.{both_left, both_right, lt_tells}
@@ -12,11 +12,10 @@ use Rattle.def_machine.specs.Objects.{Each}
 use Rattle.def_step.specs.Switch.{frame_top}
 use Rattle.def_areas.specs.Areas.{held}
 use Rattle.def_areas.specs.Touches.{Touches}
-use Rattle.def_veil.specs.Veil.{veiled}
 use Rattle.law_veil.proofs.Granules.{zeroed_seen}
 use Rattle.ct_areas.specs.declared.thread.Area.{Area}
 use Rattle.ct_areas.specs.declared.thread.Thread as row
-use Rattle.ct_areas.specs.Threads.{HasArea, thread_of}
+use Rattle.ct_areas.specs.Threads.{thread_of}
 use Rattle.ct_areas.proofs.Rows.{frames_are}
 use Rattle.ct_switch.specs.Ready.{HasStack, IsReady}
 use Rattle.ct_engine.specs.declared.rows.Region.{Region}

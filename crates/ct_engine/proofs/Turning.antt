@@ -1,5 +1,5 @@
 -- The running thread changes whole, after its stack was zeroed up to an address: what is seen of it, and what is kept.
-use Rattle.std.proofs.Common.{ℕ, ◌≡◌, ◌+◌, ◌-◌, ◌*◌, ◌/◌, ◌<◌, ◌≤◌, inl, inr, Bool, true, List, length, Option, Some, refl, sym, ap, ◌∙◌, arith, subst}
+use Rattle.std.proofs.Common.{ℕ, ◌≡◌, ◌+◌, ◌*◌, ◌<◌, ◌≤◌, inl, inr, Bool, List, length, Option, Some, refl, sym, ap, ◌∙◌, arith, subst}
 use Rattle.std.proofs.Math.ListN.{get_or, set}
 use Rattle.law_granules.proofs.Lists.{zeroed_length, zeroed_at}
 use Rattle.def_memory.specs.declared.Granule.{Granule}
@@ -16,7 +16,7 @@ use Rattle.ct_areas.specs.Parts.{register_in}
 use Rattle.ct_switch.specs.Ready.{IsReady}
 use Rattle.ct_engine.specs.declared.rows.Rows.{Rows}
 use Rattle.ct_engine.specs.Seen.{Seen, seen_by, seen, with_thread, with_running}
-use Rattle.ct_engine.specs.Kept.{IsKept, AreasFrom, StackLies, Holds}
+use Rattle.ct_engine.specs.Kept.{IsKept, AreasFrom, Holds}
 use Rattle.ct_engine.specs.Calls.{switched}
 use Rattle.ct_engine.proofs.Lists.{OthersRun, within, kept_same}
 use Rattle.ct_engine.proofs.Whole.{seen_turn, areas_turn, running_kept}

@@ -12,6 +12,7 @@ use Rattle.def_memory.specs.Granules.{plain}
 use Rattle.def_memory.specs.Ranges.{zeroed_from}
 use Rattle.def_reach.specs.Roots.{root_of, gate_for}
 use Rattle.def_boot.specs.Made.{return_sentry}
+use Rattle.def_machine.specs.Image.{Image, made_cap, code_entry, globals_entry, stack_base}
 use Rattle.def_machine.specs.State.{Thread, Frame, nobody, register}
 use Rattle.def_machine.specs.Memory.{filtered_in}
 use Rattle.def_machine.specs.Frames.{Given, entered_by, answer_by, left_with}
@@ -122,3 +123,14 @@ pub record Ends (gs hs : List Granule) (t new : row.Thread) (more : Bool)
   pub thread : thread_of hs more new ≡ thread_left gs t first second
   pub touches : Touches (area_begin t.area) (area_end t.area)
       (zeroed_from t.area.stack t.top t.area.ram gs) hs
+
+-- ---- as boot made it
+
+-- The head of an export's table is as boot made it, and so is the return sentry; the stack begins where the image has it.
+pub record HeadStands (i : Image) (s : Seen) (t export : ℕ) : Type 0 where
+  pub code : held s.granules (head_at s i.entries export)
+      ≡ made_cap i (code_entry i (callee_of i.entries export))
+  pub globals : held s.granules (head_at s i.entries export + 1)
+      ≡ made_cap i (globals_entry i (callee_of i.entries export))
+  pub back : made_cap i 0 ≡ return_sentry
+  pub stack : stack_base i t ≡ (area_at s t).stack

@@ -1,18 +1,19 @@
 //! A call and a frame's end of the running thread.
 
-ghost use Rattle.std.specs.Prelude.{◌≡◌, Some, true, nat_lt, length};
+ghost use Rattle.std.specs.Prelude.{ℕ, ◌≡◌, Some, true, nat_lt, length};
 ghost use Rattle.def_memory.specs.Granules.{plain};
-ghost use Rattle.def_memory.specs.Ranges.{zeroed_from};
+ghost use Rattle.def_machine.specs.Image.{Image};
 ghost use Rattle.def_machine.specs.State.{register};
+ghost use Rattle.def_machine.specs.Frames.{given};
 ghost use Rattle.def_areas.specs.Touches.{Touches};
 ghost use Rattle.ct_areas.specs.Threads.{area_begin, area_end, thread_of};
 ghost use Rattle.ct_areas.specs.Parts.{register_in};
-ghost use Rattle.ct_exports.specs.Exports.{AreSorted};
+ghost use Rattle.ct_exports.specs.Exports.{AreSorted, callee_of};
 ghost use Rattle.ct_switch.specs.Ready as ready;
 ghost use Rattle.ct_switch.specs.Calls.{told, switch_in, thread_after, returned_by};
 ghost use Rattle.ct_engine.specs.Kept.{IsKept, Holds};
-ghost use Rattle.ct_engine.specs.Seen.{seen, thread};
-ghost use Rattle.ct_engine.specs.Calls.{TopLies, MayCall, switch_at, after_call, returned, ended_with, cleared, Ends};
+ghost use Rattle.ct_engine.specs.Seen.{Seen, seen, thread};
+ghost use Rattle.ct_engine.specs.Calls.{TopLies, MayCall, switch_at, given_at, after_call, returned, ended_with, cleared, Ends, HeadStands};
 
 use crate::frames::still;
 use crate::rows::Rows;
@@ -112,3 +113,10 @@ pub(crate) fn end_with<M: Memory>(
     rows.running = still(t, more);
     more
 }
+
+/// Where the head of its export table is as boot made it, a callee is given what the machine's definitions give it.
+pub fn callee_given()
+    ensures { (i : Image) (s : Seen) (t export high : ℕ) → HeadStands i s t export
+        → given_at s i.entries t export high
+        ≡ given i (thread s t) t (callee_of i.entries export) export high }
+{}

@@ -16,6 +16,7 @@ mod starting;
 mod steps;
 mod turns;
 
+pub use calls::callee_given;
 pub use ct_switch::Called;
 pub use def_refusals::NoMemory;
 pub use engine::Engine;

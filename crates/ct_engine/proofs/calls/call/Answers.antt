@@ -3,7 +3,6 @@ use Rattle.std.proofs.lemmas.List.{length-set}
 use Rattle.def_words.specs.declared.Cap.{Cap}
 use Rattle.def_step.specs.Switch.{Switched}
 use Rattle.def_machine.specs.State.{register}
-use Rattle.ct_areas.specs.Parts.{register_in}
 use Rattle.ct_switch.specs.Calls.{told, switch_in}
 use Rattle.ct_engine.specs.Seen.{seen, thread}
 use Rattle.ct_engine.specs.Calls.{after_call}

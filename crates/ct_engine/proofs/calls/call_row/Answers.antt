@@ -1,6 +1,6 @@
 use Rattle.std.proofs.Common.{refl}
 use Rattle.ct_switch.specs.Calls.{switch_in}
-use Rattle.ct_engine.proofs.Entering.{CallKeeps, call_keeps}
+use Rattle.ct_engine.proofs.Entering.{call_keeps}
 use Rattle.ct_engine.proofs.calls.call_row.Goals as goal
 
 pub returns-clause-kept : goal.returns-clause-kept

@@ -55,5 +55,5 @@ returns-clause-seen g c =
     (end_sees gs hs rows c.args.t r q c.return_row-more.result (returned_by c.args.e.now r 10) (returned_by c.args.e.now r 11)
     (λ f. answer_by c.args.e.now (thread (seen gs rows) c.args.t) f 10) (λ f. answer_by c.args.e.now (thread (seen gs rows) c.args.t) f 11)
     c.requires.holds c.requires.runs c.index_mut.ensures.value c.requires.top c.return_row-more.ensures
-    (λ f. ap (λ (x : Cap). passed_by c.args.e.now f.export x) (sym (register_is gs rows c.args.t 10 r c.requires.holds c.requires.runs c.index_mut.ensures.value))) 
+    (λ f. ap (λ (x : Cap). passed_by c.args.e.now f.export x) (sym (register_is gs rows c.args.t 10 r c.requires.holds c.requires.runs c.index_mut.ensures.value)))
     (λ f. ap (λ (x : Cap). passed_by c.args.e.now f.export x) (sym (register_is gs rows c.args.t 11 r c.requires.holds c.requires.runs c.index_mut.ensures.value))))

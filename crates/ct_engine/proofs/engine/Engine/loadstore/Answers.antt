@@ -1,5 +1,4 @@
-use Rattle.std.proofs.Common.{sym, ap}
-use Rattle.ct_engine.proofs.Instructions.{Moving, heap_by, move_holds, move_is, move_kept, move_size}
+use Rattle.ct_engine.proofs.Instructions.{heap_by, move_holds, move_is, move_kept, move_size}
 use Rattle.ct_engine.proofs.engine.Engine.loadstore.Goals as goal
 
 pub access-requires-clause-heap : goal.access-requires-clause-heap
