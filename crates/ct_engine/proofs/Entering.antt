@@ -35,7 +35,7 @@ use Rattle.ct_switch.proofs.Failing.{checks_passed}
 use Rattle.ct_engine.specs.declared.rows.Rows.{Rows}
 use Rattle.ct_engine.specs.Seen.{Seen, hides, seen_by, seen, thread, area_at}
 use Rattle.ct_engine.specs.Kept.{IsKept, AreasFrom, Holds}
-use Rattle.ct_engine.specs.Calls.{HeadStands, IsOpen, MayCall, head_at, switch_at, given_at, switched, after_call, cleared}
+use Rattle.ct_engine.specs.Calls.{HeadStands, IsEnterable, MayCall, head_at, switch_at, given_at, switched, after_call, cleared}
 use Rattle.ct_engine.proofs.Whole.{runs_it, thread_depth, running_kept, set_self, seen_turn}
 use Rattle.ct_engine.proofs.Ends.{stays_on, call_areas}
 use Rattle.ct_engine.proofs.Clean.{pushed_kept}
@@ -183,7 +183,7 @@ made : Cap → Cap → Cap → Given
 made pcc stack globals = record { pcc = pcc; back = return_sentry; stack = stack; globals = globals }
 
 given_is : (gs : List Granule) (rows : Rows) (t : ℕ) (r : row.Thread) (e : Listed) (export high : ℕ) → Holds gs rows → rows.running ≡ Some t
-    → r ≡ get_or rows.list.items t r → IsOpen (seen gs rows) e export → given_in gs e r export high ≡ given_at (seen gs rows) e t export high
+    → r ≡ get_or rows.list.items t r → IsEnterable (seen gs rows) e export → given_in gs e r export high ≡ given_at (seen gs rows) e t export high
 unfolding made
 given_is gs rows t r e export high holds runs is open_ =
     let base = (running_kept gs rows t r holds runs is).base in
@@ -218,13 +218,13 @@ given_made i s t export high h =
 
 -- the export that is entered is open
 open_is : (gs : List Granule) (rows : Rows) (t : ℕ) (r : row.Thread) (e : Listed) (export high : ℕ) → Holds gs rows → rows.running ≡ Some t
-    → r ≡ get_or rows.list.items t r → MayCall (seen gs rows) t e → switch_in gs e r ≡ Enters export high → IsOpen (seen gs rows) e export
+    → r ≡ get_or rows.list.items t r → MayCall (seen gs rows) t e → switch_in gs e r ≡ Enters export high → IsEnterable (seen gs rows) e export
 open_is gs rows t r e export high holds runs is may enters =
     let s : Thread = thread (seen gs rows) t in
     let base : ℕ = (area_at (seen gs rows) t).stack in
     let by = enters_by e base (frame_top s.frames) (frames_most (area_at (seen gs rows) t)) s export high (sym (switch_is gs rows t r e holds runs is) ∙ enters) in
     let passed = checks_passed base (frame_top s.frames) (register s 1) (register s 6) (register s 2) by.passed in
-    subst (λ n. IsOpen (seen gs rows) e n) (sym by.export_is) (may.import passed.tagged passed.import)
+    subst (λ n. IsEnterable (seen gs rows) e n) (sym by.export_is) (may.import passed.tagged passed.import)
 
 -- the new top lies in the stack
 high_fits : (gs : List Granule) (rows : Rows) (t : ℕ) (r : row.Thread) (e : Listed) (export high : ℕ) → Holds gs rows → rows.running ≡ Some t

@@ -39,7 +39,7 @@ abbrev pub head_at : Seen → Listed → ℕ → ℕ
 head_at s e export = (table_of e (callee_of e export) - s.region.ram) / GRANULE
 
 -- an export that can be called, and the head of whose table isn't hidden
-pub record IsOpen (s : Seen) (e : Listed) (export : ℕ) : Type 0 where
+pub record IsEnterable (s : Seen) (e : Listed) (export : ℕ) : Type 0 where
   pub callable : IsCallable e s.region.ram (8 * length s.granules) export
   pub code : hides s.region (head_at s e export) ≡ false
   pub globals : hides s.region (head_at s e export + 1) ≡ false
@@ -51,7 +51,7 @@ pub record MayCall (s : Seen) (t : ℕ) (e : Listed) : Type 0 where
   pub sorted : AreSorted e.gates
   pub import : (register (thread s t) 6).tag ≡ true
       → cap_seal (register (thread s t) 6) ≡ EXPORT_TYPE
-      → IsOpen s e (root_of e (register (thread s t) 6).shadow.root).of
+      → IsEnterable s e (root_of e (register (thread s t) 6).shadow.root).of
 
 -- ---- a call
 
