@@ -1,0 +1,80 @@
+-- The engine that an image boots: its memory, its threads before their first step, and their
+-- areas.
+use Rattle.std.specs.Prelude.{ℕ, ◌+◌, List, [], ◌∷◌, None}
+use Rattle.def_profile.specs.declared.layout.TheConstants.{TRUSTED_HEAD}
+use Rattle.def_machine.specs.Image.{Image, trusted_end}
+use Rattle.def_image.specs.Parts.{ThreadRow, PartsRow}
+use Rattle.def_image.specs.Sizes.{sum_of}
+use Rattle.def_image.specs.Regions.{area_size}
+use Rattle.def_boot.specs.Boot.{boot_state, first_thread, first_threads, image_of}
+use Rattle.ct_start.specs.declared.start.First.{First}
+use Rattle.ct_start.specs.Starts.{start_of}
+use Rattle.ct_areas.specs.declared.thread.Area.{Area}
+use Rattle.ct_engine.specs.declared.rows.Region.{Region}
+use Rattle.ct_engine.specs.declared.starting.Fresh.{Fresh}
+use Rattle.ct_engine.specs.Seen.{Seen}
+
+-- the trusted region past its first granules
+abbrev pub region_of : Image → Region
+region_of i = record { ram = i.ram; trusted = i.trusted; end = trusted_end i }
+
+-- ---- the threads' areas, one after another in the order of the threads
+
+-- the area that begins at an address
+abbrev pub area_from : PartsRow → ℕ → ThreadRow → Area
+area_from p at t = record {
+  ram = p.ram;
+  stack = t.stack;
+  stack_length = t.stack_length;
+  trusted = at;
+  trusted_length = area_size t;
+}
+
+abbrev pub areas_from : PartsRow → ℕ → List ThreadRow → List Area
+areas_from p at [] = []
+areas_from p at (t ∷ ts) = area_from p at t ∷ areas_from p (at + area_size t) ts
+
+-- where the first begins
+abbrev pub areas_begin : PartsRow → ℕ
+areas_begin p = p.trusted + TRUSTED_HEAD
+
+-- where the last ends
+abbrev pub areas_end : PartsRow → ℕ
+areas_end p = areas_begin p + sum_of area_size p.threads
+
+abbrev pub areas_of : PartsRow → List Area
+areas_of p = areas_from p (areas_begin p) p.threads
+
+-- ---- the engine
+
+abbrev pub launched : PartsRow → Seen
+launched p = record {
+  granules = (boot_state p).granules;
+  threads = first_threads p 0 p.threads;
+  running = None;
+  region = region_of (image_of p);
+  areas = areas_of p;
+}
+
+-- ---- what it starts with
+
+-- a thread that starts so, with its area
+abbrev pub fresh_by : First → Area → Fresh
+fresh_by f a = record {
+  pcc = f.pcc;
+  regs = f.regs;
+  posture = f.posture;
+  actor = f.actor;
+  export = f.export;
+  area = a;
+}
+
+-- the first of these threads has number n, and its area begins at an address
+abbrev pub fresh_from : PartsRow → ℕ → ℕ → List ThreadRow → List Fresh
+fresh_from p n at [] = []
+fresh_from p n at (t ∷ ts) =
+    fresh_by (start_of (first_thread p n t)) (area_from p at t)
+    ∷ fresh_from p (n + 1) (at + area_size t) ts
+
+abbrev pub fresh_of : PartsRow → List Fresh
+fresh_of p = fresh_from p 0 (areas_begin p) p.threads
