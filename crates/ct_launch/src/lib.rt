@@ -10,3 +10,6 @@ mod fresh;
 mod launching;
 
 pub use launching::launch;
+
+#[cfg(test)]
+mod tests;
