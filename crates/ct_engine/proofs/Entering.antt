@@ -269,8 +269,11 @@ call_areas_by gs hs rows t r q e holds runs is may (Enters export high) w touche
     switched_areas gs hs rows t r q high rows.running holds runs is (high_fits gs rows t r e export high holds runs is may w) touches (stays_on rows.running t) place
     (subst (λ b. IsKept hs b q) (sym (runs_it rows t runs)) kept)
 
-pub cleared_size : (gs : List Granule) (t : row.Thread) (w : Switched) → length (cleared gs t w) ≡ length gs
+cleared_size : (gs : List Granule) (t : row.Thread) (w : Switched) → length (cleared gs t w) ≡ length gs
 cleared_size gs t (Trapped why) = refl
 cleared_size gs t TooDeep = refl
 cleared_size gs t NoStack = refl
 cleared_size gs t (Enters export high) = zeroed_length t.area.stack high t.area.ram gs
+
+pub call_size : (gs hs : List Granule) (t : row.Thread) (w : Switched) → Touches (area_begin t.area) (area_end t.area) (cleared gs t w) hs → length hs ≡ length gs
+call_size gs hs t w touches = touches.size ∙ cleared_size gs t w

@@ -1,12 +1,15 @@
 //! Threads that take turns over plain memory. Expected values follow from the rules of docs/use/machine.md.
 
-ghost use Rattle.std.specs.Prelude.{◌≡◌, slice_index_or};
+ghost use Rattle.std.specs.Prelude.{◌≡◌, [], slice_index_or};
 ghost use Rattle.def_memory.specs.Granules.{plain};
 
-use crate::{Engine, Fresh, Region};
+use crate::{Called, Engine, Fresh, Region};
 use ct_areas::{Area, Saved};
-use ct_cap::{Live, Posture};
+use ct_cap::{Live, Posture, Trap};
+use ct_entry::Entries;
 use ct_mem::Plain;
+use def_profile::traps::TAG_CODE;
+use std::alloc::Global;
 use std::test::Fail;
 
 /// A thread with room for two frames, whose second register holds its number.
@@ -113,5 +116,45 @@ fn threads_take_turns(rt: HostRuntime) -> Result<(), Fail> {
     assert_eq!(rt; export, 9);
     assert_eq!(rt; c2.cap.word, 2);
     assert_eq!(rt; engine.running(), Some(1));
+    Ok(())
+}
+
+fn no_entries(alloc: Global) -> Entries
+    ensures { result.gates ≡ [] }
+{
+    Entries {
+        rows: Vec::new(alloc),
+        gates: Vec::new(alloc),
+    }
+}
+
+/// A thread with two frames: an unwind answers its caller -1; the caller holds no import, so its call traps; its return
+/// ends the thread.
+#[test]
+fn frames_end(rt: HostRuntime) -> Result<(), Fail> {
+    let region = Region {
+        ram: 0x8000_0000,
+        trusted: 0x8000_0010,
+        end: 0x8000_0250,
+    };
+    let threads = [
+        fresh(1, 0x8000_0010, 0x8000_0400),
+        fresh(2, 0x8000_0130, 0x8000_0500),
+    ];
+    let none = no_entries(rt.alloc());
+    let mut engine = Engine::start(rt.alloc(), Plain::new(rt.alloc(), 2048)?, region, &threads)?;
+    engine.pick(1);
+    assert_eq!(rt; engine.push(1, 2, 9, 0x8000_0580), true);
+    assert_eq!(rt; engine.unwind(1, &none), true);
+    assert_eq!(rt; engine.register(1, 2).cap.word, 2);
+    assert_eq!(rt; engine.register(1, 10).cap.word, 0xFFFF_FFFF);
+    assert_eq!(rt;
+        engine.call(1, &none),
+        Called::Trapped {
+            trap: Trap::capability(TAG_CODE, 1)
+        }
+    );
+    assert_eq!(rt; engine.give_back(1, &none), false);
+    assert_eq!(rt; engine.running(), None);
     Ok(())
 }
