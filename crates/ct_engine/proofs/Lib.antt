@@ -12,3 +12,4 @@ pub mod Stacks
 pub mod Turning
 pub mod Entering
 pub mod Leaving
+pub mod AsWritten

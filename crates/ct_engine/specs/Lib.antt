@@ -3,3 +3,4 @@ pub mod Kept
 pub mod Starts
 pub mod Steps
 pub mod Calls
+pub mod Written

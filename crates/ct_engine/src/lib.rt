@@ -15,6 +15,7 @@ mod rows;
 mod starting;
 mod steps;
 mod turns;
+mod written;
 
 pub use calls::callee_given;
 pub use ct_switch::Called;
@@ -22,6 +23,7 @@ pub use def_refusals::NoMemory;
 pub use engine::Engine;
 pub use rows::{Region, region_hidden};
 pub use starting::Fresh;
+pub use written::{calls_written, ends_written};
 
 #[cfg(test)]
 mod tests;

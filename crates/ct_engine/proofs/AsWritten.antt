@@ -1,0 +1,81 @@
+-- Calls and frames' ends over what is seen, as the machine's definitions write them.
+use Rattle.std.proofs.Common.{ℕ, ◌≡◌, List, [], ◌∷◌, Option, None, ap, ◌∙◌}
+use Rattle.def_words.specs.declared.Cap.{Cap}
+use Rattle.def_memory.specs.declared.Granule.{Granule}
+use Rattle.def_memory.specs.Granules.{plain}
+use Rattle.def_memory.specs.Ranges.{zeroed_from}
+use Rattle.std.proofs.Math.ListN.{set}
+use Rattle.def_machine.specs.Image.{Image, stack_base, frames_most}
+use Rattle.def_machine.specs.State.{State, Thread, Frame, nobody}
+use Rattle.def_machine.specs.State as state
+use Rattle.def_machine.specs.Memory.{filtered_in}
+use Rattle.def_machine.specs.Frames.{given, entered_by, answer, answer_by, left_with, left_by}
+use Rattle.def_step.specs.Switch.{Enters, switch_of, frame_top}
+use Rattle.ct_areas.specs.Threads as areas
+use Rattle.ct_exports.specs.Exports.{callee_of}
+use Rattle.ct_engine.specs.Seen.{Seen, thread, area_at}
+use Rattle.ct_engine.specs.Calls.{HeadStands, switch_at, switched, after_call, ended_by, returned, ended_with}
+use Rattle.ct_engine.specs.Written.{Shows, written, callee_thread}
+use Rattle.ct_engine.proofs.Entering.{given_made}
+
+pub comes_is : (i : Image) (m : State) (s : Seen) (t : ℕ) → Shows i m s t
+    → switch_at s i.entries t ≡ switch_of i.entries (stack_base i t) (frame_top (state.thread m t).frames) (frames_most i t) (state.thread m t)
+comes_is i m s t h =
+    ap (λ n. switch_of i.entries n (frame_top (thread s t).frames) (areas.frames_most (area_at s t)) (thread s t)) h.stack
+    ∙ ap (λ n. switch_of i.entries (stack_base i t) (frame_top (thread s t).frames) n (thread s t)) h.frames
+    ∙ ap (λ (u : Thread). switch_of i.entries (stack_base i t) (frame_top u.frames) (frames_most i t) u) h.thread
+
+-- the stack is zeroed as the image has it
+switched_is : (i : Image) (m : State) (s : Seen) (t high : ℕ) (new : Thread) (run : Option ℕ) → Shows i m s t → switched s t high new run ≡ written i m s t high new run
+switched_is i m s t high new run h =
+    let put : List Granule → Seen = λ gs. record s { granules = gs; threads = set s.threads t new; running = run } in
+    ap (λ n. put (zeroed_from n high s.region.ram s.granules)) h.stack
+    ∙ ap (λ n. put (zeroed_from (stack_base i t) high n s.granules)) h.ram
+    ∙ ap (λ gs. put (zeroed_from (stack_base i t) high i.ram gs)) h.granules
+
+pub enters_is : (i : Image) (m : State) (s : Seen) (t export high : ℕ) → Shows i m s t → HeadStands i s t export
+    → after_call s i.entries t (Enters export high) ≡ written i m s t high (callee_thread i m t export high) s.running
+enters_is i m s t export high h heads =
+    let callee : ℕ = callee_of i.entries export in
+    ap (λ g. switched s t high (entered_by i.entries (thread s t) callee export high g) s.running) (given_made i s t export high heads)
+    ∙ ap (λ u. switched s t high (entered_by i.entries u callee export high (given i u t callee export high)) s.running) h.thread
+    ∙ switched_is i m s t high (callee_thread i m t export high) s.running h
+
+frames_is : (i : Image) (m : State) (s : Seen) (t : ℕ) (fs : List Frame) → Shows i m s t → (state.thread m t).frames ≡ fs → (thread s t).frames ≡ fs
+frames_is i m s t fs h frames = ap (λ (u : Thread). u.frames) h.thread ∙ frames
+
+-- what is left of the thread, with results that go by the thread
+left_is : (i : Image) (m : State) (s : Seen) (t : ℕ) (f : Frame) (fs : List Frame) (first second : Thread → Cap) → Shows i m s t
+    → left_with (filtered_in s.region.ram s.granules) (thread s t) f fs (first (thread s t)) (second (thread s t))
+    ≡ left_by i m (state.thread m t) f fs (first (state.thread m t)) (second (state.thread m t))
+left_is i m s t f fs first second h =
+    ap (λ n. left_with (filtered_in n s.granules) (thread s t) f fs (first (thread s t)) (second (thread s t))) h.ram
+    ∙ ap (λ gs. left_with (filtered_in i.ram gs) (thread s t) f fs (first (thread s t)) (second (thread s t))) h.granules
+    ∙ ap (λ u. left_with (filtered_in i.ram m.granules) u f fs (first u) (second u)) h.thread
+
+goes_is : (i : Image) (m : State) (s : Seen) (t : ℕ) (f g : Frame) (fs : List Frame) (first second : Thread → Frame → Cap) → Shows i m s t
+    → (state.thread m t).frames ≡ f ∷ g ∷ fs
+    → ended_by s t (first (thread s t)) (second (thread s t)) (thread s t).frames
+    ≡ written i m s t f.top (left_by i m (state.thread m t) f (g ∷ fs) (first (state.thread m t) f) (second (state.thread m t) f)) s.running
+goes_is i m s t f g fs first second h frames =
+    ap (λ l. ended_by s t (first (thread s t)) (second (thread s t)) l) (frames_is i m s t (f ∷ g ∷ fs) h frames)
+    ∙ ap (λ u. switched s t f.top u s.running) (left_is i m s t f (g ∷ fs) (λ u. first u f) (λ u. second u f) h)
+    ∙ switched_is i m s t f.top (left_by i m (state.thread m t) f (g ∷ fs) (first (state.thread m t) f) (second (state.thread m t) f)) s.running h
+
+pub back_is : (i : Image) (m : State) (s : Seen) (t : ℕ) (f g : Frame) (fs : List Frame) → Shows i m s t → (state.thread m t).frames ≡ f ∷ g ∷ fs
+    → returned s i.entries t
+    ≡ written i m s t f.top (left_by i m (state.thread m t) f (g ∷ fs) (answer i (state.thread m t) f 10) (answer i (state.thread m t) f 11)) s.running
+back_is i m s t f g fs h frames = goes_is i m s t f g fs (λ u x. answer_by i.entries u x 10) (λ u x. answer_by i.entries u x 11) h frames
+
+pub value_is : (i : Image) (m : State) (s : Seen) (t v : ℕ) (f g : Frame) (fs : List Frame) → Shows i m s t → (state.thread m t).frames ≡ f ∷ g ∷ fs
+    → ended_with s t v ≡ written i m s t f.top (left_by i m (state.thread m t) f (g ∷ fs) (plain v) (plain 0)) s.running
+value_is i m s t v f g fs h frames = goes_is i m s t f g fs (λ u x. plain v) (λ u x. plain 0) h frames
+
+pub last_is : (i : Image) (m : State) (s : Seen) (t v : ℕ) (f : Frame) → Shows i m s t → (state.thread m t).frames ≡ f ∷ []
+    → (returned s i.entries t ≡ written i m s t f.top nobody None) × (ended_with s t v ≡ written i m s t f.top nobody None)
+last_is i m s t v f h frames =
+    let one = frames_is i m s t (f ∷ []) h frames in
+    let over = switched_is i m s t f.top nobody None h in (
+      ap (λ l. ended_by s t (λ x. answer_by i.entries (thread s t) x 10) (λ x. answer_by i.entries (thread s t) x 11) l) one ∙ over,
+      ap (λ l. ended_by s t (λ x. plain v) (λ x. plain 0) l) one ∙ over,
+    )

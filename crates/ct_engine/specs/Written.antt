@@ -1,0 +1,32 @@
+-- A state of the machine, and what is seen of an engine that holds the same.
+use Rattle.std.specs.Prelude.{ℕ, ◌≡◌, Option, slice_set}
+use Rattle.def_machine.specs.Image.{Image, root, stack_base, frames_most}
+use Rattle.def_machine.specs.State.{State, Thread}
+use Rattle.def_machine.specs.State as state
+use Rattle.def_machine.specs.Frames as machine
+use Rattle.def_reach.specs.Roots.{compartment_of}
+use Rattle.ct_areas.specs.Threads as areas
+use Rattle.ct_engine.specs.Seen.{Seen, thread, area_at}
+
+-- RAM and thread t are the state's, and the thread's stack and the room for its frames are as the image has them.
+pub record Shows (i : Image) (m : State) (s : Seen) (t : ℕ) : Type 0 where
+  pub ram : s.region.ram ≡ i.ram
+  pub granules : s.granules ≡ m.granules
+  pub thread : thread s t ≡ state.thread m t
+  pub stack : (area_at s t).stack ≡ stack_base i t
+  pub frames : areas.frames_most (area_at s t) ≡ frames_most i t
+
+-- what is seen where thread t has become this, and all else is the state's
+abbrev pub seen_so : Seen → ℕ → Thread → State → Seen
+seen_so s t new m =
+    record s { granules = m.granules; threads = slice_set s.threads t new; running = m.running }
+
+-- what is seen after the written change of a whole thread and of its stack up to an address
+abbrev pub written : Image → State → Seen → ℕ → ℕ → Thread → Option ℕ → Seen
+written i m s t high new run = seen_so s t new (machine.switched i m t high new run)
+
+-- the thread in the callee, as the written call has it
+abbrev pub callee_thread : Image → State → ℕ → ℕ → ℕ → Thread
+callee_thread i m t export high =
+    machine.entered i (state.thread m t) (compartment_of (root i export).owner) export high
+    (machine.given i (state.thread m t) t (compartment_of (root i export).owner) export high)

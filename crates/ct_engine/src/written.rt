@@ -1,0 +1,43 @@
+//! That calls and frames' ends over what is seen are the machine's written ones.
+
+ghost use Rattle.std.specs.Prelude.{ℕ, ◌≡◌, List, [], ◌∷◌, None};
+ghost use Rattle.def_memory.specs.Granules.{plain};
+ghost use Rattle.def_machine.specs.Image.{Image, stack_base, frames_most};
+ghost use Rattle.def_machine.specs.State.{State, Frame, nobody, thread};
+ghost use Rattle.def_machine.specs.Frames.{answer, left_by};
+ghost use Rattle.def_step.specs.Switch.{Enters, switch_of, frame_top};
+ghost use Rattle.ct_engine.specs.Seen.{Seen};
+ghost use Rattle.ct_engine.specs.Calls.{HeadStands, switch_at, after_call, returned, ended_with};
+ghost use Rattle.ct_engine.specs.Written.{Shows, written, callee_thread};
+
+/// Where a state of the machine holds what is seen, a call comes to what the written switch comes to. Where it enters an
+/// export, the head of whose table is as boot made it, it leaves what the written one leaves.
+pub fn calls_written()
+    ensures comes { (i : Image) (m : State) (s : Seen) (t : ℕ) → Shows i m s t
+        → switch_at s i.entries t
+        ≡ switch_of i.entries (stack_base i t) (frame_top (thread m t).frames) (frames_most i t)
+        (thread m t) }
+    ensures enters { (i : Image) (m : State) (s : Seen) (t export high : ℕ)
+        → Shows i m s t → HeadStands i s t export
+        → after_call s i.entries t (Enters export high)
+        ≡ written i m s t high (callee_thread i m t export high) s.running }
+{}
+
+/// And so do a return and a frame's end with a value, as -1 is at an unwind: where a frame goes on, and where the last
+/// one ended.
+pub fn ends_written()
+    ensures back { (i : Image) (m : State) (s : Seen) (t : ℕ) (f g : Frame) (fs : List Frame)
+        → Shows i m s t → (thread m t).frames ≡ f ∷ g ∷ fs
+        → returned s i.entries t
+        ≡ written i m s t f.top
+        (left_by i m (thread m t) f (g ∷ fs) (answer i (thread m t) f 10) (answer i (thread m t) f 11))
+        s.running }
+    ensures value { (i : Image) (m : State) (s : Seen) (t v : ℕ) (f g : Frame) (fs : List Frame)
+        → Shows i m s t → (thread m t).frames ≡ f ∷ g ∷ fs
+        → ended_with s t v
+        ≡ written i m s t f.top (left_by i m (thread m t) f (g ∷ fs) (plain v) (plain 0)) s.running }
+    ensures last { (i : Image) (m : State) (s : Seen) (t v : ℕ) (f : Frame)
+        → Shows i m s t → (thread m t).frames ≡ f ∷ []
+        → (returned s i.entries t ≡ written i m s t f.top nobody None)
+        × (ended_with s t v ≡ written i m s t f.top nobody None) }
+{}
