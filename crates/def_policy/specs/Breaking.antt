@@ -1,0 +1,103 @@
+-- Which entries of a report break a rule, and when a policy holds of a report.
+use Rattle.std.specs.Prelude.{ℕ, ◌≡◌, ◌+◌, ◌==◌, ◌&&◌, nat_lt, Bool, true, false, not, List, [], ◌∷◌, ◌++◌, All, if◌then◌else◌}
+use Rattle.std.specs.List.{list_any}
+use Rattle.ct_entry.specs.declared.rows.Entry.{Entry}
+use Rattle.ct_entry.specs.declared.rows.Gate.{Gate}
+use Rattle.ct_entry.specs.declared.rows.Kind.{Kind}
+use Rattle.ct_entry.specs.declared.rows.Kind.TheVariants as kind
+use Rattle.ct_entry.specs.declared.rows.Owner.{Owner}
+use Rattle.ct_entry.specs.Listed.{Listed}
+use Rattle.def_reach.specs.Roots.{gate_for, is_disabled}
+use Rattle.def_graph.specs.Reach.{Reached, same_owner}
+use Rattle.def_policy.specs.declared.Subject.{Subject}
+use Rattle.def_policy.specs.declared.Subject.TheVariants.{Device, Shared, Service, Call, Disabled, Data, Total, Quota, Apart}
+use Rattle.def_policy.specs.Rulings.{Ruling}
+
+-- ---- kinds
+
+abbrev pub is_device : Kind → Bool
+is_device kind.Device = true
+is_device _ = false
+
+abbrev pub is_shared : Kind → Bool
+is_shared kind.Shared = true
+is_shared _ = false
+
+abbrev pub is_service : Kind → Bool
+is_service kind.Service = true
+is_service _ = false
+
+abbrev pub is_call : Kind → Bool
+is_call kind.Call = true
+is_call _ = false
+
+abbrev pub is_quota : Kind → Bool
+is_quota kind.Quota = true
+is_quota _ = false
+
+abbrev pub is_export : Kind → Bool
+is_export kind.Export = true
+is_export _ = false
+
+-- ---- one entry
+
+abbrev pub is_listed : List Owner → Owner → Bool
+is_listed owners o = list_any (λ (x : Owner). same_owner x o) owners
+
+-- the bytes that a rule on quotas counts of an entry
+abbrev pub counted : Subject → Entry → ℕ
+counted (Total n) x = if is_quota x.kind then x.limit else 0
+counted (Quota o n) x = if is_quota x.kind && same_owner x.owner o then x.limit else 0
+counted _ x = 0
+
+-- Whether an entry is one that a rule forbids to owners that it doesn't list; g is the gate of an
+-- export's entry.
+abbrev pub is_held : Subject → Entry → Gate → Bool
+is_held (Device n) x g = is_device x.kind && (x.of == n)
+is_held (Shared n) x g = is_shared x.kind && (x.of == n)
+is_held (Service n) x g = is_service x.kind && (x.of == n)
+is_held (Call n) x g = is_call x.kind && (x.of == n)
+is_held Disabled x g = is_export x.kind && is_disabled g.posture
+is_held _ x g = false
+
+-- Whether the entry of this number breaks a rule; `sum` is what a rule on quotas counts of the entries
+-- up to this one.
+abbrev pub breaks : Ruling → ℕ → ℕ → Entry → Gate → Bool
+breaks r number sum x g = breaks_by r.subject
+  where
+    breaks_by : Subject → Bool
+    breaks_by (Data n) = (number == n) && (is_export x.kind && g.capabilities)
+    breaks_by (Total n) = is_quota x.kind && nat_lt n sum
+    breaks_by (Quota o n) = (is_quota x.kind && same_owner x.owner o) && nat_lt n sum
+    breaks_by (Apart o b) = false
+    breaks_by s = is_held s x g && not (is_listed r.owners x.owner)
+
+-- ---- all entries
+
+-- the numbers of those that break a rule, in order; the first of them has this number, and what the
+-- rule counts of those before is `sum`
+abbrev pub breaking_from : Listed → Ruling → ℕ → ℕ → List Entry → List ℕ
+breaking_from e r number sum [] = []
+breaking_from e r number sum (x ∷ xs) =
+    (if breaks r number (sum + counted r.subject x) x (gate_for e.gates number)
+    then number ∷ [] else [])
+    ++ breaking_from e r (number + 1) (sum + counted r.subject x) xs
+
+unfoldable pub breaking : Listed → Ruling → List ℕ
+breaking e r = breaking_from e r 1 0 e.rows
+
+-- ---- rules
+
+-- no owner that is to be apart from a compartment reaches it
+abbrev pub IsApart : Listed → Subject → Type 0
+IsApart e (Apart o b) = Reached e o b → ⊥
+IsApart e _ = Unit {0}
+
+-- no entry breaks the rule
+pub record Keeps (e : Listed) (r : Ruling) : Type 0 where
+  pub entries : breaking e r ≡ []
+  pub apart : IsApart e r.subject
+
+-- a policy holds
+abbrev pub Holds : Listed → List Ruling → Type 0
+Holds e rulings = All (Keeps e) rulings

@@ -1,0 +1,6 @@
+pub mod Rules
+pub mod Names
+pub mod Rulings
+pub mod Texts
+pub mod Breaking
+pub mod Denials

@@ -1,0 +1,87 @@
+-- The rules of a policy and their lines. A line is spelled: it is put together from what its rule
+-- says, so no text is taken apart here.
+use Rattle.std.specs.Prelude.{ℕ, ◌≡◌, ◌≢◌, ◌<◌, ◌≤◌, ◌==◌, ◌&&◌, nat_lt, not, Bool, true, List, [], ◌∷◌, ◌++◌, length, codes, decimal}
+use Rattle.std.specs.List.{AllByRecursion, list_all}
+use Rattle.def_policy.specs.declared.TheConstants.{MOST_TOTAL}
+
+-- what a line demands, by names
+pub data Rule : Type 0 where
+  Device : List ℕ → List (List ℕ) → Rule
+  Shared : List ℕ → List (List ℕ) → Rule
+  Service : List ℕ → List (List ℕ) → Rule
+  Call : List ℕ → List ℕ → List (List ℕ) → Rule
+  Disabled : List (List ℕ) → Rule
+  Data : List ℕ → List ℕ → Rule
+  Total : ℕ → Rule
+  Quota : List ℕ → ℕ → Rule
+  Apart : List ℕ → List ℕ → Rule
+
+-- ---- words
+
+-- an ASCII byte other than a space and a line feed
+abbrev pub is_inner : ℕ → Bool
+is_inner c = nat_lt c 128 && (not (c == 32) && not (c == 10))
+
+pub record IsWord (w : List ℕ) : Type 0 where
+  pub some : 0 < length w
+  pub inner : list_all is_inner w ≡ true
+
+abbrev pub is_no_point : ℕ → Bool
+is_no_point c = not (c == 46)
+
+-- one side of the point in COMP.EXPORT, which has one point alone
+pub record IsSide (w : List ℕ) : Type 0 where
+  pub some : 0 < length w
+  pub plain : list_all is_no_point w ≡ true
+
+abbrev pub dotted : List ℕ → List ℕ → List ℕ
+dotted compartment export = compartment ++ 46 ∷ export
+
+abbrev pub total : List ℕ
+total = codes "total"
+
+-- ---- rules
+
+abbrev pub words_of : Rule → List (List ℕ)
+words_of (Device name owners) = codes "device" ∷ name ∷ codes "only" ∷ owners
+words_of (Shared name owners) = codes "shared" ∷ name ∷ codes "only" ∷ owners
+words_of (Service name owners) = codes "service" ∷ name ∷ codes "only" ∷ owners
+words_of (Call compartment export owners) =
+    codes "call" ∷ dotted compartment export ∷ codes "only" ∷ owners
+words_of (Disabled owners) = codes "disabled" ∷ codes "only" ∷ owners
+words_of (Data compartment export) = codes "data" ∷ dotted compartment export ∷ []
+words_of (Total n) = codes "quota" ∷ total ∷ decimal n ∷ []
+words_of (Quota owner n) = codes "quota" ∷ owner ∷ decimal n ∷ []
+words_of (Apart owner compartment) = codes "apart" ∷ owner ∷ compartment ∷ []
+
+-- one owner at least; a number within its limit; `quota total` is the rule over all quotas
+abbrev pub IsFormed : Rule → Type 0
+IsFormed (Device name owners) = 0 < length owners
+IsFormed (Shared name owners) = 0 < length owners
+IsFormed (Service name owners) = 0 < length owners
+IsFormed (Call compartment export owners) =
+    IsSide compartment × IsSide export × (0 < length owners)
+IsFormed (Disabled owners) = 0 < length owners
+IsFormed (Data compartment export) = IsSide compartment × IsSide export
+IsFormed (Total n) = n ≤ MOST_TOTAL
+IsFormed (Quota owner n) = (owner ≢ total) × (n ≤ MOST_TOTAL)
+IsFormed (Apart owner compartment) = Unit {0}
+
+pub record IsRule (r : Rule) : Type 0 where
+  pub words : AllByRecursion IsWord (words_of r)
+  pub formed : IsFormed r
+
+-- ---- lines
+
+-- words with a space before each, and a line feed after the last
+abbrev pub ended : List (List ℕ) → List ℕ
+ended [] = 10 ∷ []
+ended (w ∷ ws) = 32 ∷ w ++ ended ws
+
+-- words with one space between, and a line feed after the last
+abbrev pub line_of : List (List ℕ) → List ℕ
+line_of [] = 10 ∷ []
+line_of (w ∷ ws) = w ++ ended ws
+
+abbrev pub spelled : Rule → List ℕ
+spelled r = line_of (words_of r)
