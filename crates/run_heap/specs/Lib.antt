@@ -1,0 +1,2 @@
+-- A heap, the memory that it lies in, and a sweep.
+pub mod Swept
