@@ -48,12 +48,13 @@ def lines(*all_lines):
     return "".join(line + "\n" for line in all_lines)
 
 
-def ended(kind, steps, devices=0, traps=0):
-    return f"end {kind} steps {steps} ticks 0 calls 0 devices {devices} allocations 0 frees 0 traps {traps}"
+def ended(kind, steps, devices=0, traps=0, ticks=0):
+    return f"end {kind} steps {steps} ticks {ticks} calls 0 devices {devices} allocations 0 frees 0 traps {traps}"
 
 
 def image(firmware, text, initial=b"", posture=3):
-    """The image of a firmware of one compartment and one thread, whose text is these bytes, or so many words of it."""
+    """The image of a firmware of one compartment, whose text is these bytes, or so many words of it; its threads have
+    stacks of 256 bytes and 2 frames."""
     text = text if isinstance(text, bytes) else bytes(4 * text)
     own = firmware["compartments"][0]
     slots = [images.SWITCH]
@@ -63,17 +64,18 @@ def image(firmware, text, initial=b"", posture=3):
         else:
             at = [d["name"] for d in firmware["devices"]].index(it["device"])
             slots.append((images.import_row(2, DEVICE_RIGHTS[it["rights"]], at), it["as"]))
-    sizes = [8 * len(slots) + len(text), 32, max(16, len(initial)), 256, 304]
+    names = [thread["name"] for thread in firmware["threads"]]
+    sizes = [8 * len(slots) + len(text), 32, max(16, len(initial))] + [256] * len(names) + [16 + 288 * len(names)]
     bases = [RAM]
     for size in sizes:
         bases.append(bases[-1] + (size + 15) // 16 * 16)
-    code, table, data, stack, trusted, heap = bases
+    code, table, data, *stacks, trusted, heap = bases
     owner = images.owner(True, own["name"], code, table - code, slots,
                          [(images.export_row(0, 0, 6, posture, 1, 3 + len(slots)), "main")], text, table,
-                         data, stack - data, initial)
-    return images.image(1, 100, RAM, firmware["ram"]["size"], trusted, heap, 64, firmware["firmware"],
+                         data, stacks[0] - data, initial)
+    return images.image(1, firmware.get("quantum", 100), RAM, firmware["ram"]["size"], trusted, heap, 64, firmware["firmware"],
                         [(d["name"], DEVICE_KINDS[d["kind"]], d["base"]) for d in firmware.get("devices", [])], [], [],
-                        [owner], [], [("t", stack, 256, 0, 0, 1, 2)])
+                        [owner], [], [(name, stack, 256, 0, 0, 1, 2) for name, stack in zip(names, stacks)])
 
 
 def report(*firmware):
@@ -113,6 +115,16 @@ run("pins", tiny(SLOT + ["04100513", "00a2a023", "0002a583", "00008067"], "gpio"
 disabled = tiny()
 disabled["compartments"][0]["exports"][0]["posture"] = "disabled"
 run("disabled_entry", disabled, 5, 100, "1 off t0 c0 e5", STORE, ended("finished", 6, devices=1), posture=2)
+# Two threads of the smallest sample's code: the first runs to its end, and then the second; with a tick before every
+# other step they take turns of two steps. Step 9, the first thread's jump to its return sentry, comes after the fourth
+# tick, and step 11, the second thread's, after the fifth.
+twins = TINY["threads"] + [dict(TINY["threads"][0], name="u")]
+ALSO = "10000000 4 00000041"
+run("two_threads", tiny(threads=twins), 5, 100, STORE, f"10 store t1 c0 e4 {ALSO}", ended("finished", 12, devices=2))
+run("threads_in_turns", tiny(threads=twins, quantum=2), 5, 100, f"6 store t0 c0 e4 {ALSO}", f"8 store t1 c0 e4 {ALSO}",
+    ended("finished", 12, ticks=5, devices=2))
+run("turns_cut_short", tiny(threads=twins, quantum=2), 5, 7, f"6 store t0 c0 e4 {ALSO}",
+    ended("limit", 7, ticks=3, devices=1))
 case("room", ["audit", "{}"], json.dumps(tiny(size=656)), lines(report(tiny(size=656), 5)))
 case("no_room", ["audit", "{}"], json.dumps(tiny(size=640)), "refused 6 link L2 656 640\n")
 case("no_steps", ["run", "{}", "0"], json.dumps(TINY), "refused 1 usage\n")
@@ -177,8 +189,6 @@ for name, data, wanted in (("open", "{", "F1 firmware 0 0"), ("empty", "{}", "F2
                            ("nowhere", json.dumps(nowhere), "F7 import 0 0"),
                            ("sweep", json.dumps(tiny(sweep=32)), "F6 firmware 0 0")):
     case(name, ["audit", "{}"], data, f"refused 4 description {wanted}\n")
-threads = tiny(threads=TINY["threads"] + [dict(TINY["threads"][0], name="u")])
-case("two_threads", ["run", "{}", "9"], json.dumps(threads), "refused 4 description F6 firmware 0 0\n")
 case("no_file", ["audit", "nosuch.json"], "", "refused 2 read nosuch.json\n")
 
 # ---- why

@@ -8,9 +8,7 @@ use Rattle.def_step.specs.Events.{MachineRow}
 use Rattle.def_boot.specs.Boot.{boot_state, booted_machine}
 use Rattle.def_lines.specs.Report.{report_line}
 use Rattle.def_program.specs.Runs.{run_lines, run_text}
-use Rattle.def_program.specs.Turns.{are_run}
 use Rattle.law_image.proofs.Sounds.{sound}
-use Rattle.law_image.proofs.Tells.{le_is}
 use Rattle.law_boot_words.specs.Booting.{empty_granules}
 use Rattle.law_counts.specs.Kinds.{IsUncounted}
 
@@ -22,9 +20,6 @@ zeros p gs is = is
 
 pub some_quantum : (p : PartsRow) → IsFaultless p → 1 ≤ p.quantum
 some_quantum p f = (sound p f).quantum.0
-
-pub one_at_most : (p : PartsRow) → are_run p ≡ true → length p.threads ≤ 1
-one_at_most p is = le_is (length p.threads) 1 is
 
 none_counted : (p : PartsRow) → IsUncounted (booted_machine p).state.counts
 unfolding boot_state

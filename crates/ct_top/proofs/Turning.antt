@@ -13,7 +13,7 @@ use Rattle.def_program.specs.declared.Status.TheVariants as status
 use Rattle.def_program.specs.Commands.{Command}
 use Rattle.def_program.specs.Lines.{link_status, name_line}
 use Rattle.def_program.specs.Runs.{run_text}
-use Rattle.def_program.specs.Turns.{Turn, Ends, OfImage, OfParts, OfLinked, OfDescription, Looked, are_run, run_or}
+use Rattle.def_program.specs.Turns.{Turn, Ends, OfImage, OfParts, OfLinked, OfDescription, Looked}
 use Rattle.ct_description.specs.declared.DescFault.{DescFault}
 use Rattle.ct_description.specs.declared.DescFault.TheVariants as description
 use Rattle.ct_description.specs.Answers.{Refused}
@@ -33,14 +33,6 @@ pub is_done : (Due : Turn → Type 0) (text : List ℕ) (old new : Option (List 
     → Due (Ends status.Done text) → IsDone old new faults now text result → Settles Due old new faults now result
 is_done Due text old new faults now result due (inl closes) = ends_with Due status.Done text old new faults now result tt due closes
 is_done Due text old new faults now result due (inr silent) = inr silent
-
--- ---- runs
-
-pub runs : (p : PartsRow) (limit : ℕ) (refused : Turn) → are_run p ≡ true → Ends status.Done (run_text p limit) ≡ run_or p limit refused
-runs p limit refused is = sym (ap (λ b. if b then Ends status.Done (run_text p limit) else refused) is)
-
-pub runs_not : (p : PartsRow) (limit : ℕ) (refused : Turn) → are_run p ≡ false → refused ≡ run_or p limit refused
-runs_not p limit refused is = sym (ap (λ b. if b then Ends status.Done (run_text p limit) else refused) is)
 
 -- ---- names
 

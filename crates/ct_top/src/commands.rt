@@ -5,13 +5,10 @@ ghost use Rattle.def_boot.specs.Boot.{booted_machine};
 ghost use Rattle.def_image.specs.Spelling.{image_bytes};
 ghost use Rattle.def_lines.specs.Report.{report_line};
 ghost use Rattle.def_profile.specs.declared.limits.TheConstants.{MOST_STEPS};
-ghost use Rattle.def_program.specs.declared.TheConstants.{THREADS_PLACE};
 ghost use Rattle.def_program.specs.declared.Status.TheVariants as status;
-ghost use Rattle.def_program.specs.Lines.{image_line};
 ghost use Rattle.def_program.specs.Paths.{compartment_named, owner_named};
 ghost use Rattle.def_program.specs.Runs.{run_text};
-ghost use Rattle.def_program.specs.Turns as turn;
-ghost use Rattle.def_program.specs.Turns.{Ends, Looked, OfParts, run_or, threads_line};
+ghost use Rattle.def_program.specs.Turns.{Looked, OfParts};
 ghost use Rattle.ct_refusals.specs.Settled.{Settles};
 ghost use Rattle.ct_words.specs.Forms.{IsShort, command_for};
 ghost use Rattle.ct_why.specs.Found.{IsFound};
@@ -22,11 +19,10 @@ use ct_image::Image;
 use ct_machine::Machine;
 use ct_mem::Plain;
 use ct_port::{NoMemory, Sink};
-use ct_refusals::{close, close_text, description_line, refuse_name};
+use ct_refusals::{close, refuse_name};
 use ct_running::write_run;
 use ct_words::Task;
-use def_description::{Fault, PartWord, Place};
-use def_program::{Status, THREADS_PLACE, THREADS_RUN};
+use def_program::Status;
 use std::alloc::Global;
 
 /// The report line of an image.
@@ -63,7 +59,6 @@ fn write_image<S: Sink>(alloc: Global, image: &Image, sink: &mut S) -> Status
 /// The machine of an image, in its boot state.
 #[tactic(auto, using(crate::proofs::Booted::whole_granules, crate::proofs::Booted::zeros))]
 fn machine_of(alloc: Global, image: &Image) -> Result<Machine<Plain>, NoMemory>
-    requires { length image.now.threads ≤ 1 }
     ensures { IfOk result (λ m. m ≡ booted_machine image.now) }
 {
     let mem = Plain::new(alloc, image.parts().size)?;
@@ -72,8 +67,7 @@ fn machine_of(alloc: Global, image: &Image) -> Result<Machine<Plain>, NoMemory>
 
 /// Runs an image, and writes its report line and the lines of the run.
 fn run<S: Sink>(alloc: Global, image: &Image, limit: u32, sink: &mut S) -> Status
-    requires one { length image.now.threads ≤ 1 }
-    requires short { limit ≤ MOST_STEPS }
+    requires { limit ≤ MOST_STEPS }
     ensures { IsDone (S.bytes sink.old) (S.bytes sink.new) (S.faults sink.old)
         (S.faults sink.new) (run_text image.now limit) result }
 {
@@ -90,46 +84,6 @@ fn run<S: Sink>(alloc: Global, image: &Image, limit: u32, sink: &mut S) -> Statu
         Ok(()) => Status::Done,
         Err(_) => Status::WriteFault,
     }
-}
-
-/// Whether the machine runs so many threads as the image has.
-fn are_run(image: &Image) -> bool
-    ensures { result ≡ turn.are_run image.now }
-{
-    image.parts().threads.len() <= THREADS_RUN as usize
-}
-
-/// Runs the image of a description; more threads than the machine runs are refused.
-fn run_described<S: Sink>(alloc: Global, image: &Image, limit: u32, sink: &mut S) -> Status
-    requires { limit ≤ MOST_STEPS }
-    ensures { Settles
-        (λ t. t ≡ run_or image.now limit (Ends status.Description threads_line))
-        (S.bytes sink.old) (S.bytes sink.new) (S.faults sink.old) (S.faults sink.new) result }
-{
-    if are_run(image) {
-        return run(alloc, image, limit, sink);
-    }
-    let place = Place {
-        part: PartWord::Firmware,
-        index: 0,
-        item: 0,
-    };
-    let line = description_line(alloc, Fault { number: 6, place });
-    close_text(line, Status::Description, sink)
-}
-
-/// Runs an image that was read; more threads than the machine runs are refused.
-fn run_image<S: Sink>(alloc: Global, image: &Image, limit: u32, sink: &mut S) -> Status
-    requires { limit ≤ MOST_STEPS }
-    ensures { Settles
-        (λ t. t ≡ run_or image.now limit (Ends status.Image (image_line 3 THREADS_PLACE)))
-        (S.bytes sink.old) (S.bytes sink.new) (S.faults sink.old) (S.faults sink.new) result }
-{
-    if are_run(image) {
-        return run(alloc, image, limit, sink);
-    }
-    let line = ct_refusals::image_line(alloc, 3, THREADS_PLACE);
-    close_text(line, Status::Image, sink)
 }
 
 /// The line of how an owner reaches a compartment, both by their names; none where one of both stands
@@ -183,8 +137,8 @@ pub fn finish<S: Sink>(alloc: Global, task: Task, image: &Image, sink: &mut S) -
     match task {
         Task::Audit => audit(alloc, image, sink),
         Task::Image => write_image(alloc, image, sink),
-        Task::Run { limit } => run_described(alloc, image, limit, sink),
-        Task::RunImage { limit } => run_image(alloc, image, limit, sink),
+        Task::Run { limit } => run(alloc, image, limit, sink),
+        Task::RunImage { limit } => run(alloc, image, limit, sink),
         Task::Why { owner, compartment } => why(alloc, image, owner, compartment, sink),
     }
 }

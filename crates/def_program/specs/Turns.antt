@@ -1,17 +1,15 @@
 -- The dialogue: what is due after the files that were read so far.
-use Rattle.std.specs.Prelude.{ℕ, ◌≡◌, ◌⊎◌, nat_le, if◌then◌else◌, List, [], ◌∷◌, ◌++◌, length, Bool, true, false, Option, Some, None, Result, Ok, Err, map, slice_get}
+use Rattle.std.specs.Prelude.{ℕ, ◌≡◌, ◌⊎◌, List, [], ◌∷◌, ◌++◌, length, Bool, true, false, Option, Some, None, Result, Ok, Err, map, slice_get}
 use Rattle.ct_entry.specs.declared.rows.Owner.{Owner}
 use Rattle.def_image.specs.Parts.{PartsRow}
 use Rattle.def_image.specs.Accepted.{IsImage, FaultAt}
 use Rattle.def_image.specs.Spelling.{image_bytes}
 use Rattle.def_description.specs.declared.faults.Fault.{Fault}
-use Rattle.def_description.specs.declared.faults.PartWord.TheVariants.{Firmware}
 use Rattle.def_description.specs.Rows.{CodeRow, CompartmentRow, LibraryRow, DescRow}
 use Rattle.def_description.specs.WellFormed.{WellFormed, IsFaulty}
 use Rattle.def_link.specs.declared.LinkFault.{LinkFault}
 use Rattle.def_link.specs.Linked.{linked}
 use Rattle.def_lines.specs.Report.{report_line}
-use Rattle.def_program.specs.declared.TheConstants.{THREADS_RUN, THREADS_PLACE}
 use Rattle.def_program.specs.declared.Status.{Status}
 use Rattle.def_program.specs.declared.Status.TheVariants as status
 use Rattle.def_program.specs.Commands.{Command, Audit, Image, Run, RunImage, Why, file_of, reads_image}
@@ -42,20 +40,6 @@ source_names d =
 
 -- ---- what a command writes of an image's parts
 
--- the machine runs so many threads as yet
-abbrev pub are_run : PartsRow → Bool
-are_run p = nat_le (length p.threads) THREADS_RUN
-
--- a run of more is refused, as a list of threads that is too long
-abbrev pub run_or : PartsRow → ℕ → Turn → Turn
-run_or p limit refused = if are_run p then Ends status.Done (run_text p limit) else refused
-
-abbrev pub threads_line : List ℕ
-threads_line = description_line (record {
-  number = 6;
-  place = record { part = Firmware; index = 0; item = 0 };
-})
-
 -- two names that are looked up: both stand for something, and the line says how one reaches the
 -- other; or one of them doesn't
 abbrev pub Looked : PartsRow → Option Owner → Option ℕ → Turn → Type 0
@@ -67,9 +51,8 @@ Looked p None c turn = turn ≡ Ends status.Name name_line
 abbrev pub OfParts : Command → PartsRow → Turn → Type 0
 OfParts (Audit name) p turn = turn ≡ Ends status.Done (report_line p)
 OfParts (Image name) p turn = turn ≡ Ends status.Done (image_bytes p)
-OfParts (Run name limit) p turn = turn ≡ run_or p limit (Ends status.Description threads_line)
-OfParts (RunImage name limit) p turn =
-    turn ≡ run_or p limit (Ends status.Image (image_line 3 THREADS_PLACE))
+OfParts (Run name limit) p turn = turn ≡ Ends status.Done (run_text p limit)
+OfParts (RunImage name limit) p turn = turn ≡ Ends status.Done (run_text p limit)
 OfParts (Why name owner compartment) p turn =
     Looked p (owner_named p owner) (compartment_named p compartment) turn
 

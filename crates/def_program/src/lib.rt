@@ -8,12 +8,6 @@
 ghost use Rattle.std.specs.Prelude.{◌≡◌};
 ghost use Rattle.def_program.specs.Codes.{code_of};
 
-/// How many threads the machine runs as yet. A run of more is refused.
-pub const THREADS_RUN: u32 = 1;
-
-/// Where an image says how many threads it has (docs/use/image.md).
-pub const THREADS_PLACE: u32 = 28;
-
 /// How a call of the program ended.
 #[derive(Clone, Copy, Debug, PartialEq, Eq, Drop)]
 pub enum Status {

@@ -12,11 +12,11 @@ use Rattle.def_link.specs.declared.LinkFault.{LinkFault}
 use Rattle.def_link.specs.Linked.{linked}
 use Rattle.def_lines.specs.Report.{report_line}
 use Rattle.def_program.specs.declared.Status.TheVariants as status
-use Rattle.def_program.specs.declared.TheConstants.{THREADS_PLACE}
 use Rattle.def_program.specs.Commands.{Command, Audit, Image, Run, RunImage, Why, file_of, reads_image}
 use Rattle.def_program.specs.Lines.{description_line, link_status, link_text, image_line, name_line}
 use Rattle.def_program.specs.Paths.{IsWhyLine, none_line, path_line, or_library, compartment_named, library_named}
-use Rattle.def_program.specs.Turns.{Turn, Asks, Ends, Looked, OfParts, OfLinked, OfSources, OfDescription, OfImage, OfFirst, run_or, threads_line, source_names}
+use Rattle.def_program.specs.Runs.{run_text}
+use Rattle.def_program.specs.Turns.{Turn, Asks, Ends, Looked, OfParts, OfLinked, OfSources, OfDescription, OfImage, OfFirst, source_names}
 use Rattle.law_description.proofs.Judging.{one}
 use Rattle.law_image.proofs.Sounds.{sound}
 use Rattle.law_link_limits.proofs.Whole.{faultless}
@@ -66,8 +66,8 @@ HasParts c p = (turn : Turn) × OfParts c p turn
 of_parts : (c : Command) (p : PartsRow) → IsFaultless p → HasParts c p
 of_parts (Audit name) p f = (Ends status.Done (report_line p), refl)
 of_parts (Image name) p f = (Ends status.Done (image_bytes p), refl)
-of_parts (Run name limit) p f = (run_or p limit (Ends status.Description threads_line), refl)
-of_parts (RunImage name limit) p f = (run_or p limit (Ends status.Image (image_line 3 THREADS_PLACE)), refl)
+of_parts (Run name limit) p f = (Ends status.Done (run_text p limit), refl)
+of_parts (RunImage name limit) p f = (Ends status.Done (run_text p limit), refl)
 of_parts (Why name owner compartment) p f = looked p f (compartment_named p owner) (library_named p owner) (compartment_named p compartment)
 
 -- ---- of descriptions

@@ -11,7 +11,6 @@ use Rattle.def_link.specs.declared.LinkFault.{LinkFault}
 use Rattle.def_link.specs.Linked.{linked}
 use Rattle.def_program.specs.declared.Status.{Status}
 use Rattle.def_program.specs.declared.Status.TheVariants as status
-use Rattle.def_program.specs.declared.TheConstants.{THREADS_PLACE}
 use Rattle.def_program.specs.Commands.{Command, Audit, Image, Run, RunImage, Why, form_of, file_of, reads_image}
 use Rattle.def_program.specs.Ends as ends
 use Rattle.def_program.specs.Ends.{Holds, IsLarge, IsFile, most}
@@ -19,7 +18,7 @@ use Rattle.def_program.specs.Licences.{LinksTo}
 use Rattle.def_program.specs.Lines.{image_line}
 use Rattle.def_program.specs.Paths.{owner_named, compartment_named}
 use Rattle.def_program.specs.Runs.{run_text}
-use Rattle.def_program.specs.Turns.{Turn, Asks, Ends, Looked, OfParts, OfLinked, OfSources, OfRows, OfDescription, OfImage, OfFirst, Follows, source_names, are_run, threads_line}
+use Rattle.def_program.specs.Turns.{Turn, Asks, Ends, Looked, OfParts, OfLinked, OfSources, OfRows, OfDescription, OfImage, OfFirst, Follows, source_names}
 use Rattle.def_program.specs.Answers.{Read, contents, WereDue, TurnCause, LastRead, Answers}
 use Rattle.law_description.proofs.Judging.{not_both, same_rows}
 use Rattle.law_image.proofs.Backs.{one_reading}
@@ -64,16 +63,11 @@ looked_ends p (Some o) (Some c) s text h = let same : Ends s text ≡ Ends statu
 looked_ends p (Some o) None s text h = let same = h in cc
 looked_ends p None c s text h = let same = h in cc
 
-ends_by : (b : Bool) (p : PartsRow) (limit : ℕ) (s other : Status) (text line : List ℕ)
-    → Ends s text ≡ (if b then Ends status.Done (run_text p limit) else Ends other line) → s ≡ (if b then status.Done else other)
-ends_by true p limit s other text line h = let same : Ends s text ≡ Ends status.Done (run_text p limit) = h in cc
-ends_by false p limit s other text line h = let same : Ends s text ≡ Ends other line = h in cc
-
 parts_end : (c : Command) (p : PartsRow) (s : Status) (text : List ℕ) → OfParts c p (Ends s text) → s ≡ status_of c p
 parts_end (Audit name) p s text h = let same = h in cc
 parts_end (Image name) p s text h = let same = h in cc
-parts_end (Run name limit) p s text h = ends_by (are_run p) p limit s status.Description text threads_line h
-parts_end (RunImage name limit) p s text h = ends_by (are_run p) p limit s status.Image text (image_line 3 THREADS_PLACE) h
+parts_end (Run name limit) p s text h = let same = h in cc
+parts_end (RunImage name limit) p s text h = let same = h in cc
 parts_end (Why name owner compartment) p s text h = looked_ends p (owner_named p owner) (compartment_named p compartment) s text h
 
 -- no file is due of parts
@@ -82,15 +76,11 @@ looked_asks p (Some o) (Some c) name h = absurd (let clash : Asks name ≡ Ends 
 looked_asks p (Some o) None name h = absurd (let clash = h in cc)
 looked_asks p None c name h = absurd (let clash = h in cc)
 
-asks_by : (b : Bool) (name : List ℕ) (s other : Status) (text line : List ℕ) → Asks name ≡ (if b then Ends s text else Ends other line) → ⊥
-asks_by true name s other text line h = absurd (let clash : Asks name ≡ Ends s text = h in cc)
-asks_by false name s other text line h = absurd (let clash : Asks name ≡ Ends other line = h in cc)
-
 parts_ask : (c : Command) (p : PartsRow) (name : List ℕ) → OfParts c p (Asks name) → ⊥
 parts_ask (Audit file) p name h = absurd (let clash = h in cc)
 parts_ask (Image file) p name h = absurd (let clash = h in cc)
-parts_ask (Run file limit) p name h = asks_by (are_run p) name status.Done status.Description (run_text p limit) threads_line h
-parts_ask (RunImage file limit) p name h = asks_by (are_run p) name status.Done status.Image (run_text p limit) (image_line 3 THREADS_PLACE) h
+parts_ask (Run file limit) p name h = absurd (let clash = h in cc)
+parts_ask (RunImage file limit) p name h = absurd (let clash = h in cc)
 parts_ask (Why file owner compartment) p name h = looked_asks p (owner_named p owner) (compartment_named p compartment) name h
 
 -- ---- what is due after files that stand for parts

@@ -9,10 +9,9 @@ use Rattle.def_link.specs.declared.LinkFault.TheVariants as fault
 use Rattle.def_link.specs.Linked.{linked}
 use Rattle.def_program.specs.declared.Status.TheVariants as status
 use Rattle.def_program.specs.Commands.{Command, Image, Run, RunImage}
-use Rattle.def_program.specs.declared.TheConstants.{THREADS_PLACE}
 use Rattle.def_program.specs.Lines.{description_line, link_status, link_text, image_line}
 use Rattle.def_program.specs.Runs.{run_text}
-use Rattle.def_program.specs.Turns.{are_run, run_or, threads_line, Asks, Ends, OfParts, OfLinked, OfSources, OfDescription, Follows, source_names}
+use Rattle.def_program.specs.Turns.{Asks, Ends, OfParts, OfLinked, OfSources, OfDescription, Follows, source_names}
 use Rattle.law_description.proofs.Judging.{same_rows}
 use Rattle.law_wellformed.proofs.Lawfuls.{bytes_lawful}
 use Rattle.law_link_limits.proofs.Whole.{faultless}
@@ -63,13 +62,6 @@ same_parts c k bytes sources a b x y =
     let first = x.linked in
     cc
 
--- a run that is done of a description is done of an image
-runs_so : (b : Bool) (p : PartsRow) (limit : ℕ) (text : List ℕ)
-    → Ends status.Done text ≡ (if b then Ends status.Done (run_text p limit) else Ends status.Description threads_line)
-    → Ends status.Done text ≡ (if b then Ends status.Done (run_text p limit) else Ends status.Image (image_line 3 THREADS_PLACE))
-runs_so true p limit text h = h
-runs_so false p limit text h = absurd (let clash : Ends status.Done text ≡ Ends status.Description threads_line = h in cc)
-
 pub runs_alike : (name other bytes written text : List ℕ) (sources : List (List ℕ)) (limit : ℕ)
     → Follows (Image name) (bytes ∷ sources) (Ends status.Done written)
     → Follows (Run name limit) (bytes ∷ sources) (Ends status.Done text)
@@ -80,6 +72,6 @@ runs_alike name other bytes written text sources limit first second =
     let sound = faultless x.rows sources x.parts (record { lawful = bytes_lawful bytes x.rows x.lawful; linked = x.linked }) in
     let due : Ends status.Done written ≡ Ends status.Done (image_bytes x.parts) = x.due in
     let spelled : written ≡ image_bytes x.parts = cc in
-    let runs = subst (λ p. Ends status.Done text ≡ run_or p limit (Ends status.Description threads_line))
+    let runs = subst (λ p. Ends status.Done text ≡ Ends status.Done (run_text p limit))
     (same_parts (Image name) (Run name limit) bytes sources written text x y) y.due in
-    inr (x.parts, ((sound, spelled), runs_so (are_run x.parts) x.parts limit text runs))
+    inr (x.parts, ((sound, spelled), runs))

@@ -10,7 +10,7 @@ use Rattle.def_program.specs.Commands.{Command, Audit, Image, Run, RunImage, Why
 use Rattle.def_program.specs.Ends.{Ends, most}
 use Rattle.def_program.specs.Licences.{LinksTo}
 use Rattle.def_program.specs.Paths.{owner_named, compartment_named}
-use Rattle.def_program.specs.Turns.{are_run, source_names}
+use Rattle.def_program.specs.Turns.{source_names}
 use Rattle.def_program.specs.declared.Status.{Status}
 use Rattle.def_program.specs.declared.Status.TheVariants as status
 
@@ -55,12 +55,12 @@ looked_status (Some owner) (Some c) = status.Done
 looked_status (Some owner) None = status.Name
 looked_status None c = status.Name
 
--- Done; but of names that stand for nothing Name, and a run of too many threads is refused
+-- Done; but of names that stand for nothing Name
 abbrev pub status_of : Command → PartsRow → Status
 status_of (Audit name) p = status.Done
 status_of (Image name) p = status.Done
-status_of (Run name limit) p = if are_run p then status.Done else status.Description
-status_of (RunImage name limit) p = if are_run p then status.Done else status.Image
+status_of (Run name limit) p = status.Done
+status_of (RunImage name limit) p = status.Done
 status_of (Why name owner compartment) p =
     looked_status (owner_named p owner) (compartment_named p compartment)
 

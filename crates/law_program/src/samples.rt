@@ -9,7 +9,7 @@ ghost use Rattle.def_lines.specs.Report.{report_line};
 ghost use Rattle.def_program.specs.declared.Status.TheVariants as status;
 ghost use Rattle.def_program.specs.Commands.{Command, Audit, Image, Run, RunImage, file_of};
 ghost use Rattle.def_program.specs.Runs.{run_text};
-ghost use Rattle.def_program.specs.Turns.{are_run, Asks, Ends, Follows};
+ghost use Rattle.def_program.specs.Turns.{Asks, Ends, Follows};
 ghost use Rattle.law_images.specs.Tiny.{tiny};
 ghost use Rattle.law_linked.specs.Samples.{tiny_rows, tiny_in, filed, tiny_source, unknown_mnemonic};
 
@@ -39,12 +39,7 @@ pub fn samples_are_told()
         → Follows (Audit name) (bytes ∷ unknown_mnemonic ∷ [])
         (Ends status.Assembly (codes "refused 5 assembly A2 app 2" ++ 10 ∷ [])) }
     ensures by_image { (name bytes : List ℕ) (limit : ℕ) (p : PartsRow) → IsImage bytes p
-        → are_run p ≡ true
         → Follows (RunImage name limit) (bytes ∷ []) (Ends status.Done (run_text p limit)) }
-    ensures threads { (name bytes : List ℕ) (limit : ℕ) (p : PartsRow) → IsImage bytes p
-        → are_run p ≡ false
-        → Follows (RunImage name limit) (bytes ∷ [])
-        (Ends status.Image (codes "refused 7 image I3 28" ++ 10 ∷ [])) }
 {
     tiny_is_linked();
     link_faults();

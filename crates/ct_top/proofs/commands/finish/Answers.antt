@@ -10,10 +10,10 @@ pub returns-in-Image : goal.returns-in-Image
 returns-in-Image g c = λ name. rw c.in-Image.is (is_done _ _ _ _ _ _ _ refl c.write_image.ensures)
 
 pub returns-in-Run : goal.returns-in-Run
-returns-in-Run g c = λ name. rw c.in-Run.is (due_by _ _ _ _ _ _ _ (λ t due. due) c.run_described.ensures)
+returns-in-Run g c = λ name. rw c.in-Run.is (is_done _ _ _ _ _ _ _ refl c.run.ensures)
 
 pub returns-in-RunImage : goal.returns-in-RunImage
-returns-in-RunImage g c = λ name. rw c.in-RunImage.is (due_by _ _ _ _ _ _ _ (λ t due. due) c.run_image.ensures)
+returns-in-RunImage g c = λ name. rw c.in-RunImage.is (is_done _ _ _ _ _ _ _ refl c.run-2.ensures)
 
 pub returns-in-Why : goal.returns-in-Why
 returns-in-Why g c = λ name. rw c.in-Why.is (due_by _ _ _ _ _ _ _ (λ t due. due) c.why.ensures)

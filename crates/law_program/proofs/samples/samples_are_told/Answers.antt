@@ -4,7 +4,6 @@ use Rattle.ct_entry.specs.declared.rows.Owner.TheVariants.{Compartment}
 use Rattle.def_description.specs.Tables.{kind_of, posture_of, library_posture_of, passes_of, service_of}
 use Rattle.def_link.specs.declared.LinkFault.TheVariants as fault
 use Rattle.def_program.specs.Commands.{Audit, Image, Run}
-use Rattle.def_program.specs.declared.TheConstants.{THREADS_PLACE}
 use Rattle.def_program.specs.declared.Status.TheVariants as status
 use Rattle.def_program.specs.Lines.{image_line}
 use Rattle.def_program.specs.Runs.{run_text}
@@ -48,10 +47,4 @@ pub returns-clause-first : goal.returns-clause-first
 returns-clause-first c = λ k. refl
 
 pub returns-clause-by_image : goal.returns-clause-by_image
-returns-clause-by_image c = λ name bytes limit p i one.
-    inr (p, (i, sym (ap (λ (b : Bool). if b then Ends status.Done (run_text p limit) else Ends status.Image (image_line 3 THREADS_PLACE)) one)))
-
-pub returns-clause-threads : goal.returns-clause-threads
-unfolding digits
-returns-clause-threads c = λ name bytes limit p i many.
-    inr (p, (i, sym (ap (λ (b : Bool). if b then Ends status.Done (run_text p limit) else Ends status.Image (image_line 3 THREADS_PLACE)) many)))
+returns-clause-by_image c = λ name bytes limit p i. inr (p, (i, refl))
