@@ -1,6 +1,10 @@
-pub mod Clears
-pub mod Executed
-pub mod Launches
+pub mod Carried
+pub mod Gates
+pub mod Guards
+pub mod Keeping
+pub mod Opened
+pub mod Ready
 pub mod Sizes
 pub mod Starts
-pub mod Guards
+pub mod Statuses
+pub mod Taking

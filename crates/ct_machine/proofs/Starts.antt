@@ -1,28 +1,45 @@
 -- A machine put together from booted parts: what contracts see of it, and that it is kept so.
-use Rattle.std.proofs.Common.{ℕ, zero, suc, ◌+◌, ◌*◌, ◌/◌, ◌%◌, ◌≡◌, ◌≤◌, ◌∙◌, false, List, length, refl, ap, sym, subst, arith}
+use Rattle.std.proofs.Common.{ℕ, zero, suc, ◌+◌, ◌*◌, ◌≡◌, ◌∙◌, false, List, [], ◌∷◌, length, replicate, refl, ap, sym, subst, arith}
+use Rattle.std.proofs.lemmas.List.{length-map, length-replicate}
 use Rattle.def_profile.specs.declared.layout.TheConstants.{GRANULE}
-use Rattle.def_memory.specs.declared.Granule.{Granule}
 use Rattle.def_machine.specs.Image.{Image}
 use Rattle.def_machine.specs.State.{Thread}
+use Rattle.def_machine.specs.Threads.{with_statuses}
+use Rattle.def_sched.specs.declared.Status.TheVariants.{Ready}
 use Rattle.def_step.specs.Devices.{Bank}
 use Rattle.def_step.specs.Events.{MachineRow}
-use Rattle.def_image.specs.Parts.{PartsRow}
+use Rattle.def_image.specs.Parts.{ThreadRow, PartsRow}
 use Rattle.def_image.specs.Sound.{Sound}
-use Rattle.def_boot.specs.Boot.{boot_state, booted_machine, image_of, no_counts}
+use Rattle.def_boot.specs.Boot.{boot_state, booted_machine, first_thread, first_threads, image_of, no_counts}
 use Rattle.def_boot.specs.Contents.{boot_granules, granules_from, granules_in}
-use Rattle.ct_machine.specs.declared.presence.Presence.{Presence}
-use Rattle.ct_machine.specs.Parts.{state_by, top_of, IsKept, IsCounted, IsHeapPlaced}
-use Rattle.ct_machine.specs.Launching.{Launched, bank_of}
+use Rattle.ct_engine.specs.Seen.{Seen}
+use Rattle.ct_engine.specs.Steps.{IsHeapPlaced}
+use Rattle.ct_sched.specs.Sched.{SchedRow}
+use Rattle.ct_launch.specs.Launching.{launched}
+use Rattle.ct_launch.specs.Placed.{ArePlaced}
+use Rattle.ct_machine.specs.Parts.{state_by, IsKept, IsCounted}
+use Rattle.ct_machine.specs.Starting.{bank_of, rows_of}
 
-abbrev pub row_of : Image → List Granule → Bank → Presence → Thread → MachineRow
-row_of i gs k presence active = record {
+-- ---- what contracts see
+
+ready_with : (p : PartsRow) (n : ℕ) (ts : List ThreadRow) → with_statuses (first_threads p n ts) (replicate (length ts) Ready) ≡ first_threads p n ts
+ready_with p n [] = refl
+ready_with p n (t ∷ ts) = ap (λ (us : List Thread). first_thread p n t ∷ us) (ready_with p (n + 1) ts)
+
+abbrev pub row_of : Image → Seen → SchedRow → Bank → MachineRow
+row_of i e r k = record {
   board = record { image = i; bases = k.bases };
-  state = state_by gs presence active false false k.states 0 no_counts;
+  state = state_by e r false k.states 0 no_counts;
 }
 
-pub started_is : (p : PartsRow) (i : Image) (gs : List Granule) (k : Bank) (presence : Presence) (active : Thread) (base : ℕ) → i ≡ image_of p → gs ≡ (boot_state p).granules → k ≡ bank_of p → Launched p presence active base → row_of i gs k presence active ≡ booted_machine p
+booted_is : (p : PartsRow) → row_of (image_of p) (launched p) (rows_of p) (bank_of p) ≡ booted_machine p
 unfolding boot_state
-started_is p i gs k presence active base image granules bank launched = rw (image, granules, bank, launched.threads, launched.picks, launched.running) refl
+booted_is p = rw (ready_with p 0 p.threads) refl
+
+pub started_is : (p : PartsRow) (i : Image) (e : Seen) (r : SchedRow) (k : Bank) → i ≡ image_of p → e ≡ launched p → r ≡ rows_of p → k ≡ bank_of p → row_of i e r k ≡ booted_machine p
+started_is p i e r k image engine rows bank = rw (image, engine, rows, bank) (booted_is p)
+
+-- ---- what it keeps
 
 how_many : (p : PartsRow) (x n : ℕ) → length (granules_from p x n) ≡ n
 how_many p x zero = refl
@@ -32,13 +49,17 @@ boot_length : (p : PartsRow) → length (boot_state p).granules ≡ granules_in 
 unfolding boot_state boot_granules
 boot_length p = how_many p p.ram (granules_in p)
 
-image_ram : (p : PartsRow) → p.ram ≡ (image_of p).ram
-unfolding image_of
-image_ram p = refl
+threads_count : (p : PartsRow) (n : ℕ) (ts : List ThreadRow) → length (first_threads p n ts) ≡ length ts
+threads_count p n [] = refl
+threads_count p n (t ∷ ts) = ap suc (threads_count p (n + 1) ts)
 
-image_heap : (p : PartsRow) → p.heap ≡ (image_of p).heap_base
+frames_count : (p : PartsRow) → length (image_of p).frames ≡ length p.threads
 unfolding image_of
-image_heap p = refl
+frames_count p = length-map p.threads (λ (t : ThreadRow). t.frames)
+
+priorities_are : (p : PartsRow) → (rows_of p).priorities ≡ (image_of p).priorities
+unfolding image_of
+priorities_are p = refl
 
 -- the heap lies in RAM
 heap_placed : (p : PartsRow) → Sound p → IsHeapPlaced p.ram p.heap (granules_in p)
@@ -50,28 +71,40 @@ heap_placed p s =
     let below = s.heap.below in
     let inside = s.heap.inside in
     record {
-      placed = record { even = even; fits = omega (arith, size, end) };
+      even = even;
+      fits = omega (arith, size, end);
       whole = (heap, omega (arith, size));
       low = omega (arith, below);
       high = omega (arith, size, inside);
     }
 
--- all that a machine's invariant asks of one that starts
-kept : (p : PartsRow) (gs : List Granule) (presence : Presence) (active : Thread) (base : ℕ) → Sound p → gs ≡ (boot_state p).granules → Launched p presence active base → IsKept (image_of p) p.ram base (top_of active) (length gs) presence
-kept p gs presence active base s granules launched =
-    let size : length gs ≡ granules_in p = ap length granules ∙ boot_length p in
-    let heap = heap_placed p s in
+heap_of : (p : PartsRow) → Sound p → IsHeapPlaced (image_of p).ram (image_of p).heap_base (granules_in p)
+unfolding image_of
+heap_of p s = heap_placed p s
+
+statuses_count : (p : PartsRow) → length (rows_of p).statuses ≡ length p.threads
+statuses_count p = length-replicate (length p.threads) Ready
+
+kept : (p : PartsRow) → Sound p → ArePlaced (image_of p) (8 * length (launched p).granules) (launched p).areas → IsKept (image_of p) (launched p) (rows_of p)
+kept p s placed =
+    let few = s.few.threads in
+    let count = statuses_count p in
     record {
-      ram_is = image_ram p;
-      placed = rw size heap.placed;
-      heap = rw size (subst (λ (x : ℕ). IsHeapPlaced p.ram x (granules_in p)) (image_heap p) heap);
-      base_is = launched.base_is;
-      stack = λ e. rw size (launched.stack e);
+      region = refl;
+      heap = rw (boot_length p) (heap_of p s);
+      areas = placed;
+      threads = placed.count ∙ frames_count p ∙ sym (threads_count p 0 p.threads);
+      priorities = priorities_are p;
+      statuses = count ∙ sym (threads_count p 0 p.threads);
+      few = omega (arith, few, count);
     }
 
-pub started_kept : (p : PartsRow) (i : Image) (gs : List Granule) (presence : Presence) (active : Thread) (base ram : ℕ) → Sound p → i ≡ image_of p → gs ≡ (boot_state p).granules → Launched p presence active base → ram ≡ p.ram → IsKept i ram base (top_of active) (length gs) presence × IsCounted no_counts 0
-started_kept p i gs presence active base ram s image granules launched same = (
-  subst (λ (x : ℕ). IsKept i x base (top_of active) (length gs) presence) (sym same)
-      (subst (λ (j : Image). IsKept j p.ram base (top_of active) (length gs) presence) (sym image) (kept p gs presence active base s granules launched)),
+pub started_kept : (p : PartsRow) (i : Image) (e : Seen) (r : SchedRow) → Sound p → i ≡ image_of p → e ≡ launched p → ArePlaced (image_of p) (8 * length e.granules) e.areas → r ≡ rows_of p
+    → IsKept i e r × IsCounted no_counts 0
+started_kept p i e r s image engine placed rows = (
+  subst (λ (j : Image). IsKept j e r) (sym image)
+      (subst (λ (x : SchedRow). IsKept (image_of p) e x) (sym rows)
+      (subst (λ (x : Seen). IsKept (image_of p) x (rows_of p)) (sym engine)
+      (kept p s (subst (λ (x : Seen). ArePlaced (image_of p) (8 * length x.granules) x.areas) engine placed)))),
   record { steps = omega arith; ticks = omega arith; sweeps = omega arith; inputs = omega arith; deeds = omega arith; clock = omega arith },
 )

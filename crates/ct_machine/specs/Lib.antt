@@ -1,3 +1,3 @@
 pub mod Parts
-pub mod Deciding
-pub mod Launching
+pub mod Going
+pub mod Starting

@@ -1,19 +1,14 @@
-//! The machine of one thread.
+//! The machine: threads of an image that take turns over its memory and devices.
 #![tactic(auto)]
 
-mod active;
-mod deciding;
 mod engine;
-mod launching;
+mod events;
+mod going;
 mod machine;
-mod operands;
 mod plan;
-mod presence;
-mod ran;
 mod starting;
-mod sweeping;
 mod tally;
-mod works;
+mod turns;
 
 pub use def_step::Event;
 pub use machine::Machine;

@@ -1,6 +1,6 @@
 //! The machine: an engine whose state is confined.
 
-ghost use Rattle.std.specs.Prelude.{◌≡◌, ◌≤◌, IsTrue, IfOk, length};
+ghost use Rattle.std.specs.Prelude.{◌≡◌, IsTrue, IfOk};
 ghost use Rattle.def_board.specs.Guarded.{Guarded};
 ghost use Rattle.def_boot.specs.Boot.{booted_machine};
 ghost use Rattle.def_confined.specs.Telling.{IsLicensedEvent};
@@ -37,14 +37,13 @@ impl<M: Memory + Drop> Model for Machine<M> {
 }
 
 impl<M: Memory + Drop> Machine<M> {
-    /// The machine of an image, booted: its memory, devices and thread are as *Boot state* says, and
+    /// The machine of an image, booted: its memory, devices and threads are as *Boot state* says, and
     /// no event has come.
     ///
-    /// Condition: the image has at most one thread; the memory reads as zero, is unmarked, and has the
-    /// size of the image's RAM. `NoMemory` where the allocator has no room for the entries, the
-    /// devices and the thread's start.
+    /// Condition: the memory reads as zero, is unmarked, and has the size of the image's RAM.
+    /// `NoMemory` where the allocator has no room for the entries, the devices, the threads and their
+    /// turns.
     pub fn start(alloc: Global, image: &Image, mem: M) -> Result<Machine<M>, NoMemory>
-        requires one { length image.now.threads ≤ 1 }
         requires empty { M.granules mem ≡ empty_granules image.now }
         ensures booted { IfOk result (λ m. m ≡ booted_machine image.now) }
         ensures guarded { IfOk result (λ m. Guarded m) }

@@ -2,6 +2,7 @@
 
 ghost use Rattle.std.specs.Prelude.{◌≡◌, IfOk};
 ghost use Rattle.def_boot.specs.Boot.{image_of};
+ghost use Rattle.ct_exports.specs.Exports.{AreSorted};
 
 use ct_entries::entries;
 use ct_entry::Entries;
@@ -48,9 +49,10 @@ impl Plan {
         })
     }
 
-    /// The image's entries.
+    /// The image's entries, whose gates stand by their numbers.
     pub(crate) fn entries(&self) -> &Entries
-        ensures { result.now ≡ self.now.entries }
+        ensures is { result.now ≡ self.now.entries }
+        ensures sorted { AreSorted result.now.gates }
     {
         &self.entries
     }

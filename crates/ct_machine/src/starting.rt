@@ -1,52 +1,81 @@
 //! An engine before its first event.
 
-ghost use Rattle.std.specs.Prelude.{◌≡◌, ◌≤◌, IfOk, length};
+ghost use Rattle.std.specs.Prelude.{ℕ, ◌≡◌, ◌≤◌, ◌*◌, IfOk, Some, length, slice_get};
+ghost use Rattle.def_profile.specs.declared.limits.TheConstants.{MOST_PRIORITY};
 ghost use Rattle.def_board.specs.Guarded.{Guarded};
-ghost use Rattle.def_boot.specs.Boot.{boot_state, booted_machine, image_of};
+ghost use Rattle.def_boot.specs.Boot.{booted_machine, image_of};
+ghost use Rattle.def_image.specs.Parts.{ThreadRow};
 ghost use Rattle.def_image.specs.Sound.{Sound};
 ghost use Rattle.law_boot_words.specs.Booting.{empty_granules};
-ghost use Rattle.ct_machine.specs.Launching.{Launched, bank_of};
+ghost use Rattle.ct_launch.specs.Launching.{launched};
+ghost use Rattle.ct_launch.specs.Placed.{ArePlaced};
+ghost use Rattle.ct_machine.specs.Starting.{bank_of, priorities_of, rows_of};
 
 use crate::engine::Engine;
-use crate::launching::{Launch, launch_of};
 use crate::plan::Plan;
 use crate::tally::Tally;
-use crate::works::Works;
 use ct_bus::Bus;
+use ct_engine::Engine as Threads;
 use ct_image::Image;
+use ct_launch::launch;
 use ct_mem::Memory;
-use ct_parts::Parts;
-use ct_start::{Start, boot};
+use ct_parts::{Parts, Thread};
+use ct_sched::Sched;
 use def_refusals::NoMemory;
 use std::alloc::Global;
+
+/// A thread's priority, as the scheduler keeps it.
+fn priority_of(thread: &Thread) -> u8
+    requires { thread.now.priority ≤ MOST_PRIORITY }
+    ensures { result ≡ thread.now.priority }
+{
+    thread.priority as u8
+}
+
+/// The priority of each thread.
+fn priorities(alloc: Global, threads: &[Thread]) -> Result<Vec<u8>, NoMemory>
+    requires { (i : ℕ) (t : ThreadRow) → slice_get threads.now i ≡ Some t
+        → t.priority ≤ MOST_PRIORITY }
+    ensures { IfOk result (λ v. v.items ≡ priorities_of threads.now) }
+{
+    let mut all = Vec::with_capacity(alloc, threads.len())?;
+    for thread in threads.iter() {
+        all.push(priority_of(thread))?;
+    }
+    Ok(all)
+}
+
+/// The scheduler of an image's threads, all ready, of which none has been picked.
+fn turns(alloc: Global, parts: &Parts) -> Result<Sched, NoMemory>
+    requires { Sound parts.now }
+    ensures { IfOk result (λ s. s ≡ rows_of parts.now) }
+{
+    let priorities = priorities(alloc, parts.threads.as_slice())?;
+    Sched::new(alloc, priorities.as_slice())
+}
 
 /// An engine of its parts, before its first event.
 fn put_together<M: Memory + Drop>(
     parts: &Parts,
     plan: Plan,
+    threads: Threads<M>,
     bus: Bus,
-    mem: M,
-    launch: Launch,
+    sched: Sched,
 ) -> Engine<M>
     requires sound { Sound parts.now }
     requires plan { plan ≡ image_of parts.now }
+    requires threads { threads ≡ launched parts.now }
+    requires placed { ArePlaced (image_of parts.now) (8 * length threads.granules) threads.areas }
     requires bus { bus ≡ bank_of parts.now }
-    requires booted { M.granules mem ≡ (boot_state parts.now).granules }
-    requires launched { Launched parts.now launch.presence launch.active launch.stack }
+    requires sched { sched ≡ rows_of parts.now }
     ensures { result ≡ booted_machine parts.now }
 {
-    let ram = parts.ram;
+    let _ = parts;
     Engine {
         plan,
-        works: Works {
-            active: launch.active,
-            mem,
-            bus,
-        },
-        ram,
-        stack: launch.stack,
-        presence: launch.presence,
-        running: false,
+        threads,
+        bus,
+        sched,
         pending: false,
         time: 0,
         counts: Tally {
@@ -64,9 +93,8 @@ fn put_together<M: Memory + Drop>(
 }
 
 impl<M: Memory + Drop> Engine<M> {
-    /// The engine of an image of at most one thread, booted.
+    /// The engine of an image, booted.
     pub(crate) fn start(alloc: Global, image: &Image, mem: M) -> Result<Engine<M>, NoMemory>
-        requires one { length image.now.threads ≤ 1 }
         requires empty { M.granules mem ≡ empty_granules image.now }
         ensures booted { IfOk result (λ m. m ≡ booted_machine image.now) }
         ensures guarded { IfOk result (λ m. Guarded m) }
@@ -74,10 +102,8 @@ impl<M: Memory + Drop> Engine<M> {
         let plan = Plan::of(alloc, image)?;
         let parts = image.parts();
         let bus = Bus::new(alloc, &parts.devices)?;
-        let mut start = Start::new(alloc, parts.threads.len() as u32)?;
-        let mut mem = mem;
-        boot(image, &mut mem, &mut start);
-        let launch = launch_of(parts, &start);
-        Ok(put_together(parts, plan, bus, mem, launch))
+        let sched = turns(alloc, parts)?;
+        let threads = launch(alloc, image, mem)?;
+        Ok(put_together(parts, plan, threads, bus, sched))
     }
 }

@@ -1,8 +1,6 @@
-//! Images of one thread run from their start. The programs and what they do are worked out by hand:
-//! what each word does is told in docs/use/machine.md, and where each part of an image lies in
-//! docs/use/image.md.
-
-ghost use Rattle.std.specs.Prelude.{◌≤◌, length, IfOk};
+//! Images of one thread and of two run from their start. The programs and what they do are worked
+//! out by hand: what each word does is told in docs/use/machine.md, and where each part of an image
+//! lies in docs/use/image.md.
 
 use crate::{Event, Machine};
 use ct_entry::{Act, Deed, Device, DeviceKind, End, Happened, Mode, Owned, Totals};
@@ -203,16 +201,11 @@ struct Expected<'a> {
 }
 
 /// The image of these parts, written and accepted.
-fn accepted(rt: &impl Abort, alloc: Global, parts: &Parts) -> Result<Image, NoMemory>
-    ensures { IfOk result (λ i. length i.threads ≤ 1) }
-{
+fn accepted(rt: &impl Abort, alloc: Global, parts: &Parts) -> Result<Image, NoMemory> {
     let bytes = written(alloc, parts)?;
     assert!(rt; bytes.len() < 4096);
     match accept(alloc, bytes.as_slice()) {
-        Ok(image) => {
-            assert!(rt; image.parts().threads.len() <= 1);
-            Ok(image)
-        }
+        Ok(image) => Ok(image),
         Err(fault) => {
             assert_eq!(rt; fault, ImageFault::NoMemory);
             Err(NoMemory)
@@ -227,9 +220,7 @@ fn run_image(
     alloc: Global,
     image: &Image,
     expected: &Expected<'_>,
-) -> Result<Totals, NoMemory>
-    requires { length image.now.threads ≤ 1 }
-{
+) -> Result<Totals, NoMemory> {
     let mem = Plain::new(alloc, image.parts().size)?;
     let mut machine = Machine::start(alloc, image, mem)?;
     for step in 0..expected.steps {
@@ -637,5 +628,79 @@ fn kept_disabling_sentry(rt: HostRuntime) -> Result<(), Fail> {
         traps: 0,
     };
     assert_eq!(rt; totals, limit);
+    Ok(())
+}
+
+/// The image of a compartment that two threads of one priority enter, one after another in RAM.
+fn pair(alloc: Global) -> Result<Parts, AllocError> {
+    let mut parts = tiny(alloc, DeviceKind::Uart, W, Mode::Enabled, &TINY)?;
+    parts.threads.push(Thread {
+        name: String::from_str(alloc, "u")?,
+        stack: 0x8000_0170,
+        stack_length: 256,
+        compartment: 0,
+        export: 0,
+        priority: 1,
+        frames: 2,
+    })?;
+    parts.trusted = 0x8000_0270;
+    parts.heap = 0x8000_04c0;
+    Ok(parts)
+}
+
+/// The deed of a step, counted from 1, of two threads that take turns of three steps.
+fn turn_deed(step: u32) -> Option<Deed> {
+    let thread = match step {
+        7 => 0,
+        10 => 1,
+        _ => return None,
+    };
+    Some(Deed {
+        thread,
+        actor: 0,
+        entry: 4,
+        act: Act::Store {
+            address: 0x1000_0000,
+            width: 4,
+            value: 0x41,
+        },
+    })
+}
+
+/// Gives an image twelve steps and a tick after each third but the last.
+fn run_turns(rt: &impl Abort, alloc: Global, image: &Image) -> Result<Totals, NoMemory> {
+    let mem = Plain::new(alloc, image.parts().size)?;
+    let mut machine = Machine::start(alloc, image, mem)?;
+    for step in 1..13 {
+        assert_eq!(rt; machine.ended(), None);
+        assert!(rt; machine.lawful(Event::Step));
+        let happened = machine.advance(Event::Step);
+        let deed = turn_deed(step);
+        assert_eq!(rt; happened, Happened { deed, off: None }, "step {step}");
+        if step % 3 == 0 && step < 12 {
+            assert!(rt; machine.lawful(Event::Tick));
+            let ticked = machine.advance(Event::Tick);
+            assert_eq!(rt;
+                ticked,
+                Happened {
+                    deed: None,
+                    off: None
+                }
+            );
+        }
+    }
+    assert_eq!(rt; machine.ended(), Some(End::Finished));
+    Ok(machine.totals(End::Finished))
+}
+
+/// A tick stops the thread that runs, and of two that are ready the one picked longer ago goes on:
+/// each stores in the fourth of its six steps, the first thread in the seventh of all and the second
+/// in the tenth.
+#[test]
+fn two_threads_take_turns(rt: HostRuntime) -> Result<(), Fail> {
+    let alloc = rt.alloc();
+    let image = accepted(&rt, alloc, &pair(alloc)?)?;
+    let totals = run_turns(&rt, alloc, &image)?;
+    assert_eq!(rt; (totals.steps, totals.ticks, totals.devices), (12, 3, 2));
     Ok(())
 }

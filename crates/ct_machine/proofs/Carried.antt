@@ -1,0 +1,152 @@
+-- What the code leaves of a step is what the written step leaves.
+use Rattle.std.proofs.Common.{ℕ, suc, ◌≡◌, ◌<◌, Bool, true, nat_lt, List, [], ◌∷◌, length, Option, Some, None, option_map, refl, sym, ap, ◌∙◌, slice_set, arith, inl, inr}
+use Rattle.std.proofs.Math.ListN.{get_or, set}
+use Rattle.law_lists.proofs.Tests.{lt_tells}
+use Rattle.ct_entry.specs.Listed.{Listed}
+use Rattle.ct_entry.specs.declared.acts.Deed.{Deed}
+use Rattle.def_words.specs.declared.Cap.{Cap}
+use Rattle.def_words.specs.declared.Posture.{Posture}
+use Rattle.def_memory.specs.declared.Granule.{Granule}
+use Rattle.def_memory.specs.Granules.{plain}
+use Rattle.def_sched.specs.declared.Status.TheVariants.{Ended}
+use Rattle.def_machine.specs.Image.{Image, stack_base}
+use Rattle.def_machine.specs.State.{State, Thread, Frame, DeviceState, Counts, thread, nobody}
+use Rattle.def_machine.specs.Threads.{with_statuses, jumped}
+use Rattle.def_machine.specs.Memory.{filtered_in}
+use Rattle.def_machine.specs.Frames as frames
+use Rattle.def_machine.specs.Frames.{left_with, left_by, answer_by}
+use Rattle.def_step.specs.Devices.{Bank}
+use Rattle.def_step.specs.Accesses.{Space}
+use Rattle.def_step.specs.Instructions.{Board, actor_of, deed, space_of}
+use Rattle.def_step.specs.Events.{continued, run_on, noted, with_deed}
+use Rattle.ct_sched.specs.Sched as sched
+use Rattle.ct_sched.specs.Sched.{SchedRow}
+use Rattle.ct_engine.specs.Seen as engine
+use Rattle.ct_engine.specs.Seen.{Seen, went, with_granules, area_at}
+use Rattle.ct_engine.specs.Steps.{space_in}
+use Rattle.ct_engine.specs.Calls as calls
+use Rattle.ct_execute.specs.declared.ran.Ran.{Ran}
+use Rattle.ct_execute.specs.declared.ran.Ran.TheVariants.{Trapped}
+use Rattle.ct_execute.specs.Deciding.{Decision, Goes, Returns, Traps, decide, decision, settle, Decided}
+use Rattle.ct_execute.proofs.Executed.{executed_is}
+use Rattle.ct_machine.specs.Parts.{state_by, IsKept}
+use Rattle.ct_machine.specs.Going.{UNWOUND, left_after, goes_after, status_after, deed_by}
+use Rattle.ct_machine.proofs.Statuses.{thread_with, set_with, end_with, like_with}
+use Rattle.ct_machine.proofs.Taking.{ram_is, frames_with}
+
+two_more : (n : ℕ) → nat_lt 1 (suc (suc n)) ≡ true
+two_more n = elim (lt_tells 1 (suc (suc n))) [ inl a ↦ a.0 | inr a ↦ absurd (let few = a.1 in omega (arith, few)) ]
+
+module _ (i : Image) (e : Seen) (r : SchedRow) (pending : Bool) (devices : List DeviceState) (time : ℕ) (c : Counts) (t : ℕ) (kept : IsKept i e r) where
+  -- a thread goes on, and RAM and the devices change
+  pub went_is : (pcc : Cap) (posture : Posture) (to : ℕ) (value : Cap) (gs : List Granule) (states : List DeviceState) (c' : Counts)
+      → state_by (with_granules (went e t pcc posture to value) gs) r pending states time c'
+      ≡ record (state_by e r pending devices time c) {
+        granules = gs;
+        threads = set (with_statuses e.threads r.statuses) t (jumped (get_or (with_statuses e.threads r.statuses) t nobody) pcc posture to value);
+        devices = states;
+        counts = c';
+      }
+  went_is pcc posture to value gs states c' =
+      let there : with_statuses (set e.threads t (jumped (get_or e.threads t nobody) pcc posture to value)) r.statuses
+      ≡ set (with_statuses e.threads r.statuses) t (jumped (get_or (with_statuses e.threads r.statuses) t nobody) pcc posture to value) =
+      set_with e.threads r.statuses t (jumped (get_or e.threads t nobody) pcc posture to value) kept.statuses
+      ∙ ap (λ (x : Thread). set (with_statuses e.threads r.statuses) t (jumped x pcc posture to value)) (sym (thread_with e.threads r.statuses t kept.statuses)) in
+      rw there refl
+
+  -- its last frame ends
+  ended_one : (f : Frame) → (area_at e t).stack ≡ stack_base i t
+      → state_by (calls.switched e t f.top nobody None) (sched.with_statuses r (slice_set r.statuses t Ended)) pending devices time c
+      ≡ frames.switched i (state_by e r pending devices time c) t f.top nobody None
+  ended_one f base = rw (end_with e.threads r.statuses t kept.statuses, base, ram_is i e r kept) refl
+
+  -- one ends above others
+  ended_more : (f : Frame) (fs : List Frame) (first second : Cap) → (area_at e t).stack ≡ stack_base i t
+      → state_by (calls.switched e t f.top (left_with (filtered_in e.region.ram e.granules) (get_or e.threads t nobody) f fs first second) e.running) r pending devices time c
+      ≡ frames.switched i (state_by e r pending devices time c) t f.top (left_by i (state_by e r pending devices time c) (get_or (with_statuses e.threads r.statuses) t nobody) f fs first second) e.running
+  ended_more f fs first second base =
+      let there : with_statuses (set e.threads t (left_with (filtered_in e.region.ram e.granules) (get_or e.threads t nobody) f fs first second)) r.statuses
+      ≡ set (with_statuses e.threads r.statuses) t (left_with (filtered_in e.region.ram e.granules) (get_or (with_statuses e.threads r.statuses) t nobody) f fs first second) =
+      set_with e.threads r.statuses t (left_with (filtered_in e.region.ram e.granules) (get_or e.threads t nobody) f fs first second) kept.statuses
+      ∙ ap (λ (x : Thread). set (with_statuses e.threads r.statuses) t (left_with (filtered_in e.region.ram e.granules) x f fs first second)) (sym (thread_with e.threads r.statuses t kept.statuses)) in
+      rw (there, base, ram_is i e r kept) refl
+
+  -- the return
+  returned_by : (entries : Listed) (fs : List Frame) → entries ≡ i.entries → (area_at e t).stack ≡ stack_base i t → 0 < length fs
+      → state_by (calls.ended_by e t (λ f. answer_by entries (get_or e.threads t nobody) f 10) (λ f. answer_by entries (get_or e.threads t nobody) f 11) fs) (status_after (nat_lt 1 (length fs)) r t) pending devices time c
+      ≡ frames.returned i (state_by e r pending devices time c) t fs
+  returned_by entries [] same base some = absurd (omega (arith, some))
+  returned_by entries (f ∷ []) same base some = ended_one f base
+  returned_by entries (f ∷ g ∷ fs) same base some =
+      let alike : (n : ℕ) → answer_by entries (get_or e.threads t nobody) f n ≡ answer_by i.entries (get_or (with_statuses e.threads r.statuses) t nobody) f n =
+      λ n. ap (λ (es : Listed). answer_by es (get_or e.threads t nobody) f n) same ∙ ap (λ (x : Thread). answer_by i.entries x f n) (sym (like_with e.threads r.statuses t Ended)) in
+      rw (two_more (length fs), alike 10, alike 11) (ended_more f (g ∷ fs) (answer_by i.entries (get_or (with_statuses e.threads r.statuses) t nobody) f 10) (answer_by i.entries (get_or (with_statuses e.threads r.statuses) t nobody) f 11) base)
+
+  -- the unwind
+  unwound_by : (fs : List Frame) → (area_at e t).stack ≡ stack_base i t → 0 < length fs
+      → state_by (calls.ended_by e t (λ f. plain UNWOUND) (λ f. plain 0) fs) (status_after (nat_lt 1 (length fs)) r t) pending devices time c
+      ≡ frames.unwound i (state_by e r pending devices time c) t fs
+  unwound_by [] base some = absurd (omega (arith, some))
+  unwound_by (f ∷ []) base some = ended_one f base
+  unwound_by (f ∷ g ∷ fs) base some = rw (two_more (length fs)) (ended_more f (g ∷ fs) (plain UNWOUND) (plain 0) base)
+
+module _ (i : Image) (entries : Listed) (e : Seen) (r : SchedRow) (k : Bank) (pending : Bool) (time : ℕ) (c : Counts) (t : ℕ)
+    (kept : IsKept i e r) (same : entries ≡ i.entries) (base : (area_at e t).stack ≡ stack_base i t) (some : 0 < length (engine.thread e t).frames) where
+  abbrev board : Board
+  board = record { image = i; bases = k.bases }
+
+  abbrev here : State
+  here = state_by e r pending k.states time c
+
+  -- the scheduler's status is no part of what decides
+  decided_alike : (p : Space) → decide i.entries (get_or (with_statuses e.threads r.statuses) t nobody) p ≡ decide i.entries (get_or e.threads t nobody) p
+  decided_alike p = ap (λ (x : Thread). decide i.entries x p) (like_with e.threads r.statuses t Ended)
+
+  space_alike : space_in e k time ≡ space_of board here
+  space_alike = rw (ram_is i e r kept) refl
+
+  decision_is : decision entries e t k time ≡ decide i.entries (thread here t) (space_of board here)
+  decision_is =
+      ap (λ (es : Listed). decide es (get_or e.threads t nobody) (space_in e k time)) same
+      ∙ ap (λ (p : Space). decide i.entries (get_or e.threads t nobody) p) space_alike
+      ∙ sym (decided_alike (space_of board here))
+
+  actor_alike : (actor : ℕ) → actor ≡ actor_of (engine.thread e t).frames → actor ≡ actor_of (thread here t).frames
+  actor_alike actor is = is ∙ ap actor_of (sym (frames_with e.threads r.statuses t))
+
+  returns_as : state_by (calls.returned e entries t) (status_after (nat_lt 1 (length (engine.thread e t).frames)) r t) pending k.states time c
+      ≡ frames.returned i here t (thread here t).frames
+  returns_as =
+      returned_by i e r pending k.states time c t kept entries (engine.thread e t).frames same base some
+      ∙ ap (λ (fs : List Frame). frames.returned i here t fs) (sym (frames_with e.threads r.statuses t))
+
+  unwinds_as : state_by (calls.ended_with e t UNWOUND) (status_after (nat_lt 1 (length (engine.thread e t).frames)) r t) pending k.states time c
+      ≡ frames.unwound i here t (thread here t).frames
+  unwinds_as =
+      unwound_by i e r pending k.states time c t kept (engine.thread e t).frames base some
+      ∙ ap (λ (fs : List Frame). frames.unwound i here t fs) (sym (frames_with e.threads r.statuses t))
+
+  abbrev after : Seen → Bank → ℕ → Ran → State × Option Deed
+  after e' k' actor ran = (
+    state_by (left_after ran e' entries t) (status_after (goes_after ran e' t) r t) pending k'.states time (with_deed c (deed_by t actor ran)),
+    deed_by t actor ran,
+  )
+
+  settled : (D : Decision) (e' : Seen) (k' : Bank) (actor : ℕ) (ran : Ran) → actor ≡ actor_of (engine.thread e t).frames → Decided D t e k e' k' ran
+      → noted (settle board here t D) ≡ after e' k' actor ran
+  settled (Goes d entry) e' k' actor ran is h =
+      let there = went_is i e r pending k.states time c t kept d.pcc d.posture d.to d.value d.granules d.bank.states (with_deed c (option_map (deed here t entry) d.act)) in
+      rw (h.0, h.1, h.2, actor_alike actor is) (ap (λ (x : State). (x, option_map (deed here t entry) d.act)) (sym there))
+  settled Returns e' k' actor ran is h = rw (h.0, h.1, h.2) (ap (λ (x : State). noted (x, None)) (sym returns_as))
+  settled (Traps why) e' k' actor ran is h =
+      rw (h.0, h.1, h.2, actor_alike actor is)
+      (ap (λ (x : State). noted (x, deed_by t (actor_of (thread here t).frames) (Trapped why))) (sym unwinds_as))
+
+  pub carried_is : (e' e'' : Seen) (k' : Bank) (r'' : SchedRow) (c'' : Counts) (actor : ℕ) (ran : Ran) (d : Option Deed)
+      → e.running ≡ Some t → actor ≡ actor_of (engine.thread e t).frames → Decided (decision entries e t k time) t e k e' k' ran
+      → e'' ≡ left_after ran e' entries t → r'' ≡ status_after (goes_after ran e' t) r t → d ≡ deed_by t actor ran → c'' ≡ with_deed c d
+      → (state_by e'' r'' pending k'.states time c'', d) ≡ run_on board here
+  carried_is e' e'' k' r'' c'' actor ran d runs is h left status deed_is counts =
+      let whole : run_on board here ≡ after e' k' actor ran =
+      ap (continued board here) runs ∙ ap noted (executed_is board here t ∙ ap (settle board here t) (sym decision_is)) ∙ settled (decision entries e t k time) e' k' actor ran is h in
+      rw (left, status, counts, deed_is) (sym whole)

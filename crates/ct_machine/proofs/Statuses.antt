@@ -1,0 +1,138 @@
+-- Threads with the statuses that the scheduler keeps.
+use Rattle.std.proofs.Common.{ℕ, zero, suc, ◌+◌, ◌≡◌, ◌<◌, ◌&&◌, ◌||◌, Bool, true, false, cond, List, [], ◌∷◌, length, map, Some, None, refl, ap, ◌∙◌, arith}
+use Rattle.std.proofs.Math.ListN.{get_or, set}
+use Rattle.std.specs.List.{list_all}
+use Rattle.std.specs.Prelude.{count_by}
+use Rattle.std.proofs.lemmas.List.Sums.{sum_by-cons}
+use Rattle.def_sched.specs.declared.Status.{Status}
+use Rattle.def_sched.specs.declared.Status.TheVariants.{Ready, Sleeping, Waiting, Ended}
+use Rattle.def_sched.specs.Statuses.{goes_on, is_ended, is_waiting, after_tick}
+use Rattle.ct_entry.specs.declared.acts.End.TheVariants.{Finished, Idle}
+use Rattle.def_machine.specs.State.{State, Thread, nobody}
+use Rattle.def_machine.specs.Threads.{with_status, statuses_of, with_statuses, timed}
+use Rattle.def_step.specs.Events.{all_ended, one_waits, none_goes_on, end_of}
+
+-- ---- one thread of them
+
+pub thread_with : (ts : List Thread) (ss : List Status) (t : ℕ) → length ss ≡ length ts → get_or (with_statuses ts ss) t nobody ≡ with_status (get_or ts t nobody) (get_or ss t Ended)
+thread_with [] [] t e = refl
+thread_with [] (s ∷ ss) t e = absurd (omega (arith, e))
+thread_with (x ∷ ts) [] t e = absurd (omega (arith, e))
+thread_with (x ∷ ts) (s ∷ ss) zero e = refl
+thread_with (x ∷ ts) (s ∷ ss) (suc t) e = thread_with ts ss t (omega (arith, e))
+
+-- its status aside, it is as it was, whatever the statuses are
+pub like_with : (ts : List Thread) (ss : List Status) (t : ℕ) (s : Status) → with_status (get_or (with_statuses ts ss) t nobody) s ≡ with_status (get_or ts t nobody) s
+like_with [] ss t s = refl
+like_with (x ∷ ts) [] t s = refl
+like_with (x ∷ ts) (r ∷ ss) zero s = refl
+like_with (x ∷ ts) (r ∷ ss) (suc t) s = like_with ts ss t s
+
+pub length_with : (ts : List Thread) (ss : List Status) → length (with_statuses ts ss) ≡ length ts
+length_with [] ss = refl
+length_with (x ∷ ts) [] = refl
+length_with (x ∷ ts) (s ∷ ss) = ap (λ n. suc n) (length_with ts ss)
+
+-- ---- a thread changes, or ends
+
+pub set_with : (ts : List Thread) (ss : List Status) (t : ℕ) (new : Thread) → length ss ≡ length ts → with_statuses (set ts t new) ss ≡ set (with_statuses ts ss) t (with_status new (get_or ss t Ended))
+set_with [] [] t new e = refl
+set_with [] (s ∷ ss) t new e = absurd (omega (arith, e))
+set_with (x ∷ ts) [] t new e = absurd (omega (arith, e))
+set_with (x ∷ ts) (s ∷ ss) zero new e = refl
+set_with (x ∷ ts) (s ∷ ss) (suc t) new e = ap (λ (us : List Thread). with_status x s ∷ us) (set_with ts ss t new (omega (arith, e)))
+
+pub end_with : (ts : List Thread) (ss : List Status) (t : ℕ) → length ss ≡ length ts → with_statuses (set ts t nobody) (set ss t Ended) ≡ set (with_statuses ts ss) t nobody
+end_with [] [] t e = refl
+end_with [] (s ∷ ss) t e = absurd (omega (arith, e))
+end_with (x ∷ ts) [] t e = absurd (omega (arith, e))
+end_with (x ∷ ts) (s ∷ ss) zero e = refl
+end_with (x ∷ ts) (s ∷ ss) (suc t) e = ap (λ (us : List Thread). with_status x s ∷ us) (end_with ts ss t (omega (arith, e)))
+
+-- ---- all of them
+
+pub statuses_with : (ts : List Thread) (ss : List Status) → length ss ≡ length ts → statuses_of (with_statuses ts ss) ≡ ss
+statuses_with [] [] e = refl
+statuses_with [] (s ∷ ss) e = absurd (omega (arith, e))
+statuses_with (x ∷ ts) [] e = absurd (omega (arith, e))
+statuses_with (x ∷ ts) (s ∷ ss) e = ap (λ (rs : List Status). s ∷ rs) (statuses_with ts ss (omega (arith, e)))
+
+pub timed_with : (ts : List Thread) (ss : List Status) → length ss ≡ length ts → with_statuses ts (map after_tick ss) ≡ map timed (with_statuses ts ss)
+timed_with [] [] e = refl
+timed_with [] (s ∷ ss) e = absurd (omega (arith, e))
+timed_with (x ∷ ts) [] e = absurd (omega (arith, e))
+timed_with (x ∷ ts) (s ∷ ss) e = ap (λ (us : List Thread). with_status x (after_tick s) ∷ us) (timed_with ts ss (omega (arith, e)))
+
+-- ---- the end of a run
+
+pub ended_with : (ts : List Thread) (ss : List Status) → length ss ≡ length ts → all_ended (with_statuses ts ss) ≡ list_all is_ended ss
+ended_with [] [] e = refl
+ended_with [] (s ∷ ss) e = absurd (omega (arith, e))
+ended_with (x ∷ ts) [] e = absurd (omega (arith, e))
+ended_with (x ∷ ts) (s ∷ ss) e = ap (λ b. is_ended s && b) (ended_with ts ss (omega (arith, e)))
+
+both_no : (a b : Bool) → b ≡ false → (a && b) ≡ false
+both_no true b e = e
+both_no false b e = refl
+
+-- where one goes on they haven't all ended, and it isn't so that none goes on
+pub record SomeGoes (ts : List Thread) : Type 0 where
+  pub ended : all_ended ts ≡ false
+  pub goes : none_goes_on ts ≡ false
+
+more_go : (x : Thread) (ts : List Thread) → SomeGoes ts → SomeGoes (x ∷ ts)
+more_go x ts h = record {
+  ended = both_no (is_ended x.status) (all_ended ts) h.ended;
+  goes = both_no (is_ended x.status || is_waiting x.status) (none_goes_on ts) h.goes;
+}
+
+pub goes_with : (ts : List Thread) (ss : List Status) → length ss ≡ length ts → 0 < count_by goes_on ss → SomeGoes (with_statuses ts ss)
+goes_with [] [] e some = absurd (omega (arith, some))
+goes_with [] (s ∷ ss) e some = absurd (omega (arith, e))
+goes_with (x ∷ ts) [] e some = absurd (omega (arith, e))
+goes_with (x ∷ ts) (Ready ∷ ss) e some = record { ended = refl; goes = refl }
+goes_with (x ∷ ts) (Sleeping n ∷ ss) e some = record { ended = refl; goes = refl }
+goes_with (x ∷ ts) (Waiting a ∷ ss) e some = more_go (with_status x (Waiting a)) (with_statuses ts ss) (goes_with ts ss (omega (arith, e)) (omega (arith, some)))
+goes_with (x ∷ ts) (Ended ∷ ss) e some = more_go (with_status x Ended) (with_statuses ts ss) (goes_with ts ss (omega (arith, e)) (omega (arith, some)))
+
+-- where none goes on they have all ended, or one waits
+pub record NoneGoes (ts : List Thread) : Type 0 where
+  pub waits : all_ended ts ≡ false → one_waits ts ≡ true
+  pub goes : none_goes_on ts ≡ true
+
+pub stays_with : (ts : List Thread) (ss : List Status) → length ss ≡ length ts → count_by goes_on ss ≡ 0 → NoneGoes (with_statuses ts ss)
+stays_with [] [] e none = record { waits = λ h. cc; goes = refl }
+stays_with [] (s ∷ ss) e none = absurd (omega (arith, e))
+stays_with (x ∷ ts) [] e none = absurd (omega (arith, e))
+stays_with (x ∷ ts) (Ready ∷ ss) e none = absurd (let more : count_by goes_on (Ready ∷ ss) ≡ 1 + count_by goes_on ss = sum_by-cons (λ (q : Status). cond (goes_on q) 1 0) Ready ss in omega (arith, more, none))
+stays_with (x ∷ ts) (Sleeping n ∷ ss) e none = absurd (let more : count_by goes_on (Sleeping n ∷ ss) ≡ 1 + count_by goes_on ss = sum_by-cons (λ (q : Status). cond (goes_on q) 1 0) (Sleeping n) ss in omega (arith, more, none))
+stays_with (x ∷ ts) (Waiting a ∷ ss) e none = let rest = stays_with ts ss (omega (arith, e)) (omega (arith, none)) in record { waits = λ h. refl; goes = rest.goes }
+stays_with (x ∷ ts) (Ended ∷ ss) e none = let rest = stays_with ts ss (omega (arith, e)) (omega (arith, none)) in record { waits = rest.waits; goes = rest.goes }
+
+-- ---- whether the run has ended
+
+and_none : (b : Bool) → (b && false) ≡ false
+and_none true = refl
+and_none false = refl
+
+module _ (s : State) (ts : List Thread) (ss : List Status) (is : s.threads ≡ with_statuses ts ss) (many : length ss ≡ length ts) where
+  all_is : all_ended s.threads ≡ list_all is_ended ss
+  all_is = ap all_ended is ∙ ended_with ts ss many
+
+  pub end_none : 0 < count_by goes_on ss → None ≡ end_of s
+  end_none some =
+      let h = goes_with ts ss many some in
+      let over : all_ended s.threads ≡ false = ap all_ended is ∙ h.ended in
+      let idle : none_goes_on s.threads ≡ false = ap none_goes_on is ∙ h.goes in
+      rw (over, idle, and_none (one_waits s.threads)) refl
+
+  pub end_finished : list_all is_ended ss ≡ true → Some Finished ≡ end_of s
+  end_finished all = rw (all_is, all) refl
+
+  pub end_idle : count_by goes_on ss ≡ 0 → list_all is_ended ss ≡ false → Some Idle ≡ end_of s
+  end_idle none some =
+      let h = stays_with ts ss many none in
+      let over : all_ended s.threads ≡ false = all_is ∙ some in
+      let goes : none_goes_on s.threads ≡ true = ap none_goes_on is ∙ h.goes in
+      let waits : one_waits s.threads ≡ true = ap one_waits is ∙ h.waits (ended_with ts ss many ∙ some) in
+      rw (over, goes, waits) refl

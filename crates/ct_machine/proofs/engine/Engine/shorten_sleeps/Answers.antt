@@ -1,0 +1,11 @@
+use Rattle.std.proofs.Common.{ap, ◌∙◌}
+use Rattle.def_step.specs.Events.{MachineRow}
+use Rattle.ct_machine.specs.Going.{sleepers_on}
+use Rattle.ct_machine.proofs.Taking.{timed_is}
+use Rattle.ct_machine.proofs.engine.Engine.shorten_sleeps.Goals as goal
+
+pub returns-clause-state : goal.returns-clause-state
+returns-clause-state g c =
+    timed_is c.self.inside.threads c.self.inside.sched c.self.inside.pending c.self.inside.bus.states c.self.inside.time c.self.inside.counts
+    c.tick.new.self c.self.invariant.0.statuses c.tick.ensures
+    ∙ ap (λ (m : MachineRow). sleepers_on m.state) c.self.view_is

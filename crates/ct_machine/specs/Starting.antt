@@ -1,0 +1,29 @@
+-- What a machine keeps before its first event.
+use Rattle.std.specs.Prelude.{ℕ, List, length, map, replicate}
+use Rattle.ct_entry.specs.Listed.{DeviceRow}
+use Rattle.def_sched.specs.declared.Status.TheVariants.{Ready}
+use Rattle.def_sched.specs.Picks.{first_order}
+use Rattle.def_step.specs.Devices.{Bank, fresh_device}
+use Rattle.def_image.specs.Parts.{ThreadRow, PartsRow}
+use Rattle.ct_sched.specs.Sched.{SchedRow}
+
+-- devices at rest
+abbrev pub at_rest : List DeviceRow → Bank
+at_rest ds = record {
+  bases = map (λ (d : DeviceRow). d.base) ds;
+  states = map (λ (d : DeviceRow). fresh_device d.kind) ds;
+}
+
+abbrev pub bank_of : PartsRow → Bank
+bank_of p = at_rest p.devices
+
+abbrev pub priorities_of : List ThreadRow → List ℕ
+priorities_of ts = map (λ (t : ThreadRow). t.priority) ts
+
+-- the threads' turns: all are ready, and none has been picked
+abbrev pub rows_of : PartsRow → SchedRow
+rows_of p = record {
+  priorities = priorities_of p.threads;
+  statuses = replicate (length p.threads) Ready;
+  order = first_order (length p.threads);
+}

@@ -1,0 +1,58 @@
+//! Turns of threads: one is preempted, one is picked, and a tick interrupts.
+
+ghost use Rattle.std.specs.Prelude.{◌≡◌};
+ghost use Rattle.def_confined.specs.Holding.{EndsFit};
+ghost use Rattle.def_step.specs.Events.{interrupted, preempted, scheduled};
+
+use crate::engine::Engine;
+use ct_mem::Memory;
+
+impl<M: Memory + Drop> Engine<M> {
+    /// A thread that runs with interrupts on stops where a tick is pending.
+    pub(crate) fn preempt(&mut self)
+        ensures state { self.new.state ≡ preempted self.old.state }
+        ensures board { self.new.board ≡ self.old.board }
+        ensures counts { self.new.state.counts ≡ self.old.state.counts }
+    {
+        if !self.pending {
+            return;
+        }
+        if let Some(t) = self.threads.running() {
+            if !self.threads.posture(t).off {
+                self.threads.stop(t);
+                self.pending = false;
+            }
+        }
+    }
+
+    /// Where none runs, the scheduler picks.
+    pub(crate) fn schedule(&mut self)
+        requires { EndsFit self.old.state }
+        ensures state { self.new.state ≡ scheduled self.old.board self.old.state }
+        ensures board { self.new.board ≡ self.old.board }
+        ensures counts { self.new.state.counts ≡ self.old.state.counts }
+    {
+        match self.threads.running() {
+            Some(_) => {}
+            None => match self.sched.pick() {
+                Some(t) => self.threads.pick(t),
+                None => {}
+            },
+        }
+    }
+
+    /// No thread runs on with interrupts on; where the running one holds them off, the tick is
+    /// pending.
+    pub(crate) fn interrupt(&mut self)
+        ensures state { self.new.state ≡ interrupted self.old.state self.old.state.running }
+        ensures board { self.new.board ≡ self.old.board }
+    {
+        if let Some(t) = self.threads.running() {
+            if self.threads.posture(t).off {
+                self.pending = true;
+            } else {
+                self.threads.stop(t);
+            }
+        }
+    }
+}
