@@ -1,0 +1,214 @@
+-- The rule that is found for a list of words is the one that is spelled so.
+use Rattle.std.proofs.Common.{◌≡◌, ◌≢◌, ℕ, ◌<◌, ◌≤◌, List, [], ◌∷◌, true, false, Option, Some, None, inl, inr, refl, ap, sym, ◌∙◌, subst, arith, length, option_map, option_and_then, codes, decimal, nat_lt, ◌&&◌}
+use Rattle.std.specs.Str.{bytes_eq}
+use Rattle.std.proofs.lemmas.Slice.Eq.{bytes_eq-Decides}
+use Rattle.law_lists.proofs.Tests.{bool_tells, both_left, both_right, lt_tells}
+use Rattle.def_policy.specs.declared.TheConstants.{MOST_TOTAL}
+use Rattle.def_policy.specs.Rules.{Rule, Device, Shared, Service, Call, Disabled, Data, Total, Quota, Apart, IsFormed, total, words_of}
+use Rattle.ct_policy.specs.Forms.{OnlyRow, SidesRow, apart_in, call_by, call_in, data_in, device_in, disabled_in, form_by, form_of, number_in, only_in, owners_in, quota_by, quota_in, service_in, shared_in, sides_in}
+use Rattle.ct_policy.proofs.Numbers.{number_back, number_told}
+use Rattle.ct_policy.proofs.Sides.{IsDotted, sides_back, sides_found, some_tells}
+
+same_word : (w v : List ℕ) → bytes_eq w v ≡ true → w ≡ v
+same_word w v told = (bytes_eq-Decides w v).0 told
+
+-- ---- from a rule to its words and back
+
+owners_back : (owners : List (List ℕ)) → 0 < length owners → owners_in (codes "only" ∷ owners) ≡ Some owners
+owners_back [] some = absurd (omega (arith, some))
+owners_back (o ∷ os) some = rw (some_tells (o ∷ os) some) refl
+
+only_back : (name : List ℕ) (owners : List (List ℕ)) → 0 < length owners → only_in (name ∷ codes "only" ∷ owners) ≡ Some (record { name = name; owners = owners })
+only_back name owners some = rw (owners_back owners some) refl
+
+other_owner : (owner : List ℕ) → owner ≢ total → bytes_eq owner total ≡ false
+other_owner owner differs =
+    elim (bool_tells (bytes_eq owner total)) [ inl same ↦ absurd (differs (same_word owner total same)) | inr no_here ↦ no_here ]
+
+pub form_back : (r : Rule) → IsFormed r → form_of (words_of r) ≡ Some r
+form_back (Device name owners) some = rw (only_back name owners some) refl
+form_back (Shared name owners) some = rw (only_back name owners some) refl
+form_back (Service name owners) some = rw (only_back name owners some) refl
+form_back (Call compartment export owners) formed =
+    rw (only_back _ owners formed.2, sides_back compartment export formed.0 formed.1) refl
+form_back (Disabled owners) some = rw (owners_back owners some) refl
+form_back (Data compartment export) formed = rw (sides_back compartment export formed.0 formed.1) refl
+form_back (Total n) small = rw (number_back n small) refl
+form_back (Quota owner n) formed = rw (number_back n formed.1, other_owner owner formed.0) refl
+form_back (Apart owner compartment) formed = refl
+
+-- ---- from words to a rule
+
+-- the rule is spelled as these words
+pub record IsSaid (words : List (List ℕ)) (r : Rule) : Type 0 where
+  pub words_are : words_of r ≡ words
+  pub formed : IsFormed r
+
+record AreOwners (words owners : List (List ℕ)) : Type 0 where
+  is : codes "only" ∷ owners ≡ words
+  some : 0 < length owners
+
+owners_told : (words owners : List (List ℕ)) → owners_in words ≡ Some owners → AreOwners words owners
+owners_told [] owners found = absurd (let bad : None ≡ Some owners = found in cc)
+owners_told (w ∷ ws) owners found =
+    elim (bool_tells (bytes_eq w (codes "only") && nat_lt 0 (length ws))) [
+      | inl yes_here ↦
+          let same : ws ≡ owners = (let e : Some ws ≡ Some owners = rw yes_here at found in cc) in
+          let some : 0 < length ws = elim (lt_tells 0 (length ws)) [ inl e ↦ e.1 | inr e ↦ absurd (let bad : false ≡ true = sym e.0 ∙ both_right (bytes_eq w (codes "only")) (nat_lt 0 (length ws)) yes_here in cc) ] in
+          record {
+            is = ap (λ xs. codes "only" ∷ xs) (sym same) ∙ ap (λ x. x ∷ ws) (sym (same_word w (codes "only") (both_left (bytes_eq w (codes "only")) (nat_lt 0 (length ws)) yes_here)));
+            some = subst (λ xs. 0 < length xs) same some;
+          }
+      | inr no_here ↦ absurd (let e : None ≡ Some owners = rw no_here at found in cc)
+    ]
+
+record IsOnly (words : List (List ℕ)) (o : OnlyRow) : Type 0 where
+  is : o.name ∷ codes "only" ∷ o.owners ≡ words
+  some : 0 < length o.owners
+
+-- ---- an option that was mapped
+
+mapped : {A B : Type 0} (f : A → B) (x : Option A) (y : B) → option_map f x ≡ Some y → (a : A) × (x ≡ Some a) × (f a ≡ y)
+mapped f None y e = absurd (let bad : None ≡ Some y = e in cc)
+mapped f (Some a) y e = (a, refl, (let same : Some (f a) ≡ Some y = e in cc))
+
+bound : {A B : Type 0} (f : A → Option B) (x : Option A) (y : B) → option_and_then f x ≡ Some y → (a : A) × (x ≡ Some a) × (f a ≡ Some y)
+bound f None y e = absurd (let bad : None ≡ Some y = e in cc)
+bound f (Some a) y e = (a, refl, e)
+
+-- ---- each form
+
+abbrev only_row_of : List ℕ → List (List ℕ) → OnlyRow
+only_row_of name owners = record { name = name; owners = owners }
+
+only_told : (words : List (List ℕ)) (o : OnlyRow) → only_in words ≡ Some o → IsOnly words o
+only_told [] o found = absurd (let bad : None ≡ Some o = found in cc)
+only_told (w ∷ ws) o found =
+    let from = mapped (only_row_of w) (owners_in ws) o found in
+    let told : AreOwners ws from.0 = owners_told ws from.0 from.1 in
+    subst (λ (x : OnlyRow). IsOnly (w ∷ ws) x) from.2 (record { is = ap (λ xs. w ∷ xs) told.is; some = told.some })
+
+-- what a form after its first word stands for
+record IsAfter (head : List ℕ) (words : List (List ℕ)) (r : Rule) : Type 0 where
+  is : words_of r ≡ head ∷ words
+  formed : IsFormed r
+
+device_told : (words : List (List ℕ)) (r : Rule) → device_in words ≡ Some r → IsAfter (codes "device") words r
+device_told words r found =
+    let from = mapped (λ (o : OnlyRow). Device o.name o.owners) (only_in words) r found in
+    let told : IsOnly words from.0 = only_told words from.0 from.1 in
+    subst (λ x. IsAfter (codes "device") words x) from.2 (record { is = ap (λ xs. codes "device" ∷ xs) told.is; formed = told.some })
+
+shared_told : (words : List (List ℕ)) (r : Rule) → shared_in words ≡ Some r → IsAfter (codes "shared") words r
+shared_told words r found =
+    let from = mapped (λ (o : OnlyRow). Shared o.name o.owners) (only_in words) r found in
+    let told : IsOnly words from.0 = only_told words from.0 from.1 in
+    subst (λ x. IsAfter (codes "shared") words x) from.2 (record { is = ap (λ xs. codes "shared" ∷ xs) told.is; formed = told.some })
+
+service_told : (words : List (List ℕ)) (r : Rule) → service_in words ≡ Some r → IsAfter (codes "service") words r
+service_told words r found =
+    let from = mapped (λ (o : OnlyRow). Service o.name o.owners) (only_in words) r found in
+    let told : IsOnly words from.0 = only_told words from.0 from.1 in
+    subst (λ x. IsAfter (codes "service") words x) from.2 (record { is = ap (λ xs. codes "service" ∷ xs) told.is; formed = told.some })
+
+call_told : (words : List (List ℕ)) (r : Rule) → call_in words ≡ Some r → IsAfter (codes "call") words r
+call_told words r found =
+    let from = bound call_by (only_in words) r found in
+    let told : IsOnly words from.0 = only_told words from.0 from.1 in
+    let by = mapped (λ (s : SidesRow). Call s.compartment s.export from.0.owners) (sides_in from.0.name) r from.2 in
+    let point : IsDotted from.0.name by.0 = sides_found from.0.name by.0 by.1 in
+    subst (λ x. IsAfter (codes "call") words x) by.2 (record {
+      is = ap (λ x. codes "call" ∷ x ∷ codes "only" ∷ from.0.owners) point.is ∙ ap (λ xs. codes "call" ∷ xs) told.is;
+      formed = (point.left, point.right, told.some);
+    })
+
+disabled_told : (words : List (List ℕ)) (r : Rule) → disabled_in words ≡ Some r → IsAfter (codes "disabled") words r
+disabled_told words r found =
+    let from = mapped (λ owners. Disabled owners) (owners_in words) r found in
+    let told : AreOwners words from.0 = owners_told words from.0 from.1 in
+    subst (λ x. IsAfter (codes "disabled") words x) from.2 (record { is = ap (λ xs. codes "disabled" ∷ xs) told.is; formed = told.some })
+
+data_told : (words : List (List ℕ)) (r : Rule) → data_in words ≡ Some r → IsAfter (codes "data") words r
+data_told [] r found = absurd (let bad : None ≡ Some r = found in cc)
+data_told (x ∷ y ∷ ys) r found = absurd (let bad : None ≡ Some r = found in cc)
+data_told (x ∷ []) r found =
+    let from = mapped (λ (s : SidesRow). Data s.compartment s.export) (sides_in x) r found in
+    let point : IsDotted x from.0 = sides_found x from.0 from.1 in
+    subst (λ r. IsAfter (codes "data") (x ∷ []) r) from.2 (record {
+      is = ap (λ w. codes "data" ∷ w ∷ []) point.is;
+      formed = (point.left, point.right);
+    })
+
+quota_row : (owner text : List ℕ) (n : ℕ) → n ≤ MOST_TOTAL → decimal n ≡ text → IsAfter (codes "quota") (owner ∷ text ∷ []) (quota_by owner n)
+quota_row owner text n small is =
+    elim (bool_tells (bytes_eq owner total)) [
+      | inl yes_here ↦ rw yes_here (record {
+        is = ap (λ o. codes "quota" ∷ o ∷ decimal n ∷ []) (sym (same_word owner total yes_here)) ∙ ap (λ t. codes "quota" ∷ owner ∷ t ∷ []) is;
+        formed = small;
+      })
+      | inr no_here ↦ rw no_here (record {
+        is = ap (λ t. codes "quota" ∷ owner ∷ t ∷ []) is;
+        formed = (λ same. absurd (let bad : true ≡ false = sym ((bytes_eq-Decides owner total).1 same) ∙ no_here in cc), small);
+      })
+    ]
+
+quota_told : (words : List (List ℕ)) (r : Rule) → quota_in words ≡ Some r → IsAfter (codes "quota") words r
+quota_told [] r found = absurd (let bad : None ≡ Some r = found in cc)
+quota_told (x ∷ []) r found = absurd (let bad : None ≡ Some r = found in cc)
+quota_told (x ∷ y ∷ z ∷ zs) r found = absurd (let bad : None ≡ Some r = found in cc)
+quota_told (owner ∷ text ∷ []) r found =
+    let from = mapped (quota_by owner) (number_in text) r found in
+    let told = number_told text from.0 from.1 in
+    subst (λ x. IsAfter (codes "quota") (owner ∷ text ∷ []) x) from.2 (quota_row owner text from.0 told.small told.is)
+
+apart_told : (words : List (List ℕ)) (r : Rule) → apart_in words ≡ Some r → IsAfter (codes "apart") words r
+apart_told [] r found = absurd (let bad : None ≡ Some r = found in cc)
+apart_told (x ∷ []) r found = absurd (let bad : None ≡ Some r = found in cc)
+apart_told (x ∷ y ∷ z ∷ zs) r found = absurd (let bad : None ≡ Some r = found in cc)
+apart_told (owner ∷ compartment ∷ []) r found =
+    let same : Apart owner compartment ≡ r = (let e : Some (Apart owner compartment) ≡ Some r = found in cc) in
+    subst (λ x. IsAfter (codes "apart") (owner ∷ compartment ∷ []) x) same (record { is = refl; formed = tt })
+
+-- ---- all forms
+
+said : (head key : List ℕ) (words : List (List ℕ)) (r : Rule) → bytes_eq head key ≡ true → IsAfter key words r → IsSaid (head ∷ words) r
+said head key words r same after = record { words_are = after.is ∙ ap (λ h. h ∷ words) (sym (same_word head key same)); formed = after.formed }
+
+-- the rule by the first of these words that it is
+last_forms : (head : List ℕ) (words : List (List ℕ)) (r : Rule)
+    → bytes_eq head (codes "device") ≡ false → bytes_eq head (codes "shared") ≡ false → bytes_eq head (codes "service") ≡ false → bytes_eq head (codes "call") ≡ false
+    → form_by head words ≡ Some r → IsSaid (head ∷ words) r
+last_forms head words r device shared service call found =
+    elim (bool_tells (bytes_eq head (codes "disabled"))) [
+      | inl a ↦ said head (codes "disabled") words r a (disabled_told words r (rw (device, shared, service, call, a) at found))
+      | inr disabled ↦ elim (bool_tells (bytes_eq head (codes "data"))) [
+        | inl a ↦ said head (codes "data") words r a (data_told words r (rw (device, shared, service, call, disabled, a) at found))
+        | inr facts ↦ elim (bool_tells (bytes_eq head (codes "quota"))) [
+          | inl a ↦ said head (codes "quota") words r a (quota_told words r (rw (device, shared, service, call, disabled, facts, a) at found))
+          | inr quota ↦ elim (bool_tells (bytes_eq head (codes "apart"))) [
+            | inl a ↦ said head (codes "apart") words r a (apart_told words r (rw (device, shared, service, call, disabled, facts, quota, a) at found))
+            | inr apart ↦ absurd (let bad : None ≡ Some r = rw (device, shared, service, call, disabled, facts, quota, apart) at found in cc)
+          ]
+        ]
+      ]
+    ]
+
+by_told : (head : List ℕ) (words : List (List ℕ)) (r : Rule) → form_by head words ≡ Some r → IsSaid (head ∷ words) r
+by_told head words r found =
+    elim (bool_tells (bytes_eq head (codes "device"))) [
+      | inl a ↦ said head (codes "device") words r a (device_told words r (rw a at found))
+      | inr device ↦ elim (bool_tells (bytes_eq head (codes "shared"))) [
+        | inl a ↦ said head (codes "shared") words r a (shared_told words r (rw (device, a) at found))
+        | inr shared ↦ elim (bool_tells (bytes_eq head (codes "service"))) [
+          | inl a ↦ said head (codes "service") words r a (service_told words r (rw (device, shared, a) at found))
+          | inr service ↦ elim (bool_tells (bytes_eq head (codes "call"))) [
+            | inl a ↦ said head (codes "call") words r a (call_told words r (rw (device, shared, service, a) at found))
+            | inr call ↦ last_forms head words r device shared service call found
+          ]
+        ]
+      ]
+    ]
+
+pub form_told : (words : List (List ℕ)) (r : Rule) → form_of words ≡ Some r → IsSaid words r
+form_told [] r found = absurd (let bad : None ≡ Some r = found in cc)
+form_told (head ∷ words) r found = by_told head words r found
