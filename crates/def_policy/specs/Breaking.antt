@@ -60,17 +60,19 @@ is_held (Call n) x g = is_call x.kind && (x.of == n)
 is_held Disabled x g = is_export x.kind && is_disabled g.posture
 is_held _ x g = false
 
+abbrev pub breaks_by : Subject → List Owner → ℕ → ℕ → Entry → Gate → Bool
+breaks_by (Data n) owners number sum x g =
+    (number == n) && (is_export x.kind && g.capabilities)
+breaks_by (Total n) owners number sum x g = is_quota x.kind && nat_lt n sum
+breaks_by (Quota o n) owners number sum x g =
+    (is_quota x.kind && same_owner x.owner o) && nat_lt n sum
+breaks_by (Apart o b) owners number sum x g = false
+breaks_by s owners number sum x g = is_held s x g && not (is_listed owners x.owner)
+
 -- Whether the entry of this number breaks a rule; `sum` is what a rule on quotas counts of the entries
 -- up to this one.
 abbrev pub breaks : Ruling → ℕ → ℕ → Entry → Gate → Bool
-breaks r number sum x g = breaks_by r.subject
-  where
-    breaks_by : Subject → Bool
-    breaks_by (Data n) = (number == n) && (is_export x.kind && g.capabilities)
-    breaks_by (Total n) = is_quota x.kind && nat_lt n sum
-    breaks_by (Quota o n) = (is_quota x.kind && same_owner x.owner o) && nat_lt n sum
-    breaks_by (Apart o b) = false
-    breaks_by s = is_held s x g && not (is_listed r.owners x.owner)
+breaks r number sum x g = breaks_by r.subject r.owners number sum x g
 
 -- ---- all entries
 
