@@ -25,8 +25,8 @@ use Rattle.def_step.specs.Instructions.{Board, space_of}
 use Rattle.def_confined.specs.Confined.{Confined}
 use Rattle.def_hidden.specs.Hidden.{Shut, Blank, is_hidden}
 use Rattle.law_shut.proofs.Seeing.{register_sees}
-use Rattle.law_events.proofs.Checking.{AllPass}
-use Rattle.law_events.proofs.Accesses.{StorePasses, HasWidth, all_pass, width_of, store_passes, when_false}
+use Rattle.law_licensed.proofs.Checks.{AllPass, all_pass}
+use Rattle.law_events.proofs.Accesses.{StorePasses, HasWidth, width_of, store_passes, when_false}
 
 -- granules of which those that are hidden are zero
 abbrev pub BlankIn : Board → State → List Granule → Type 0

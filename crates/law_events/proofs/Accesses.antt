@@ -44,7 +44,7 @@ use Rattle.law_sweeps.proofs.Moves.{RamLeft, ram_same, set_left}
 use Rattle.def_confined.specs.Swept.{HasUnpainted}
 use Rattle.law_jumps.proofs.Moves.{jumps_confined}
 use Rattle.law_made.proofs.Results.{attenuated_derived, attenuated_carries}
-use Rattle.law_events.proofs.Checking.{AllPass}
+use Rattle.law_licensed.proofs.Checks.{AllPass, all_pass}
 use Rattle.def_confined.specs.Changes.{Puts}
 use Rattle.law_registers.proofs.Moves.{untagged_puts}
 use Rattle.law_events.proofs.Goings.{Fetching}
@@ -83,14 +83,6 @@ pub store_passes : (a : Access) (x : Cap) (at : ℕ) (carries : Bool) → AllPas
 store_passes a x at carries h =
     let range = range_says x at (at + a.width) h.1.1.1.1.0 in
     record { tagged = h.0; stores = h.1.1.0; may_carry = carry_says carries (has x memory_capability) h.1.1.1.0; low = range.0; high = range.1; aligned = eqb-true (at % a.width) 0 h.1.1.1.1.1.0 }
-
-pub all_pass : (cs : List Check) → first_failed cs ≡ None → AllPass cs
-all_pass [] e = tt
-all_pass (c ∷ cs) e = by_test c.0 refl e (λ later. all_pass cs later)
-  where
-    by_test : (b : Bool) → c.0 ≡ b → (if b then first_failed cs else Some c.1) ≡ None → (first_failed cs ≡ None → AllPass cs) → AllPass (c ∷ cs)
-    by_test true is e rest = (is, rest e)
-    by_test false is e rest = absurd (let clash : Some c.1 ≡ None = e in cc)
 
 -- ---- the widths of accesses
 

@@ -12,7 +12,7 @@ use Rattle.def_words.specs.LeastBounds.{rounded_of}
 use Rattle.def_reach.specs.Roots.{Root, Origin, Unknown, TrustedPart, Listing, root_of, gate_for, is_native, is_stack}
 use Rattle.def_machine.specs.Image.{root, made_cap, code_entry}
 use Rattle.def_confined.specs.Capabilities.{is_home, is_compartments}
-use Rattle.def_facts.specs.Facts.{Facts, HasCapability, IsCompartmentExport, IsLibraryExport, GateFits, IsInside, Reads, gate_code}
+use Rattle.def_facts.specs.Facts.{Facts, HasCapability, IsCompartmentExport, IsLibraryExport, GateFits, StackFits, IsInside, Reads, gate_code}
 use Rattle.def_image.specs.declared.ImportRow.{ImportRow}
 use Rattle.def_image.specs.declared.SlotKind.{SlotKind}
 use Rattle.def_image.specs.declared.SlotKind.TheVariants as slot
@@ -31,6 +31,7 @@ use Rattle.law_grants.proofs.Told.{LiesAs, of_nothing, in_ram, native, device, o
 use Rattle.law_grants.proofs.Imports.{named, library_low, library_high}
 use Rattle.law_grants.proofs.Clauses.{told_at, away_of, roots_away, call_sealed, quota_sealed}
 use Rattle.law_grants.proofs.Own.{code_entry_is}
+use Rattle.law_grants.proofs.Settling.{settled as made_settled}
 
 -- ---- what has a capability
 
@@ -148,23 +149,25 @@ module _ (p : PartsRow) (s : Sound p) where
 
   -- ---- stacks
 
-  stack_exact : (n : ℕ) → EntryIs p n → (root_of (entries_of p) n).origin ≡ Listing kind.Stack → (rounded_of (root_of (entries_of p) n).base (root_of (entries_of p) n).top).exact ≡ true
-  stack_exact n (is_nothing root_is gate_is made_is) e = not_listed (root_of (entries_of p) n) Unknown (Listing kind.Stack) (ap (λ (z : Root). z.origin) root_is) refl refl e
-  stack_exact n (is_trusted number root_is gate_is made_is) e = not_listed (root_of (entries_of p) n) TrustedPart (Listing kind.Stack) (ap (λ (z : Root). z.origin) root_is) refl refl e
-  stack_exact n (is_code b c h number) e = otherwise p n _ _ _ _ number h.code refl refl e
-  stack_exact n (is_globals b c h number) e = otherwise p n _ _ _ _ number h.globals refl refl e
-  stack_exact n (is_slot b c j x h is number) e = otherwise p n _ _ _ _ number (h.slot j x is) (slot_kind p _ _ x.row x.row.kind) refl e
-  stack_exact n (is_export b c j x h is number) e =
+  stack_fits : (n : ℕ) → EntryIs p n → (root_of (entries_of p) n).origin ≡ Listing kind.Stack → StackFits (root_of (entries_of p) n)
+  stack_fits n (is_nothing root_is gate_is made_is) e = not_listed (root_of (entries_of p) n) Unknown (Listing kind.Stack) (ap (λ (z : Root). z.origin) root_is) refl refl e
+  stack_fits n (is_trusted number root_is gate_is made_is) e = not_listed (root_of (entries_of p) n) TrustedPart (Listing kind.Stack) (ap (λ (z : Root). z.origin) root_is) refl refl e
+  stack_fits n (is_code b c h number) e = otherwise p n _ _ _ _ number h.code refl refl e
+  stack_fits n (is_globals b c h number) e = otherwise p n _ _ _ _ number h.globals refl refl e
+  stack_fits n (is_slot b c j x h is number) e = otherwise p n _ _ _ _ number (h.slot j x is) (slot_kind p _ _ x.row x.row.kind) refl e
+  stack_fits n (is_export b c j x h is number) e =
       let clash : Listing kind.Export ≡ Listing kind.Stack = sym (ap (λ (z : Root). z.origin) (h.export j x is).root_is) ∙ sym (ap (λ k. (root_of (entries_of p) k).origin) number) ∙ e in
       no_way (ap is_stack clash)
-  stack_exact n (is_library l c h number) e = otherwise p n _ _ _ _ number h.code refl refl e
-  stack_exact n (is_library_slot l c j x h is number) e = otherwise p n _ _ _ _ number (h.slot j x is) (slot_kind p _ _ x.row x.row.kind) refl e
-  stack_exact n (is_library_export l c j x h is number) e =
+  stack_fits n (is_library l c h number) e = otherwise p n _ _ _ _ number h.code refl refl e
+  stack_fits n (is_library_slot l c j x h is number) e = otherwise p n _ _ _ _ number (h.slot j x is) (slot_kind p _ _ x.row x.row.kind) refl e
+  stack_fits n (is_library_export l c j x h is number) e =
       let clash : Listing kind.Export ≡ Listing kind.Stack = sym (ap (λ (z : Root). z.origin) (h.export j x is).root_is) ∙ sym (ap (λ k. (root_of (entries_of p) k).origin) number) ∙ e in
       no_way (ap is_stack clash)
-  stack_exact n (of_stack t x h number) e =
+  stack_fits n (of_stack t x h number) e =
       let own : root_of (entries_of p) n ≡ _ = ap (λ k. root_of (entries_of p) k) number ∙ h.row.root_is in
-      ap (λ (z : Root). (rounded_of z.base z.top).exact) own ∙ (stack_there p s t x h.there).exact
+      let lies = stack_there p s t x h.there in
+      let few = (s.thread t x h.there).stack.1 in
+      subst StackFits (sym own) (record { order = omega arith; exact = lies.exact; even = lies.even; short = omega (arith, few) })
 
   -- ---- ranges
 
@@ -210,9 +213,9 @@ module _ (p : PartsRow) (s : Sound p) where
   unfolding image_of
   gates n is = gate_fits n (entry_of p n) is
 
-  stacks : (n : ℕ) → (root (image_of p) n).origin ≡ Listing kind.Stack → (rounded_of (root (image_of p) n).base (root (image_of p) n).top).exact ≡ true
+  stacks : (n : ℕ) → (root (image_of p) n).origin ≡ Listing kind.Stack → StackFits (root (image_of p) n)
   unfolding image_of
-  stacks n is = stack_exact n (entry_of p n) is
+  stacks n is = stack_fits n (entry_of p n) is
 
   natives : (n x : ℕ) → is_native (root (image_of p) n).origin ≡ false → Reads (root (image_of p) n) → IsInside (root (image_of p) n) x → (x < NATIVE_BASE) ⊎ (NATIVE_END ≤ x)
   natives n x other reads inside = native_away _ _ _ x (told_at p s n).lies other inside.0 inside.1
@@ -229,4 +232,5 @@ module _ (p : PartsRow) (s : Sound p) where
     natives = natives;
     heap = heap_away;
     away = roots_away p s;
+    settled = made_settled p;
   }

@@ -104,7 +104,7 @@ status_keeps i s t status w k x = record {
 
 -- ---- a push
 
-zeroed_left : (i : Image) (s : State) (t high : ℕ) → RamLeft i s (zeroed_from (stack_base i t) high i.ram s.granules)
+pub zeroed_left : (i : Image) (s : State) (t high : ℕ) → RamLeft i s (zeroed_from (stack_base i t) high i.ram s.granules)
 zeroed_left i s t high = record {
   size = zeroed_length (stack_base i t) high i.ram s.granules;
   swept = λ h k passed. zeroed_at (stack_base i t) high i.ram s.granules k (λ g. HasUnpainted i s.objects g.cap) (λ low below tagged. absurd (let clash : false ≡ true = tagged in cc)) (λ outside. h.granules k passed);

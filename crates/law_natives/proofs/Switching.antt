@@ -17,8 +17,7 @@ use Rattle.def_confined.specs.Capabilities.{IsReturnType}
 use Rattle.def_step.specs.Checks.{Check, first_failed}
 use Rattle.def_step.specs.Switch.{Switched, Trapped, TooDeep, NoStack, Enters, return_checks, gate_checks, stack_checks, switch_checks, new_top, called, with_room, with_depth, past_checks, frame_top}
 use Rattle.def_step.specs.Routines.{Ran, Traps, Leaves, tells, code, enters, switched_to, switch}
-use Rattle.law_events.proofs.Checking.{AllPass}
-use Rattle.law_events.proofs.Accesses.{all_pass}
+use Rattle.law_licensed.proofs.Checks.{AllPass, all_pass}
 use Rattle.law_natives.specs.Clean.{high_of}
 
 abbrev pub callee_of : Image → ℕ → ℕ
