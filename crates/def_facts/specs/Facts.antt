@@ -7,7 +7,7 @@ use Rattle.def_profile.specs.declared.layout.TheConstants.{REGION_UNIT}
 use Rattle.def_profile.specs.declared.limits.TheConstants.{MOST_STACK_REGION}
 use Rattle.def_profile.specs.declared.native.TheConstants.{NATIVE_BASE, NATIVE_END}
 use Rattle.def_profile.specs.declared.seals.TheConstants.{EXPORT_TYPE, QUOTA_TYPE}
-use Rattle.def_words.specs.Capability.{IsSettled}
+use Rattle.def_words.specs.Capability.{IsSettled, with_address}
 use Rattle.def_words.specs.LeastBounds.{rounded_of}
 use Rattle.def_words.specs.Permissions.{bit, load_data, store_data, execute}
 use Rattle.def_words.specs.Seals.{cap_seal}
@@ -46,11 +46,14 @@ pub record StackFits (r : Root) : Type 0 where
   pub even : r.base % REGION_UNIT ≡ 0
   pub short : r.top ≤ r.base + MOST_STACK_REGION
 
--- a word of its owner's code: a library's export has the range of that code itself
+-- a word of its owner's code: a library's export has the range of that code itself, and a compartment's code is tagged at
+-- that word
 pub record GateFits (i : Image) (n : ℕ) : Type 0 where
   pub even : gate_code i n % 4 ≡ 0
   pub compartment : (b : ℕ) → (root i n).owner ≡ Compartment b
       → IsInside (root i (code_entry i b)) (gate_code i n)
+  pub begins : (b : ℕ) → (root i n).owner ≡ Compartment b
+      → (with_address (made_cap i (code_entry i b)) (gate_code i n)).tag ≡ true
   pub library : (l : ℕ) → (root i n).owner ≡ Library l → IsInside (root i n) (gate_code i n)
 
 -- ---- what boot makes

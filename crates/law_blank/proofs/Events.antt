@@ -105,10 +105,10 @@ class_blank b s t class.Call k to m n r = tt
 class_blank b s t class.Break k to m n r = tt
 
 -- a routine changes RAM and objects by a call, an allocation or a free alone
-moves_blank : (b : Board) (s : State) (t : ℕ) → Reaching b s t → Moves (Blank b.image) b.image s t
+moves_blank : (b : Board) (s : State) (t : ℕ) → Reaching b s t → Moves (λ z told. Blank b.image z) b.image s t
 moves_blank b s t r = record {
   tells = λ n. r.blank;
-  enters = λ export high. zeroed_blank b.image s t high r.blank;
+  enters = λ high. zeroed_blank b.image s t high r.blank;
   stops = λ status. r.blank;
   wakes = λ address most. r.blank;
   hands = λ size o is. object_blank b.image s o r.blank;
@@ -148,11 +148,14 @@ continued_blank : (b : Board) (s : State) (o : Option ℕ) → s.running ≡ o �
 continued_blank b s None runs shut held h = h
 continued_blank b s (Some t) runs shut held h = executed_blank b s t (record { shut = shut; held = held; runs = runs; blank = h })
 
+pub ready_blank : (b : Board) (s : State) → Blank b.image s → Blank b.image (scheduled b (preempted (one_more_step s)))
+ready_blank b s h =
+    let before : Blank b.image (preempted (one_more_step s)) = preempted_blank b.image (one_more_step s) s.running h in
+    scheduled_blank b (preempted (one_more_step s)) (preempted (one_more_step s)).running before
+
 stepped_blank : (b : Board) (s : State) → Partitioned b.image → Shut b.image → Confined b.image s → Blank b.image s → Blank b.image (stepped b s).0
 stepped_blank b s parts shut held h =
-    let before : Blank b.image (preempted (one_more_step s)) = preempted_blank b.image (one_more_step s) s.running h in
-    let turn : Blank b.image (scheduled b (preempted (one_more_step s))) = scheduled_blank b (preempted (one_more_step s)) (preempted (one_more_step s)).running before in
-    continued_blank b (scheduled b (preempted (one_more_step s))) (scheduled b (preempted (one_more_step s))).running refl shut (ready_kept b s parts held).confined turn
+    continued_blank b (scheduled b (preempted (one_more_step s))) (scheduled b (preempted (one_more_step s))).running refl shut (ready_kept b s parts held).confined (ready_blank b s h)
 
 -- ---- a tick
 

@@ -42,8 +42,8 @@ ends_counts b s t x (Err why) = unwound_counts b.image s t (thread s t).frames
 ends_counts b s t x (Ok d) = refl
 
 -- a routine counts nothing
-moves_count : (i : Image) (s : State) (t : ℕ) → Moves (λ z. z.counts ≡ s.counts) i s t
-moves_count i s t = record { tells = λ n. refl; enters = λ export high. refl; stops = λ status. refl; wakes = λ address most. refl; hands = λ size r is. refl; gives = λ r is. refl }
+moves_count : (i : Image) (s : State) (t : ℕ) → Moves (λ z told. z.counts ≡ s.counts) i s t
+moves_count i s t = record { tells = λ n. refl; enters = λ high. refl; stops = λ status. refl; wakes = λ address most. refl; hands = λ size r is. refl; gives = λ r is. refl }
 
 next_counts : (b : Board) (s : State) (t : ℕ) → (goes_on b s t (next_at (space_of b s) (cap_address (thread s t).pcc))).0.counts ≡ s.counts
 next_counts b s t = by_next (λ (n : Next). (goes_on b s t n).0.counts ≡ s.counts) (space_of b s) (cap_address (thread s t).pcc)

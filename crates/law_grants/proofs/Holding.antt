@@ -17,7 +17,7 @@ use Rattle.def_image.specs.declared.ImportRow.{ImportRow}
 use Rattle.def_image.specs.declared.SlotKind.{SlotKind}
 use Rattle.def_image.specs.declared.SlotKind.TheVariants as slot
 use Rattle.def_image.specs.Parts.{GateRow, CodeRow, CompartmentRow, PartsRow}
-use Rattle.def_image.specs.Members.{text_base, gate_number, library_gate_number}
+use Rattle.def_image.specs.Members.{text_base, code_number, gate_number, library_gate_number}
 use Rattle.def_image.specs.Sound.{Sound}
 use Rattle.def_boot.specs.Entries.{slot_row}
 use Rattle.def_boot.specs.Gates.{entries_of, gates_of}
@@ -26,7 +26,15 @@ use Rattle.law_listed.specs.Rows.{HasRow, HasCompartment, HasLibrary, EntryIs, i
 use Rattle.law_listed.proofs.Listing.{entry_of}
 use Rattle.law_grants.specs.Fits.{Lies}
 use Rattle.law_grants.proofs.Lying.{own_there, library_there, stack_there}
-use Rattle.law_grants.proofs.Sets.{no_way}
+use Rattle.def_profile.specs.declared.rights.TheConstants.{CODE_RIGHTS}
+use Rattle.def_words.specs.declared.Cap.{Cap}
+use Rattle.def_words.specs.Capability.{with_address}
+use Rattle.def_words.specs.Derive.{derive, executable_root}
+use Rattle.def_boot.specs.Made.{from_entry, made_for}
+use Rattle.law_words.proofs.Rights.{executable_is_root}
+use Rattle.law_grants.proofs.Entering.{made_again}
+use Rattle.law_grants.proofs.Making.{code_made, inside_made}
+use Rattle.law_grants.proofs.Sets.{no_way, code_set}
 use Rattle.law_grants.proofs.Told.{LiesAs, of_nothing, in_ram, native, device, of_key}
 use Rattle.law_grants.proofs.Imports.{named, library_low, library_high}
 use Rattle.law_grants.proofs.Clauses.{told_at, away_of, roots_away, call_sealed, quota_sealed}
@@ -91,6 +99,17 @@ word_in p c x lies fits even lt =
 module _ (p : PartsRow) (s : Sound p) where
   -- ---- gates
 
+  code_begins : (b : ℕ) (c : CompartmentRow) (x : ℕ) → slice_get p.compartments b ≡ Some c → c.code.base ≤ x → x < c.code.base + c.code.length
+      → (with_address (derive executable_root c.code.base c.code.length CODE_RIGHTS c.code.base 0 (from_entry (code_number p b))) x).tag ≡ true
+  code_begins b c x is from to =
+      let lies = (own_there p s b c is).code in
+      let under = lies.high in
+      let inside = s.heap.inside in
+      let small = s.ram.end in
+      made_again executable_root c.code.base c.code.length CODE_RIGHTS c.code.base x (from_entry (code_number p b)) (omega (arith, under, inside, small)) (omega (arith, under, inside, small, to))
+      (code_made p s (code_number p b) b c is).made.tagged
+      (inside_made p s executable_root c.code.base c.code.length CODE_RIGHTS x 0 (code_number p b) lies.high lies.exact executable_is_root code_set.spelled from (omega (arith, to)) (inl refl)).made.tagged
+
   own_fits : (n b : ℕ) (c : CompartmentRow) (j : ℕ) (x : GateRow) → HasCompartment p b c → slice_get c.code.exports j ≡ Some x → n ≡ gate_number p b j → GateFits (image_of p) n
   unfolding image_of entries_of
   own_fits n b c j x h is number =
@@ -106,10 +125,15 @@ module _ (p : PartsRow) (s : Sound p) where
       let high = word.high in
       let base = ap (λ (z : Root). z.base) own in
       let top = ap (λ (z : Root). z.top) own in
+      let made : made_cap (image_of p) (code_entry (image_of p) b) ≡ derive executable_root c.code.base c.code.length CODE_RIGHTS c.code.base 0 (from_entry (code_number p b)) =
+      ap (λ k. made_for p k) (code_entry_is p b (slice_get_within p.compartments b c h.there)) ∙ h.code.made_is in
+      let B : ℕ → Type 0 = λ k. (with_address (made_cap (image_of p) (code_entry (image_of p) k)) (gate_code (image_of p) n)).tag ≡ true in
+      let begins : B b = subst (λ a. (with_address (made_cap (image_of p) (code_entry (image_of p) b)) a).tag ≡ true) (sym code) (subst (λ (d : Cap). (with_address d (text_base c.code + x.row.offset)).tag ≡ true) (sym made) (code_begins b c (text_base c.code + x.row.offset) h.there low high)) in
       let inside : I b = (subst (λ a. a ≤ gate_code (image_of p) n) (sym base) (subst (λ a. c.code.base ≤ a) (sym code) low), subst (λ a. gate_code (image_of p) n < a) (sym top) (subst (λ a. a < c.code.base + c.code.length) (sym code) high)) in
       record {
         even = subst (λ a. a % 4 ≡ 0) (sym code) word.even;
         compartment = λ k owner. (let both : Compartment b ≡ Compartment k = sym whose ∙ owner in let same : b ≡ k = cc in subst I same inside);
+        begins = λ k owner. (let both : Compartment b ≡ Compartment k = sym whose ∙ owner in let same : b ≡ k = cc in subst B same begins);
         library = λ l owner. absurd (let both : Compartment b ≡ Library l = sym whose ∙ owner in cc);
       }
 
@@ -130,6 +154,7 @@ module _ (p : PartsRow) (s : Sound p) where
       record {
         even = subst (λ a. a % 4 ≡ 0) (sym code) word.even;
         compartment = λ k owner. absurd (let both : Library l ≡ Compartment k = sym whose ∙ owner in cc);
+        begins = λ k owner. absurd (let both : Library l ≡ Compartment k = sym whose ∙ owner in cc);
         library = λ k owner. (subst (λ a. a ≤ gate_code (image_of p) n) (sym base) (subst (λ a. c.base ≤ a) (sym code) low), subst (λ a. gate_code (image_of p) n < a) (sym top) (subst (λ a. a < c.base + c.length) (sym code) high));
       }
 

@@ -1,3 +1,4 @@
+pub mod Entering
 pub mod Settling
 pub mod Lying
 pub mod Sets

@@ -27,7 +27,8 @@ use Rattle.law_jumps.proofs.Moves.{in_rooted}
 use Rattle.law_memory.proofs.Authorities.{headed}
 use Rattle.law_calls.proofs.Cleans.{entry_plain, return_plain, left_plain, answer_plain, stack_zero}
 use Rattle.law_calls.specs.Cleans.{IsGiven, IsSaved}
-use Rattle.law_natives.specs.Callable.{Callable}
+use Rattle.def_facts.specs.Facts.{Facts}
+use Rattle.law_natives.proofs.Calling.{code_tagged, globals_tagged, sentry_tagged, stack_tagged}
 use Rattle.law_natives.specs.Clean.{CleanEntry, CleanReturn, StackZero, high_of, given_to}
 use Rattle.law_natives.proofs.Switching.{Told, Passed, callee_of, entered_state, switch_told, checks_say}
 
@@ -54,8 +55,8 @@ Enters i s t export after new =
     × (((register new 1).tag ≡ true) × ((register new 2).tag ≡ true) × ((register new 3).tag ≡ true))
     × ((n : ℕ) → (register new n).tag ≡ true → IsGiven (given_to i s t export) n (register new n))
 
-pub enters_clean : (i : Image) (s after : State) (t entry export : ℕ) → Partitioned i → Callable i → Keeps i s → s.running ≡ Some t → switch i s t ≡ Leaves after (Some (entry, Call export)) → (root i export).passes ≡ false → CleanEntry i s t export after
-enters_clean i s after t entry export parts calls k runs e plain_one =
+pub enters_clean : (i : Image) (s after : State) (t entry export : ℕ) → Partitioned i → Facts i → Keeps i s → s.running ≡ Some t → switch i s t ≡ Leaves after (Some (entry, Call export)) → (root i export).passes ≡ false → CleanEntry i s t export after
+enters_clean i s after t entry export parts facts k runs e plain_one =
     let told = switch_told i s after t entry export e in
     let says = checks_say i s t told.passes in
     let h = k.confined in
@@ -64,17 +65,17 @@ enters_clean i s after t entry export parts calls k runs e plain_one =
     let holds : FramesHold i s.objects t (head.0 ∷ head.1.0) = subst (λ (fs : List Frame). FramesHold i s.objects t fs) frames (k.confined.frames t) in
     let gate : Rooted i (register (thread s t) 6) = in_rooted i s.objects t (thread s t).frames (register (thread s t) 6) (k.confined.registers t 6) says.gate_tagged in
     let call_is : (root i (register (thread s t) 6).shadow.root).origin ≡ Listing kind.Call = gate.calls says.gate_sealed in
-    let owner = calls.exports (register (thread s t) 6).shadow.root call_is in
+    let owner = (facts.called (register (thread s t) 6).shadow.root call_is).owner_is in
     let owner_is : (root i (root i (register (thread s t) 6).shadow.root).of).owner ≡ Compartment owner.0 = owner.1 in
     let callee : owner.0 ≡ callee_of i (called i.entries (thread s t)) = ap compartment_of (sym owner_is) in
     let below : cap_address (register (thread s t) 2) ≤ stack_top i t = (let top : frame_top (thread s t).frames ≡ head.0.top = ap frame_top frames in let high = holds.0.high in let under = says.stack_high in omega (arith, top, high, under)) in
-    let code_tagged : (given_to i s t (called i.entries (thread s t))).pcc.tag ≡ true = subst (λ b. (with_address (made_cap i (code_entry i b)) (gate_for i.entries.gates (called i.entries (thread s t))).code).tag ≡ true) callee (calls.code (register (thread s t) 6).shadow.root owner.0 call_is owner_is) in
-    let globals_tagged : (given_to i s t (called i.entries (thread s t))).globals.tag ≡ true = subst (λ b. (made_cap i (globals_entry i b)).tag ≡ true) callee (calls.globals (register (thread s t) 6).shadow.root owner.0 call_is owner_is) in
-    let stack_tagged : (given_to i s t (called i.entries (thread s t))).stack.tag ≡ true = calls.stacks t (cap_address (register (thread s t) 2)) (register (thread s t) 2).shadow holds.0.stack says.stack_low below in
+    let code_there : (given_to i s t (called i.entries (thread s t))).pcc.tag ≡ true = subst (λ b. (with_address (made_cap i (code_entry i b)) (gate_for i.entries.gates (called i.entries (thread s t))).code).tag ≡ true) callee (code_tagged i (register (thread s t) 6).shadow.root owner.0 facts call_is owner_is) in
+    let globals_there : (given_to i s t (called i.entries (thread s t))).globals.tag ≡ true = subst (λ b. (made_cap i (globals_entry i b)).tag ≡ true) callee (globals_tagged i (root i (register (thread s t) 6).shadow.root).of owner.0 parts facts owner_is) in
+    let stack_there : (given_to i s t (called i.entries (thread s t))).stack.tag ≡ true = stack_tagged i t (cap_address (register (thread s t) 2)) (register (thread s t) 2).shadow parts facts holds.0.stack says.stack_low below in
     let same : called i.entries (thread s t) ≡ export = sym told.export_is in
     let fresh : Enters i s t export after (entered i (thread s t) (callee_of i export) export (high_of i s t) (given_to i s t export)) = (
-      (subst (λ x. (given_to i s t x).pcc.tag ≡ true) same code_tagged, refl),
-      (calls.sentry, subst (λ x. (given_to i s t x).stack.tag ≡ true) same stack_tagged, subst (λ x. (given_to i s t x).globals.tag ≡ true) same globals_tagged),
+      (subst (λ x. (given_to i s t x).pcc.tag ≡ true) same code_there, refl),
+      (sentry_tagged i facts, subst (λ x. (given_to i s t x).stack.tag ≡ true) same stack_there, subst (λ x. (given_to i s t x).globals.tag ≡ true) same globals_there),
       λ n tagged. entry_plain i (thread s t) (callee_of i export) export (high_of i s t) (given_to i s t export) plain_one n tagged,
     ) in
     let there : thread (entered_state i s t export) t ≡ entered i (thread s t) (callee_of i export) export (high_of i s t) (given_to i s t export) =

@@ -1,5 +1,6 @@
 pub mod Switching
 pub mod Hiding
+pub mod Calling
 pub mod Cleans
 pub mod Handing
 pub mod Answering

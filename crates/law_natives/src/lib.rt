@@ -15,7 +15,6 @@ ghost use Rattle.def_machine.specs.State.{State, Frame, thread};
 ghost use Rattle.def_step.specs.Quotas.{allocate, free, remaining};
 ghost use Rattle.def_step.specs.Routines.{Leaves, switch, sleep, yield, wait, wake};
 ghost use Rattle.def_facts.specs.Facts.{Facts, RootsAway};
-ghost use Rattle.law_natives.specs.Callable.{Callable};
 ghost use Rattle.law_natives.specs.Clean.{CleanEntry, CleanReturn};
 ghost use Rattle.law_natives.specs.Fresh.{HandsOut};
 ghost use Rattle.law_natives.specs.Stands.{Stands};
@@ -43,7 +42,7 @@ pub fn routines_stand()
 /// A call through an export that passes plain values enters its callee clean.
 pub fn entries_clean()
     ensures { (i : Image) (s after : State) (t entry export : ℕ)
-        → Partitioned i → Callable i → Keeps i s → s.running ≡ Some t
+        → Partitioned i → Facts i → Keeps i s → s.running ≡ Some t
         → switch i s t ≡ Leaves after (Some (entry, Call export)) → (root i export).passes ≡ false
         → CleanEntry i s t export after }
 {}

@@ -108,10 +108,10 @@ object_stays s r z none objects front =
     let added = added_stays s r none in
     stays_on s (with_object s r) z added (same_stays (with_object s r) z (record { objects = objects; front = front }))
 
-moves_stay : (i : Image) (s : State) (t : ℕ) → Moves (Stays s) i s t
+moves_stay : (i : Image) (s : State) (t : ℕ) → Moves (λ z told. Stays s z) i s t
 moves_stay i s t = record {
   tells = λ n. same_stays s _ (record { objects = refl; front = refl });
-  enters = λ export high. same_stays s _ (record { objects = refl; front = refl });
+  enters = λ high. same_stays s _ (record { objects = refl; front = refl });
   stops = λ status. same_stays s _ (record { objects = refl; front = refl });
   wakes = λ address most. same_stays s _ (record { objects = refl; front = refl });
   hands = λ size r is. object_stays s r (answers (with_object s r) t (object_cap r)) (ap (λ (o : Object). o.painted) (made_says i s (quota_in s t) size r is).is) refl refl;
@@ -149,11 +149,14 @@ continued_stays : (b : Board) (s : State) (o : Option ℕ) → Stays s (continue
 continued_stays b s None = same_stays s s (itself s)
 continued_stays b s (Some t) = let after = executed_stays b s t in record { front = after.front; rows = after.rows; waits = after.waits; painted = after.painted }
 
-pub stepped_stays : (b : Board) (s : State) → Stays s (stepped b s).0
-stepped_stays b s =
+-- before its thread carries on a step changes neither
+pub ready_same : (b : Board) (s : State) → Same s (scheduled b (preempted (one_more_step s)))
+ready_same b s =
     let before : Same s (preempted (one_more_step s)) = onward s (one_more_step s) (preempted (one_more_step s)) (record { objects = refl; front = refl }) (preempted_same (one_more_step s) s.running) in
-    let turn : Same s (scheduled b (preempted (one_more_step s))) = onward s (preempted (one_more_step s)) (scheduled b (preempted (one_more_step s))) before (scheduled_same b (preempted (one_more_step s)) (preempted (one_more_step s)).running) in
-    stays_on s (scheduled b (preempted (one_more_step s))) (stepped b s).0 (same_stays s (scheduled b (preempted (one_more_step s))) turn) (continued_stays b (scheduled b (preempted (one_more_step s))) (scheduled b (preempted (one_more_step s))).running)
+    onward s (preempted (one_more_step s)) (scheduled b (preempted (one_more_step s))) before (scheduled_same b (preempted (one_more_step s)) (preempted (one_more_step s)).running)
+
+pub stepped_stays : (b : Board) (s : State) → Stays s (stepped b s).0
+stepped_stays b s = stays_on s (scheduled b (preempted (one_more_step s))) (stepped b s).0 (same_stays s (scheduled b (preempted (one_more_step s))) (ready_same b s)) (continued_stays b (scheduled b (preempted (one_more_step s))) (scheduled b (preempted (one_more_step s))).running)
 
 interrupted_same : (s : State) (o : Option ℕ) → Same s (interrupted s o)
 interrupted_same s None = itself s

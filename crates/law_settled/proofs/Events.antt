@@ -33,6 +33,7 @@ use Rattle.def_profile.specs.declared.traps.TheConstants.{ILLEGAL_INSTRUCTION}
 use Rattle.def_words.specs.Traps.{plain_trap}
 use Rattle.def_facts.specs.Facts.{MadeSettled}
 use Rattle.def_step.specs.Routines.{answered, answers, wakes}
+use Rattle.def_step.specs.Switch.{called}
 use Rattle.def_step.specs.Quotas.{let_go}
 use Rattle.law_heap.proofs.Frees.{freed_cap}
 use Rattle.law_routines.proofs.Cases.{by_next}
@@ -219,10 +220,10 @@ freed_settled i s t r h = record {
   });
 }
 
-moves_settle : (i : Image) (s : State) (t : ℕ) → MadeSettled i → Settled s → Moves Settled i s t
+moves_settle : (i : Image) (s : State) (t : ℕ) → MadeSettled i → Settled s → Moves (λ z told. Settled z) i s t
 moves_settle i s t made h = record {
   tells = λ n. answers_settled s t (integer n) h (λ e. refl);
-  enters = λ export high. enters_settled i s t export high made h;
+  enters = λ high. enters_settled i s t (called i.entries (thread s t)) high made h;
   stops = λ status. stops_settled s t status h;
   wakes = λ address most. wakes_settled s t address most h;
   hands = λ size r is. answers_settled (with_object s r) t (object_cap r) (record { granules = h.granules; threads = h.threads }) (derives_settle _ _ _ _ _ _ _);

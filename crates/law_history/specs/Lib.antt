@@ -1,0 +1,4 @@
+pub mod Each
+pub mod Clean
+pub mod Temporal
+pub mod Chunks
