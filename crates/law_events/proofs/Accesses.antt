@@ -70,7 +70,7 @@ pub record StorePasses (a : Access) (x : Cap) (at : ℕ) (carries : Bool) : Type
 range_says : (x : Cap) (from to : ℕ) → is_range_inside x from to ≡ true → (cap_base x ≤ from) × (to ≤ cap_top x)
 range_says x from to e = let ends = and_parts (nat_le (cap_base x) from) (nat_le to (cap_top x)) e in (leb-true (cap_base x) from ends.0, leb-true to (cap_top x) ends.1)
 
-load_passes : (a : Access) (x : Cap) (at : ℕ) → AllPass (load_checks a x at) → LoadPasses a x at
+pub load_passes : (a : Access) (x : Cap) (at : ℕ) → AllPass (load_checks a x at) → LoadPasses a x at
 load_passes a x at h =
     let range = range_says x at (at + a.width) h.1.1.1.0 in
     record { tagged = h.0; loads = h.1.1.0; low = range.0; high = range.1; aligned = eqb-true (at % a.width) 0 h.1.1.1.1.0 }

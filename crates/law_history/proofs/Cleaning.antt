@@ -24,10 +24,10 @@ use Rattle.law_history.proofs.Ending.{executed_ends, unwound_is_clean}
 
 -- counts don't matter
 counted_entry : (i : Image) (s : State) (t export : ℕ) (z : State) (c : Counts) → CleanEntry i s t export z → CleanEntry i s t export (record z { counts = c })
-counted_entry i s t export z c h = record { pcc = h.pcc; tagged = h.tagged; registers = h.registers; stack = h.stack }
+counted_entry i s t export z c h = record { pcc = h.pcc; tagged = h.tagged; registers = h.registers; stack = h.stack; posture = h.posture }
 
 counted_return : (i : Image) (s : State) (t : ℕ) (f : Frame) (z : State) (c : Counts) → CleanReturn i s t f z → CleanReturn i s t f (record z { counts = c })
-counted_return i s t f z c h = record { results = h.results; pcc = h.pcc; registers = h.registers; stack = h.stack }
+counted_return i s t f z c h = record { results = h.results; pcc = h.pcc; registers = h.registers; stack = h.stack; posture = h.posture }
 
 none_told : {G : Type 0} (d : Deed) → None ≡ Some d → G
 none_told d e = absurd (let clash : None ≡ Some d = e in cc)

@@ -67,7 +67,7 @@ uses_live b s parts k = record {
 none_told : {G : Type 0} (d : Deed) → None ≡ Some d → G
 none_told d e = absurd (let clash : None ≡ Some d = e in cc)
 
-step_allocates : (b : Board) (s : State) (d : Deed) (number base long live : ℕ) → Partitioned b.image → Facts b.image → Keeps b.image s → Blank b.image s → d.act ≡ acts.Allocate number base long live → (stepped b s).1 ≡ Some d
+pub step_allocates : (b : Board) (s : State) (d : Deed) (number base long live : ℕ) → Partitioned b.image → Facts b.image → Keeps b.image s → Blank b.image s → d.act ≡ acts.Allocate number base long live → (stepped b s).1 ≡ Some d
     → HandsOut b.image (ready b s) d.thread number base long (executed b (ready b s) d.thread).0
 step_allocates b s d number base long live parts facts k blank act = step_case (λ (r : State × Option Deed). r.1 ≡ Some d → HandsOut b.image (ready b s) d.thread number base long (executed b (ready b s) d.thread).0) b s
     (λ idle e. none_told d e)

@@ -116,7 +116,7 @@ ends_tells b s t x (Ok d) h = by d.act h
   where
     by : (o : Option Act) → IfAccess o → TellsAll b s t (put_done s t d, option_map (deed s t x.shadow.root) o)
     by None h = none_tells b s t (put_done s t d)
-    by (Some a) h e is = some_same (Tells b s t (put_done s t d)) (deed s t x.shadow.root a) e is (record { thread = refl; by = access_told b.image s t (put_done s t d) x.shadow.root a h })
+    by (Some a) h = λ e is. some_same (Tells b s t (put_done s t d)) (deed s t x.shadow.root a) e is (record { thread = refl; by = access_told b.image s t (put_done s t d) x.shadow.root a h })
 
 -- ---- each routine tells acts of its own alone
 
@@ -167,7 +167,7 @@ free_by i s t z entry (acts.Trap cause code register) h e = absurd h
 ran_tells : (b : Board) (s : State) (t : ℕ) (P : Act → Type 0) (routine r : Ran) → routine ≡ r → ((z : State) (entry : ℕ) (a : Act) → P a → routine ≡ Leaves z (Some (entry, a)) → ToldBy b.image s t z entry a) → Left (IfTold P) r → TellsAll b s t (ran b s t r)
 ran_tells b s t P routine (Traps why) is by h = trap_tells b s t why
 ran_tells b s t P routine (Leaves z None) is by h = none_tells b s t z
-ran_tells b s t P routine (Leaves z (Some told)) is by h d e = some_same (Tells b s t z) (deed_told s t told) d e (record { thread = refl; by = by z told.0 told.1 h is })
+ran_tells b s t P routine (Leaves z (Some told)) is by h = λ d e. some_same (Tells b s t z) (deed_told s t told) d e (record { thread = refl; by = by z told.0 told.1 h is })
 
 none_by : (b : Board) (s : State) (t : ℕ) (routine : Ran) → Left (IfTold IsNone) routine → TellsAll b s t (ran b s t routine)
 none_by b s t routine h = ran_tells b s t IsNone routine routine refl (λ z entry a none is. absurd none) h

@@ -16,7 +16,8 @@ use Rattle.def_reach.specs.Roots.{Listing, compartment_of, gate_for}
 use Rattle.def_machine.specs.Image.{Image, root, made_cap, code_entry, globals_entry, stack_entry, stack_base, stack_top}
 use Rattle.def_machine.specs.State.{State, Thread, Frame, thread, register, nobody}
 use Rattle.def_machine.specs.Memory.{filtered}
-use Rattle.def_machine.specs.Frames.{switched, given, entered, answer, left_by, returned, unwound}
+use Rattle.def_words.specs.Seals.{cap_seal, posture_through}
+use Rattle.def_machine.specs.Frames.{switched, given, entered, answer, left_by, returned, unwound, posture_of_call}
 use Rattle.def_confined.specs.Capabilities.{Rooted}
 use Rattle.def_confined.specs.Confined.{Confined, FramesHold}
 use Rattle.def_confined.specs.Keeps.{Keeps}
@@ -54,6 +55,7 @@ Enters i s t export after new =
     ((new.pcc.tag ≡ true) × (new.pcc ≡ (given_to i s t export).pcc))
     × (((register new 1).tag ≡ true) × ((register new 2).tag ≡ true) × ((register new 3).tag ≡ true))
     × ((n : ℕ) → (register new n).tag ≡ true → IsGiven (given_to i s t export) n (register new n))
+    × (new.posture ≡ posture_of_call i export)
 
 pub enters_clean : (i : Image) (s after : State) (t entry export : ℕ) → Partitioned i → Facts i → Keeps i s → s.running ≡ Some t → switch i s t ≡ Leaves after (Some (entry, Call export)) → (root i export).passes ≡ false → CleanEntry i s t export after
 enters_clean i s after t entry export parts facts k runs e plain_one =
@@ -77,6 +79,7 @@ enters_clean i s after t entry export parts facts k runs e plain_one =
       (subst (λ x. (given_to i s t x).pcc.tag ≡ true) same code_there, refl),
       (sentry_tagged i facts, subst (λ x. (given_to i s t x).stack.tag ≡ true) same stack_there, subst (λ x. (given_to i s t x).globals.tag ≡ true) same globals_there),
       λ n tagged. entry_plain i (thread s t) (callee_of i export) export (high_of i s t) (given_to i s t export) plain_one n tagged,
+      refl,
     ) in
     let there : thread (entered_state i s t export) t ≡ entered i (thread s t) (callee_of i export) export (high_of i s t) (given_to i s t export) =
     switched_thread i s t (high_of i s t) (entered i (thread s t) (callee_of i export) export (high_of i s t) (given_to i s t export)) s.running head.0 head.1.0 frames in
@@ -84,15 +87,16 @@ enters_clean i s after t entry export parts facts k runs e plain_one =
     (λ j low high. stack_zero i s t (high_of i s t) (entered i (thread s t) (callee_of i export) export (high_of i s t) (given_to i s t export)) s.running j low high))
   where
     clean_of : (z : State) → Enters i s t export after (thread z t) → StackZero i s z t (high_of i s t) → CleanEntry i s t export z
-    clean_of z n zero = record { pcc = n.0; tagged = n.1; registers = n.2; stack = zero }
+    clean_of z n zero = record { pcc = n.0; tagged = n.1; registers = n.2; stack = zero; posture = n.3 }
 
 -- ---- return and unwind
 
-abbrev Leads : Image → State → Frame → Thread → Type 0
-Leads i s f new =
+abbrev Leads : Image → State → ℕ → Frame → Thread → Type 0
+Leads i s t f new =
     (((register new 10).tag ≡ false) × ((register new 11).tag ≡ false))
     × (new.pcc ≡ opened (filtered i s f.c1))
     × ((n : ℕ) → (register new n).tag ≡ true → IsSaved i s f n (register new n))
+    × (new.posture ≡ posture_through (thread s t).posture (cap_seal f.c1) 0 f.c1.shadow.source)
 
 left_clean : (i : Image) (s : State) (t : ℕ) (f g : Frame) (gs : List Frame) (first second : Cap) → (thread s t).frames ≡ f ∷ g ∷ gs → first.tag ≡ false → second.tag ≡ false
     → CleanReturn i s t f (switched i s t f.top (left_by i s (thread s t) f (g ∷ gs) first second) s.running)
@@ -100,12 +104,12 @@ left_clean i s t f g gs first second frames one two =
     let new : Thread = left_by i s (thread s t) f (g ∷ gs) first second in
     let there : thread (switched i s t f.top (left_by i s (thread s t) f (g ∷ gs) first second) s.running) t ≡ left_by i s (thread s t) f (g ∷ gs) first second =
     switched_thread i s t f.top (left_by i s (thread s t) f (g ∷ gs) first second) s.running f (g ∷ gs) frames in
-    let leads : Leads i s f (left_by i s (thread s t) f (g ∷ gs) first second) = ((one, two), refl, λ n tagged. left_plain i s (thread s t) f (g ∷ gs) first second one two n tagged) in
-    clean_of (switched i s t f.top (left_by i s (thread s t) f (g ∷ gs) first second) s.running) (subst (Leads i s f) (sym there) leads)
+    let leads : Leads i s t f (left_by i s (thread s t) f (g ∷ gs) first second) = ((one, two), refl, λ n tagged. left_plain i s (thread s t) f (g ∷ gs) first second one two n tagged, refl) in
+    clean_of (switched i s t f.top (left_by i s (thread s t) f (g ∷ gs) first second) s.running) (subst (Leads i s t f) (sym there) leads)
     (λ j low high. stack_zero i s t f.top (left_by i s (thread s t) f (g ∷ gs) first second) s.running j low high)
   where
-    clean_of : (z : State) → Leads i s f (thread z t) → StackZero i s z t f.top → CleanReturn i s t f z
-    clean_of z n zero = record { results = n.0; pcc = n.1; registers = n.2; stack = zero }
+    clean_of : (z : State) → Leads i s t f (thread z t) → StackZero i s z t f.top → CleanReturn i s t f z
+    clean_of z n zero = record { results = n.0; pcc = n.1; registers = n.2; stack = zero; posture = n.3 }
 
 pub back_clean : (i : Image) (s : State) (t : ℕ) (f g : Frame) (gs : List Frame) → (thread s t).frames ≡ f ∷ g ∷ gs → (root i f.export).passes ≡ false → CleanReturn i s t f (returned i s t (f ∷ g ∷ gs))
 back_clean i s t f g gs frames plain_one =

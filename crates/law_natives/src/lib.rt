@@ -2,7 +2,7 @@
 //! allocation, and that the routines of switcher and heap keep a state confined, with all that stands beside.
 #![tactic(auto)]
 
-ghost use Rattle.std.specs.Prelude.{◌≡◌, ℕ, List, ◌∷◌, Option, Some, false};
+ghost use Rattle.std.specs.Prelude.{◌≡◌, ℕ, List, ◌∷◌, Option, Some, None, false};
 ghost use Rattle.ct_entry.specs.declared.acts.Act.{Act};
 ghost use Rattle.ct_entry.specs.declared.acts.Act.TheVariants.{Call, Allocate};
 ghost use Rattle.def_confined.specs.Keeps.{Keeps};
@@ -19,11 +19,14 @@ ghost use Rattle.law_natives.specs.Clean.{CleanEntry, CleanReturn};
 ghost use Rattle.law_natives.specs.Fresh.{HandsOut};
 ghost use Rattle.law_natives.specs.Stands.{Stands};
 
-/// What each routine but the return comes to stands: a trap is one that may be told; what it leaves is confined, with all
+/// What each routine comes to stands: a trap is one that may be told; what it leaves is confined, with all
 /// that stands beside; and what it did, a call, an allocation or a free, is licensed as a deed of its caller's.
 pub fn routines_stand()
     ensures switch { (i : Image) (s : State) (t : ℕ)
         → Partitioned i → Facts i → Keeps i s → s.running ≡ Some t → Stands i s t (switch i s t) }
+    ensures back { (i : Image) (s : State) (t : ℕ)
+        → Partitioned i → Keeps i s → s.running ≡ Some t
+        → Stands i s t (Leaves (returned i s t (thread s t).frames) None) }
     ensures rests { (i : Image) (s : State) (t : ℕ)
         → Partitioned i → Keeps i s → s.running ≡ Some t
         → Stands i s t (yield s t) × Stands i s t (sleep s t) }
