@@ -18,7 +18,7 @@ use Rattle.law_natives.proofs.Cleans.{enters_clean}
 use Rattle.law_events.proofs.Events.{ready_keeps}
 use Rattle.law_history.specs.Each.{ready}
 use Rattle.law_history.specs.Clean.{CleanEvent}
-use Rattle.law_history.proofs.Steps.{step_case}
+use Rattle.law_history.proofs.Steps.{none_told, step_case}
 use Rattle.law_history.proofs.Telling.{ToldBy, Tells, executed_tells}
 use Rattle.law_history.proofs.Ending.{executed_ends, unwound_is_clean}
 
@@ -28,9 +28,6 @@ counted_entry i s t export z c h = record { pcc = h.pcc; tagged = h.tagged; regi
 
 counted_return : (i : Image) (s : State) (t : ℕ) (f : Frame) (z : State) (c : Counts) → CleanReturn i s t f z → CleanReturn i s t f (record z { counts = c })
 counted_return i s t f z c h = record { results = h.results; pcc = h.pcc; registers = h.registers; stack = h.stack; posture = h.posture }
-
-none_told : {G : Type 0} (d : Deed) → None ≡ Some d → G
-none_told d e = absurd (let clash : None ≡ Some d = e in cc)
 
 -- ---- a step
 

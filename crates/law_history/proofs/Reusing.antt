@@ -32,12 +32,9 @@ use Rattle.law_run.proofs.Running.{run_keeps}
 use Rattle.law_blank.proofs.Events.{run_blank}
 use Rattle.law_history.specs.Each.{ready}
 use Rattle.law_history.specs.Chunks.{ChunksMeet, chunk_at}
-use Rattle.law_history.proofs.Steps.{step_case}
+use Rattle.law_history.proofs.Steps.{none_told, step_case}
 use Rattle.law_history.proofs.Telling.{ToldBy, Tells, executed_tells}
 use Rattle.law_history.proofs.Safety.{step_allocates}
-
-none_told : {G : Type 0} (d : Deed) → None ≡ Some d → G
-none_told d e = absurd (let clash : None ≡ Some d = e in cc)
 
 -- ---- a free is told
 

@@ -32,7 +32,7 @@ use Rattle.law_natives.specs.Fresh.{HandsOut}
 use Rattle.law_natives.proofs.Handing.{hands_fresh}
 use Rattle.law_history.specs.Each.{ready}
 use Rattle.law_history.specs.Temporal.{OfLive, UsesLive, AllocatesFresh}
-use Rattle.law_history.proofs.Steps.{step_case}
+use Rattle.law_history.proofs.Steps.{none_told, step_case}
 use Rattle.law_history.proofs.Telling.{ToldBy, Tells, executed_tells}
 
 -- ---- what is used
@@ -55,17 +55,14 @@ word_uses i s c h =
 
 pub uses_live : (b : Board) (s : State) → Partitioned b.image → Keeps b.image s → UsesLive b s
 uses_live b s parts k = record {
-  access = λ t i runs passes. of_register t (operands_of i).first runs (access_uses (access_of i) (operand (ready b s) t (operands_of i).first) (operand (ready b s) t (operands_of i).second) (access_address (access_of i) (operand (ready b s) t (operands_of i).first)) (width_of i).some (all_pass _ passes));
-  word = λ t runs passes. of_register t 10 runs (word_uses b.image (ready b s) (register (thread (ready b s) t) 10) (all_pass _ passes));
+  access = λ t i runs passes. of_register t (operands_of i).first runs (access_uses (access_of i) (operand (ready b s) t (operands_of i).first) (operand (ready b s) t (operands_of i).second) (access_address (access_of i) (operand (ready b s) t (operands_of i).first)) (width_of i).some (all_pass (access_checks (access_of i) (operand (ready b s) t (operands_of i).first) (operand (ready b s) t (operands_of i).second) (access_address (access_of i) (operand (ready b s) t (operands_of i).first))) passes));
+  word = λ t runs passes. of_register t 10 runs (word_uses b.image (ready b s) (register (thread (ready b s) t) 10) (all_pass (word_checks b.image (ready b s) (register (thread (ready b s) t) 10)) passes));
 }
   where
     of_register : (t n : ℕ) → (ready b s).running ≡ Some t → Used (register (thread (ready b s) t) n) → OfLive b.image (ready b s).objects (register (thread (ready b s) t) n)
     of_register t n runs used heap = (ready_keeps b s parts k).confined.live t runs n used.0 heap used.1
 
 -- ---- what is handed out
-
-none_told : {G : Type 0} (d : Deed) → None ≡ Some d → G
-none_told d e = absurd (let clash : None ≡ Some d = e in cc)
 
 pub step_allocates : (b : Board) (s : State) (d : Deed) (number base long live : ℕ) → Partitioned b.image → Facts b.image → Keeps b.image s → Blank b.image s → d.act ≡ acts.Allocate number base long live → (stepped b s).1 ≡ Some d
     → HandsOut b.image (ready b s) d.thread number base long (executed b (ready b s) d.thread).0

@@ -7,6 +7,10 @@ use Rattle.def_step.specs.Events.{noted, continued, happens, stepped}
 use Rattle.def_step.specs.Instructions.{Board, executed}
 use Rattle.law_history.specs.Each.{ready, EachEvent}
 
+-- what no event told
+pub none_told : {G : Type 0} (d : Deed) → None ≡ Some d → G
+none_told d e = absurd (let clash : None ≡ Some d = e in cc)
+
 -- none runs, or one carries on
 pub step_case : (P : State × Option Deed → Type 0) (b : Board) (s : State) → ((ready b s).running ≡ None → P (ready b s, None)) → ((t : ℕ) → (ready b s).running ≡ Some t → P (noted (executed b (ready b s) t))) → P (stepped b s)
 step_case P b s idle runs = by (ready b s).running refl
