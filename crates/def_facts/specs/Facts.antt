@@ -1,6 +1,5 @@
 -- What holds of an image's entries and of the capabilities that boot makes for them. All x are addresses.
-use Rattle.std.specs.Prelude.{ℕ, ◌≡◌, ◌+◌, ◌%◌, ◌≤◌, ◌<◌, ◌⊎◌, Bool, true, false}
-use Rattle.ct_entry.specs.declared.rows.Owner.{Owner}
+use Rattle.std.specs.Prelude.{ℕ, ◌≡◌, ◌+◌, ◌%◌, ◌≤◌, ◌<◌, ◌⊎◌, true, false}
 use Rattle.ct_entry.specs.declared.rows.Owner.TheVariants.{Compartment, Library}
 use Rattle.ct_entry.specs.declared.rows.Kind.TheVariants as kind
 use Rattle.def_profile.specs.declared.layout.TheConstants.{REGION_UNIT}
@@ -11,7 +10,7 @@ use Rattle.def_words.specs.Capability.{IsSettled, with_address}
 use Rattle.def_words.specs.LeastBounds.{rounded_of}
 use Rattle.def_words.specs.Permissions.{bit, load_data, store_data, execute}
 use Rattle.def_words.specs.Seals.{cap_seal}
-use Rattle.def_reach.specs.Roots.{Root, Origin, Listing, is_root, is_native, gate_for}
+use Rattle.def_reach.specs.Roots.{Root, Listing, is_root, is_native, gate_for}
 use Rattle.def_machine.specs.Image.{Image, root, made_cap, code_entry}
 
 -- ---- what is named

@@ -1,21 +1,18 @@
 -- Every event leaves what is hidden zero.
-use Rattle.std.proofs.Common.{ℕ, zero, suc, ◌≡◌, ◌+◌, ◌-◌, ◌*◌, ◌≤◌, ◌<◌, ◌&&◌, ◌||◌, Bool, true, false, not, nat_le, nat_lt, inl, inr, ◌⊎◌, List, [], ◌∷◌, map, Option, Some, None, Result, Ok, Err, refl, sym, ap, ◌∙◌, subst, arith}
+use Rattle.std.proofs.Common.{ℕ, zero, suc, ◌≡◌, ◌+◌, ◌*◌, ◌&&◌, true, false, not, nat_le, nat_lt, List, [], ◌∷◌, map, Option, Some, None, Result, Ok, Err, refl, ap, ◌∙◌}
 use Rattle.std.proofs.Math.ListN.{get_or}
-use Rattle.std.proofs.lemmas.Bool.{eqb-true}
-use Rattle.law_lists.proofs.Tests.{chosen, le_tells, lt_tells}
+use Rattle.law_lists.proofs.Tests.{chosen}
 use Rattle.law_granules.proofs.Lists.{zeroed_at}
 use Rattle.def_words.specs.declared.Cap.{Cap}
 use Rattle.def_words.specs.declared.Trap.{Trap}
 use Rattle.def_words.specs.Authority.{cap_address}
-use Rattle.def_words.specs.Traps.{plain_trap}
-use Rattle.def_profile.specs.declared.traps.TheConstants.{ILLEGAL_INSTRUCTION}
 use Rattle.def_memory.specs.declared.Granule.{Granule}
 use Rattle.def_memory.specs.Granules.{plain, nothing, granule_at}
 use Rattle.def_memory.specs.Ranges.{zeroed_from}
 use Rattle.def_sched.specs.Picks.{pick}
 use Rattle.def_instr.specs.declared.Instr.{Instr}
-use Rattle.def_machine.specs.Image.{Image, address_of, stack_base, trusted_end}
-use Rattle.def_machine.specs.State.{State, Frame, Object, thread, register, granule}
+use Rattle.def_machine.specs.Image.{Image, address_of, stack_base}
+use Rattle.def_machine.specs.State.{State, Frame, Object, thread, register}
 use Rattle.def_machine.specs.Objects.{Each, has_quarantined, painted, unpainted}
 use Rattle.def_machine.specs.Threads.{timed, statuses_of}
 use Rattle.def_machine.specs.Frames.{returned, unwound}
@@ -25,7 +22,7 @@ use Rattle.def_confined.specs.Changes.{Frees}
 use Rattle.def_confined.specs.Confined.{Confined, ObjectFits}
 use Rattle.def_confined.specs.Keeps.{Keeps}
 use Rattle.def_confined.specs.Partitioned.{Partitioned}
-use Rattle.def_hidden.specs.Hidden.{Shut, Blank, is_live_at, is_hidden}
+use Rattle.def_hidden.specs.Hidden.{Shut, Blank, is_hidden}
 use Rattle.def_board.specs.Wired.{Wired}
 use Rattle.def_step.specs.declared.Class.{Class}
 use Rattle.def_step.specs.declared.Class.TheVariants as class
@@ -36,7 +33,7 @@ use Rattle.def_step.specs.Checks.{first_failed}
 use Rattle.def_step.specs.Accesses.{Accessed}
 use Rattle.def_step.specs.Jumps.{Flowed}
 use Rattle.def_step.specs.Operands.{operands_of, class_of}
-use Rattle.def_step.specs.Instructions.{Board, Done, carried_out, named_by, flows, accesses, around, space_of, put_done, ends, operand, trapped, goes_on, after_fetch, executed, fetch_checks, next_at}
+use Rattle.def_step.specs.Instructions.{Board, Done, carried_out, named_by, flows, accesses, around, space_of, ends, operand, goes_on, after_fetch, executed, fetch_checks, next_at}
 use Rattle.def_step.specs.Events.{preempted_from, preempted, picked_as, picked_from, scheduled, continued, one_more_step, stepped, interrupted, happens, run}
 use Rattle.law_places.proofs.Rows.{each_map}
 use Rattle.law_heap.proofs.Quarantines.{one_there}

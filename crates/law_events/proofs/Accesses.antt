@@ -1,5 +1,5 @@
 -- Loads and stores of the running thread: what they leave is confined, and what reaches a device is licensed.
-use Rattle.std.proofs.Common.{ℕ, ◌≡◌, ◌+◌, ◌-◌, ◌*◌, ◌%◌, ◌≤◌, ◌<◌, ◌&&◌, ◌||◌, Bool, true, false, not, inl, inr, ◌⊎◌, List, [], ◌∷◌, length, Option, Some, None, Ok, Err, refl, sym, ap, ◌∙◌, subst, arith, nat_le, if◌then◌else◌}
+use Rattle.std.proofs.Common.{ℕ, ◌≡◌, ◌+◌, ◌-◌, ◌*◌, ◌%◌, ◌≤◌, ◌<◌, ◌&&◌, ◌||◌, Bool, true, false, not, inl, inr, ◌⊎◌, List, ◌∷◌, length, Option, Some, None, Ok, Err, refl, sym, ap, ◌∙◌, subst, arith, nat_le, if◌then◌else◌}
 use Rattle.std.specs.Prelude.{unwrap_or, is_some}
 use Rattle.std.proofs.lemmas.Bool.{eqb-true, leb-true, and_parts}
 use Rattle.law_lists.proofs.Tests.{chosen, bool_tells}
@@ -28,7 +28,7 @@ use Rattle.def_machine.specs.Image.{granule_of, root}
 use Rattle.def_machine.specs.State.{State, Frame, thread, register, granule}
 use Rattle.def_machine.specs.Memory.{cap_stored, bytes_stored}
 use Rattle.def_step.specs.declared.Access.{Access}
-use Rattle.def_step.specs.Checks.{Check, first_failed}
+use Rattle.def_step.specs.Checks.{first_failed}
 use Rattle.def_step.specs.Devices.{Bank, found, bank_value, bank_read, bank_written}
 use Rattle.def_machine.specs.Memory.{filtered_in}
 use Rattle.def_step.specs.Accesses.{Accessed, access_of, access_checks, load_checks, store_checks, access_address, access_result, accessed, in_ram, on_device, is_ram, ram_value, ram_stored, device_value, stored_value, widened, deed_at, unless}

@@ -1,18 +1,16 @@
 -- What one step of a thread owes, and how it ends: a trap, a return, a register with a new program counter.
-use Rattle.std.proofs.Common.{ℕ, zero, suc, ◌≡◌, ◌-◌, ◌≤◌, true, false, List, [], ◌∷◌, length, Option, Some, None, refl, sym, ◌∙◌, subst, arith}
+use Rattle.std.proofs.Common.{ℕ, zero, suc, ◌≡◌, ◌-◌, true, false, List, [], ◌∷◌, length, Option, Some, None, refl, sym, ◌∙◌, subst, arith}
 use Rattle.std.proofs.lemmas.List.{length-set}
 use Rattle.def_words.specs.declared.Cap.{Cap}
 use Rattle.def_words.specs.declared.Trap.{Trap}
 use Rattle.def_words.specs.declared.Posture.{Posture}
 use Rattle.ct_entry.specs.declared.acts.Act.TheVariants as acts
 use Rattle.ct_entry.specs.declared.acts.Deed.{Deed}
-use Rattle.def_machine.specs.Image.{Image, area_of, frames_most, stack_base}
-use Rattle.def_machine.specs.State.{State, Frame, Object, thread, nobody}
-use Rattle.def_machine.specs.Frames.{returned, unwound, left_by, answer}
+use Rattle.def_machine.specs.Image.{Image}
+use Rattle.def_machine.specs.State.{State, Frame, Object, thread}
+use Rattle.def_machine.specs.Frames.{returned}
 use Rattle.def_machine.specs.Registers.{written}
 use Rattle.def_machine.specs.Threads.{jumped}
-use Rattle.def_memory.specs.Granules.{plain}
-use Rattle.def_memory.specs.Ranges.{zeroed_from}
 use Rattle.def_step.specs.Instructions.{Board, Done, bank_of, deed, trapped, put_done}
 use Rattle.def_confined.specs.Places.{InFrames}
 use Rattle.def_confined.specs.Confined.{Confined}
@@ -24,9 +22,7 @@ use Rattle.law_moves.proofs.Pops.{returned_beside, unwound_beside}
 use Rattle.def_confined.specs.Changes.{Jumps}
 use Rattle.law_jumps.proofs.Moves.{jumps_confined}
 use Rattle.def_confined.specs.Keeps.{Beside}
-use Rattle.def_confined.specs.Swept.{HasUnpainted, FramesSwept, Bounded}
-use Rattle.law_granules.proofs.Lists.{zeroed_at, zeroed_length}
-use Rattle.law_sweeps.proofs.Moves.{RamLeft, ThreadLeft, ram_same, moved_beside}
+use Rattle.law_sweeps.proofs.Moves.{RamLeft, ram_same, moved_beside}
 use Rattle.law_licensed.proofs.Checks.{MayTell}
 
 -- the state after stays confined, the deed is licensed, and what stands beside stays

@@ -1,5 +1,5 @@
 -- One instruction of the running thread, by what kind of work it is, and the fetch before it.
-use Rattle.std.proofs.Common.{ℕ, ◌≡◌, ◌<◌, ◌≤◌, ◌==◌, Bool, true, false, inl, inr, Option, Some, None, Result, Ok, Err, refl, sym, ap, ◌∙◌, subst, if◌then◌else◌, option_map}
+use Rattle.std.proofs.Common.{ℕ, ◌≡◌, ◌<◌, ◌≤◌, true, false, inl, inr, Option, Some, None, Result, Ok, Err, refl, sym, ap, ◌∙◌, subst, option_map}
 use Rattle.std.specs.Prelude.{unwrap_or}
 use Rattle.law_lists.proofs.Tests.{bool_tells}
 use Rattle.def_words.specs.declared.Cap.{Cap}
@@ -19,7 +19,7 @@ use Rattle.def_machine.specs.State.{State, thread}
 use Rattle.def_step.specs.declared.Class.{Class}
 use Rattle.def_step.specs.declared.Class.TheVariants as class
 use Rattle.def_step.specs.declared.Next.{Next}
-use Rattle.def_step.specs.declared.Next.TheVariants.{Returning, Instruction, Native, Nothing}
+use Rattle.def_step.specs.declared.Next.TheVariants.{Instruction, Native}
 use Rattle.def_profile.specs.declared.traps.TheConstants.{SYSTEM_REGISTER_CODE, ILLEGAL_INSTRUCTION, BREAKPOINT, ENVIRONMENT_CALL}
 use Rattle.def_step.specs.Accesses.{Space, Accessed, access_of, access_checks, access_address, access_result, accessed, unless}
 use Rattle.def_step.specs.Jumps.{Flowed, flow_result}

@@ -1,10 +1,10 @@
 -- A compartment's code is tagged at each word of it: a capability that was made stays tagged where its address moves within.
-use Rattle.std.proofs.Common.{ℕ, ◌≡◌, ◌+◌, ◌/◌, ◌%◌, ◌^◌, ◌≤◌, ◌<◌, ◌==◌, ◌&&◌, Bool, true, false, inl, refl, sym, ap, ◌∙◌, arith}
+use Rattle.std.proofs.Common.{ℕ, ◌≡◌, ◌/◌, ◌%◌, ◌^◌, ◌<◌, ◌==◌, ◌&&◌, Bool, true, refl, sym, ap, ◌∙◌}
 use Rattle.std.proofs.lemmas.Bool.{eq-eqb}
 use Rattle.def_words.specs.declared.Cap.{Cap}
 use Rattle.def_words.specs.declared.Shadow.{Shadow}
 use Rattle.def_words.specs.Authority.{word_of, cap_high, cap_base, cap_top, cap_bounds, bounds_of}
-use Rattle.def_words.specs.Capability.{cap_of, with_address, is_representable, word_at, with_exact_bounds, masked}
+use Rattle.def_words.specs.Capability.{with_address, is_representable, word_at, with_exact_bounds, masked}
 use Rattle.def_words.specs.Derive.{derive, root_cap}
 use Rattle.def_words.specs.Seals.{cap_seal, is_unsealed}
 use Rattle.law_words.proofs.Words.{high_is}

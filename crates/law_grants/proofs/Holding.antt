@@ -8,7 +8,6 @@ use Rattle.ct_entry.specs.declared.rows.Gate.{Gate}
 use Rattle.ct_entry.specs.declared.rows.Kind.TheVariants as kind
 use Rattle.def_profile.specs.declared.layout.TheConstants.{SLOT_SIZE}
 use Rattle.def_profile.specs.declared.native.TheConstants.{NATIVE_BASE, NATIVE_END}
-use Rattle.def_words.specs.LeastBounds.{rounded_of}
 use Rattle.def_reach.specs.Roots.{Root, Origin, Unknown, TrustedPart, Listing, root_of, gate_for, is_native, is_stack}
 use Rattle.def_machine.specs.Image.{root, made_cap, code_entry}
 use Rattle.def_confined.specs.Capabilities.{is_home, is_compartments}

@@ -1,15 +1,11 @@
 -- What boot makes for entries is settled: what is untagged has no root and no source.
-use Rattle.std.proofs.Common.{ℕ, zero, suc, ◌+◌, ◌%◌, ◌==◌, List, [], ◌∷◌, slice_index_or, refl, if◌then◌else◌}
-use Rattle.law_lists.proofs.Tests.{chosen}
+use Rattle.std.proofs.Common.{ℕ, zero, suc, ◌+◌, List, [], ◌∷◌, slice_index_or, refl}
 use Rattle.ct_entry.specs.declared.rows.Entry.{Entry}
 use Rattle.ct_entry.specs.declared.rows.Kind.{Kind}
 use Rattle.ct_entry.specs.declared.rows.Kind.TheVariants as kind
 use Rattle.ct_entry.specs.declared.rows.Owner.{Owner}
 use Rattle.ct_entry.specs.declared.rows.Owner.TheVariants.{Trusted, Compartment, Library, Thread}
-use Rattle.def_words.specs.declared.Cap.{Cap}
-use Rattle.def_words.specs.declared.Shadow.{Shadow}
-use Rattle.def_words.specs.Capability.{IsSettled, cap_of, word_sealed}
-use Rattle.def_words.specs.Derive.{derive, sealed_as}
+use Rattle.def_words.specs.Capability.{IsSettled}
 use Rattle.def_memory.specs.Granules.{plain}
 use Rattle.def_facts.specs.Facts.{MadeSettled}
 use Rattle.def_image.specs.Parts.{PartsRow}

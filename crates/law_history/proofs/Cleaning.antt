@@ -1,5 +1,5 @@
 -- *Clean calls*, of one event.
-use Rattle.std.proofs.Common.{ℕ, ◌≡◌, false, List, ◌∷◌, Option, Some, None, refl, sym, ◌∙◌, subst}
+use Rattle.std.proofs.Common.{ℕ, ◌≡◌, false, List, ◌∷◌, Option, Some, None, sym, ◌∙◌, subst}
 use Rattle.ct_entry.specs.declared.acts.Act.{Act}
 use Rattle.ct_entry.specs.declared.acts.Act.TheVariants as acts
 use Rattle.ct_entry.specs.declared.acts.Deed.{Deed}
@@ -11,7 +11,7 @@ use Rattle.def_confined.specs.Partitioned.{Partitioned}
 use Rattle.def_facts.specs.Facts.{Facts}
 use Rattle.def_step.specs.declared.Event.{Event}
 use Rattle.def_step.specs.declared.Event.TheVariants.{Step, Tick, Sweep, Input}
-use Rattle.def_step.specs.Events.{noted, with_deed, happens, stepped}
+use Rattle.def_step.specs.Events.{noted, with_deed, stepped}
 use Rattle.def_step.specs.Instructions.{Board, executed}
 use Rattle.law_natives.specs.Clean.{CleanEntry, CleanReturn}
 use Rattle.law_natives.proofs.Cleans.{enters_clean}

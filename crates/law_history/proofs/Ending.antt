@@ -1,29 +1,22 @@
 -- Which frames a step ends: by a return or an unwind alone, and then its caller goes on clean.
-use Rattle.std.proofs.Common.{ℕ, zero, suc, ◌≡◌, ◌+◌, ◌≤◌, ◌<◌, false, List, [], ◌∷◌, length, map, Option, Some, None, Result, Ok, Err, refl, sym, ap, ◌∙◌, subst, arith, option_map, slice_set}
+use Rattle.std.proofs.Common.{ℕ, zero, suc, ◌≡◌, ◌≤◌, false, List, [], ◌∷◌, length, map, Option, Some, None, Result, Ok, Err, sym, ap, subst, arith, slice_set}
 use Rattle.std.proofs.Math.ListN.{get_or}
 use Rattle.law_lists.proofs.Sets.{after_set}
-use Rattle.ct_entry.specs.declared.acts.Act.{Act}
-use Rattle.ct_entry.specs.declared.acts.Deed.{Deed}
-use Rattle.def_profile.specs.declared.native.TheConstants.{RETURN}
-use Rattle.def_profile.specs.declared.traps.TheConstants.{ILLEGAL_INSTRUCTION}
 use Rattle.def_words.specs.declared.Cap.{Cap}
 use Rattle.def_words.specs.declared.Trap.{Trap}
 use Rattle.def_words.specs.Authority.{cap_address}
-use Rattle.def_words.specs.Traps.{plain_trap}
-use Rattle.def_instr.specs.declared.Instr.{Instr}
 use Rattle.def_sched.specs.declared.Status.{Status}
 use Rattle.def_machine.specs.Image.{Image, root}
 use Rattle.def_words.specs.Capability.{integer}
 use Rattle.def_machine.specs.Memory.{filtered}
 use Rattle.def_machine.specs.State.{State, Thread, Frame, Object, thread, nobody}
 use Rattle.def_machine.specs.Frames.{returned, unwound}
-use Rattle.def_machine.specs.Threads.{jumped, statuses_of, with_statuses}
+use Rattle.def_machine.specs.Threads.{jumped, with_statuses}
 use Rattle.def_machine.specs.Heap.{with_object, quarantined}
 use Rattle.def_step.specs.declared.Next.{Next}
-use Rattle.def_step.specs.declared.TheConstants.{LAST_ROUTINE}
 use Rattle.def_step.specs.Checks.{first_failed}
 use Rattle.def_step.specs.Operands.{operands_of, class_of}
-use Rattle.def_step.specs.Instructions.{Board, Done, carried_out, named_by, around, space_of, trapped, put_done, ends, operand, goes_on, after_fetch, executed, fetch_checks, next_at}
+use Rattle.def_step.specs.Instructions.{Board, Done, carried_out, named_by, around, space_of, put_done, ends, operand, goes_on, after_fetch, executed, fetch_checks, next_at}
 use Rattle.def_step.specs.Quotas.{let_go}
 use Rattle.def_step.specs.Routines.{answers}
 use Rattle.law_routines.proofs.Cases.{by_next}

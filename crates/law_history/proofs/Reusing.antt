@@ -1,12 +1,11 @@
 -- *Sweep before reuse*, by the deeds that are told: a chunk that was freed is handed out again only after a whole sweep.
-use Rattle.std.proofs.Common.{ℕ, ◌≡◌, ◌+◌, ◌≤◌, ◌<◌, ◌⊎◌, inl, inr, true, false, List, [], ◌∷◌, Option, Some, None, refl, sym, ap, ◌∙◌, subst, arith}
+use Rattle.std.proofs.Common.{ℕ, ◌≡◌, inl, inr, true, List, Option, Some, None, refl, sym, ap, ◌∙◌, subst, arith}
 use Rattle.ct_entry.specs.declared.acts.Act.{Act}
 use Rattle.ct_entry.specs.declared.acts.Act.TheVariants as acts
 use Rattle.ct_entry.specs.declared.acts.Deed.{Deed}
 use Rattle.def_machine.specs.Image.{Image}
 use Rattle.def_machine.specs.State.{State, Object, register, thread}
-use Rattle.def_machine.specs.Objects.{Any, Each}
-use Rattle.def_machine.specs.Heap.{quarantined}
+use Rattle.def_machine.specs.Objects.{Any}
 use Rattle.def_confined.specs.Confined.{Apart, Confined, ObjectFits}
 use Rattle.def_confined.specs.Keeps.{Keeps}
 use Rattle.def_confined.specs.Partitioned.{Partitioned}
@@ -17,11 +16,11 @@ use Rattle.def_step.specs.declared.Event.{Event}
 use Rattle.def_step.specs.declared.Event.TheVariants.{Step}
 use Rattle.def_step.specs.Events.{noted, happens, run, stepped}
 use Rattle.def_step.specs.Instructions.{Board, executed}
-use Rattle.def_step.specs.Quotas.{quota_in, whole_of, free}
+use Rattle.def_step.specs.Quotas.{quota_in, free}
 use Rattle.def_step.specs.Routines.{Ran, Leaves}
 use Rattle.law_places.proofs.Rows.{each_any, each_take}
 use Rattle.law_routines.specs.Leaving.{Left}
-use Rattle.law_routines.proofs.Leaving.{free_told, free_left}
+use Rattle.law_routines.proofs.Leaving.{free_left}
 use Rattle.law_routines.proofs.Objects.{whole_found}
 use Rattle.law_natives.specs.Fresh.{HandsOut}
 use Rattle.law_reuse.specs.Reuse.{IsRow, Waits, SweepsWhole}

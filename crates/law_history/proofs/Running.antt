@@ -20,11 +20,12 @@ use Rattle.law_blank.proofs.Events.{event_blank, run_blank}
 use Rattle.law_reuse.specs.Reuse.{SweepsWhole}
 use Rattle.law_history.specs.Each.{EachEvent}
 use Rattle.law_history.specs.Clean.{CleanEvent}
+use Rattle.law_history.specs.Accesses.{UsesReach}
 use Rattle.law_history.specs.Temporal.{UsesLive, AllocatesFresh}
 use Rattle.law_history.specs.Chunks.{ChunksMeet}
 use Rattle.law_history.proofs.Steps.{each_event}
 use Rattle.law_history.proofs.Cleaning.{clean_event}
-use Rattle.law_history.proofs.Safety.{uses_live, allocates_fresh}
+use Rattle.law_history.proofs.Safety.{uses_live, uses_reach, allocates_fresh}
 use Rattle.law_history.proofs.Reusing.{free_then_allocate}
 
 module _ (b : Board) (parts : Partitioned b.image) (facts : Facts b.image) (wired : Wired b) where
@@ -36,6 +37,9 @@ module _ (b : Board) (parts : Partitioned b.image) (facts : Facts b.image) (wire
 
   pub run_uses_live : (s : State) (es : List Event) → Keeps b.image s → EachEvent (λ z e. UsesLive b z) b s es
   run_uses_live s es k = each_event (λ z e. UsesLive b z) (Keeps b.image) b s es next_keeps (λ z e kept. uses_live b z parts kept) k
+
+  pub run_uses_reach : (s : State) (es : List Event) → Keeps b.image s → EachEvent (λ z e. UsesReach b z) b s es
+  run_uses_reach s es k = each_event (λ z e. UsesReach b z) (Keeps b.image) b s es next_keeps (λ z e kept. uses_reach b z parts kept) k
 
   pub run_charges : (s : State) (es : List Event) (q : ℕ) → Keeps b.image s → charges q (run b s es).objects ≤ (root b.image q).limit
   run_charges s es q k = (run_keeps b s es parts facts wired k).confined.limits q

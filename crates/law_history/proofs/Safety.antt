@@ -1,11 +1,10 @@
--- *Temporal safety*, of one event.
-use Rattle.std.proofs.Common.{ℕ, ◌≡◌, ◌+◌, ◌≤◌, ◌<◌, ◌&&◌, true, nat_le, inl, inr, List, ◌∷◌, Option, Some, None, refl, sym, subst, arith}
+-- *Licensed accesses* and *Temporal safety*, of one event.
+use Rattle.std.proofs.Common.{ℕ, ◌≡◌, ◌+◌, ◌<◌, ◌&&◌, true, nat_le, List, Option, Some, sym, subst, arith}
 use Rattle.std.proofs.lemmas.Bool.{leb-true, and_parts}
 use Rattle.law_lists.proofs.Tests.{chosen}
 use Rattle.ct_entry.specs.declared.acts.Act.{Act}
 use Rattle.ct_entry.specs.declared.acts.Act.TheVariants as acts
 use Rattle.ct_entry.specs.declared.acts.Deed.{Deed}
-use Rattle.def_instr.specs.declared.Instr.{Instr}
 use Rattle.def_words.specs.declared.Cap.{Cap}
 use Rattle.def_words.specs.Authority.{cap_address, cap_base, cap_top}
 use Rattle.def_words.specs.Capability.{is_range_inside}
@@ -19,18 +18,20 @@ use Rattle.def_step.specs.declared.Access.{Access}
 use Rattle.def_step.specs.declared.Event.{Event}
 use Rattle.def_step.specs.declared.Event.TheVariants.{Step, Tick, Sweep, Input}
 use Rattle.def_step.specs.Accesses.{access_of, access_checks, load_checks, store_checks, access_address}
-use Rattle.def_step.specs.Checks.{Check, first_failed}
-use Rattle.def_step.specs.Events.{noted, happens, stepped}
+use Rattle.def_step.specs.Checks.{Check}
+use Rattle.def_step.specs.Events.{stepped}
 use Rattle.def_step.specs.Instructions.{Board, executed, operand}
 use Rattle.def_step.specs.Operands.{operands_of}
 use Rattle.def_step.specs.Routines.{word_checks, lies_in_ram}
 use Rattle.law_licensed.proofs.Checks.{AllPass, all_pass}
+use Rattle.law_licensed.proofs.Deeds.{register_used, pcc_used}
 use Rattle.law_events.proofs.Accesses.{load_passes, store_passes, width_of}
 use Rattle.law_events.proofs.Events.{ready_keeps}
 use Rattle.law_blank.proofs.Events.{ready_blank}
 use Rattle.law_natives.specs.Fresh.{HandsOut}
 use Rattle.law_natives.proofs.Handing.{hands_fresh}
 use Rattle.law_history.specs.Each.{ready}
+use Rattle.law_history.specs.Accesses.{UsesReach}
 use Rattle.law_history.specs.Temporal.{OfLive, UsesLive, AllocatesFresh}
 use Rattle.law_history.proofs.Steps.{none_told, step_case}
 use Rattle.law_history.proofs.Telling.{ToldBy, Tells, executed_tells}
@@ -61,6 +62,12 @@ uses_live b s parts k = record {
   where
     of_register : (t n : ℕ) → (ready b s).running ≡ Some t → Used (register (thread (ready b s) t) n) → OfLive b.image (ready b s).objects (register (thread (ready b s) t) n)
     of_register t n runs used heap = (ready_keeps b s parts k).confined.live t runs n used.0 heap used.1
+
+pub uses_reach : (b : Board) (s : State) → Partitioned b.image → Keeps b.image s → UsesReach b s
+uses_reach b s parts k = record {
+  registers = λ t n f fs runs frames tagged. register_used b.image (ready b s) t n f fs (ready_keeps b s parts k).confined runs frames tagged;
+  counter = λ t f fs runs frames tagged. pcc_used b.image (ready b s) t f fs (ready_keeps b s parts k).confined frames tagged;
+}
 
 -- ---- what is handed out
 

@@ -1,5 +1,5 @@
 -- What told the deed of a step: a routine, an access or a trap.
-use Rattle.std.proofs.Common.{ℕ, ◌≡◌, ◌≤◌, ◌==◌, ◌&&◌, ◌||◌, Bool, true, false, inl, inr, List, ◌∷◌, Option, Some, None, Result, Ok, Err, refl, sym, ap, ◌∙◌, subst, option_map, if◌then◌else◌}
+use Rattle.std.proofs.Common.{ℕ, ◌≡◌, ◌≤◌, Option, Some, None, Result, Ok, Err, refl, option_map}
 use Rattle.std.specs.Prelude.{is_some}
 use Rattle.law_lists.proofs.Tests.{chosen}
 use Rattle.ct_entry.specs.declared.acts.Act.{Act}

@@ -1,4 +1,5 @@
-//! Laws of what events do one after another, whatever list of them comes: calls are clean, no freed object is used,
+//! Laws of what events do one after another, whatever list of them comes: calls are clean, what is accessed is
+//! licensed, no freed object is used,
 //! what is handed out is fresh and comes after a whole sweep, and no quota is exceeded. They speak of the written
 //! machine alone.
 #![tactic(auto)]
@@ -18,6 +19,7 @@ ghost use Rattle.def_step.specs.declared.Event.{Event};
 ghost use Rattle.def_step.specs.declared.Event.TheVariants.{Step};
 ghost use Rattle.def_step.specs.Events.{happens, run};
 ghost use Rattle.def_step.specs.Instructions.{Board};
+ghost use Rattle.law_history.specs.Accesses.{UsesReach};
 ghost use Rattle.law_history.specs.Chunks.{ChunksMeet};
 ghost use Rattle.law_history.specs.Clean.{CleanEvent};
 ghost use Rattle.law_history.specs.Each.{EachEvent};
@@ -32,6 +34,15 @@ pub fn calls_clean()
     ensures { (b : Board) (s : State) (es : List Event)
         → Partitioned b.image → Facts b.image → Wired b → Keeps b.image s
         → EachEvent (CleanEvent b) b s es }
+{}
+
+/// Licensed accesses. Every fetch, and every load and store of an instruction, a wait or a wake, goes through
+/// the running thread's program counter or one of its registers: a capability whose root's owner reaches the
+/// actor, or the thread's own stack root, within the range and rights of that root.
+pub fn accesses_licensed()
+    ensures { (b : Board) (s : State) (es : List Event)
+        → Partitioned b.image → Facts b.image → Wired b → Keeps b.image s
+        → EachEvent (λ z e. UsesReach b z) b s es }
 {}
 
 /// No use after free. No load or store, and no wait or wake, goes through a capability of an object after

@@ -1,9 +1,7 @@
 -- A native routine of the running thread answers: c10 and c11 get values, and the thread goes on where c1 leads.
-use Rattle.std.proofs.Common.{ℕ, ◌≡◌, ◌+◌, ◌≤◌, ◌<◌, true, false, inl, inr, ◌⊎◌, List, [], ◌∷◌, length, Option, Some, None, refl, sym, ap, ◌∙◌, subst, arith}
-use Rattle.law_lists.proofs.Tests.{bool_tells}
+use Rattle.std.proofs.Common.{ℕ, ◌≡◌, ◌≤◌, true, false, inl, inr, List, [], ◌∷◌, length, Option, Some, None, refl, sym, ◌∙◌, subst, arith}
 use Rattle.def_words.specs.declared.Cap.{Cap}
 use Rattle.def_words.specs.declared.Trap.{Trap}
-use Rattle.def_words.specs.Capability.{integer}
 use Rattle.def_words.specs.Jumped.{opened}
 use Rattle.def_words.specs.Seals.{cap_seal, posture_through}
 use Rattle.def_memory.specs.Granules.{plain}
@@ -15,24 +13,21 @@ use Rattle.def_machine.specs.Registers.{written}
 use Rattle.def_machine.specs.Threads.{with_status, changed}
 use Rattle.def_confined.specs.Capabilities.{IsReturnType, Kept}
 use Rattle.def_confined.specs.Changes.{Changes, Puts}
-use Rattle.def_confined.specs.Confined.{Confined}
-use Rattle.def_confined.specs.Keeps.{Beside, Keeps}
+use Rattle.def_confined.specs.Keeps.{Keeps}
 use Rattle.def_confined.specs.Partitioned.{Partitioned}
 use Rattle.def_confined.specs.Places.{InFrames, HasLive}
 use Rattle.def_confined.specs.Swept.{HasUnpainted}
 use Rattle.def_profile.specs.declared.traps.TheConstants.{TAG_CODE, SEAL_CODE}
 use Rattle.def_step.specs.Checks.{Check, first_failed}
 use Rattle.def_step.specs.Switch.{return_checks}
-use Rattle.def_step.specs.Routines.{Ran, Traps, Leaves, answered, answers, checked}
-use Rattle.law_places.proofs.Places.{plain_in}
-use Rattle.law_places.proofs.Puts.{plain_kept}
+use Rattle.def_step.specs.Routines.{Ran, answered, answers, checked}
 use Rattle.law_places.proofs.Turns.{changed_confined, clock_of, after_written, fits_as}
 use Rattle.law_registers.proofs.Moves.{untagged_puts}
 use Rattle.law_jumps.specs.Jumping.{Lands}
 use Rattle.law_jumps.proofs.Moves.{return_fits, opened_lands, in_rooted}
 use Rattle.law_jumps.proofs.Targets.{opened_opens}
 use Rattle.law_sweeps.proofs.Slices.{live_unpainted}
-use Rattle.law_sweeps.proofs.Moves.{ThreadLeft, ram_same, moved_beside}
+use Rattle.law_sweeps.proofs.Moves.{ram_same, moved_beside}
 use Rattle.law_moves.proofs.Threads.{written_length}
 use Rattle.law_licensed.proofs.Checks.{MayTell, AllTell, AllPass, by_checks, all_pass, register_tells}
 use Rattle.law_memory.proofs.Authorities.{headed}

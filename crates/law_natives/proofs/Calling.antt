@@ -1,6 +1,6 @@
 -- What the switcher gives a callee is tagged: its code at the export, its globals, the return sentry, and as much of the
 -- thread's stack as the caller leaves it.
-use Rattle.std.proofs.Common.{ℕ, ◌≡◌, ◌+◌, ◌-◌, ◌*◌, ◌/◌, ◌%◌, ◌^◌, ◌≤◌, ◌<◌, ◌==◌, ◌&&◌, Bool, true, false, inl, inr, nat_le, Option, Some, None, refl, sym, ap, ◌∙◌, subst, arith}
+use Rattle.std.proofs.Common.{ℕ, ◌≡◌, ◌+◌, ◌-◌, ◌*◌, ◌/◌, ◌%◌, ◌^◌, ◌≤◌, ◌<◌, ◌==◌, true, false, inl, inr, nat_le, Option, Some, None, refl, sym, ap, ◌∙◌, subst, arith}
 use Rattle.std.specs.Prelude.{find, unwrap_or}
 use Rattle.std.specs.List.{range_with_len}
 use Rattle.std.proofs.Math.Nat.{div-mul-le_self, mul-le-mul_left, mul-mod_left}
@@ -14,8 +14,8 @@ use Rattle.def_profile.specs.declared.limits.TheConstants.{MOST_STACK_REGION}
 use Rattle.def_profile.specs.declared.rights.TheConstants.{STACK_RIGHTS}
 use Rattle.def_words.specs.declared.Shadow.{Shadow}
 use Rattle.def_words.specs.Capability.{with_address}
-use Rattle.def_words.specs.Derive.{derive, memory_root}
-use Rattle.def_words.specs.LeastBounds.{exponent_for, floor_units, ceil_units, units, rounded_of}
+use Rattle.def_words.specs.Derive.{memory_root}
+use Rattle.def_words.specs.LeastBounds.{exponent_for, floor_units, ceil_units, rounded_of}
 use Rattle.law_words.proofs.Leasts.{exponent_is}
 use Rattle.law_words.proofs.Making.{derive_makes}
 use Rattle.law_words.proofs.Rights.{memory_is_root}
@@ -27,7 +27,7 @@ use Rattle.def_confined.specs.Partitioned.{Partitioned}
 use Rattle.def_facts.specs.Facts.{Facts, StackFits, gate_code}
 use Rattle.def_step.specs.Switch.{room_exponent, room_of, new_top}
 use Rattle.law_made.specs.Calling.{stack_up_to}
-use Rattle.law_routines.proofs.Places.{Least, least, never}
+use Rattle.law_routines.proofs.Places.{least, never}
 
 -- ---- the room of a callee's stack
 

@@ -1,5 +1,5 @@
 -- What a routine comes to that takes a quota in c10 stands: an allocation, and what remains.
-use Rattle.std.proofs.Common.{ℕ, ◌≡◌, ◌-◌, ◌+◌, ◌==◌, ◌≤◌, ◌&&◌, true, false, inl, inr, List, ◌∷◌, Some, refl, sym, ap, ◌∙◌, subst, arith, if◌then◌else◌}
+use Rattle.std.proofs.Common.{ℕ, ◌≡◌, ◌-◌, ◌+◌, ◌==◌, true, inr, List, ◌∷◌, Some, refl, sym, ap, ◌∙◌, subst, arith, if◌then◌else◌}
 use Rattle.std.proofs.lemmas.Bool.{eqb-true, and_parts}
 use Rattle.law_lists.proofs.Tests.{chosen}
 use Rattle.ct_entry.specs.declared.acts.Act.{Act}
@@ -33,7 +33,7 @@ use Rattle.law_made.proofs.Found.{place_found}
 use Rattle.law_moves.proofs.Objects.{object_beside}
 use Rattle.law_routines.proofs.Places as places
 use Rattle.law_routines.proofs.Objects.{made_says}
-use Rattle.law_natives.specs.Stands.{Stands, TellsLicensed}
+use Rattle.law_natives.specs.Stands.{Stands}
 use Rattle.law_natives.proofs.Answering.{Returning, return_says, return_tells, checked_stands, answers_keeps}
 use Rattle.law_natives.proofs.Handing.{long_enough}
 

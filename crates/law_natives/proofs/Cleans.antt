@@ -1,10 +1,8 @@
 -- *Clean calls*: the switch, and the end of a frame.
-use Rattle.std.proofs.Common.{ℕ, ◌≡◌, ◌+◌, ◌≤◌, ◌<◌, true, false, inl, inr, List, [], ◌∷◌, length, Option, Some, None, refl, sym, ap, ◌∙◌, subst, arith, slice_set}
-use Rattle.std.proofs.Math.ListN.{get_or}
+use Rattle.std.proofs.Common.{ℕ, ◌≡◌, ◌≤◌, ◌<◌, true, false, inl, inr, List, [], ◌∷◌, length, Option, Some, refl, sym, ap, ◌∙◌, subst, arith}
 use Rattle.std.proofs.lemmas.List.{get_or_past, get_or-set_same}
 use Rattle.law_lists.proofs.Tests.{lt_tells}
 use Rattle.ct_entry.specs.declared.acts.Act.TheVariants.{Call}
-use Rattle.ct_entry.specs.declared.rows.Owner.{Owner}
 use Rattle.ct_entry.specs.declared.rows.Owner.TheVariants.{Compartment}
 use Rattle.ct_entry.specs.declared.rows.Kind.TheVariants as kind
 use Rattle.def_words.specs.declared.Cap.{Cap}
@@ -13,25 +11,25 @@ use Rattle.def_words.specs.Capability.{with_address}
 use Rattle.def_words.specs.Jumped.{opened}
 use Rattle.def_memory.specs.Granules.{plain}
 use Rattle.def_reach.specs.Roots.{Listing, compartment_of, gate_for}
-use Rattle.def_machine.specs.Image.{Image, root, made_cap, code_entry, globals_entry, stack_entry, stack_base, stack_top}
+use Rattle.def_machine.specs.Image.{Image, root, made_cap, code_entry, globals_entry, stack_top}
 use Rattle.def_machine.specs.State.{State, Thread, Frame, thread, register, nobody}
 use Rattle.def_machine.specs.Memory.{filtered}
 use Rattle.def_words.specs.Seals.{cap_seal, posture_through}
-use Rattle.def_machine.specs.Frames.{switched, given, entered, answer, left_by, returned, unwound, posture_of_call}
+use Rattle.def_machine.specs.Frames.{switched, entered, answer, left_by, returned, unwound, posture_of_call}
 use Rattle.def_confined.specs.Capabilities.{Rooted}
-use Rattle.def_confined.specs.Confined.{Confined, FramesHold}
+use Rattle.def_confined.specs.Confined.{FramesHold}
 use Rattle.def_confined.specs.Keeps.{Keeps}
 use Rattle.def_confined.specs.Partitioned.{Partitioned}
 use Rattle.def_step.specs.Switch.{called, frame_top}
 use Rattle.def_step.specs.Routines.{Leaves, switch}
 use Rattle.law_jumps.proofs.Moves.{in_rooted}
 use Rattle.law_memory.proofs.Authorities.{headed}
-use Rattle.law_calls.proofs.Cleans.{entry_plain, return_plain, left_plain, answer_plain, stack_zero}
+use Rattle.law_calls.proofs.Cleans.{entry_plain, left_plain, answer_plain, stack_zero}
 use Rattle.law_calls.specs.Cleans.{IsGiven, IsSaved}
 use Rattle.def_facts.specs.Facts.{Facts}
 use Rattle.law_natives.proofs.Calling.{code_tagged, globals_tagged, sentry_tagged, stack_tagged}
 use Rattle.law_natives.specs.Clean.{CleanEntry, CleanReturn, StackZero, high_of, given_to}
-use Rattle.law_natives.proofs.Switching.{Told, Passed, callee_of, entered_state, switch_told, checks_say}
+use Rattle.law_natives.proofs.Switching.{callee_of, entered_state, switch_told, checks_say}
 
 -- ---- a thread that changed
 

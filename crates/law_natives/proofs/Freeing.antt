@@ -1,35 +1,31 @@
 -- What a free comes to stands: the object is quarantined, the running thread's registers pass the load filter, and the
 -- return sentry in c1 stays what it was.
-use Rattle.std.proofs.Common.{ℕ, zero, suc, ◌≡◌, ◌+◌, ◌==◌, ◌≤◌, ◌<◌, ◌&&◌, ◌⊎◌, Bool, true, false, inl, inr, nat_le, nat_lt, List, [], ◌∷◌, map, length, Option, Some, None, refl, sym, ap, ◌∙◌, subst, arith, if◌then◌else◌}
-use Rattle.std.specs.Prelude.{find}
+use Rattle.std.proofs.Common.{ℕ, zero, suc, ◌≡◌, ◌≤◌, ◌<◌, ◌&&◌, ◌⊎◌, true, false, inl, inr, nat_le, nat_lt, List, [], ◌∷◌, map, Option, Some, None, refl, sym, ap, ◌∙◌, subst, arith}
 use Rattle.std.proofs.Math.ListN.{get_or}
 use Rattle.std.proofs.lemmas.List.{get_or-set_same}
 use Rattle.std.proofs.lemmas.Bool.{and_parts}
 use Rattle.law_lists.proofs.Tests.{chosen, le_tells, lt_tells}
 use Rattle.def_words.specs.declared.Cap.{Cap}
-use Rattle.def_words.specs.Authority.{cap_base, cap_top}
+use Rattle.def_words.specs.Authority.{cap_base}
 use Rattle.def_words.specs.Capability.{integer, untagged}
-use Rattle.def_words.specs.Seals.{cap_seal, is_unsealed}
+use Rattle.def_words.specs.Seals.{cap_seal}
 use Rattle.def_memory.specs.Granules.{plain}
-use Rattle.def_machine.specs.Image.{Image, root}
+use Rattle.def_machine.specs.Image.{Image}
 use Rattle.def_machine.specs.State.{State, Thread, Object, Token, thread, register, nobody}
 use Rattle.def_machine.specs.Memory.{is_marked, filtered}
-use Rattle.def_machine.specs.Objects.{Any, charges}
+use Rattle.def_machine.specs.Objects.{charges}
 use Rattle.def_machine.specs.Heap.{quarantined, freed}
 use Rattle.def_confined.specs.Capabilities.{Rooted, IsReturnType}
 use Rattle.def_confined.specs.Confined.{Confined}
 use Rattle.def_confined.specs.Keeps.{Keeps}
 use Rattle.def_confined.specs.Partitioned.{Partitioned, AwayFromHeap}
-use Rattle.def_step.specs.Checks.{first_failed}
-use Rattle.def_step.specs.Switch.{return_checks}
-use Rattle.def_step.specs.Routines.{Ran, answers, tells, code}
-use Rattle.def_step.specs.Quotas.{is_quota_cap, quota_in, is_whole, whole_of, without_row, let_go, freed_as, free}
+use Rattle.def_step.specs.Routines.{answers, code}
+use Rattle.def_step.specs.Quotas.{quota_in, whole_of, without_row, let_go, freed_as, free}
 use Rattle.law_registers.proofs.Moves.{untagged_puts}
 use Rattle.law_jumps.proofs.Moves.{in_rooted}
 use Rattle.law_memory.proofs.Authorities.{headed}
 use Rattle.law_memory.proofs.Filtering.{filter_is_heaps}
 use Rattle.law_memory.specs.Filters.{heap_filtered}
-use Rattle.law_heap.proofs.Frees.{free_confined}
 use Rattle.law_moves.proofs.Objects.{free_keeps}
 use Rattle.law_routines.proofs.Objects.{whole_found}
 use Rattle.law_natives.specs.Stands.{Stands}

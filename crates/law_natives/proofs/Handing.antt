@@ -1,18 +1,15 @@
 -- An allocation that tells its deed: the object that it made, and that it is fresh.
-use Rattle.std.proofs.Common.{ℕ, ◌≡◌, ◌+◌, ◌-◌, ◌/◌, ◌*◌, ◌==◌, ◌≤◌, ◌<◌, ◌⊎◌, ◌&&◌, ◌||◌, Bool, true, false, inl, inr, nat_le, nat_lt, List, [], ◌∷◌, Option, Some, None, refl, sym, ap, ◌∙◌, subst, arith, if◌then◌else◌}
-use Rattle.std.proofs.lemmas.Bool.{eqb-false, ltb-false}
-use Rattle.law_lists.proofs.Tests.{chosen, bool_tells, le_tells, lt_tells}
+use Rattle.std.proofs.Common.{ℕ, ◌≡◌, ◌+◌, ◌/◌, ◌*◌, ◌≤◌, ◌<◌, ◌⊎◌, ◌&&◌, ◌||◌, Bool, true, false, inl, inr, nat_le, nat_lt, List, [], ◌∷◌, Option, Some, None, refl, sym, ap, subst, arith, if◌then◌else◌}
+use Rattle.law_lists.proofs.Tests.{chosen, le_tells, lt_tells}
 use Rattle.ct_entry.specs.declared.acts.Act.{Act}
 use Rattle.ct_entry.specs.declared.acts.Act.TheVariants.{Allocate}
-use Rattle.def_words.specs.declared.Trap.{Trap}
 use Rattle.def_words.specs.Authority.{cap_address}
 use Rattle.def_words.specs.LeastBounds.{exponent_for}
 use Rattle.law_words.proofs.Leasts.{ceil_above}
-use Rattle.def_memory.specs.Granules.{plain}
-use Rattle.def_machine.specs.Image.{Image, root, address_of}
-use Rattle.def_machine.specs.State.{State, Object, thread, register, granule}
+use Rattle.def_machine.specs.Image.{Image, address_of}
+use Rattle.def_machine.specs.State.{State, Object, thread, register}
 use Rattle.def_machine.specs.Objects.{Each, charges}
-use Rattle.def_machine.specs.Heap.{IsPlaceFor, length_for, charge_for, place_of, new_object, object_cap, with_object}
+use Rattle.def_machine.specs.Heap.{IsPlaceFor, length_for, place_of, new_object, object_cap, with_object}
 use Rattle.def_confined.specs.Changes.{NewObject}
 use Rattle.def_confined.specs.Confined.{Apart}
 use Rattle.def_confined.specs.Keeps.{Keeps}
@@ -20,8 +17,8 @@ use Rattle.def_confined.specs.Partitioned.{Partitioned}
 use Rattle.def_hidden.specs.Hidden.{Blank, is_live_at}
 use Rattle.def_step.specs.Checks.{Check, first_failed}
 use Rattle.def_step.specs.Switch.{return_checks}
-use Rattle.def_step.specs.Routines.{Ran, Traps, Leaves, answers, tells, checked, code}
-use Rattle.def_step.specs.Quotas.{Allocation, Refused, Made, at_place, allocation, is_quota_cap, quota_in, hands_out, allocated, allocate}
+use Rattle.def_step.specs.Routines.{Ran, Traps, Leaves, tells, checked, code}
+use Rattle.def_step.specs.Quotas.{Allocation, Refused, Made, allocation, is_quota_cap, quota_in, hands_out, allocated, allocate}
 use Rattle.law_made.proofs.Found.{place_found}
 use Rattle.law_routines.proofs.Places as places
 use Rattle.def_facts.specs.Facts.{RootsAway}

@@ -1,26 +1,24 @@
 -- What the switch, yield and sleep come to stands.
-use Rattle.std.proofs.Common.{ℕ, zero, suc, ◌≡◌, ◌+◌, ◌-◌, ◌*◌, ◌/◌, ◌%◌, ◌^◌, ◌==◌, ◌≤◌, ◌<◌, ◌||◌, Bool, true, false, inl, inr, nat_le, nat_lt, List, [], ◌∷◌, length, Option, Some, None, refl, sym, ap, ◌∙◌, subst, arith, cond, if◌then◌else◌}
+use Rattle.std.proofs.Common.{ℕ, zero, suc, ◌≡◌, ◌+◌, ◌-◌, ◌*◌, ◌/◌, ◌%◌, ◌^◌, ◌==◌, ◌≤◌, Bool, true, inl, inr, nat_le, nat_lt, List, ◌∷◌, length, Option, Some, None, refl, sym, ap, ◌∙◌, subst, arith}
 use Rattle.std.specs.Prelude.{find, unwrap_or}
 use Rattle.std.specs.List.{range_with_len}
 use Rattle.std.proofs.Math.Nat.{mul_assoc, mul-mod_left, div-mul-le_self}
 use Rattle.std.proofs.lemmas.Nat.{pow-add}
-use Rattle.std.proofs.lemmas.Bool.{eqb-true, eqb-false, and_parts}
+use Rattle.std.proofs.lemmas.Bool.{eqb-false}
 use Rattle.law_lists.proofs.Tests.{chosen}
-use Rattle.ct_entry.specs.declared.rows.Owner.{Owner}
 use Rattle.ct_entry.specs.declared.rows.Owner.TheVariants.{Compartment}
 use Rattle.ct_entry.specs.declared.rows.Kind.TheVariants as kind
-use Rattle.def_words.specs.declared.Cap.{Cap}
 use Rattle.def_words.specs.declared.Trap.{Trap}
 use Rattle.def_words.specs.Authority.{cap_address}
 use Rattle.def_words.specs.Capability.{integer}
 use Rattle.def_words.specs.Seals.{cap_seal}
 use Rattle.def_reach.specs.Roots.{Listing, compartment_of, gate_for}
 use Rattle.def_sched.specs.declared.Status.{Status}
-use Rattle.def_sched.specs.declared.Status.TheVariants.{Ready, Sleeping, Waiting, Ended}
-use Rattle.def_sched.specs.Statuses.{asleep, awaiting}
-use Rattle.def_machine.specs.Image.{Image, root, made_cap, stack_entry, stack_base, frames_most}
-use Rattle.def_machine.specs.State.{State, Thread, Frame, Object, thread, register}
-use Rattle.def_machine.specs.Frames.{given, entered, switched}
+use Rattle.def_sched.specs.declared.Status.TheVariants.{Ready, Sleeping, Ended}
+use Rattle.def_sched.specs.Statuses.{asleep}
+use Rattle.def_machine.specs.Image.{Image, root, stack_entry, stack_base, frames_most}
+use Rattle.def_machine.specs.State.{State, Thread, Frame, thread, register}
+use Rattle.def_machine.specs.Frames.{given}
 use Rattle.def_confined.specs.Capabilities.{Rooted}
 use Rattle.def_confined.specs.Confined.{FramesHold}
 use Rattle.def_confined.specs.Keeps.{Keeps}
@@ -33,8 +31,8 @@ use Rattle.law_licensed.proofs.Checks.{AllTell, register_tells}
 use Rattle.law_licensed.proofs.Deeds.{call_licensed}
 use Rattle.def_step.specs.Instructions.{actor_of, deed_told}
 use Rattle.def_step.specs.Checks.{first_failed}
-use Rattle.def_step.specs.Switch.{Switched, TooDeep, NoStack, Enters, return_checks, switch_checks, room_exponent, room_of, new_top, called, with_room, past_checks, frame_top}
-use Rattle.def_step.specs.Routines.{Ran, Leaves, answers, tells, code, switched_to, switch, stops, yield, sleep}
+use Rattle.def_step.specs.Switch.{Switched, TooDeep, NoStack, Enters, return_checks, switch_checks, room_exponent, room_of, called, with_room, past_checks, frame_top}
+use Rattle.def_step.specs.Routines.{tells, code, switched_to, switch, stops, yield, sleep}
 use Rattle.law_registers.proofs.Moves.{untagged_puts}
 use Rattle.law_jumps.proofs.Moves.{in_rooted}
 use Rattle.law_memory.proofs.Authorities.{headed}
@@ -74,13 +72,25 @@ room_within n = div-mul-le_self n (2 ^ room_exponent n)
 switch_tells : (base top : ℕ) (caller : Thread) → AllTell (switch_checks base top caller)
 switch_tells base top caller = (
   register_tells TAG_CODE 1 (omega arith) (inr (inl refl)),
-  (register_tells SEAL_CODE 1 (omega arith) (inr (inr (inl refl))),
-  (register_tells TAG_CODE 6 (omega arith) (inr (inl refl)),
-  (register_tells SEAL_CODE 6 (omega arith) (inr (inr (inl refl))),
-  (register_tells TAG_CODE 2 (omega arith) (inr (inl refl)),
-  (register_tells SEAL_CODE 2 (omega arith) (inr (inr (inl refl))),
-  (register_tells STORE_CODE 2 (omega arith) (inr (inr (inr (inr (inr (inl refl)))))),
-  (register_tells BOUNDS_CODE 2 (omega arith) (inl refl), tt))))))),
+  (
+    register_tells SEAL_CODE 1 (omega arith) (inr (inr (inl refl))),
+    (
+      register_tells TAG_CODE 6 (omega arith) (inr (inl refl)),
+      (
+        register_tells SEAL_CODE 6 (omega arith) (inr (inr (inl refl))),
+        (
+          register_tells TAG_CODE 2 (omega arith) (inr (inl refl)),
+          (
+            register_tells SEAL_CODE 2 (omega arith) (inr (inr (inl refl))),
+            (
+              register_tells STORE_CODE 2 (omega arith) (inr (inr (inr (inr (inr (inl refl)))))),
+              (register_tells BOUNDS_CODE 2 (omega arith) (inl refl), tt),
+            ),
+          ),
+        ),
+      ),
+    ),
+  ),
 )
 
 pub switch_stands : (i : Image) (s : State) (t : ℕ) → Partitioned i → Facts i → Keeps i s → s.running ≡ Some t → Stands i s t (switch i s t)
@@ -110,14 +120,15 @@ switch_stands i s t parts facts k runs = by_failed (first_failed (switch_checks 
         let even : high_of i s t % 16 ≡ 0 = (let base = (facts.stacks (stack_entry i t) holds.0.stack).even in let more = room_even (cap_address (register (thread s t) 2) - stack_base i t) in omega (arith, base, more)) in
         let within = room_within (cap_address (register (thread s t) 2) - stack_base i t) in
         let top : frame_top (thread s t).frames ≡ head.0.top = ap frame_top frames in
-        let under : high_of i s t ≤ head.0.top = (let low = says.stack_low in let high = says.stack_high in omega (arith, within, top, low, high)) in
-        (push_keeps i s t head.0 head.1.0 (callee_of i (called i.entries (thread s t))) (called i.entries (thread s t)) (high_of i s t)
-        (given i (thread s t) t (callee_of i (called i.entries (thread s t))) (called i.entries (thread s t)) (high_of i s t)) parts k
-        (record {
-          enters = given_enters i s t head.0 head.1.0 (callee_of i (called i.entries (thread s t))) (called i.entries (thread s t)) (high_of i s t) parts k.confined runs frames says.return_tagged says.return_sealed says.gate_tagged says.gate_sealed refl callee says.stack_tagged says.stack_local even (omega arith) under;
-          room = (let deep = k.beside.bounded.deep t in omega (arith, deep, room));
-        }),
-        licensed head.0 head.1.0 frames says.gate_tagged says.gate_sealed)
+        let under : high_of i s t ≤ head.0.top = (let low = says.stack_low in let high = says.stack_high in omega (arith, within, top, low, high)) in (
+          push_keeps i s t head.0 head.1.0 (callee_of i (called i.entries (thread s t))) (called i.entries (thread s t)) (high_of i s t)
+              (given i (thread s t) t (callee_of i (called i.entries (thread s t))) (called i.entries (thread s t)) (high_of i s t)) parts k
+              (record {
+                enters = given_enters i s t head.0 head.1.0 (callee_of i (called i.entries (thread s t))) (called i.entries (thread s t)) (high_of i s t) parts k.confined runs frames says.return_tagged says.return_sealed says.gate_tagged says.gate_sealed refl callee says.stack_tagged says.stack_local even (omega arith) under;
+                room = (let deep = k.beside.bounded.deep t in omega (arith, deep, room));
+              }),
+          licensed head.0 head.1.0 frames says.gate_tagged says.gate_sealed,
+        )
 
     by_failed : (o : Option Trap) → first_failed (switch_checks (stack_base i t) (frame_top (thread s t).frames) (thread s t)) ≡ o → Stands i s t (switched_to i s t (past_checks i.entries (stack_base i t) (frames_most i t) (thread s t) o))
     by_failed (Some why) none = failed_tells (switch_checks (stack_base i t) (frame_top (thread s t).frames) (thread s t)) why (switch_tells (stack_base i t) (frame_top (thread s t).frames) (thread s t)) none

@@ -1,7 +1,6 @@
 -- What wait and wake come to stands.
-use Rattle.std.proofs.Common.{ℕ, zero, suc, ◌≡◌, ◌+◌, ◌-◌, ◌%◌, ◌==◌, ◌≤◌, ◌<◌, ◌&&◌, Bool, true, false, nat_lt, inl, inr, ◌⊎◌, List, [], ◌∷◌, map, length, Option, Some, None, refl, sym, ap, ◌∙◌, subst, arith, if◌then◌else◌, slice_set}
+use Rattle.std.proofs.Common.{ℕ, zero, suc, ◌≡◌, ◌-◌, ◌==◌, ◌≤◌, ◌<◌, true, false, nat_lt, inl, inr, ◌⊎◌, List, [], ◌∷◌, length, Some, None, refl, sym, ap, ◌∙◌, subst, arith}
 use Rattle.std.proofs.Math.ListN.{get_or}
-use Rattle.std.specs.List.{range_with_len}
 use Rattle.std.proofs.lemmas.Bool.{and_parts}
 use Rattle.std.proofs.lemmas.List.{length-map, length-set, get_or_past}
 use Rattle.std.proofs.lemmas.List.FromFn.{get_or-map-range_with_len, length-map-range_with_len}
@@ -13,7 +12,7 @@ use Rattle.def_words.specs.Authority.{cap_address}
 use Rattle.def_words.specs.Capability.{integer}
 use Rattle.def_memory.specs.Accesses.{loaded}
 use Rattle.def_sched.specs.declared.Status.{Status}
-use Rattle.def_sched.specs.declared.Status.TheVariants.{Ready, Sleeping, Waiting, Ended}
+use Rattle.def_sched.specs.declared.Status.TheVariants.{Ready, Waiting, Ended}
 use Rattle.def_sched.specs.Statuses.{awaiting, waits_for, status_of, wakes as is_woken, waiting_below, after_wake, woken, woken_count}
 use Rattle.def_machine.specs.Image.{Image}
 use Rattle.def_machine.specs.State.{State, Thread, thread, register, nobody}
@@ -21,11 +20,10 @@ use Rattle.def_machine.specs.Threads.{with_status, statuses_of, with_statuses}
 use Rattle.def_confined.specs.Holding.{EndFits}
 use Rattle.def_confined.specs.Keeps.{Keeps}
 use Rattle.def_confined.specs.Partitioned.{Partitioned}
-use Rattle.def_step.specs.Checks.{first_failed}
 use Rattle.def_step.specs.Switch.{return_checks}
-use Rattle.def_step.specs.Routines.{Ran, Leaves, answered, answers, tells, code, checked, word_checks, stops, waits, wait, wakes, wake}
+use Rattle.def_step.specs.Routines.{Leaves, answered, answers, tells, code, checked, word_checks, stops, waits, wait, wakes, wake}
 use Rattle.law_registers.proofs.Moves.{untagged_puts}
-use Rattle.law_sweeps.proofs.Ticks.{Restatused, restatused_keeps}
+use Rattle.law_sweeps.proofs.Ticks.{restatused_keeps}
 use Rattle.law_licensed.proofs.Checks.{AllTell, register_tells, plain_tells}
 use Rattle.law_natives.specs.Stands.{Stands}
 use Rattle.law_natives.proofs.Answering.{Returning, return_says, return_tells, checked_stands, answers_keeps, stops_keeps}
@@ -33,10 +31,16 @@ use Rattle.law_natives.proofs.Answering.{Returning, return_says, return_tells, c
 word_tells : (i : Image) (s : State) (c : Cap) → AllTell (word_checks i s c)
 word_tells i s c = (
   register_tells TAG_CODE 10 (omega arith) (inr (inl refl)),
-  (register_tells SEAL_CODE 10 (omega arith) (inr (inr (inl refl))),
-  (register_tells LOAD_CODE 10 (omega arith) (inr (inr (inr (inr (inl refl))))),
-  (register_tells BOUNDS_CODE 10 (omega arith) (inl refl),
-  (plain_tells MISALIGNED_LOAD (inr (inr (inr (inl refl)))), tt)))),
+  (
+    register_tells SEAL_CODE 10 (omega arith) (inr (inr (inl refl))),
+    (
+      register_tells LOAD_CODE 10 (omega arith) (inr (inr (inr (inr (inl refl))))),
+      (
+        register_tells BOUNDS_CODE 10 (omega arith) (inl refl),
+        (plain_tells MISALIGNED_LOAD (inr (inr (inr (inl refl)))), tt),
+      ),
+    ),
+  ),
 )
 
 -- ---- wait
@@ -90,13 +94,13 @@ woken_waits address most ss t is ended =
 woken_fits : (address most : ℕ) (ss : List Status) (t : ℕ) (th : Thread) → th.status ≡ status_of ss t → EndFits th → EndFits (with_status th (after_wake address most ss t))
 woken_fits address most ss t th is h = elim (bool_tells (is_woken address most ss t)) [
   | inl wakes_now ↦ rw wakes_now (record {
-      over = λ e. absurd (let clash : Ready ≡ Ended = e in cc);
-      none = λ e. absurd (woken_waits address most ss t wakes_now (sym is ∙ (h.none e).0));
-    })
+    over = λ e. absurd (let clash : Ready ≡ Ended = e in cc);
+    none = λ e. absurd (woken_waits address most ss t wakes_now (sym is ∙ (h.none e).0));
+  })
   | inr stays ↦ rw stays (record {
-      over = λ e. h.over (is ∙ e);
-      none = λ e. (sym is ∙ (h.none e).0, (h.none e).1);
-    })
+    over = λ e. h.over (is ∙ e);
+    none = λ e. (sym is ∙ (h.none e).0, (h.none e).1);
+  })
 ]
 
 woken_at : (address most : ℕ) (ss : List Status) (t : ℕ) → ((get_or (woken address most ss) t Ended ≡ after_wake address most ss t) × (t < length ss)) ⊎ ((get_or (woken address most ss) t Ended ≡ Ended) × (length ss ≤ t))

@@ -5,8 +5,6 @@ use Rattle.law_lists.proofs.Tests.{chosen}
 use Rattle.def_words.specs.declared.Cap.{Cap}
 use Rattle.def_words.specs.declared.Trap.{Trap}
 use Rattle.def_words.specs.Authority.{cap_address}
-use Rattle.def_words.specs.Traps.{plain_trap}
-use Rattle.def_profile.specs.declared.traps.TheConstants.{ILLEGAL_INSTRUCTION}
 use Rattle.def_sched.specs.Picks.{pick}
 use Rattle.def_machine.specs.Image.{Image}
 use Rattle.def_words.specs.Capability.{integer}
@@ -26,7 +24,7 @@ use Rattle.law_routines.proofs.Leaving.{Moves, served_left}
 use Rattle.law_reuse.specs.Reuse.{IsRow, Waits, IsPainted}
 use Rattle.def_step.specs.Checks.{first_failed}
 use Rattle.def_step.specs.Operands.{operands_of, class_of}
-use Rattle.def_step.specs.Instructions.{Board, Done, carried_out, named_by, around, space_of, ends, operand, trapped, goes_on, after_fetch, executed, fetch_checks, next_at}
+use Rattle.def_step.specs.Instructions.{Board, Done, carried_out, named_by, around, space_of, ends, operand, goes_on, after_fetch, executed, fetch_checks, next_at}
 use Rattle.def_step.specs.Events.{preempted_from, preempted, picked_as, picked_from, scheduled, continued, one_more_step, stepped, interrupted, ticked}
 
 pub record Same (s r : State) : Type 0 where

@@ -1,9 +1,9 @@
 -- A chunk waits, a sweep paints it, and it leaves at that sweep's end: over events, and over lists of them.
-use Rattle.std.proofs.Common.{ℕ, ◌≡◌, ◌+◌, ◌≤◌, ◌⊎◌, inl, inr, true, false, List, [], ◌∷◌, Option, Some, None, refl, sym, ◌∙◌, subst, arith}
+use Rattle.std.proofs.Common.{ℕ, ◌≡◌, ◌+◌, ◌⊎◌, inl, inr, true, List, [], ◌∷◌, Some, None, refl, sym, ◌∙◌, subst, arith}
 use Rattle.def_machine.specs.Image.{Image}
 use Rattle.def_machine.specs.State.{State, Object}
-use Rattle.def_machine.specs.Objects.{Any, Each, has_quarantined, painted, quarantine, placed_among}
-use Rattle.def_machine.specs.Heap.{with_slice, slice_end, sweep_over, sweep_began, swept, with_object, quarantined}
+use Rattle.def_machine.specs.Objects.{Any, has_quarantined, painted}
+use Rattle.def_machine.specs.Heap.{slice_end, sweep_began, with_object, quarantined}
 use Rattle.def_step.specs.declared.Event.{Event}
 use Rattle.def_step.specs.declared.Event.TheVariants.{Step, Tick, Sweep, Input}
 use Rattle.def_step.specs.Events.{stepped, ticked, happens, run}
@@ -11,10 +11,9 @@ use Rattle.def_step.specs.Instructions.{Board}
 use Rattle.def_confined.specs.Confined.{Apart}
 use Rattle.def_confined.specs.Changes.{NewObject}
 use Rattle.law_places.proofs.Rows.{each_take, among_any}
-use Rattle.law_heap.proofs.Quarantines.{quarantine_any}
 use Rattle.law_reuse.specs.Reuse.{IsRow, Waits, IsPainted, Meets, Begins, EndsIn, SweepsWhole}
 use Rattle.law_reuse.proofs.Same.{Same, Stays, quarantined_stays, stepped_stays, ticked_same}
-use Rattle.law_reuse.proofs.Sweeping.{begun, sliced_from, swept_case, sliced_case, painted_row, waits_row, waits_left, row_tells, none_painted}
+use Rattle.law_reuse.proofs.Sweeping.{begun, swept_case, sliced_case, painted_row, waits_row, waits_left, row_tells, none_painted}
 
 abbrev counted : State → State
 counted s = record s { counts = record s.counts { sweeps = s.counts.sweeps + 1 } }

@@ -1,5 +1,5 @@
 -- What stands at the program counter, and which routine a number is, by cases.
-use Rattle.std.proofs.Common.{ℕ, ◌≡◌, ◌+◌, ◌-◌, ◌*◌, ◌/◌, ◌%◌, ◌==◌, ◌≤◌, ◌<◌, ◌&&◌, Bool, true, false, nat_le, nat_lt, Option, Some, None, refl, arith, if◌then◌else◌}
+use Rattle.std.proofs.Common.{ℕ, ◌≡◌, ◌+◌, ◌-◌, ◌*◌, ◌%◌, ◌==◌, ◌≤◌, ◌&&◌, true, false, nat_le, nat_lt, Option, Some, None, refl, arith, if◌then◌else◌}
 use Rattle.std.proofs.lemmas.Bool.{eqb-true, eqb-false, leb-true, and_parts}
 use Rattle.law_lists.proofs.Tests.{chosen}
 use Rattle.def_profile.specs.declared.native.TheConstants.{NATIVE_BASE, NATIVE_UNIT, LAST_NATIVE, RETURN_ENTRY, SWITCH, RETURN, YIELD, SLEEP, WAIT, WAKE, ALLOCATE, FREE, REMAINING}
@@ -12,7 +12,7 @@ use Rattle.def_step.specs.declared.Next.TheVariants.{Returning, Instruction, Nat
 use Rattle.def_step.specs.declared.TheConstants.{LAST_ROUTINE}
 use Rattle.def_step.specs.Accesses.{Space}
 use Rattle.def_step.specs.Instructions.{fetched, is_native_entry, native_number, next_native, next_word, next_at}
-use Rattle.def_step.specs.Native.{native, native_return}
+use Rattle.def_step.specs.Native.{native}
 use Rattle.def_step.specs.Quotas.{allocate, free, remaining}
 use Rattle.def_step.specs.Routines.{Ran, switch, yield, sleep, wait, wake}
 

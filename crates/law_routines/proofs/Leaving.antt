@@ -1,17 +1,15 @@
 -- What holds of each move of a state by which a routine leaves it, and of what is told of it, holds of what the routine
 -- leaves and tells.
-use Rattle.std.proofs.Common.{ℕ, ◌≡◌, ◌+◌, ◌-◌, ◌==◌, Bool, true, false, nat_lt, ◌≤◌, ◌⊎◌, inl, inr, List, length, Option, Some, None, refl, if◌then◌else◌}
+use Rattle.std.proofs.Common.{ℕ, ◌≡◌, ◌-◌, ◌==◌, nat_lt, ◌≤◌, ◌⊎◌, inl, inr, List, length, Option, Some, None, refl, if◌then◌else◌}
 use Rattle.law_lists.proofs.Tests.{chosen}
 use Rattle.def_profile.specs.declared.native.TheConstants.{RETURN}
 use Rattle.ct_entry.specs.declared.acts.Act.{Act}
 use Rattle.ct_entry.specs.declared.acts.Act.TheVariants as acts
-use Rattle.def_words.specs.declared.Cap.{Cap}
 use Rattle.def_words.specs.declared.Trap.{Trap}
 use Rattle.def_words.specs.Authority.{cap_address}
 use Rattle.def_words.specs.Capability.{integer}
 use Rattle.def_memory.specs.Accesses.{loaded}
 use Rattle.def_sched.specs.declared.Status.{Status}
-use Rattle.def_sched.specs.declared.Status.TheVariants.{Ended}
 use Rattle.def_sched.specs.Statuses.{asleep, awaiting}
 use Rattle.def_reach.specs.Roots.{compartment_of, gate_for}
 use Rattle.def_machine.specs.Image.{Image, root, stack_base, frames_most}
@@ -27,7 +25,7 @@ use Rattle.def_step.specs.Instructions.{Board, served}
 use Rattle.def_step.specs.Native.{native}
 use Rattle.def_step.specs.Quotas.{Allocation, Refused, Made, allocation, is_quota_cap, quota_in, by_quota, allocated, allocate, freed_as, free, whole_of, let_go, remaining}
 use Rattle.def_step.specs.Routines.{Ran, Traps, Leaves, answered, answers, tells, code, checked, switched_to, switch, stops, yield, sleep, waits, wait, wakes, wake, word_checks}
-use Rattle.def_step.specs.Switch.{Switched, Trapped, TooDeep, NoStack, Enters, return_checks, switch_checks, called, new_top, with_room, past_checks, frame_top}
+use Rattle.def_step.specs.Switch.{Switched, TooDeep, NoStack, Enters, return_checks, switch_checks, called, new_top, with_room, past_checks, frame_top}
 use Rattle.law_routines.specs.Leaving.{Left, IfRan}
 use Rattle.law_routines.proofs.Cases.{Routines, by_routine}
 

@@ -1,17 +1,15 @@
 -- What is hidden is zero at boot: the threads' areas and the heap.
-use Rattle.std.proofs.Common.{ℕ, ◌≡◌, ◌+◌, ◌-◌, ◌*◌, ◌≤◌, ◌<◌, ◌==◌, ◌&&◌, ◌||◌, ◌⊎◌, Bool, true, false, nat_le, nat_lt, inl, inr, [], Option, Some, None, refl, sym, ap, ◌∙◌, subst, arith, if◌then◌else◌}
+use Rattle.std.proofs.Common.{ℕ, ◌≡◌, ◌+◌, ◌-◌, ◌*◌, ◌≤◌, ◌<◌, ◌==◌, ◌&&◌, ◌||◌, ◌⊎◌, Bool, true, false, nat_le, nat_lt, inl, inr, [], Option, Some, None, refl, ap, ◌∙◌, arith, if◌then◌else◌}
 use Rattle.std.proofs.lemmas.Bool.{leb-true, ltb-true, and_parts}
 use Rattle.law_lists.proofs.Tests.{lt_tells, eq_tells}
 use Rattle.def_profile.specs.declared.layout.TheConstants.{TRUSTED_HEAD}
-use Rattle.def_words.specs.declared.Cap.{Cap}
 use Rattle.def_memory.specs.declared.Granule.{Granule}
 use Rattle.def_memory.specs.Granules.{plain}
-use Rattle.def_machine.specs.Image.{booted, address_of, trusted_end}
+use Rattle.def_machine.specs.Image.{address_of}
 use Rattle.def_machine.specs.State.{granule}
 use Rattle.def_hidden.specs.Hidden.{Blank, is_hidden}
 use Rattle.def_image.specs.Parts.{PartsRow}
-use Rattle.def_image.specs.Regions.{RegionRow, trusted_region, trusted_length}
-use Rattle.def_image.specs.Laid.{IsRegion}
+use Rattle.def_image.specs.Regions.{RegionRow, trusted_region}
 use Rattle.def_image.specs.Sound.{Sound}
 use Rattle.def_boot.specs.Made.{return_sentry}
 use Rattle.def_boot.specs.Contents.{content_at, boot_cap, region_at, granules_in}

@@ -1,28 +1,21 @@
 -- What boot makes is settled: what is untagged has no root and no source.
 use Rattle.std.proofs.Common.{ℕ, zero, suc, ◌+◌, ◌-◌, ◌*◌, ◌/◌, ◌%◌, ◌==◌, nat_lt, List, [], ◌∷◌, length, slice_get, slice_index_or, Option, Some, None, if◌then◌else◌}
 use Rattle.law_lists.proofs.Tests.{chosen}
-use Rattle.ct_entry.specs.declared.rows.Entry.{Entry}
-use Rattle.ct_entry.specs.declared.rows.Kind.{Kind}
-use Rattle.ct_entry.specs.declared.rows.Kind.TheVariants as kind
 use Rattle.ct_entry.specs.declared.rows.Owner.{Owner}
 use Rattle.ct_entry.specs.declared.rows.Owner.TheVariants.{Trusted, Compartment, Library, Thread}
 use Rattle.def_profile.specs.declared.layout.TheConstants.{GRANULE, SLOT_SIZE, TABLE_HEAD, TABLE_ROW}
 use Rattle.def_words.specs.declared.Cap.{Cap}
-use Rattle.def_words.specs.declared.Shadow.{Shadow}
-use Rattle.def_words.specs.Capability.{IsSettled, cap_of, word_sealed}
-use Rattle.def_words.specs.Derive.{derive, sealed_as}
+use Rattle.def_words.specs.Capability.{IsSettled}
 use Rattle.def_memory.specs.Granules.{plain, nothing}
 use Rattle.def_machine.specs.State.{nobody}
 use Rattle.def_confined.specs.Settled.{ThreadSettled, Settled}
 use Rattle.def_image.specs.Parts.{CodeRow, ThreadRow, PartsRow}
 use Rattle.def_image.specs.Members.{compartment, library, sealed, code_number, globals_number, library_number, stack_number}
 use Rattle.def_image.specs.Regions.{Holder, CodeOf, TableOf, GlobalsOf, SharedOf, SealedOf, StackOf, TrustedPart, RegionRow}
-use Rattle.def_boot.specs.Entries.{rows_of}
-use Rattle.def_boot.specs.Made.{made_by, made_code, made_from, made_caps, made_for, return_sentry}
+use Rattle.def_boot.specs.Made.{made_for, return_sentry}
 use Rattle.def_boot.specs.Contents.{word_of, gate_word, code_content, owned_content, table_content, content, content_at, region_at, boot_cap, granules_from, granules_in, boot_granules}
 use Rattle.def_boot.specs.Boot.{first_thread, first_threads, entry_address, boot_state}
 use Rattle.law_words.proofs.Away.{address_settles}
-use Rattle.law_words.proofs.Making.{settled}
 use Rattle.law_grants.proofs.Settling.{made_settled, sentry_settled}
 use Rattle.law_settled.proofs.Values.{plain_settled}
 use Rattle.law_settled.proofs.Events.{nobody_settled, sixteen}
