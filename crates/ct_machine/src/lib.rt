@@ -6,6 +6,7 @@ mod events;
 mod going;
 mod machine;
 mod plan;
+mod serving;
 mod starting;
 mod tally;
 mod turns;
@@ -13,5 +14,7 @@ mod turns;
 pub use def_step::Event;
 pub use machine::Machine;
 
+#[cfg(test)]
+mod routine_tests;
 #[cfg(test)]
 mod tests;

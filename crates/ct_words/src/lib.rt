@@ -29,6 +29,12 @@ pub enum Task<'a> {
         owner: &'a str,
         compartment: &'a str,
     },
+    /// An image is written in the last version of the format.
+    Upgrade,
+    /// A description's report is judged by the policy in the file of this name.
+    Check {
+        policy: &'a str,
+    },
 }
 
 impl<'a> Task<'a> {
@@ -37,7 +43,7 @@ impl<'a> Task<'a> {
         ensures { (name : List ℕ) → result ≡ spec.reads_image (command_for name self.entry) }
     {
         match self {
-            Task::RunImage { .. } => true,
+            Task::RunImage { .. } | Task::Upgrade => true,
             _ => false,
         }
     }
@@ -98,7 +104,7 @@ pub fn form_of<'a>(words: &'a [String]) -> Option<Form<'a>>
 {
     match words {
         [word, name] => of_one(word.as_str(), name.as_str()),
-        [word, name, limit] => of_two(word.as_str(), name.as_str(), limit.as_str()),
+        [word, name, last] => of_two(word.as_str(), name.as_str(), last.as_str()),
         [word, name, owner, compartment] => of_three(
             word.as_str(),
             name.as_str(),
@@ -109,7 +115,7 @@ pub fn form_of<'a>(words: &'a [String]) -> Option<Form<'a>>
     }
 }
 
-/// `audit DESC`, `image DESC`.
+/// `audit DESC`, `image DESC`, `upgrade IMAGE`.
 fn of_one<'a>(word: &str, name: &'a str) -> Option<Form<'a>>
     ensures short { IfSome result (λ f. IsShort f.task) }
     ensures command { option_map command_of result ≡ spec.of_one word.now name.now }
@@ -122,19 +128,27 @@ fn of_one<'a>(word: &str, name: &'a str) -> Option<Form<'a>>
         let task = Task::Image;
         return Some(Form { name, task });
     }
+    if word == "upgrade" {
+        let task = Task::Upgrade;
+        return Some(Form { name, task });
+    }
     None
 }
 
-/// `run DESC LIMIT`, `runimage IMAGE LIMIT`.
-fn of_two<'a>(word: &str, name: &'a str, limit: &str) -> Option<Form<'a>>
+/// `run DESC LIMIT`, `runimage IMAGE LIMIT`, `check DESC POLICY`.
+fn of_two<'a>(word: &str, name: &'a str, last: &'a str) -> Option<Form<'a>>
     ensures short { IfSome result (λ f. IsShort f.task) }
-    ensures command { option_map command_of result ≡ spec.of_two word.now name.now limit.now }
+    ensures command { option_map command_of result ≡ spec.of_two word.now name.now last.now }
 {
     if word == "run" {
-        return run_of(name, limit);
+        return run_of(name, last);
     }
     if word == "runimage" {
-        return run_image_of(name, limit);
+        return run_image_of(name, last);
+    }
+    if word == "check" {
+        let task = Task::Check { policy: last };
+        return Some(Form { name, task });
     }
     None
 }
