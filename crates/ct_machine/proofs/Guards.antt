@@ -11,6 +11,7 @@ use Rattle.def_image.specs.Parts.{PartsRow}
 use Rattle.def_image.specs.Sound.{Sound}
 use Rattle.def_boot.specs.Boot.{booted_machine}
 use Rattle.law_grants.proofs.Wiring.{wired}
+use Rattle.law_grants.proofs.Holding.{holds}
 use Rattle.law_booted.proofs.Whole.{partitioned}
 use Rattle.law_started.proofs.Shutting.{shut}
 use Rattle.law_started.proofs.Whole.{keeps}
@@ -21,6 +22,7 @@ use Rattle.law_events.proofs.Events.{event_keeps, deed_licensed, span_licensed}
 pub at_boot : (p : PartsRow) → Sound p → Guarded (booted_machine p)
 at_boot p s = record {
   partitioned = partitioned p s;
+  facts = holds p s;
   wired = wired p s;
   shut = shut p s;
   keeps = keeps p s;
@@ -30,16 +32,17 @@ at_boot p s = record {
 pub after_event : (m : MachineRow) (e : Event) → Guarded m → Guarded (record { board = m.board; state = (happens m.board m.state e).0 })
 after_event m e g = record {
   partitioned = g.partitioned;
+  facts = g.facts;
   wired = g.wired;
   shut = g.shut;
-  keeps = event_keeps m.board m.state e g.partitioned g.wired g.keeps;
-  settled = event_settles m.board m.state e g.settled;
+  keeps = event_keeps m.board m.state e g.partitioned g.facts g.wired g.keeps;
+  settled = event_settles m.board m.state e g.facts.settled g.settled;
 }
 
 pub event_licensed : (m : MachineRow) (e : Event) → Guarded m → IsLicensedEvent m.board.image.entries (happens m.board m.state e).1
 event_licensed m e g = record {
-  deed = λ d is. deed_licensed m.board m.state e d g.partitioned g.wired g.keeps is;
-  off = λ o is. span_licensed m.board m.state e o g.partitioned g.wired g.keeps is;
+  deed = λ d is. deed_licensed m.board m.state e d g.partitioned g.facts g.wired g.keeps is;
+  off = λ o is. span_licensed m.board m.state e o g.partitioned g.facts g.wired g.keeps is;
 }
 
 pub kept_by : (m n : MachineRow) (e : Event) → Guarded m → n.state ≡ (happens m.board m.state e).0 → n.board ≡ m.board → Guarded n

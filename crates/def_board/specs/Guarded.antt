@@ -4,12 +4,14 @@
 use Rattle.def_confined.specs.Keeps.{Keeps}
 use Rattle.def_confined.specs.Partitioned.{Partitioned}
 use Rattle.def_confined.specs.Settled.{Settled}
+use Rattle.def_facts.specs.Facts.{Facts}
 use Rattle.def_hidden.specs.Hidden.{Shut}
 use Rattle.def_step.specs.Events.{MachineRow}
 use Rattle.def_board.specs.Wired.{Wired}
 
 pub record Guarded (m : MachineRow) : Type 0 where
   pub partitioned : Partitioned m.board.image
+  pub facts : Facts m.board.image
   pub wired : Wired m.board
   pub shut : Shut m.board.image
   pub keeps : Keeps m.board.image m.state

@@ -1,14 +1,16 @@
 -- What holds of an image's entries and of the capabilities that boot makes for them. All x are addresses.
-use Rattle.std.specs.Prelude.{ℕ, ◌≡◌, ◌%◌, ◌≤◌, ◌<◌, ◌⊎◌, Bool, true, false}
-use Rattle.ct_entry.specs.declared.rows.Owner.{Owner}
+use Rattle.std.specs.Prelude.{ℕ, ◌≡◌, ◌+◌, ◌%◌, ◌≤◌, ◌<◌, ◌⊎◌, true, false}
 use Rattle.ct_entry.specs.declared.rows.Owner.TheVariants.{Compartment, Library}
 use Rattle.ct_entry.specs.declared.rows.Kind.TheVariants as kind
+use Rattle.def_profile.specs.declared.layout.TheConstants.{REGION_UNIT}
+use Rattle.def_profile.specs.declared.limits.TheConstants.{MOST_STACK_REGION}
 use Rattle.def_profile.specs.declared.native.TheConstants.{NATIVE_BASE, NATIVE_END}
 use Rattle.def_profile.specs.declared.seals.TheConstants.{EXPORT_TYPE, QUOTA_TYPE}
+use Rattle.def_words.specs.Capability.{IsSettled, with_address}
 use Rattle.def_words.specs.LeastBounds.{rounded_of}
 use Rattle.def_words.specs.Permissions.{bit, load_data, store_data, execute}
 use Rattle.def_words.specs.Seals.{cap_seal}
-use Rattle.def_reach.specs.Roots.{Root, Origin, Listing, is_root, is_native, gate_for}
+use Rattle.def_reach.specs.Roots.{Root, Listing, is_root, is_native, gate_for}
 use Rattle.def_machine.specs.Image.{Image, root, made_cap, code_entry}
 
 -- ---- what is named
@@ -33,11 +35,24 @@ gate_code i n = (gate_for i.entries.gates n).code
 abbrev pub IsInside : Root → ℕ → Type 0
 IsInside r x = (r.base ≤ x) × (x < r.top)
 
--- a word of its owner's code: a library's export has the range of that code itself
+-- ---- where stacks lie
+
+-- its bounds are ones that a word can spell, it begins at a whole unit, and it isn't longer than a stack may be: so what
+-- a call leaves of it to a callee has bounds that a word can spell too
+pub record StackFits (r : Root) : Type 0 where
+  pub order : r.base ≤ r.top
+  pub exact : (rounded_of r.base r.top).exact ≡ true
+  pub even : r.base % REGION_UNIT ≡ 0
+  pub short : r.top ≤ r.base + MOST_STACK_REGION
+
+-- a word of its owner's code: a library's export has the range of that code itself, and a compartment's code is tagged at
+-- that word
 pub record GateFits (i : Image) (n : ℕ) : Type 0 where
   pub even : gate_code i n % 4 ≡ 0
   pub compartment : (b : ℕ) → (root i n).owner ≡ Compartment b
       → IsInside (root i (code_entry i b)) (gate_code i n)
+  pub begins : (b : ℕ) → (root i n).owner ≡ Compartment b
+      → (with_address (made_cap i (code_entry i b)) (gate_code i n)).tag ≡ true
   pub library : (l : ℕ) → (root i n).owner ≡ Library l → IsInside (root i n) (gate_code i n)
 
 -- ---- what boot makes
@@ -59,6 +74,10 @@ RootsAway i =
     (n : ℕ) → is_root (root i n).origin ≡ true
     → ((root i n).top ≤ i.heap_base) ⊎ (i.heap_end ≤ (root i n).base)
 
+-- what boot makes for no entry, or for one that has no capability, has no root and no source
+abbrev pub MadeSettled : Image → Type 0
+MadeSettled i = (n : ℕ) → IsSettled (made_cap i n)
+
 -- ---- all of them, each with who needs it
 
 pub record Facts (i : Image) : Type 0 where
@@ -77,9 +96,8 @@ pub record Facts (i : Image) : Type 0 where
       → IsLibraryExport i n (root i n).of
   -- calls: the callee begins at a word of its own code
   pub gates : (n : ℕ) → (root i n).origin ≡ Listing kind.Export → GateFits i n
-  -- calls: what is left of a stack below a new top has bounds that a word can spell
-  pub stacks : (n : ℕ) → (root i n).origin ≡ Listing kind.Stack
-      → (rounded_of (root i n).base (root i n).top).exact ≡ true
+  -- calls: a callee's stack ends at a multiple of 16, and has bounds that a word can spell
+  pub stacks : (n : ℕ) → (root i n).origin ≡ Listing kind.Stack → StackFits (root i n)
   -- fetches: a native routine runs through a capability of its own alone
   pub natives : (n x : ℕ) → is_native (root i n).origin ≡ false → Reads (root i n)
       → IsInside (root i n) x → (x < NATIVE_BASE) ⊎ (NATIVE_END ≤ x)
@@ -88,3 +106,5 @@ pub record Facts (i : Image) : Type 0 where
       → (x < i.heap_base) ⊎ (i.heap_end ≤ x)
   -- allocations: a new object is covered by no capability
   pub away : RootsAway i
+  -- calls: what the switcher hands out is settled
+  pub settled : MadeSettled i

@@ -1,5 +1,5 @@
 -- *Instruction step*: one instruction of a thread.
-use Rattle.std.specs.Prelude.{ℕ, ◌+◌, ◌-◌, ◌*◌, ◌%◌, ◌==◌, ◌&&◌, Bool, nat_le, nat_lt, List, [], ◌∷◌, length, Option, Some, None, option_map, unwrap_or, Result, Ok, Err, slice_set, if◌then◌else◌}
+use Rattle.std.specs.Prelude.{ℕ, ◌+◌, ◌-◌, ◌*◌, ◌/◌, ◌%◌, ◌==◌, ◌&&◌, Bool, nat_le, nat_lt, List, [], ◌∷◌, length, Option, Some, None, option_map, unwrap_or, Result, Ok, Err, slice_set, if◌then◌else◌}
 use Rattle.ct_entry.specs.declared.acts.Act.{Act}
 use Rattle.ct_entry.specs.declared.acts.Act.TheVariants.{Trap}
 use Rattle.ct_entry.specs.declared.acts.Deed.{Deed}
@@ -24,7 +24,8 @@ use Rattle.def_machine.specs.Frames.{returned, unwound}
 use Rattle.def_step.specs.declared.Class.{Class}
 use Rattle.def_step.specs.declared.Class.TheVariants as class
 use Rattle.def_step.specs.declared.Next.{Next}
-use Rattle.def_step.specs.declared.Next.TheVariants.{Returning, Instruction, Nothing}
+use Rattle.def_step.specs.declared.Next.TheVariants.{Returning, Instruction, Native, Nothing}
+use Rattle.def_step.specs.declared.TheConstants.{LAST_ROUTINE}
 use Rattle.def_profile.specs.declared.native.TheConstants.{NATIVE_BASE, NATIVE_UNIT, LAST_NATIVE, RETURN_ENTRY}
 use Rattle.def_profile.specs.declared.traps.TheConstants.{BOUNDS_CODE, TAG_CODE, SEAL_CODE, EXECUTE_CODE, SYSTEM_REGISTER_CODE, PCC_REGISTER, ILLEGAL_INSTRUCTION, BREAKPOINT, ENVIRONMENT_CALL}
 use Rattle.def_words.specs.Traps.{capability_trap, plain_trap}
@@ -33,6 +34,8 @@ use Rattle.def_step.specs.Devices.{Bank}
 use Rattle.def_step.specs.Accesses.{Space, Accessed, access_result}
 use Rattle.def_step.specs.Jumps.{Flowed, flow_result}
 use Rattle.def_step.specs.Operands.{operands_of, class_of}
+use Rattle.def_step.specs.Routines.{Ran, Traps, Leaves}
+use Rattle.def_step.specs.Native.{native}
 
 -- what never changes: the image, and where each device stands
 pub record Board : Type 0 where
@@ -136,7 +139,15 @@ is_native_entry x =
     nat_le NATIVE_BASE x && nat_lt x (NATIVE_BASE + NATIVE_UNIT * (LAST_NATIVE + 1))
     && (x % NATIVE_UNIT == 0)
 
--- what stands at the program counter: the return, an instruction, or nothing that is carried out
+-- the number of the routine at a native entry
+abbrev pub native_number : ℕ → ℕ
+native_number at = (at - NATIVE_BASE) / NATIVE_UNIT
+
+-- what stands at the program counter: the return, another native routine, an instruction, or nothing that is
+-- carried out
+abbrev pub next_native : ℕ → Next
+next_native number = if nat_le number LAST_ROUTINE then Native number else Nothing
+
 abbrev pub next_word : Option Instr → Next
 next_word None = Nothing
 next_word (Some i) = Instruction i
@@ -144,7 +155,7 @@ next_word (Some i) = Instruction i
 abbrev pub next_at : Space → ℕ → Next
 next_at p at =
     if at == RETURN_ENTRY then Returning
-    else if is_native_entry at then Nothing
+    else if is_native_entry at then next_native (native_number at)
     else next_word (instruction_in (fetched p at))
 
 -- ---- one instruction of thread t, on the whole state
@@ -214,9 +225,23 @@ instructed b s t i =
     (operand s t (operands_of i).second) (named_by b.image (operand s t (operands_of i).first))
     (around b s t))
 
+-- a routine's deed is its caller's, of the frame before the call
+abbrev pub deed_told : State → ℕ → ℕ × Act → Deed
+deed_told s t told = deed s t told.0 told.1
+
+abbrev pub ran : Board → State → ℕ → Ran → State × Option Deed
+ran b s t (Traps why) = trapped b s t why
+ran b s t (Leaves after told) = (after, option_map (deed_told s t) told)
+
+-- where no routine has the number, nothing is carried out
+abbrev pub served : Board → State → ℕ → Option Ran → State × Option Deed
+served b s t None = trapped b s t (plain_trap ILLEGAL_INSTRUCTION)
+served b s t (Some r) = ran b s t r
+
 abbrev pub goes_on : Board → State → ℕ → Next → State × Option Deed
 goes_on b s t Returning = (returned b.image s t (thread s t).frames, None)
 goes_on b s t (Instruction i) = instructed b s t i
+goes_on b s t (Native number) = served b s t (native b.image s t number)
 goes_on b s t Nothing = trapped b s t (plain_trap ILLEGAL_INSTRUCTION)
 
 abbrev pub after_fetch : Board → State → ℕ → Option trap_words.Trap → State × Option Deed

@@ -1,5 +1,5 @@
 -- Native routines: how they answer, and those of the switcher and the scheduler. A routine traps at a check, or leaves a
--- state, with what it did and the entry that it did it by. Nothing runs them yet but the return.
+-- state, with what it did and the entry that it did it by.
 use Rattle.std.specs.Prelude.{ℕ, ◌+◌, ◌-◌, ◌*◌, ◌%◌, ◌==◌, ◌&&◌, Bool, nat_le, length, List, [], ◌∷◌, Option, Some, None, if◌then◌else◌}
 use Rattle.ct_entry.specs.declared.acts.Act.{Act}
 use Rattle.ct_entry.specs.declared.acts.Act.TheVariants.{Call}

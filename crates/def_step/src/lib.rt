@@ -4,6 +4,11 @@
 #![tactic(auto)]
 
 use def_instr::Instr;
+use def_profile::native::WAKE;
+
+/// The greatest number of a native routine that the machine carries out. Of those after it each is
+/// nothing that is carried out.
+pub const LAST_ROUTINE: u32 = WAKE;
 
 /// What happens at the machine, one at a time.
 #[derive(Clone, Copy, Debug, PartialEq, Eq, Drop)]
@@ -67,6 +72,8 @@ pub enum Next {
     /// The native routine that returns.
     Returning,
     Instruction { instruction: Instr },
-    /// Nothing that is carried out: no instruction, or another native routine.
+    /// Another native routine, with this number of at most `LAST_ROUTINE`.
+    Native { number: u32 },
+    /// Nothing that is carried out: no instruction, or a native routine past the last.
     Nothing,
 }

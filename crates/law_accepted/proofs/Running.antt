@@ -1,24 +1,58 @@
 -- What a faultless image's machine keeps.
-use Rattle.std.proofs.Common.{List}
+use Rattle.std.proofs.Common.{ℕ, ◌≡◌, ◌≤◌, List, Some}
 use Rattle.def_boot.specs.Boot.{board_of, boot_state, image_of}
 use Rattle.def_confined.specs.Confined.{Confined}
 use Rattle.def_confined.specs.Partitioned.{Partitioned}
 use Rattle.def_confined.specs.Telling.{AllLicensed}
 use Rattle.def_image.specs.Accepted.{IsFaultless}
 use Rattle.def_image.specs.Parts.{PartsRow}
-use Rattle.def_step.specs.Events.{run, told}
+use Rattle.def_step.specs.Events.{happens, run, told}
 use Rattle.def_step.specs.declared.Event.{Event}
+use Rattle.ct_entry.specs.declared.acts.Act.TheVariants as acts
+use Rattle.ct_entry.specs.declared.acts.Deed.{Deed}
+use Rattle.def_machine.specs.Image.{root}
+use Rattle.def_machine.specs.Objects.{charges}
+use Rattle.def_step.specs.declared.Event.TheVariants.{Step}
 use Rattle.law_grants.proofs.Wiring.{wired}
+use Rattle.law_grants.proofs.Holding.{holds}
 use Rattle.law_image.proofs.Sounds.{sound}
 use Rattle.law_booted.proofs.Whole as booted
 use Rattle.law_run.proofs.Running.{run_keeps, told_licensed}
 use Rattle.law_started.proofs.Whole.{keeps}
+use Rattle.law_started.proofs.Shutting.{shut}
+use Rattle.law_started.proofs.Blanking.{blank}
+use Rattle.law_reuse.specs.Reuse.{SweepsWhole}
+use Rattle.law_history.specs.Each.{EachEvent}
+use Rattle.law_history.specs.Clean.{CleanEvent}
+use Rattle.law_history.specs.Temporal.{UsesLive, AllocatesFresh}
+use Rattle.law_history.specs.Chunks.{ChunksMeet}
+use Rattle.law_history.proofs.Running.{run_clean, run_uses_live, run_charges, run_fresh, run_reuses}
 
 pub partitioned : (p : PartsRow) → IsFaultless p → Partitioned (image_of p)
 partitioned p f = booted.partitioned p (sound p f)
 
 pub confined : (p : PartsRow) (es : List Event) → IsFaultless p → Confined (image_of p) (run (board_of p) (boot_state p) es)
-confined p es f = (run_keeps (board_of p) (boot_state p) es (partitioned p f) (wired p (sound p f)) (keeps p (sound p f))).confined
+confined p es f = (run_keeps (board_of p) (boot_state p) es (partitioned p f) (holds p (sound p f)) (wired p (sound p f)) (keeps p (sound p f))).confined
 
 pub licensed : (p : PartsRow) (es : List Event) → IsFaultless p → AllLicensed (image_of p).entries (told (board_of p) (boot_state p) es)
-licensed p es f = told_licensed (board_of p) (boot_state p) es (partitioned p f) (wired p (sound p f)) (keeps p (sound p f))
+licensed p es f = told_licensed (board_of p) (boot_state p) es (partitioned p f) (holds p (sound p f)) (wired p (sound p f)) (keeps p (sound p f))
+
+-- ---- what runs do
+
+pub calls : (p : PartsRow) (es : List Event) → IsFaultless p → EachEvent (CleanEvent (board_of p)) (board_of p) (boot_state p) es
+calls p es f = run_clean (board_of p) (partitioned p f) (holds p (sound p f)) (wired p (sound p f)) (boot_state p) es (keeps p (sound p f))
+
+pub uses : (p : PartsRow) (es : List Event) → IsFaultless p → EachEvent (λ z e. UsesLive (board_of p) z) (board_of p) (boot_state p) es
+uses p es f = run_uses_live (board_of p) (partitioned p f) (holds p (sound p f)) (wired p (sound p f)) (boot_state p) es (keeps p (sound p f))
+
+pub fresh : (p : PartsRow) (es : List Event) → IsFaultless p → EachEvent (AllocatesFresh (board_of p)) (board_of p) (boot_state p) es
+fresh p es f = run_fresh (board_of p) (partitioned p f) (holds p (sound p f)) (wired p (sound p f)) (boot_state p) es (shut p (sound p f)) (keeps p (sound p f)) (blank p (sound p f))
+
+pub swept : (p : PartsRow) (es fs : List Event) (d : Deed) (n base long live : ℕ) (c : Deed) (number from size left : ℕ) → IsFaultless p → (happens (board_of p) (run (board_of p) (boot_state p) es) Step).1.deed ≡ Some d → d.act ≡ acts.Free n base long live
+    → (happens (board_of p) (run (board_of p) (happens (board_of p) (run (board_of p) (boot_state p) es) Step).0 fs) Step).1.deed ≡ Some c → c.act ≡ acts.Allocate number from size left → ChunksMeet from size base long
+    → SweepsWhole (board_of p) (happens (board_of p) (run (board_of p) (boot_state p) es) Step).0 fs
+swept p es fs d n base long live c number from size left f =
+    run_reuses (board_of p) (partitioned p f) (holds p (sound p f)) (wired p (sound p f)) (boot_state p) es fs d n base long live c number from size left (shut p (sound p f)) (keeps p (sound p f)) (blank p (sound p f))
+
+pub quotas : (p : PartsRow) (es : List Event) (q : ℕ) → IsFaultless p → charges q (run (board_of p) (boot_state p) es).objects ≤ (root (image_of p) q).limit
+quotas p es q f = run_charges (board_of p) (partitioned p f) (holds p (sound p f)) (wired p (sound p f)) (boot_state p) es q (keeps p (sound p f))

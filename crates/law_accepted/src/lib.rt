@@ -2,7 +2,9 @@
 //! and sources are linked to. Functions with empty bodies whose contracts are the laws.
 #![tactic(auto)]
 
-ghost use Rattle.std.specs.Prelude.{List, [], ℕ};
+ghost use Rattle.std.specs.Prelude.{◌≡◌, ◌≤◌, List, [], Some, ℕ};
+ghost use Rattle.ct_entry.specs.declared.acts.Act.TheVariants.{Allocate, Free};
+ghost use Rattle.ct_entry.specs.declared.acts.Deed.{Deed};
 ghost use Rattle.def_boot.specs.Boot.{board_of, boot_state, image_of};
 ghost use Rattle.def_confined.specs.Confined.{Confined};
 ghost use Rattle.def_confined.specs.Partitioned.{Partitioned};
@@ -10,11 +12,19 @@ ghost use Rattle.def_confined.specs.Telling.{AllLicensed};
 ghost use Rattle.def_description.specs.Rows.{DescRow};
 ghost use Rattle.def_image.specs.Accepted.{IsFaultless, IsImage};
 ghost use Rattle.def_image.specs.Parts.{PartsRow};
-ghost use Rattle.def_step.specs.Events.{run, told};
+ghost use Rattle.def_machine.specs.Image.{root};
+ghost use Rattle.def_machine.specs.Objects.{charges};
+ghost use Rattle.def_step.specs.Events.{happens, run, told};
 ghost use Rattle.def_step.specs.declared.Event.{Event};
+ghost use Rattle.def_step.specs.declared.Event.TheVariants.{Step};
+ghost use Rattle.law_history.specs.Chunks.{ChunksMeet};
+ghost use Rattle.law_history.specs.Clean.{CleanEvent};
+ghost use Rattle.law_history.specs.Each.{EachEvent};
+ghost use Rattle.law_history.specs.Temporal.{AllocatesFresh, UsesLive};
 ghost use Rattle.law_images.specs.Tiny.{tiny};
 ghost use Rattle.law_link.specs.Links.{Links};
 ghost use Rattle.law_linked.specs.Samples.{board_rows, board_sources, tiny_rows};
+ghost use Rattle.law_reuse.specs.Reuse.{SweepsWhole};
 
 use law_link_samples::samples_link;
 
@@ -28,6 +38,30 @@ pub fn accepted_images_run()
         → Confined (image_of p) (run (board_of p) (boot_state p) es) }
     ensures licensed { (bytes : List ℕ) (p : PartsRow) (es : List Event) → IsImage bytes p
         → AllLicensed (image_of p).entries (told (board_of p) (boot_state p) es) }
+{}
+
+/// Whatever events come from its boot: calls are clean; nothing is loaded, stored, waited for or woken through
+/// a capability of an object after its free; an allocation hands out a fresh object; a chunk that was freed
+/// is handed out again only after a whole sweep that began after its free; and the live charges on each
+/// quota are at most its limit.
+pub fn accepted_images_are_safe()
+    ensures calls { (bytes : List ℕ) (p : PartsRow) (es : List Event) → IsImage bytes p
+        → EachEvent (CleanEvent (board_of p)) (board_of p) (boot_state p) es }
+    ensures uses { (bytes : List ℕ) (p : PartsRow) (es : List Event) → IsImage bytes p
+        → EachEvent (λ z e. UsesLive (board_of p) z) (board_of p) (boot_state p) es }
+    ensures fresh { (bytes : List ℕ) (p : PartsRow) (es : List Event) → IsImage bytes p
+        → EachEvent (AllocatesFresh (board_of p)) (board_of p) (boot_state p) es }
+    ensures swept { (bytes : List ℕ) (p : PartsRow) (es fs : List Event) (d : Deed)
+        (n base long live : ℕ) (c : Deed) (number from size left : ℕ) → IsImage bytes p
+        → (happens (board_of p) (run (board_of p) (boot_state p) es) Step).1.deed ≡ Some d
+        → d.act ≡ Free n base long live
+        → (happens (board_of p) (run (board_of p) (happens (board_of p) (run (board_of p)
+        (boot_state p) es) Step).0 fs) Step).1.deed ≡ Some c
+        → c.act ≡ Allocate number from size left → ChunksMeet from size base long
+        → SweepsWhole (board_of p)
+        (happens (board_of p) (run (board_of p) (boot_state p) es) Step).0 fs }
+    ensures quotas { (bytes : List ℕ) (p : PartsRow) (es : List Event) (q : ℕ) → IsImage bytes p
+        → charges q (run (board_of p) (boot_state p) es).objects ≤ (root (image_of p) q).limit }
 {}
 
 /// The same of the parts that lawful rows and their sources are linked to.

@@ -1,21 +1,18 @@
 -- Every event leaves what is hidden zero.
-use Rattle.std.proofs.Common.{ℕ, zero, suc, ◌≡◌, ◌+◌, ◌-◌, ◌*◌, ◌≤◌, ◌<◌, ◌&&◌, ◌||◌, Bool, true, false, not, nat_le, nat_lt, inl, inr, ◌⊎◌, List, [], ◌∷◌, map, Option, Some, None, Result, Ok, Err, refl, sym, ap, ◌∙◌, subst, arith}
+use Rattle.std.proofs.Common.{ℕ, zero, suc, ◌≡◌, ◌+◌, ◌*◌, ◌&&◌, true, false, not, nat_le, nat_lt, List, [], ◌∷◌, map, Option, Some, None, Result, Ok, Err, refl, ap, ◌∙◌}
 use Rattle.std.proofs.Math.ListN.{get_or}
-use Rattle.std.proofs.lemmas.Bool.{eqb-true}
-use Rattle.law_lists.proofs.Tests.{chosen, le_tells, lt_tells}
+use Rattle.law_lists.proofs.Tests.{chosen}
 use Rattle.law_granules.proofs.Lists.{zeroed_at}
 use Rattle.def_words.specs.declared.Cap.{Cap}
 use Rattle.def_words.specs.declared.Trap.{Trap}
 use Rattle.def_words.specs.Authority.{cap_address}
-use Rattle.def_words.specs.Traps.{plain_trap}
-use Rattle.def_profile.specs.declared.traps.TheConstants.{ILLEGAL_INSTRUCTION}
 use Rattle.def_memory.specs.declared.Granule.{Granule}
 use Rattle.def_memory.specs.Granules.{plain, nothing, granule_at}
 use Rattle.def_memory.specs.Ranges.{zeroed_from}
 use Rattle.def_sched.specs.Picks.{pick}
 use Rattle.def_instr.specs.declared.Instr.{Instr}
-use Rattle.def_machine.specs.Image.{Image, address_of, stack_base, trusted_end}
-use Rattle.def_machine.specs.State.{State, Frame, Object, thread, register, granule}
+use Rattle.def_machine.specs.Image.{Image, address_of, stack_base}
+use Rattle.def_machine.specs.State.{State, Frame, Object, thread, register}
 use Rattle.def_machine.specs.Objects.{Each, has_quarantined, painted, unpainted}
 use Rattle.def_machine.specs.Threads.{timed, statuses_of}
 use Rattle.def_machine.specs.Frames.{returned, unwound}
@@ -25,27 +22,41 @@ use Rattle.def_confined.specs.Changes.{Frees}
 use Rattle.def_confined.specs.Confined.{Confined, ObjectFits}
 use Rattle.def_confined.specs.Keeps.{Keeps}
 use Rattle.def_confined.specs.Partitioned.{Partitioned}
-use Rattle.def_hidden.specs.Hidden.{Shut, Blank, is_live_at, is_hidden}
+use Rattle.def_hidden.specs.Hidden.{Shut, Blank, is_hidden}
 use Rattle.def_board.specs.Wired.{Wired}
 use Rattle.def_step.specs.declared.Class.{Class}
 use Rattle.def_step.specs.declared.Class.TheVariants as class
 use Rattle.def_step.specs.declared.Next.{Next}
-use Rattle.def_step.specs.declared.Next.TheVariants.{Returning, Instruction, Nothing}
 use Rattle.def_step.specs.declared.Event.{Event}
 use Rattle.def_step.specs.declared.Event.TheVariants.{Step, Tick, Sweep, Input}
 use Rattle.def_step.specs.Checks.{first_failed}
 use Rattle.def_step.specs.Accesses.{Accessed}
 use Rattle.def_step.specs.Jumps.{Flowed}
 use Rattle.def_step.specs.Operands.{operands_of, class_of}
-use Rattle.def_step.specs.Instructions.{Board, Done, carried_out, named_by, flows, accesses, around, space_of, put_done, ends, operand, trapped, goes_on, after_fetch, executed, fetch_checks, next_at}
+use Rattle.def_step.specs.Instructions.{Board, Done, carried_out, named_by, flows, accesses, around, space_of, ends, operand, goes_on, after_fetch, executed, fetch_checks, next_at}
 use Rattle.def_step.specs.Events.{preempted_from, preempted, picked_as, picked_from, scheduled, continued, one_more_step, stepped, interrupted, happens, run}
 use Rattle.law_places.proofs.Rows.{each_map}
 use Rattle.law_heap.proofs.Quarantines.{one_there}
 use Rattle.law_heap.proofs.Frees.{freed_cap}
 use Rattle.law_sweeps.proofs.Slices.{granule_at_slice}
 use Rattle.law_events.proofs.Events.{ready_kept, event_keeps}
+use Rattle.def_facts.specs.Facts.{Facts}
+use Rattle.def_step.specs.Quotas.{quota_in}
+use Rattle.law_routines.proofs.Cases.{by_next}
+use Rattle.law_routines.proofs.Objects.{whole_found}
+use Rattle.law_routines.proofs.Leaving.{Moves, served_left}
 use Rattle.law_blank.proofs.Rows.{hidden_as, among_live, quarantine_live, painted_live, left_live}
 use Rattle.law_blank.proofs.Stores.{BlankIn, Reaching, IfBlank, result_blank}
+
+-- ---- the heap
+
+pub object_blank : (i : Image) (s : State) (r : Object) → Blank i s → Blank i (with_object s r)
+object_blank i s r h k hidden = h k (hidden_as i s.objects (with_object s r).objects k (among_live r s.objects (address_of i k)) hidden)
+
+pub freed_blank : (i : Image) (s : State) (t : ℕ) (r : Object) → Confined i s → Frees s t r → Blank i s → Blank i (freed i s t r)
+freed_blank i s t r held f h k hidden = freed_cap (λ (c : Cap). c ≡ plain 0) i s r k
+    (λ low high. refl)
+    (λ outside. h k (hidden_as i s.objects (quarantined i s r).objects k (quarantine_live r s.objects (address_of i k) (one_there r s.objects held.apart f.there) outside) hidden))
 
 -- ---- returns and unwinds
 
@@ -90,14 +101,27 @@ class_blank b s t class.Fence k to m n r = r.blank
 class_blank b s t class.Call k to m n r = tt
 class_blank b s t class.Break k to m n r = tt
 
-next_blank : (b : Board) (s : State) (t : ℕ) (n : Next) → Reaching b s t → Blank b.image (goes_on b s t n).0
-next_blank b s t Returning r = returned_blank b.image s t (thread s t).frames r.blank
-next_blank b s t (Instruction k) r = ends_blank b s t (operand s t (operands_of k).first) (carried_out (class_of k) k (operands_of k).to (operand s t (operands_of k).first) (operand s t (operands_of k).second) (named_by b.image (operand s t (operands_of k).first)) (around b s t)) r.blank (class_blank b s t (class_of k) k (operands_of k).to (operands_of k).first (operands_of k).second r)
-next_blank b s t Nothing r = unwound_blank b.image s t (thread s t).frames r.blank
+-- a routine changes RAM and objects by a call, an allocation or a free alone
+moves_blank : (b : Board) (s : State) (t : ℕ) → Reaching b s t → Moves (λ z told. Blank b.image z) b.image s t
+moves_blank b s t r = record {
+  tells = λ n. r.blank;
+  enters = λ high. zeroed_blank b.image s t high r.blank;
+  stops = λ status. r.blank;
+  wakes = λ address most. r.blank;
+  hands = λ size o is. object_blank b.image s o r.blank;
+  gives = λ o is. (let f = whole_found s.objects (quota_in s t) (register (thread s t) 11) o is in freed_blank b.image s t o r.held (record { running = r.runs; there = f.there; live = f.live }) r.blank);
+}
+
+next_blank : (b : Board) (s : State) (t : ℕ) → Reaching b s t → Blank b.image (goes_on b s t (next_at (space_of b s) (cap_address (thread s t).pcc))).0
+next_blank b s t r = by_next (λ (n : Next). Blank b.image (goes_on b s t n).0) (space_of b s) (cap_address (thread s t).pcc)
+    (returned_blank b.image s t (thread s t).frames r.blank)
+    (λ k away read. ends_blank b s t (operand s t (operands_of k).first) (carried_out (class_of k) k (operands_of k).to (operand s t (operands_of k).first) (operand s t (operands_of k).second) (named_by b.image (operand s t (operands_of k).first)) (around b s t)) r.blank (class_blank b s t (class_of k) k (operands_of k).to (operands_of k).first (operands_of k).second r))
+    (λ n few other. served_left (Blank b.image) b s t n few other (unwound_blank b.image s t (thread s t).frames r.blank) (moves_blank b s t r))
+    (unwound_blank b.image s t (thread s t).frames r.blank)
 
 fetch_blank : (b : Board) (s : State) (t : ℕ) (o : Option Trap) → Reaching b s t → Blank b.image (after_fetch b s t o).0
 fetch_blank b s t (Some why) r = unwound_blank b.image s t (thread s t).frames r.blank
-fetch_blank b s t None r = next_blank b s t (next_at (space_of b s) (cap_address (thread s t).pcc)) r
+fetch_blank b s t None r = next_blank b s t r
 
 executed_blank : (b : Board) (s : State) (t : ℕ) → Reaching b s t → Blank b.image (executed b s t).0
 unfolding executed
@@ -121,11 +145,14 @@ continued_blank : (b : Board) (s : State) (o : Option ℕ) → s.running ≡ o �
 continued_blank b s None runs shut held h = h
 continued_blank b s (Some t) runs shut held h = executed_blank b s t (record { shut = shut; held = held; runs = runs; blank = h })
 
+pub ready_blank : (b : Board) (s : State) → Blank b.image s → Blank b.image (scheduled b (preempted (one_more_step s)))
+ready_blank b s h =
+    let before : Blank b.image (preempted (one_more_step s)) = preempted_blank b.image (one_more_step s) s.running h in
+    scheduled_blank b (preempted (one_more_step s)) (preempted (one_more_step s)).running before
+
 stepped_blank : (b : Board) (s : State) → Partitioned b.image → Shut b.image → Confined b.image s → Blank b.image s → Blank b.image (stepped b s).0
 stepped_blank b s parts shut held h =
-    let before : Blank b.image (preempted (one_more_step s)) = preempted_blank b.image (one_more_step s) s.running h in
-    let turn : Blank b.image (scheduled b (preempted (one_more_step s))) = scheduled_blank b (preempted (one_more_step s)) (preempted (one_more_step s)).running before in
-    continued_blank b (scheduled b (preempted (one_more_step s))) (scheduled b (preempted (one_more_step s))).running refl shut (ready_kept b s parts held).confined turn
+    continued_blank b (scheduled b (preempted (one_more_step s))) (scheduled b (preempted (one_more_step s))).running refl shut (ready_kept b s parts held).confined (ready_blank b s h)
 
 -- ---- a tick
 
@@ -187,30 +214,7 @@ event_blank b s Sweep parts wired shut k h =
     swept_blank b.image (sweep_began (record s { counts = record s.counts { sweeps = s.counts.sweeps + 1 } }) s.front) (sweep_began (record s { counts = record s.counts { sweeps = s.counts.sweeps + 1 } }) s.front).front
     (began_sound b.image (record s { counts = record s.counts { sweeps = s.counts.sweeps + 1 } }) s.front sound)
 
-pub run_blank : (b : Board) (s : State) (es : List Event) → Partitioned b.image → Wired b → Shut b.image → Keeps b.image s → Blank b.image s → Blank b.image (run b s es)
+pub run_blank : (b : Board) (s : State) (es : List Event) → Partitioned b.image → Facts b.image → Wired b → Shut b.image → Keeps b.image s → Blank b.image s → Blank b.image (run b s es)
 unfolding run
-run_blank b s [] parts wired shut k h = h
-run_blank b s (e ∷ es) parts wired shut k h = run_blank b (happens b s e).0 es parts wired shut (event_keeps b s e parts wired k) (event_blank b s e parts wired shut k h)
-
--- ---- the heap
-
-pub heap_zero : (i : Image) (s : State) (k : ℕ) → Blank i s → i.heap_base ≤ address_of i k → address_of i k < i.heap_end → is_live_at s.objects (address_of i k) ≡ false → (granule s k).cap ≡ plain 0
-heap_zero i s k h low high none = h k (elim (le_tells i.heap_base (address_of i k)) [
-  | inl a ↦ elim (lt_tells (address_of i k) i.heap_end) [
-    | inl b ↦ rw (a.0, b.0, none) (any_true (nat_le i.trusted (address_of i k) && nat_lt (address_of i k) (trusted_end i)))
-    | inr b ↦ absurd (let past = b.1 in omega (arith, past, high))
-  ]
-  | inr a ↦ absurd (let below = a.1 in omega (arith, below, low))
-])
-  where
-    any_true : (b : Bool) → (b || true) ≡ true
-    any_true true = refl
-    any_true false = refl
-
-pub object_blank : (i : Image) (s : State) (r : Object) → Blank i s → Blank i (with_object s r)
-object_blank i s r h k hidden = h k (hidden_as i s.objects (with_object s r).objects k (among_live r s.objects (address_of i k)) hidden)
-
-pub freed_blank : (i : Image) (s : State) (t : ℕ) (r : Object) → Confined i s → Frees s t r → Blank i s → Blank i (freed i s t r)
-freed_blank i s t r held f h k hidden = freed_cap (λ (c : Cap). c ≡ plain 0) i s r k
-    (λ low high. refl)
-    (λ outside. h k (hidden_as i s.objects (quarantined i s r).objects k (quarantine_live r s.objects (address_of i k) (one_there r s.objects held.apart f.there) outside) hidden))
+run_blank b s [] parts facts wired shut k h = h
+run_blank b s (e ∷ es) parts facts wired shut k h = run_blank b (happens b s e).0 es parts facts wired shut (event_keeps b s e parts facts wired k) (event_blank b s e parts wired shut k h)

@@ -1,32 +1,28 @@
 -- A store of the running thread meets nothing that is hidden.
-use Rattle.std.proofs.Common.{ℕ, ◌≡◌, ◌+◌, ◌-◌, ◌*◌, ◌%◌, ◌≤◌, ◌<◌, ◌&&◌, Bool, true, false, inl, inr, ◌⊎◌, List, [], ◌∷◌, Option, Some, None, Result, Ok, Err, length, refl, sym, ap, ◌∙◌, subst, arith, nat_le, slice_set, if◌then◌else◌}
-use Rattle.std.proofs.Math.ListN.{get_or}
+use Rattle.std.proofs.Common.{ℕ, ◌≡◌, ◌+◌, ◌-◌, ◌*◌, ◌%◌, ◌≤◌, ◌<◌, ◌&&◌, true, false, inr, List, Option, Some, None, Result, Ok, Err, length, refl, sym, ap, ◌∙◌, arith, nat_le, slice_set}
 use Rattle.std.proofs.lemmas.Bool.{leb-true, and_parts}
 use Rattle.law_lists.proofs.Tests.{chosen}
 use Rattle.law_lists.proofs.Sets.{after_set_split}
-use Rattle.def_words.specs.declared.Cap.{Cap}
 use Rattle.def_words.specs.declared.Trap.{Trap}
 use Rattle.def_words.specs.Authority.{cap_address, cap_base, cap_top}
-use Rattle.def_words.specs.Capability.{is_range_inside}
 use Rattle.def_words.specs.Loaded.{stored_through}
 use Rattle.def_words.specs.Permissions.{has, store_data}
 use Rattle.def_memory.specs.declared.Granule.{Granule}
 use Rattle.def_memory.specs.Granules.{plain, nothing, granule_at}
 use Rattle.def_memory.specs.Accesses.{with_part}
 use Rattle.def_instr.specs.declared.Instr.{Instr}
-use Rattle.def_instr.specs.declared.Instr.TheVariants.{Clc, Csc}
-use Rattle.def_machine.specs.Image.{Image, granule_of}
+use Rattle.def_machine.specs.Image.{granule_of}
 use Rattle.def_machine.specs.State.{State, thread, register, granule}
 use Rattle.def_machine.specs.Memory.{cap_stored, bytes_stored}
 use Rattle.def_step.specs.declared.Access.{Access}
-use Rattle.def_step.specs.Checks.{Check, first_failed}
+use Rattle.def_step.specs.Checks.{first_failed}
 use Rattle.def_step.specs.Accesses.{Accessed, access_of, access_checks, load_checks, store_checks, access_address, access_result, accessed, in_ram, on_device, is_ram, ram_stored, unless}
 use Rattle.def_step.specs.Instructions.{Board, space_of}
 use Rattle.def_confined.specs.Confined.{Confined}
 use Rattle.def_hidden.specs.Hidden.{Shut, Blank, is_hidden}
 use Rattle.law_shut.proofs.Seeing.{register_sees}
-use Rattle.law_events.proofs.Checking.{AllPass}
-use Rattle.law_events.proofs.Accesses.{StorePasses, HasWidth, all_pass, width_of, store_passes, when_false}
+use Rattle.law_licensed.proofs.Checks.{AllPass, all_pass}
+use Rattle.law_events.proofs.Accesses.{StorePasses, HasWidth, width_of, store_passes, when_false}
 
 -- granules of which those that are hidden are zero
 abbrev pub BlankIn : Board → State → List Granule → Type 0

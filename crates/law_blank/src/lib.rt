@@ -4,6 +4,7 @@
 
 ghost use Rattle.std.specs.Prelude.{◌≡◌, ◌≤◌, ◌<◌, ℕ, List, false};
 ghost use Rattle.def_board.specs.Wired.{Wired};
+ghost use Rattle.def_facts.specs.Facts.{Facts};
 ghost use Rattle.def_confined.specs.Changes.{Frees};
 ghost use Rattle.def_confined.specs.Confined.{Confined};
 ghost use Rattle.def_confined.specs.Keeps.{Keeps};
@@ -27,7 +28,7 @@ pub fn events_blank()
 /// So does any list of events.
 pub fn runs_blank()
     ensures { (b : Board) (s : State) (es : List Event)
-        → Partitioned b.image → Wired b → Shut b.image → Keeps b.image s
+        → Partitioned b.image → Facts b.image → Wired b → Shut b.image → Keeps b.image s
         → Blank b.image s → Blank b.image (run b s es) }
 {}
 
@@ -38,7 +39,7 @@ pub fn heap_reads_zero()
         → is_live_at s.objects (address_of i k) ≡ false → (granule s k).cap ≡ plain 0 }
 {}
 
-/// An object more, and an object that is freed, leave what is hidden zero: the native routines of the heap will do both.
+/// An object more, and an object that is freed, leave what is hidden zero: the native routines of the heap do both.
 pub fn objects_blank()
     ensures allocate { (i : Image) (s : State) (r : Object) → Blank i s
         → Blank i (with_object s r) }

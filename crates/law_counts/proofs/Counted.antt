@@ -16,12 +16,13 @@ use Rattle.def_sched.specs.Picks.{pick}
 use Rattle.def_step.specs.declared.Event.{Event}
 use Rattle.def_step.specs.declared.Event.TheVariants.{Step, Tick, Sweep, Input}
 use Rattle.def_step.specs.declared.Next.{Next}
-use Rattle.def_step.specs.declared.Next.TheVariants.{Returning, Instruction, Nothing}
 use Rattle.def_step.specs.Checks.{first_failed}
 use Rattle.def_step.specs.Operands.{operands_of, class_of}
 use Rattle.def_step.specs.Instructions.{Board, Done, executed, after_fetch, goes_on, ends, fetch_checks, next_at, space_of, operand, carried_out, named_by, around}
 use Rattle.def_step.specs.Events.{happens, stepped, continued, with_deed, with_act, scheduled, picked_as, picked_from, preempted, preempted_from, one_more_step, interrupted, run}
 use Rattle.law_lists.proofs.Tests.{chosen}
+use Rattle.law_routines.proofs.Cases.{by_next}
+use Rattle.law_routines.proofs.Leaving.{Moves, served_left}
 use Rattle.law_counts.specs.Kinds.{kinds, one_more, all_more}
 
 -- ---- one instruction counts nothing
@@ -40,16 +41,21 @@ ends_counts : (b : Board) (s : State) (t : ℕ) (x : Cap) (r : Result Done trap_
 ends_counts b s t x (Err why) = unwound_counts b.image s t (thread s t).frames
 ends_counts b s t x (Ok d) = refl
 
-next_counts : (b : Board) (s : State) (t : ℕ) (n : Next) → (goes_on b s t n).0.counts ≡ s.counts
-next_counts b s t Returning = returned_counts b.image s t (thread s t).frames
-next_counts b s t (Instruction i) =
-    ends_counts b s t (operand s t (operands_of i).first)
-    (carried_out (class_of i) i (operands_of i).to (operand s t (operands_of i).first) (operand s t (operands_of i).second) (named_by b.image (operand s t (operands_of i).first)) (around b s t))
-next_counts b s t Nothing = unwound_counts b.image s t (thread s t).frames
+-- a routine counts nothing
+moves_count : (i : Image) (s : State) (t : ℕ) → Moves (λ z told. z.counts ≡ s.counts) i s t
+moves_count i s t = record { tells = λ n. refl; enters = λ high. refl; stops = λ status. refl; wakes = λ address most. refl; hands = λ size r is. refl; gives = λ r is. refl }
+
+next_counts : (b : Board) (s : State) (t : ℕ) → (goes_on b s t (next_at (space_of b s) (cap_address (thread s t).pcc))).0.counts ≡ s.counts
+next_counts b s t = by_next (λ (n : Next). (goes_on b s t n).0.counts ≡ s.counts) (space_of b s) (cap_address (thread s t).pcc)
+    (returned_counts b.image s t (thread s t).frames)
+    (λ i away read. ends_counts b s t (operand s t (operands_of i).first)
+    (carried_out (class_of i) i (operands_of i).to (operand s t (operands_of i).first) (operand s t (operands_of i).second) (named_by b.image (operand s t (operands_of i).first)) (around b s t)))
+    (λ n few other. served_left (λ z. z.counts ≡ s.counts) b s t n few other (unwound_counts b.image s t (thread s t).frames) (moves_count b.image s t))
+    (unwound_counts b.image s t (thread s t).frames)
 
 fetched_counts : (b : Board) (s : State) (t : ℕ) (o : Option trap_words.Trap) → (after_fetch b s t o).0.counts ≡ s.counts
 fetched_counts b s t (Some why) = unwound_counts b.image s t (thread s t).frames
-fetched_counts b s t None = next_counts b s t (next_at (space_of b s) (cap_address (thread s t).pcc))
+fetched_counts b s t None = next_counts b s t
 
 executed_counts : (b : Board) (s : State) (t : ℕ) → (executed b s t).0.counts ≡ s.counts
 unfolding executed

@@ -1,5 +1,5 @@
 -- Loads and stores of the running thread: what they leave is confined, and what reaches a device is licensed.
-use Rattle.std.proofs.Common.{ℕ, ◌≡◌, ◌+◌, ◌-◌, ◌*◌, ◌%◌, ◌≤◌, ◌<◌, ◌&&◌, ◌||◌, Bool, true, false, not, inl, inr, ◌⊎◌, List, [], ◌∷◌, length, Option, Some, None, Ok, Err, refl, sym, ap, ◌∙◌, subst, arith, nat_le, if◌then◌else◌}
+use Rattle.std.proofs.Common.{ℕ, ◌≡◌, ◌+◌, ◌-◌, ◌*◌, ◌%◌, ◌≤◌, ◌<◌, ◌&&◌, ◌||◌, Bool, true, false, not, inl, inr, ◌⊎◌, List, ◌∷◌, length, Option, Some, None, Ok, Err, refl, sym, ap, ◌∙◌, subst, arith, nat_le, if◌then◌else◌}
 use Rattle.std.specs.Prelude.{unwrap_or, is_some}
 use Rattle.std.proofs.lemmas.Bool.{eqb-true, leb-true, and_parts}
 use Rattle.law_lists.proofs.Tests.{chosen, bool_tells}
@@ -28,7 +28,7 @@ use Rattle.def_machine.specs.Image.{granule_of, root}
 use Rattle.def_machine.specs.State.{State, Frame, thread, register, granule}
 use Rattle.def_machine.specs.Memory.{cap_stored, bytes_stored}
 use Rattle.def_step.specs.declared.Access.{Access}
-use Rattle.def_step.specs.Checks.{Check, first_failed}
+use Rattle.def_step.specs.Checks.{first_failed}
 use Rattle.def_step.specs.Devices.{Bank, found, bank_value, bank_read, bank_written}
 use Rattle.def_machine.specs.Memory.{filtered_in}
 use Rattle.def_step.specs.Accesses.{Accessed, access_of, access_checks, load_checks, store_checks, access_address, access_result, accessed, in_ram, on_device, is_ram, ram_value, ram_stored, device_value, stored_value, widened, deed_at, unless}
@@ -44,7 +44,7 @@ use Rattle.law_sweeps.proofs.Moves.{RamLeft, ram_same, set_left}
 use Rattle.def_confined.specs.Swept.{HasUnpainted}
 use Rattle.law_jumps.proofs.Moves.{jumps_confined}
 use Rattle.law_made.proofs.Results.{attenuated_derived, attenuated_carries}
-use Rattle.law_events.proofs.Checking.{AllPass}
+use Rattle.law_licensed.proofs.Checks.{AllPass, all_pass}
 use Rattle.def_confined.specs.Changes.{Puts}
 use Rattle.law_registers.proofs.Moves.{untagged_puts}
 use Rattle.law_events.proofs.Goings.{Fetching}
@@ -70,7 +70,7 @@ pub record StorePasses (a : Access) (x : Cap) (at : ℕ) (carries : Bool) : Type
 range_says : (x : Cap) (from to : ℕ) → is_range_inside x from to ≡ true → (cap_base x ≤ from) × (to ≤ cap_top x)
 range_says x from to e = let ends = and_parts (nat_le (cap_base x) from) (nat_le to (cap_top x)) e in (leb-true (cap_base x) from ends.0, leb-true to (cap_top x) ends.1)
 
-load_passes : (a : Access) (x : Cap) (at : ℕ) → AllPass (load_checks a x at) → LoadPasses a x at
+pub load_passes : (a : Access) (x : Cap) (at : ℕ) → AllPass (load_checks a x at) → LoadPasses a x at
 load_passes a x at h =
     let range = range_says x at (at + a.width) h.1.1.1.0 in
     record { tagged = h.0; loads = h.1.1.0; low = range.0; high = range.1; aligned = eqb-true (at % a.width) 0 h.1.1.1.1.0 }
@@ -83,14 +83,6 @@ pub store_passes : (a : Access) (x : Cap) (at : ℕ) (carries : Bool) → AllPas
 store_passes a x at carries h =
     let range = range_says x at (at + a.width) h.1.1.1.1.0 in
     record { tagged = h.0; stores = h.1.1.0; may_carry = carry_says carries (has x memory_capability) h.1.1.1.0; low = range.0; high = range.1; aligned = eqb-true (at % a.width) 0 h.1.1.1.1.1.0 }
-
-pub all_pass : (cs : List Check) → first_failed cs ≡ None → AllPass cs
-all_pass [] e = tt
-all_pass (c ∷ cs) e = by_test c.0 refl e (λ later. all_pass cs later)
-  where
-    by_test : (b : Bool) → c.0 ≡ b → (if b then first_failed cs else Some c.1) ≡ None → (first_failed cs ≡ None → AllPass cs) → AllPass (c ∷ cs)
-    by_test true is e rest = (is, rest e)
-    by_test false is e rest = absurd (let clash : Some c.1 ≡ None = e in cc)
 
 -- ---- the widths of accesses
 

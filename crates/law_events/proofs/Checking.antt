@@ -1,48 +1,18 @@
--- Checks that failed give a trap that may be; checks that passed say so.
-use Rattle.std.proofs.Common.{ℕ, ◌≡◌, ◌<◌, ◌≤◌, ◌+◌, ◌&&◌, ◌⊎◌, Bool, true, List, [], ◌∷◌, Option, Some, None, inl, inr, refl, arith, nat_le}
+-- The checks of fetches and accesses: which traps they tell, and what a fetch that passed says.
+use Rattle.std.proofs.Common.{ℕ, ◌≡◌, ◌<◌, ◌≤◌, ◌+◌, ◌&&◌, Bool, true, inl, inr, refl, arith, nat_le}
 use Rattle.std.proofs.lemmas.Bool.{eqb-true, leb-true, and_parts}
 use Rattle.law_lists.proofs.Tests.{chosen}
 use Rattle.def_words.specs.declared.Cap.{Cap}
-use Rattle.def_words.specs.declared.Trap.{Trap}
 use Rattle.def_words.specs.Authority.{cap_address, cap_base, cap_top}
 use Rattle.def_words.specs.Permissions.{has, execute}
 use Rattle.def_words.specs.Seals.{cap_seal}
 use Rattle.def_step.specs.declared.Access.{Access}
-use Rattle.def_profile.specs.declared.traps.TheConstants.{BOUNDS_CODE, TAG_CODE, SEAL_CODE, EXECUTE_CODE, LOAD_CODE, STORE_CODE, STORE_CAPABILITY_CODE, PCC_REGISTER}
-use Rattle.def_words.specs.Traps.{capability_trap, plain_trap}
-use Rattle.def_step.specs.Checks.{Check, first_failed}
+use Rattle.def_profile.specs.declared.traps.TheConstants.{BOUNDS_CODE, TAG_CODE, SEAL_CODE, EXECUTE_CODE, LOAD_CODE, STORE_CODE, STORE_CAPABILITY_CODE}
 use Rattle.def_step.specs.Accesses.{access_checks, load_checks, store_checks}
 use Rattle.def_step.specs.Instructions.{fetch_checks}
-use Rattle.def_confined.specs.Licensed.{IsTrap}
-
--- a trap as a deed may tell it
-abbrev pub MayTell : Trap → Type 0
-MayTell w = IsTrap w.cause w.code w.register
-
-abbrev pub AllTell : List Check → Type 0
-AllTell [] = Unit {0}
-AllTell (c ∷ cs) = MayTell c.1 × AllTell cs
-
-abbrev pub AllPass : List Check → Type 0
-AllPass [] = Unit {0}
-AllPass (c ∷ cs) = (c.0 ≡ true) × AllPass cs
-
--- what follows checks holds where it follows each trap and where all passed
-pub by_checks : (P : Option Trap → Type 0) (cs : List Check) → AllTell cs → ((w : Trap) → MayTell w → P (Some w)) → (AllPass cs → P None) → P (first_failed cs)
-by_checks P [] all fails passes = passes tt
-by_checks P (c ∷ cs) all fails passes =
-    chosen P c.0 (first_failed cs) (Some c.1) (λ is. by_checks P cs all.1 fails (λ rest. passes (is, rest))) (λ none. fails c.1 all.0)
+use Rattle.law_licensed.proofs.Checks.{AllTell, AllPass, register_tells, counter_tells, plain_tells}
 
 -- ---- the traps of instructions
-
-pub register_tells : (code register : ℕ) → register < 16 → ((code ≡ 1) ⊎ (code ≡ 2) ⊎ (code ≡ 3) ⊎ (code ≡ 17) ⊎ (code ≡ 18) ⊎ (code ≡ 19) ⊎ (code ≡ 21)) → MayTell (capability_trap code register)
-register_tells code register small is = inr (inr (refl, small, is))
-
-pub counter_tells : (code : ℕ) → ((code ≡ 1) ⊎ (code ≡ 2) ⊎ (code ≡ 3) ⊎ (code ≡ 17) ⊎ (code ≡ 24)) → MayTell (capability_trap code PCC_REGISTER)
-counter_tells code is = inr (inl (refl, refl, is))
-
-pub plain_tells : (cause : ℕ) → ((cause ≡ 0) ⊎ (cause ≡ 2) ⊎ (cause ≡ 3) ⊎ (cause ≡ 4) ⊎ (cause ≡ 6) ⊎ (cause ≡ 11)) → MayTell (plain_trap cause)
-plain_tells cause is = inl (is, refl, refl)
 
 pub fetch_tells : (pcc : Cap) → AllTell (fetch_checks pcc)
 fetch_tells pcc =

@@ -14,6 +14,7 @@ use Rattle.def_step.specs.declared.Event.TheVariants.{Step, Tick, Sweep, Input}
 use Rattle.def_step.specs.Instructions.{Board, executed, actor_of}
 use Rattle.def_step.specs.Devices.{device, after_input}
 use Rattle.def_step.specs.Events.{noted, with_deed, preempted_from, preempted, picked_as, picked_from, scheduled, continued, one_more_step, stepped, interrupted, ticked, swept_on, received, holder_by, holder, is_holder, begun_since, begun, happens}
+use Rattle.def_facts.specs.Facts.{Facts}
 use Rattle.def_board.specs.Wired.{Wired}
 use Rattle.def_confined.specs.Confined.{Confined}
 use Rattle.def_confined.specs.Partitioned.{Partitioned}
@@ -109,9 +110,9 @@ noted_fair b s r f = record {
   beside = λ e. clock_beside b.image r.0 (record (clock_of r.0) { counts = with_deed r.0.counts r.1 }) (f.beside e);
 }
 
-continued_fair : (b : Board) (s : State) (o : Option ℕ) → s.running ≡ o → Partitioned b.image → Wired b → Confined b.image s → Fair b s (continued b s o)
-continued_fair b s None runs parts wired h = record { confined = h; licensed = none_licensed b; beside = λ e. e }
-continued_fair b s (Some t) runs parts wired h = noted_fair b s (executed b s t) (executed_fair b s t parts wired h runs)
+continued_fair : (b : Board) (s : State) (o : Option ℕ) → s.running ≡ o → Partitioned b.image → Facts b.image → Wired b → Keeps b.image s → Fair b s (continued b s o)
+continued_fair b s None runs parts facts wired k = record { confined = k.confined; licensed = none_licensed b; beside = λ e. e }
+continued_fair b s (Some t) runs parts facts wired k = noted_fair b s (executed b s t) (executed_fair b s t parts facts wired k runs)
 
 -- the state in which a step's thread carries on
 pub ready_kept : (b : Board) (s : State) → Partitioned b.image → Confined b.image s → Kept b s (scheduled b (preempted (one_more_step s)))
@@ -124,11 +125,19 @@ ready_kept b s parts h =
 pub ready_keeps : (b : Board) (s : State) → Partitioned b.image → Keeps b.image s → Keeps b.image (scheduled b (preempted (one_more_step s)))
 ready_keeps b s parts k = let ready = ready_kept b s parts k.confined in record { confined = ready.confined; beside = ready.beside k.beside }
 
-stepped_fair : (b : Board) (s : State) → Partitioned b.image → Wired b → Confined b.image s → Fair b s (stepped b s)
-stepped_fair b s parts wired h =
-    let ready = ready_kept b s parts h in
-    let runs = continued_fair b (scheduled b (preempted (one_more_step s))) (scheduled b (preempted (one_more_step s))).running refl parts wired ready.confined in
-    record { confined = runs.confined; licensed = runs.licensed; beside = λ e. runs.beside (ready.beside e) }
+-- what an event leaves of a state, and that what it tells is licensed
+pub record EventFair (b : Board) (r : State × Option Deed) : Type 0 where
+  pub keeps : Keeps b.image r.0
+  pub licensed : (d : Deed) → r.1 ≡ Some d → Licensed b.image.entries d
+
+fair_whole : (b : Board) (s : State) (r : State × Option Deed) → Beside b.image s → Fair b s r → EventFair b r
+fair_whole b s r beside f = record { keeps = record { confined = f.confined; beside = f.beside beside }; licensed = f.licensed }
+
+stepped_fair : (b : Board) (s : State) → Partitioned b.image → Facts b.image → Wired b → Keeps b.image s → EventFair b (stepped b s)
+stepped_fair b s parts facts wired k =
+    let ready = ready_keeps b s parts k in
+    fair_whole b (scheduled b (preempted (one_more_step s))) (stepped b s) ready.beside
+    (continued_fair b (scheduled b (preempted (one_more_step s))) (scheduled b (preempted (one_more_step s))).running refl parts facts wired ready)
 
 -- ---- a tick
 
@@ -175,28 +184,20 @@ spans_fit b before after o wired h on = begun_fits b after (holder before) (hold
 ended_on : (s : State) → EndsFit s → EndedOn s
 ended_on s h = λ t e. ((h t).none e).1
 
--- what an event leaves of a state, and that what it tells is licensed
-pub record EventFair (b : Board) (r : State × Option Deed) : Type 0 where
-  pub keeps : Keeps b.image r.0
-  pub licensed : (d : Deed) → r.1 ≡ Some d → Licensed b.image.entries d
-
-fair_whole : (b : Board) (s : State) (r : State × Option Deed) → Beside b.image s → Fair b s r → EventFair b r
-fair_whole b s r beside f = record { keeps = record { confined = f.confined; beside = f.beside beside }; licensed = f.licensed }
-
 counted_keeps : (b : Board) (s : State) (w : Clockwork) → Keeps b.image s → Keeps b.image (record s { pending = w.pending; devices = w.devices; time = w.time; picks = w.picks; counts = w.counts })
 counted_keeps b s w k = record { confined = clock_confined b.image s w k.confined; beside = clock_beside b.image s w k.beside }
 
-event_fair : (b : Board) (s : State) (e : Event) → Partitioned b.image → Wired b → Keeps b.image s → EventFair b ((happens b s e).0, (happens b s e).1.deed)
-event_fair b s Step parts wired k = fair_whole b s (stepped b s) k.beside (stepped_fair b s parts wired k.confined)
-event_fair b s Tick parts wired k =
+event_fair : (b : Board) (s : State) (e : Event) → Partitioned b.image → Facts b.image → Wired b → Keeps b.image s → EventFair b ((happens b s e).0, (happens b s e).1.deed)
+event_fair b s Step parts facts wired k = stepped_fair b s parts facts wired k
+event_fair b s Tick parts facts wired k =
     let slept = timed_keeps b.image s k in
     let counted = counted_keeps b (record s { threads = map timed s.threads }) (record (clock_of s) { time = s.time + 1; counts = record s.counts { ticks = s.counts.ticks + 1 } }) slept in
     let after = ticked_kept b (record s { threads = map timed s.threads; time = s.time + 1; counts = record s.counts { ticks = s.counts.ticks + 1 } }) s.running counted.confined in
     record { keeps = record { confined = after.confined; beside = after.beside counted.beside }; licensed = none_licensed b }
-event_fair b s Sweep parts wired k =
+event_fair b s Sweep parts facts wired k =
     let counted = counted_keeps b s (record (clock_of s) { counts = record s.counts { sweeps = s.counts.sweeps + 1 } }) k in
     record { keeps = swept_keeps b.image (record s { counts = record s.counts { sweeps = s.counts.sweeps + 1 } }) parts counted; licensed = none_licensed b }
-event_fair b s (Input n byte) parts wired k = record {
+event_fair b s (Input n byte) parts facts wired k = record {
   keeps = counted_keeps b s (record (clock_of s) { devices = slice_set s.devices n (after_input (device s.devices n) byte); counts = record s.counts { inputs = s.counts.inputs + 1 } }) k;
   licensed = none_licensed b;
 }
@@ -209,11 +210,11 @@ event_span b s (Input n byte) o wired k is = spans_fit b s (received s n byte) o
 
 -- ---- the laws
 
-pub event_keeps : (b : Board) (s : State) (e : Event) → Partitioned b.image → Wired b → Keeps b.image s → Keeps b.image (happens b s e).0
-event_keeps b s e parts wired k = (event_fair b s e parts wired k).keeps
+pub event_keeps : (b : Board) (s : State) (e : Event) → Partitioned b.image → Facts b.image → Wired b → Keeps b.image s → Keeps b.image (happens b s e).0
+event_keeps b s e parts facts wired k = (event_fair b s e parts facts wired k).keeps
 
-pub deed_licensed : (b : Board) (s : State) (e : Event) (d : Deed) → Partitioned b.image → Wired b → Keeps b.image s → (happens b s e).1.deed ≡ Some d → Licensed b.image.entries d
-deed_licensed b s e d parts wired k is = (event_fair b s e parts wired k).licensed d is
+pub deed_licensed : (b : Board) (s : State) (e : Event) (d : Deed) → Partitioned b.image → Facts b.image → Wired b → Keeps b.image s → (happens b s e).1.deed ≡ Some d → Licensed b.image.entries d
+deed_licensed b s e d parts facts wired k is = (event_fair b s e parts facts wired k).licensed d is
 
-pub span_licensed : (b : Board) (s : State) (e : Event) (o : Owned) → Partitioned b.image → Wired b → Keeps b.image s → (happens b s e).1.off ≡ Some o → OffLicensed b.image.entries o
-span_licensed b s e o parts wired k is = event_span b s e o wired (event_keeps b s e parts wired k) is
+pub span_licensed : (b : Board) (s : State) (e : Event) (o : Owned) → Partitioned b.image → Facts b.image → Wired b → Keeps b.image s → (happens b s e).1.off ≡ Some o → OffLicensed b.image.entries o
+span_licensed b s e o parts facts wired k is = event_span b s e o wired (event_keeps b s e parts facts wired k) is

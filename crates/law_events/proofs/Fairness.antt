@@ -1,18 +1,16 @@
 -- What one step of a thread owes, and how it ends: a trap, a return, a register with a new program counter.
-use Rattle.std.proofs.Common.{ℕ, zero, suc, ◌≡◌, ◌-◌, ◌≤◌, true, false, List, [], ◌∷◌, length, Option, Some, None, refl, sym, ◌∙◌, subst, arith}
+use Rattle.std.proofs.Common.{ℕ, zero, suc, ◌≡◌, ◌-◌, true, false, List, [], ◌∷◌, length, Option, Some, None, refl, sym, ◌∙◌, subst, arith}
 use Rattle.std.proofs.lemmas.List.{length-set}
 use Rattle.def_words.specs.declared.Cap.{Cap}
 use Rattle.def_words.specs.declared.Trap.{Trap}
 use Rattle.def_words.specs.declared.Posture.{Posture}
 use Rattle.ct_entry.specs.declared.acts.Act.TheVariants as acts
 use Rattle.ct_entry.specs.declared.acts.Deed.{Deed}
-use Rattle.def_machine.specs.Image.{Image, area_of, frames_most, stack_base}
-use Rattle.def_machine.specs.State.{State, Frame, Object, thread, nobody}
-use Rattle.def_machine.specs.Frames.{returned, unwound, left_by, answer}
+use Rattle.def_machine.specs.Image.{Image}
+use Rattle.def_machine.specs.State.{State, Frame, Object, thread}
+use Rattle.def_machine.specs.Frames.{returned}
 use Rattle.def_machine.specs.Registers.{written}
 use Rattle.def_machine.specs.Threads.{jumped}
-use Rattle.def_memory.specs.Granules.{plain}
-use Rattle.def_memory.specs.Ranges.{zeroed_from}
 use Rattle.def_step.specs.Instructions.{Board, Done, bank_of, deed, trapped, put_done}
 use Rattle.def_confined.specs.Places.{InFrames}
 use Rattle.def_confined.specs.Confined.{Confined}
@@ -20,75 +18,18 @@ use Rattle.def_confined.specs.Partitioned.{Partitioned}
 use Rattle.def_confined.specs.Licensed.{Licensed}
 use Rattle.law_places.proofs.Turns.{clock_of}
 use Rattle.law_calls.proofs.Pops.{returned_confined, unwound_confined}
+use Rattle.law_moves.proofs.Pops.{returned_beside, unwound_beside}
 use Rattle.def_confined.specs.Changes.{Jumps}
 use Rattle.law_jumps.proofs.Moves.{jumps_confined}
 use Rattle.def_confined.specs.Keeps.{Beside}
-use Rattle.def_confined.specs.Swept.{HasUnpainted, FramesSwept, Bounded}
-use Rattle.law_granules.proofs.Lists.{zeroed_at, zeroed_length}
-use Rattle.law_sweeps.proofs.Moves.{RamLeft, ThreadLeft, ram_same, moved_beside}
-use Rattle.law_events.proofs.Checking.{MayTell}
+use Rattle.law_sweeps.proofs.Moves.{RamLeft, ram_same, moved_beside}
+use Rattle.law_licensed.proofs.Checks.{MayTell}
 
 -- the state after stays confined, the deed is licensed, and what stands beside stays
 pub record Fair (b : Board) (s : State) (r : State × Option Deed) : Type 0 where
   pub confined : Confined b.image r.0
   pub licensed : (d : Deed) → r.1 ≡ Some d → Licensed b.image.entries d
   pub beside : Beside b.image s → Beside b.image r.0
-
--- ---- returns and unwinds
-
-zeroed_left : (i : Image) (s : State) (t high : ℕ) → RamLeft i s (zeroed_from (stack_base i t) high i.ram s.granules)
-zeroed_left i s t high = record {
-  size = zeroed_length (stack_base i t) high i.ram s.granules;
-  swept = λ h k passed. zeroed_at (stack_base i t) high i.ram s.granules k (λ g. HasUnpainted i s.objects g.cap) (λ low below tagged. absurd (let clash : false ≡ true = tagged in cc)) (λ outside. h.granules k passed);
-}
-
--- the last frame ends, and none runs
-over_left : (i : Image) (s : State) (t : ℕ) → s.running ≡ Some t → ThreadLeft i s t nobody None
-over_left i s t runs = record {
-  sweeps = λ h. record {
-    frames = tt;
-    registers = λ idle n tagged. absurd (let clash : false ≡ true = tagged in cc);
-    others = λ u other idle is. other (let same : Some t ≡ Some u = sym runs ∙ is in cc);
-  };
-  deep = omega arith;
-  few = omega arith;
-  ends = λ h. record { over = λ e. refl; none = λ e. (refl, refl) };
-}
-
--- a frame ends, and its caller goes on
-back_left : (i : Image) (s : State) (t : ℕ) (f g : Frame) (gs : List Frame) (first second : Cap) → s.running ≡ Some t → (thread s t).frames ≡ f ∷ g ∷ gs → Bounded i s
-    → ThreadLeft i s t (left_by i s (thread s t) f (g ∷ gs) first second) s.running
-back_left i s t f g gs first second runs frames bound = record {
-  sweeps = λ h. record {
-    frames = (subst (λ (fs : List Frame). FramesSwept i s.objects s.front (area_of i t - i.ram) fs) frames (h.frames t)).1;
-    registers = λ idle. absurd (idle runs);
-    others = λ u other idle is. idle is;
-  };
-  deep = let deep : length (f ∷ g ∷ gs) ≤ frames_most i t = subst (λ (fs : List Frame). length fs ≤ frames_most i t) frames (bound.deep t) in omega (arith, deep);
-  few = omega arith;
-  ends = λ h. record {
-    over = λ e. absurd (let clash : (f ∷ g ∷ gs) ≡ [] = sym frames ∙ h.over e in cc);
-    none = λ e. absurd (let clash : (g ∷ gs) ≡ [] = e in cc);
-  };
-}
-
-pub returned_beside : (i : Image) (s : State) (t : ℕ) (fs : List Frame) → (thread s t).frames ≡ fs → s.running ≡ Some t → Beside i s → Beside i (returned i s t fs)
-returned_beside i s t [] e runs b = b
-returned_beside i s t (f ∷ []) e runs b = moved_beside i s t (zeroed_from (stack_base i t) f.top i.ram s.granules) nobody None (clock_of s) (zeroed_left i s t f.top) (over_left i s t runs) b
-returned_beside i s t (f ∷ g ∷ gs) e runs b =
-    moved_beside i s t (zeroed_from (stack_base i t) f.top i.ram s.granules) (left_by i s (thread s t) f (g ∷ gs) (answer i (thread s t) f 10) (answer i (thread s t) f 11)) s.running (clock_of s)
-    (zeroed_left i s t f.top)
-    (back_left i s t f g gs (answer i (thread s t) f 10) (answer i (thread s t) f 11) runs e b.bounded)
-    b
-
-pub unwound_beside : (i : Image) (s : State) (t : ℕ) (fs : List Frame) → (thread s t).frames ≡ fs → s.running ≡ Some t → Beside i s → Beside i (unwound i s t fs)
-unwound_beside i s t [] e runs b = b
-unwound_beside i s t (f ∷ []) e runs b = moved_beside i s t (zeroed_from (stack_base i t) f.top i.ram s.granules) nobody None (clock_of s) (zeroed_left i s t f.top) (over_left i s t runs) b
-unwound_beside i s t (f ∷ g ∷ gs) e runs b =
-    moved_beside i s t (zeroed_from (stack_base i t) f.top i.ram s.granules) (left_by i s (thread s t) f (g ∷ gs) (plain 4294967295) (plain 0)) s.running (clock_of s)
-    (zeroed_left i s t f.top)
-    (back_left i s t f g gs (plain 4294967295) (plain 0) runs e b.bounded)
-    b
 
 -- what is some is told; what isn't, isn't
 pub some_same : {A : Type 0} (P : A → Type 0) (x y : A) → Some x ≡ Some y → P x → P y

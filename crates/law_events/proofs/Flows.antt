@@ -20,7 +20,7 @@ use Rattle.def_board.specs.Wired.{Wired}
 use Rattle.law_made.proofs.Results.{address_derived, address_runs}
 use Rattle.def_confined.specs.Changes.{Puts}
 use Rattle.law_registers.proofs.Moves.{untagged_puts}
-use Rattle.law_events.proofs.Checking.{by_checks, plain_tells}
+use Rattle.law_licensed.proofs.Checks.{by_checks, plain_tells}
 use Rattle.law_events.proofs.Goings.{FlowFits, Fetching, goes_to, goes_on, leaves_link}
 use Rattle.law_events.proofs.RegisterJumps.{jump_fits}
 

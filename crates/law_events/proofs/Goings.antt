@@ -17,7 +17,8 @@ use Rattle.law_jumps.specs.Jumping.{IsRunnable}
 use Rattle.law_jumps.proofs.Moves.{onward_jumps, link_puts}
 use Rattle.law_made.proofs.Results.{raised_derived, raised_runs, linked_links}
 use Rattle.def_confined.specs.Changes.{Puts, Jumps}
-use Rattle.law_events.proofs.Checking.{Fetched, MayTell}
+use Rattle.law_licensed.proofs.Checks.{MayTell}
+use Rattle.law_events.proofs.Checking.{Fetched}
 
 -- what a jump leaves may stand, and a trap may be told
 abbrev pub FlowFits : Image → State → ℕ → Result Flowed Trap → Type 0

@@ -34,7 +34,7 @@ use Rattle.law_jumps.proofs.Targets.{opened_opens}
 use Rattle.law_places.proofs.Turns.{fits_as}
 use Rattle.law_jumps.proofs.Moves.{return_fits, forward_fits, opened_lands, derived_lands, in_rooted}
 use Rattle.law_made.proofs.Results.{address_derived, address_runs}
-use Rattle.law_events.proofs.Checking.{by_checks, register_tells, plain_tells}
+use Rattle.law_licensed.proofs.Checks.{by_checks, register_tells, plain_tells}
 use Rattle.law_events.proofs.Goings.{FlowFits, Fetching, leaves_link}
 
 -- ---- native entries

@@ -1,5 +1,5 @@
 -- One instruction of the running thread, by what kind of work it is, and the fetch before it.
-use Rattle.std.proofs.Common.{ℕ, ◌≡◌, ◌<◌, ◌==◌, Bool, true, false, inl, inr, Option, Some, None, Result, Ok, Err, refl, sym, ap, ◌∙◌, subst, if◌then◌else◌, option_map}
+use Rattle.std.proofs.Common.{ℕ, ◌≡◌, ◌<◌, ◌≤◌, true, false, inl, inr, Option, Some, None, Result, Ok, Err, refl, sym, ap, ◌∙◌, subst, option_map}
 use Rattle.std.specs.Prelude.{unwrap_or}
 use Rattle.law_lists.proofs.Tests.{bool_tells}
 use Rattle.def_words.specs.declared.Cap.{Cap}
@@ -19,13 +19,18 @@ use Rattle.def_machine.specs.State.{State, thread}
 use Rattle.def_step.specs.declared.Class.{Class}
 use Rattle.def_step.specs.declared.Class.TheVariants as class
 use Rattle.def_step.specs.declared.Next.{Next}
-use Rattle.def_step.specs.declared.Next.TheVariants.{Returning, Instruction, Nothing}
+use Rattle.def_step.specs.declared.Next.TheVariants.{Instruction, Native}
 use Rattle.def_profile.specs.declared.traps.TheConstants.{SYSTEM_REGISTER_CODE, ILLEGAL_INSTRUCTION, BREAKPOINT, ENVIRONMENT_CALL}
 use Rattle.def_step.specs.Accesses.{Space, Accessed, access_of, access_checks, access_address, access_result, accessed, unless}
 use Rattle.def_step.specs.Jumps.{Flowed, flow_result}
 use Rattle.def_step.specs.Operands.{operands_of, class_of}
-use Rattle.def_profile.specs.declared.native.TheConstants.{RETURN_ENTRY}
-use Rattle.def_step.specs.Instructions.{Board, Done, Around, carried_out, named_by, flows, accesses, around, space_of, deed, put_done, ends, operand, goes_on, after_fetch, executed, fetch_checks, fetched, next_at, next_word, is_native_entry}
+use Rattle.def_profile.specs.declared.native.TheConstants.{RETURN}
+use Rattle.def_step.specs.declared.TheConstants.{LAST_ROUTINE}
+use Rattle.def_step.specs.Routines.{Ran, Traps, Leaves, switch, yield, sleep, wait, wake}
+use Rattle.def_step.specs.Quotas.{allocate, free, remaining}
+use Rattle.def_facts.specs.Facts.{Facts}
+use Rattle.def_confined.specs.Keeps.{Keeps}
+use Rattle.def_step.specs.Instructions.{Board, Done, Around, carried_out, named_by, flows, accesses, around, space_of, deed, put_done, ends, operand, goes_on, after_fetch, executed, fetch_checks, fetched, next_at, is_native_entry, deed_told, ran, served}
 use Rattle.def_board.specs.Wired.{Wired}
 use Rattle.def_confined.specs.Confined.{Confined}
 use Rattle.def_confined.specs.Partitioned.{Partitioned}
@@ -35,10 +40,17 @@ use Rattle.law_events.proofs.Accesses.{access_laws}
 use Rattle.def_confined.specs.Changes.{Puts}
 use Rattle.law_registers.proofs.Moves.{untagged_puts}
 use Rattle.law_events.proofs.Values.{result_puts}
-use Rattle.law_events.proofs.Checking.{MayTell, Fetched, by_checks, access_tells, counter_tells, plain_tells, fetch_tells, fetch_passes}
+use Rattle.law_licensed.proofs.Checks.{MayTell, by_checks, counter_tells, plain_tells}
+use Rattle.law_events.proofs.Checking.{Fetched, access_tells, fetch_tells, fetch_passes}
 use Rattle.law_events.proofs.Smalls.{IsSmall, by_small, read_small}
 use Rattle.law_events.proofs.Goings.{FlowFits, Fetching}
 use Rattle.law_events.proofs.Goings as going
+use Rattle.law_routines.proofs.Cases.{by_next, by_routine}
+use Rattle.law_natives.specs.Stands.{Stands, TellsLicensed}
+use Rattle.law_natives.proofs.Serving.{switch_stands, rests_stands}
+use Rattle.law_natives.proofs.Waiting.{wait_stands, wake_stands}
+use Rattle.law_natives.proofs.Charging.{allocate_stands, remaining_stands}
+use Rattle.law_natives.proofs.Freeing.{free_stands}
 use Rattle.law_events.proofs.Flows.{flow_fits}
 use Rattle.law_events.proofs.Fairness.{Fair, some_same, none_licensed, trapped_fair, returned_fair, has_frames, put_beside, moved_on, jumps_fair}
 
@@ -107,19 +119,6 @@ class_fair b s t k class.Break e wired runs f small = trapped_fair b s t _ runs 
 
 -- ---- what stands at the program counter
 
-pub record StandsAt (p : Space) (at : ℕ) (k : Instr) : Type 0 where
-  pub away : is_native_entry at ≡ false
-  pub read : instruction_in (fetched p at) ≡ Some k
-
-choice : (back native : Bool) (o : Option Instr) (k : Instr) → (if back then Returning else if native then Nothing else next_word o) ≡ Instruction k → (native ≡ false) × (o ≡ Some k)
-choice true native o k h = absurd (let clash : Returning ≡ Instruction k = h in cc)
-choice false true o k h = absurd (let clash : Nothing ≡ Instruction k = h in cc)
-choice false false None k h = absurd (let clash : Nothing ≡ Instruction k = h in cc)
-choice false false (Some j) k h = (refl, (let both : Instruction j ≡ Instruction k = h in let same : j ≡ k = cc in ap (λ (z : Instr). Some z) same))
-
-stands_at : (p : Space) (at : ℕ) (k : Instr) → next_at p at ≡ Instruction k → StandsAt p at k
-stands_at p at k h = let parts = choice (at == RETURN_ENTRY) (is_native_entry at) (instruction_in (fetched p at)) k h in record { away = parts.0; read = parts.1 }
-
 -- no instruction is fetched through a capability of a native routine
 not_native : (b : Board) (s : State) (t : ℕ) → Wired b → Confined b.image s → (thread s t).pcc.tag ≡ true → is_native_entry (cap_address (thread s t).pcc) ≡ false → is_native (root b.image (thread s t).pcc.shadow.root).origin ≡ false
 not_native b s t wired h tagged away = elim (bool_tells (is_native (root b.image (thread s t).pcc.shadow.root).origin)) [
@@ -130,19 +129,47 @@ not_native b s t wired h tagged away = elim (bool_tells (is_native (root b.image
   | inr other ↦ other
 ]
 
-next_fair : (b : Board) (s : State) (t : ℕ) (n : Next) → next_at (space_of b s) (cap_address (thread s t).pcc) ≡ n → Partitioned b.image → Wired b → Confined b.image s → s.running ≡ Some t → Fetched (thread s t).pcc → Fair b s (goes_on b s t n)
-next_fair b s t Returning e parts wired h runs f = returned_fair b s t runs parts h
-next_fair b s t Nothing e parts wired h runs f = trapped_fair b s t _ runs parts h (plain_tells ILLEGAL_INSTRUCTION (inr (inl refl)))
-next_fair b s t (Instruction k) e parts wired h runs f =
-    let stands = stands_at (space_of b s) (cap_address (thread s t).pcc) k e in
-    let other = not_native b s t wired h f.tagged stands.away in
-    let small : IsSmall (Some k) = subst IsSmall stands.read (read_small (fetched (space_of b s) (cap_address (thread s t).pcc))) in
+instruction_fair : (b : Board) (s : State) (t : ℕ) (k : Instr) → is_native_entry (cap_address (thread s t).pcc) ≡ false → instruction_in (fetched (space_of b s) (cap_address (thread s t).pcc)) ≡ Some k → Partitioned b.image → Wired b → Confined b.image s → s.running ≡ Some t → Fetched (thread s t).pcc → Fair b s (goes_on b s t (Instruction k))
+instruction_fair b s t k away read parts wired h runs f =
+    let other = not_native b s t wired h f.tagged away in
+    let small : IsSmall (Some k) = subst IsSmall read (read_small (fetched (space_of b s) (cap_address (thread s t).pcc))) in
     class_fair b s t k (class_of k) refl wired runs (record { parts = parts; held = h; fetched = f; other = other }) small
 
-pub executed_fair : (b : Board) (s : State) (t : ℕ) → Partitioned b.image → Wired b → Confined b.image s → s.running ≡ Some t → Fair b s (executed b s t)
+-- what a routine comes to that stands
+ran_fair : (b : Board) (s : State) (t : ℕ) (r : Ran) → Partitioned b.image → Confined b.image s → s.running ≡ Some t → Stands b.image s t r → Fair b s (ran b s t r)
+ran_fair b s t (Traps why) parts h runs tells = trapped_fair b s t why runs parts h tells
+ran_fair b s t (Leaves after told) parts h runs stands = record { confined = stands.0.confined; licensed = told_licensed told stands.1; beside = λ e. stands.0.beside }
+  where
+    told_licensed : (o : Option (ℕ × Act)) → TellsLicensed b.image s t o → (d : Deed) → option_map (deed_told s t) o ≡ Some d → Licensed b.image.entries d
+    told_licensed None h d e = none_licensed b d e
+    told_licensed (Some told) h d e = some_same (Licensed b.image.entries) (deed_told s t told) d e h
+
+routine_fair : (b : Board) (s : State) (t n : ℕ) → n ≤ LAST_ROUTINE → (n ≡ RETURN → ⊥) → Partitioned b.image → Facts b.image → Keeps b.image s → s.running ≡ Some t → Fair b s (goes_on b s t (Native n))
+routine_fair b s t n few other parts facts k runs = by_routine (λ (o : Option Ran). Fair b s (served b s t o)) b.image s t n few other (record {
+  switch = stands (switch b.image s t) (switch_stands b.image s t parts facts k runs);
+  yield = stands (yield s t) (rests_stands b.image s t parts k runs).0;
+  sleep = stands (sleep s t) (rests_stands b.image s t parts k runs).1;
+  wait = stands (wait b.image s t) (wait_stands b.image s t parts k runs);
+  wake = stands (wake b.image s t) (wake_stands b.image s t parts k runs);
+  allocate = stands (allocate b.image s t) (allocate_stands b.image s t parts facts k runs);
+  free = stands (free b.image s t) (free_stands b.image s t parts facts k runs);
+  remaining = stands (remaining b.image s t) (remaining_stands b.image s t parts facts k runs);
+})
+  where
+    stands : (r : Ran) → Stands b.image s t r → Fair b s (ran b s t r)
+    stands r h = ran_fair b s t r parts k.confined runs h
+
+next_fair : (b : Board) (s : State) (t : ℕ) → Partitioned b.image → Facts b.image → Wired b → Keeps b.image s → s.running ≡ Some t → Fetched (thread s t).pcc → Fair b s (goes_on b s t (next_at (space_of b s) (cap_address (thread s t).pcc)))
+next_fair b s t parts facts wired k runs f = by_next (λ (n : Next). Fair b s (goes_on b s t n)) (space_of b s) (cap_address (thread s t).pcc)
+    (returned_fair b s t runs parts k.confined)
+    (λ i away read. instruction_fair b s t i away read parts wired k.confined runs f)
+    (λ n few other. routine_fair b s t n few other parts facts k runs)
+    (trapped_fair b s t _ runs parts k.confined (plain_tells ILLEGAL_INSTRUCTION (inr (inl refl))))
+
+pub executed_fair : (b : Board) (s : State) (t : ℕ) → Partitioned b.image → Facts b.image → Wired b → Keeps b.image s → s.running ≡ Some t → Fair b s (executed b s t)
 unfolding executed
-executed_fair b s t parts wired h runs = by_checks (λ o. Fair b s (after_fetch b s t o))
+executed_fair b s t parts facts wired k runs = by_checks (λ o. Fair b s (after_fetch b s t o))
     (fetch_checks (thread s t).pcc)
     (fetch_tells (thread s t).pcc)
-    (λ w tells. trapped_fair b s t w runs parts h tells)
-    (λ passes. next_fair b s t (next_at (space_of b s) (cap_address (thread s t).pcc)) refl parts wired h runs (fetch_passes (thread s t).pcc passes))
+    (λ w tells. trapped_fair b s t w runs parts k.confined tells)
+    (λ passes. next_fair b s t parts facts wired k runs (fetch_passes (thread s t).pcc passes))

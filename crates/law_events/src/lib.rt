@@ -10,6 +10,7 @@ ghost use Rattle.def_step.specs.declared.Event.{Event};
 ghost use Rattle.def_step.specs.Instructions.{Board};
 ghost use Rattle.def_step.specs.Events.{happens, one_more_step, preempted, scheduled};
 ghost use Rattle.def_board.specs.Wired.{Wired};
+ghost use Rattle.def_facts.specs.Facts.{Facts};
 ghost use Rattle.def_confined.specs.Keeps.{Keeps};
 ghost use Rattle.def_confined.specs.Partitioned.{Partitioned};
 ghost use Rattle.def_confined.specs.Licensed.{Licensed, OffLicensed};
@@ -17,7 +18,7 @@ ghost use Rattle.def_confined.specs.Licensed.{Licensed, OffLicensed};
 /// Every event, lawful or not, keeps a state confined, and what stands beside.
 pub fn events_confined()
     ensures { (b : Board) (s : State) (e : Event)
-        → Partitioned b.image → Wired b → Keeps b.image s
+        → Partitioned b.image → Facts b.image → Wired b → Keeps b.image s
         → Keeps b.image (happens b s e).0 }
 {}
 
@@ -32,9 +33,9 @@ pub fn steps_confined()
 /// The deed of an event, and the span with interrupts off that begins with it, are licensed.
 pub fn events_licensed()
     ensures deeds { (b : Board) (s : State) (e : Event) (d : Deed)
-        → Partitioned b.image → Wired b → Keeps b.image s
+        → Partitioned b.image → Facts b.image → Wired b → Keeps b.image s
         → (happens b s e).1.deed ≡ Some d → Licensed b.image.entries d }
     ensures spans { (b : Board) (s : State) (e : Event) (o : Owned)
-        → Partitioned b.image → Wired b → Keeps b.image s
+        → Partitioned b.image → Facts b.image → Wired b → Keeps b.image s
         → (happens b s e).1.off ≡ Some o → OffLicensed b.image.entries o }
 {}

@@ -8,16 +8,15 @@ use Rattle.ct_entry.specs.declared.rows.Gate.{Gate}
 use Rattle.ct_entry.specs.declared.rows.Kind.TheVariants as kind
 use Rattle.def_profile.specs.declared.layout.TheConstants.{SLOT_SIZE}
 use Rattle.def_profile.specs.declared.native.TheConstants.{NATIVE_BASE, NATIVE_END}
-use Rattle.def_words.specs.LeastBounds.{rounded_of}
 use Rattle.def_reach.specs.Roots.{Root, Origin, Unknown, TrustedPart, Listing, root_of, gate_for, is_native, is_stack}
 use Rattle.def_machine.specs.Image.{root, made_cap, code_entry}
 use Rattle.def_confined.specs.Capabilities.{is_home, is_compartments}
-use Rattle.def_facts.specs.Facts.{Facts, HasCapability, IsCompartmentExport, IsLibraryExport, GateFits, IsInside, Reads, gate_code}
+use Rattle.def_facts.specs.Facts.{Facts, HasCapability, IsCompartmentExport, IsLibraryExport, GateFits, StackFits, IsInside, Reads, gate_code}
 use Rattle.def_image.specs.declared.ImportRow.{ImportRow}
 use Rattle.def_image.specs.declared.SlotKind.{SlotKind}
 use Rattle.def_image.specs.declared.SlotKind.TheVariants as slot
 use Rattle.def_image.specs.Parts.{GateRow, CodeRow, CompartmentRow, PartsRow}
-use Rattle.def_image.specs.Members.{text_base, gate_number, library_gate_number}
+use Rattle.def_image.specs.Members.{text_base, code_number, gate_number, library_gate_number}
 use Rattle.def_image.specs.Sound.{Sound}
 use Rattle.def_boot.specs.Entries.{slot_row}
 use Rattle.def_boot.specs.Gates.{entries_of, gates_of}
@@ -26,11 +25,20 @@ use Rattle.law_listed.specs.Rows.{HasRow, HasCompartment, HasLibrary, EntryIs, i
 use Rattle.law_listed.proofs.Listing.{entry_of}
 use Rattle.law_grants.specs.Fits.{Lies}
 use Rattle.law_grants.proofs.Lying.{own_there, library_there, stack_there}
-use Rattle.law_grants.proofs.Sets.{no_way}
+use Rattle.def_profile.specs.declared.rights.TheConstants.{CODE_RIGHTS}
+use Rattle.def_words.specs.declared.Cap.{Cap}
+use Rattle.def_words.specs.Capability.{with_address}
+use Rattle.def_words.specs.Derive.{derive, executable_root}
+use Rattle.def_boot.specs.Made.{from_entry, made_for}
+use Rattle.law_words.proofs.Rights.{executable_is_root}
+use Rattle.law_grants.proofs.Entering.{made_again}
+use Rattle.law_grants.proofs.Making.{code_made, inside_made}
+use Rattle.law_grants.proofs.Sets.{no_way, code_set}
 use Rattle.law_grants.proofs.Told.{LiesAs, of_nothing, in_ram, native, device, of_key}
 use Rattle.law_grants.proofs.Imports.{named, library_low, library_high}
 use Rattle.law_grants.proofs.Clauses.{told_at, away_of, roots_away, call_sealed, quota_sealed}
 use Rattle.law_grants.proofs.Own.{code_entry_is}
+use Rattle.law_grants.proofs.Settling.{settled as made_settled}
 
 -- ---- what has a capability
 
@@ -90,6 +98,17 @@ word_in p c x lies fits even lt =
 module _ (p : PartsRow) (s : Sound p) where
   -- ---- gates
 
+  code_begins : (b : ℕ) (c : CompartmentRow) (x : ℕ) → slice_get p.compartments b ≡ Some c → c.code.base ≤ x → x < c.code.base + c.code.length
+      → (with_address (derive executable_root c.code.base c.code.length CODE_RIGHTS c.code.base 0 (from_entry (code_number p b))) x).tag ≡ true
+  code_begins b c x is from to =
+      let lies = (own_there p s b c is).code in
+      let under = lies.high in
+      let inside = s.heap.inside in
+      let small = s.ram.end in
+      made_again executable_root c.code.base c.code.length CODE_RIGHTS c.code.base x (from_entry (code_number p b)) (omega (arith, under, inside, small)) (omega (arith, under, inside, small, to))
+      (code_made p s (code_number p b) b c is).made.tagged
+      (inside_made p s executable_root c.code.base c.code.length CODE_RIGHTS x 0 (code_number p b) lies.high lies.exact executable_is_root code_set.spelled from (omega (arith, to)) (inl refl)).made.tagged
+
   own_fits : (n b : ℕ) (c : CompartmentRow) (j : ℕ) (x : GateRow) → HasCompartment p b c → slice_get c.code.exports j ≡ Some x → n ≡ gate_number p b j → GateFits (image_of p) n
   unfolding image_of entries_of
   own_fits n b c j x h is number =
@@ -105,10 +124,15 @@ module _ (p : PartsRow) (s : Sound p) where
       let high = word.high in
       let base = ap (λ (z : Root). z.base) own in
       let top = ap (λ (z : Root). z.top) own in
+      let made : made_cap (image_of p) (code_entry (image_of p) b) ≡ derive executable_root c.code.base c.code.length CODE_RIGHTS c.code.base 0 (from_entry (code_number p b)) =
+      ap (λ k. made_for p k) (code_entry_is p b (slice_get_within p.compartments b c h.there)) ∙ h.code.made_is in
+      let B : ℕ → Type 0 = λ k. (with_address (made_cap (image_of p) (code_entry (image_of p) k)) (gate_code (image_of p) n)).tag ≡ true in
+      let begins : B b = subst (λ a. (with_address (made_cap (image_of p) (code_entry (image_of p) b)) a).tag ≡ true) (sym code) (subst (λ (d : Cap). (with_address d (text_base c.code + x.row.offset)).tag ≡ true) (sym made) (code_begins b c (text_base c.code + x.row.offset) h.there low high)) in
       let inside : I b = (subst (λ a. a ≤ gate_code (image_of p) n) (sym base) (subst (λ a. c.code.base ≤ a) (sym code) low), subst (λ a. gate_code (image_of p) n < a) (sym top) (subst (λ a. a < c.code.base + c.code.length) (sym code) high)) in
       record {
         even = subst (λ a. a % 4 ≡ 0) (sym code) word.even;
         compartment = λ k owner. (let both : Compartment b ≡ Compartment k = sym whose ∙ owner in let same : b ≡ k = cc in subst I same inside);
+        begins = λ k owner. (let both : Compartment b ≡ Compartment k = sym whose ∙ owner in let same : b ≡ k = cc in subst B same begins);
         library = λ l owner. absurd (let both : Compartment b ≡ Library l = sym whose ∙ owner in cc);
       }
 
@@ -129,6 +153,7 @@ module _ (p : PartsRow) (s : Sound p) where
       record {
         even = subst (λ a. a % 4 ≡ 0) (sym code) word.even;
         compartment = λ k owner. absurd (let both : Library l ≡ Compartment k = sym whose ∙ owner in cc);
+        begins = λ k owner. absurd (let both : Library l ≡ Compartment k = sym whose ∙ owner in cc);
         library = λ k owner. (subst (λ a. a ≤ gate_code (image_of p) n) (sym base) (subst (λ a. c.base ≤ a) (sym code) low), subst (λ a. gate_code (image_of p) n < a) (sym top) (subst (λ a. a < c.base + c.length) (sym code) high));
       }
 
@@ -148,23 +173,25 @@ module _ (p : PartsRow) (s : Sound p) where
 
   -- ---- stacks
 
-  stack_exact : (n : ℕ) → EntryIs p n → (root_of (entries_of p) n).origin ≡ Listing kind.Stack → (rounded_of (root_of (entries_of p) n).base (root_of (entries_of p) n).top).exact ≡ true
-  stack_exact n (is_nothing root_is gate_is made_is) e = not_listed (root_of (entries_of p) n) Unknown (Listing kind.Stack) (ap (λ (z : Root). z.origin) root_is) refl refl e
-  stack_exact n (is_trusted number root_is gate_is made_is) e = not_listed (root_of (entries_of p) n) TrustedPart (Listing kind.Stack) (ap (λ (z : Root). z.origin) root_is) refl refl e
-  stack_exact n (is_code b c h number) e = otherwise p n _ _ _ _ number h.code refl refl e
-  stack_exact n (is_globals b c h number) e = otherwise p n _ _ _ _ number h.globals refl refl e
-  stack_exact n (is_slot b c j x h is number) e = otherwise p n _ _ _ _ number (h.slot j x is) (slot_kind p _ _ x.row x.row.kind) refl e
-  stack_exact n (is_export b c j x h is number) e =
+  stack_fits : (n : ℕ) → EntryIs p n → (root_of (entries_of p) n).origin ≡ Listing kind.Stack → StackFits (root_of (entries_of p) n)
+  stack_fits n (is_nothing root_is gate_is made_is) e = not_listed (root_of (entries_of p) n) Unknown (Listing kind.Stack) (ap (λ (z : Root). z.origin) root_is) refl refl e
+  stack_fits n (is_trusted number root_is gate_is made_is) e = not_listed (root_of (entries_of p) n) TrustedPart (Listing kind.Stack) (ap (λ (z : Root). z.origin) root_is) refl refl e
+  stack_fits n (is_code b c h number) e = otherwise p n _ _ _ _ number h.code refl refl e
+  stack_fits n (is_globals b c h number) e = otherwise p n _ _ _ _ number h.globals refl refl e
+  stack_fits n (is_slot b c j x h is number) e = otherwise p n _ _ _ _ number (h.slot j x is) (slot_kind p _ _ x.row x.row.kind) refl e
+  stack_fits n (is_export b c j x h is number) e =
       let clash : Listing kind.Export ≡ Listing kind.Stack = sym (ap (λ (z : Root). z.origin) (h.export j x is).root_is) ∙ sym (ap (λ k. (root_of (entries_of p) k).origin) number) ∙ e in
       no_way (ap is_stack clash)
-  stack_exact n (is_library l c h number) e = otherwise p n _ _ _ _ number h.code refl refl e
-  stack_exact n (is_library_slot l c j x h is number) e = otherwise p n _ _ _ _ number (h.slot j x is) (slot_kind p _ _ x.row x.row.kind) refl e
-  stack_exact n (is_library_export l c j x h is number) e =
+  stack_fits n (is_library l c h number) e = otherwise p n _ _ _ _ number h.code refl refl e
+  stack_fits n (is_library_slot l c j x h is number) e = otherwise p n _ _ _ _ number (h.slot j x is) (slot_kind p _ _ x.row x.row.kind) refl e
+  stack_fits n (is_library_export l c j x h is number) e =
       let clash : Listing kind.Export ≡ Listing kind.Stack = sym (ap (λ (z : Root). z.origin) (h.export j x is).root_is) ∙ sym (ap (λ k. (root_of (entries_of p) k).origin) number) ∙ e in
       no_way (ap is_stack clash)
-  stack_exact n (of_stack t x h number) e =
+  stack_fits n (of_stack t x h number) e =
       let own : root_of (entries_of p) n ≡ _ = ap (λ k. root_of (entries_of p) k) number ∙ h.row.root_is in
-      ap (λ (z : Root). (rounded_of z.base z.top).exact) own ∙ (stack_there p s t x h.there).exact
+      let lies = stack_there p s t x h.there in
+      let few = (s.thread t x h.there).stack.1 in
+      subst StackFits (sym own) (record { order = omega arith; exact = lies.exact; even = lies.even; short = omega (arith, few) })
 
   -- ---- ranges
 
@@ -210,9 +237,9 @@ module _ (p : PartsRow) (s : Sound p) where
   unfolding image_of
   gates n is = gate_fits n (entry_of p n) is
 
-  stacks : (n : ℕ) → (root (image_of p) n).origin ≡ Listing kind.Stack → (rounded_of (root (image_of p) n).base (root (image_of p) n).top).exact ≡ true
+  stacks : (n : ℕ) → (root (image_of p) n).origin ≡ Listing kind.Stack → StackFits (root (image_of p) n)
   unfolding image_of
-  stacks n is = stack_exact n (entry_of p n) is
+  stacks n is = stack_fits n (entry_of p n) is
 
   natives : (n x : ℕ) → is_native (root (image_of p) n).origin ≡ false → Reads (root (image_of p) n) → IsInside (root (image_of p) n) x → (x < NATIVE_BASE) ⊎ (NATIVE_END ≤ x)
   natives n x other reads inside = native_away _ _ _ x (told_at p s n).lies other inside.0 inside.1
@@ -229,4 +256,5 @@ module _ (p : PartsRow) (s : Sound p) where
     natives = natives;
     heap = heap_away;
     away = roots_away p s;
+    settled = made_settled p;
   }

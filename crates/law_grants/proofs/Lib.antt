@@ -1,3 +1,5 @@
+pub mod Entering
+pub mod Settling
 pub mod Lying
 pub mod Sets
 pub mod Making

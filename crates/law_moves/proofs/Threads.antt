@@ -1,20 +1,17 @@
 -- Moves of one thread: a register, a status, a push.
-use Rattle.std.proofs.Common.{ℕ, zero, suc, ◌≡◌, ◌+◌, ◌-◌, ◌*◌, ◌≤◌, ◌<◌, true, false, List, [], ◌∷◌, length, Option, Some, None, refl, sym, ◌∙◌, subst, arith}
+use Rattle.std.proofs.Common.{ℕ, zero, suc, ◌≡◌, ◌+◌, ◌-◌, ◌*◌, ◌≤◌, true, false, List, [], ◌∷◌, length, Some, None, refl, sym, ◌∙◌, arith}
 use Rattle.std.proofs.lemmas.List.{length-set}
 use Rattle.law_lists.proofs.Sets.{after_set, after_set_at}
 use Rattle.law_granules.proofs.Lists.{zeroed_at, zeroed_length}
 use Rattle.def_words.specs.declared.Cap.{Cap}
-use Rattle.def_memory.specs.Granules.{plain}
 use Rattle.def_memory.specs.Ranges.{zeroed_from}
 use Rattle.def_sched.specs.declared.Status.{Status}
-use Rattle.def_sched.specs.declared.Status.TheVariants.{Ended}
 use Rattle.def_machine.specs.Image.{Image, area_of, frames_most, stack_base}
 use Rattle.def_machine.specs.State.{State, Thread, Frame, thread, register, nobody}
 use Rattle.def_machine.specs.Frames.{Given, switched, entered, pushed_frame}
 use Rattle.def_machine.specs.Registers.{written, with_registers, put_register}
 use Rattle.def_machine.specs.Threads.{Clockwork, changed, with_status}
 use Rattle.def_confined.specs.Changes.{Puts}
-use Rattle.def_confined.specs.Confined.{Confined}
 use Rattle.def_confined.specs.Holding.{EndFits}
 use Rattle.def_confined.specs.Keeps.{Beside, Keeps}
 use Rattle.def_confined.specs.Partitioned.{Partitioned}
@@ -24,7 +21,7 @@ use Rattle.law_registers.proofs.Moves.{put_confined}
 use Rattle.law_turns.proofs.Moves.{turn_confined}
 use Rattle.law_calls.proofs.Pushes.{push_confined}
 use Rattle.law_sweeps.proofs.Slices.{live_unpainted}
-use Rattle.law_sweeps.proofs.Moves.{RamLeft, ThreadLeft, ram_same, moved_beside}
+use Rattle.law_sweeps.proofs.Moves.{RamLeft, ram_same, moved_beside}
 use Rattle.law_moves.specs.Premises.{HasRoom, Turns}
 
 -- ---- a register
@@ -104,7 +101,7 @@ status_keeps i s t status w k x = record {
 
 -- ---- a push
 
-zeroed_left : (i : Image) (s : State) (t high : ℕ) → RamLeft i s (zeroed_from (stack_base i t) high i.ram s.granules)
+pub zeroed_left : (i : Image) (s : State) (t high : ℕ) → RamLeft i s (zeroed_from (stack_base i t) high i.ram s.granules)
 zeroed_left i s t high = record {
   size = zeroed_length (stack_base i t) high i.ram s.granules;
   swept = λ h k passed. zeroed_at (stack_base i t) high i.ram s.granules k (λ g. HasUnpainted i s.objects g.cap) (λ low below tagged. absurd (let clash : false ≡ true = tagged in cc)) (λ outside. h.granules k passed);

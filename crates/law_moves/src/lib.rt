@@ -1,5 +1,6 @@
-//! Laws of whole moves: an allocation and a free, a call that enters its callee, a register that is written and a
-//! thread whose status changes keep a state confined, and all that stands beside. Native routines are made of them.
+//! Laws of whole moves: an allocation and a free, a call that enters its callee, the end of a frame, a register that is
+//! written and a thread whose status changes keep a state confined, and all that stands beside. Native routines are made
+//! of them.
 #![tactic(auto)]
 
 ghost use Rattle.std.specs.Prelude.{◌≡◌, ℕ, List, Some, None};
@@ -7,7 +8,7 @@ ghost use Rattle.def_words.specs.declared.Cap.{Cap};
 ghost use Rattle.def_sched.specs.declared.Status.{Status};
 ghost use Rattle.def_machine.specs.Image.{Image};
 ghost use Rattle.def_machine.specs.State.{State, Frame, Object, thread};
-ghost use Rattle.def_machine.specs.Frames.{Given, switched, entered};
+ghost use Rattle.def_machine.specs.Frames.{Given, switched, entered, returned, unwound};
 ghost use Rattle.def_machine.specs.Heap.{with_object, freed};
 ghost use Rattle.def_machine.specs.Registers.{put_register};
 ghost use Rattle.def_machine.specs.Threads.{Clockwork, changed, with_status};
@@ -48,4 +49,14 @@ pub fn turn_moves()
     ensures status { (i : Image) (s : State) (t : ℕ) (status : Status) (w : Clockwork)
         → Keeps i s → Turns s t status
         → Keeps i (changed s t (with_status (thread s t) status) s.running w) }
+{}
+
+/// The innermost frame of the running thread ends, by a return or by an unwind; the end of the last one is the thread's.
+pub fn pop_moves()
+    ensures returned { (i : Image) (s : State) (t : ℕ)
+        → Partitioned i → Keeps i s → s.running ≡ Some t
+        → Keeps i (returned i s t (thread s t).frames) }
+    ensures unwound { (i : Image) (s : State) (t : ℕ)
+        → Partitioned i → Keeps i s → s.running ≡ Some t
+        → Keeps i (unwound i s t (thread s t).frames) }
 {}

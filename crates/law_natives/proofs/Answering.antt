@@ -1,9 +1,7 @@
 -- A native routine of the running thread answers: c10 and c11 get values, and the thread goes on where c1 leads.
-use Rattle.std.proofs.Common.{ℕ, ◌≡◌, ◌+◌, ◌≤◌, true, false, inl, inr, ◌⊎◌, List, [], ◌∷◌, length, Option, Some, None, refl, sym, ap, ◌∙◌, subst, arith}
-use Rattle.law_lists.proofs.Tests.{bool_tells}
+use Rattle.std.proofs.Common.{ℕ, ◌≡◌, ◌≤◌, true, false, inl, inr, List, [], ◌∷◌, length, Option, Some, None, refl, sym, ◌∙◌, subst, arith}
 use Rattle.def_words.specs.declared.Cap.{Cap}
 use Rattle.def_words.specs.declared.Trap.{Trap}
-use Rattle.def_words.specs.Capability.{integer}
 use Rattle.def_words.specs.Jumped.{opened}
 use Rattle.def_words.specs.Seals.{cap_seal, posture_through}
 use Rattle.def_memory.specs.Granules.{plain}
@@ -15,30 +13,27 @@ use Rattle.def_machine.specs.Registers.{written}
 use Rattle.def_machine.specs.Threads.{with_status, changed}
 use Rattle.def_confined.specs.Capabilities.{IsReturnType, Kept}
 use Rattle.def_confined.specs.Changes.{Changes, Puts}
-use Rattle.def_confined.specs.Confined.{Confined}
-use Rattle.def_confined.specs.Keeps.{Beside, Keeps}
+use Rattle.def_confined.specs.Keeps.{Keeps}
 use Rattle.def_confined.specs.Partitioned.{Partitioned}
 use Rattle.def_confined.specs.Places.{InFrames, HasLive}
 use Rattle.def_confined.specs.Swept.{HasUnpainted}
+use Rattle.def_profile.specs.declared.traps.TheConstants.{TAG_CODE, SEAL_CODE}
 use Rattle.def_step.specs.Checks.{Check, first_failed}
 use Rattle.def_step.specs.Switch.{return_checks}
-use Rattle.def_step.specs.Routines.{Ran, Traps, Leaves, answered, answers, checked}
-use Rattle.law_places.proofs.Places.{plain_in}
-use Rattle.law_places.proofs.Puts.{plain_kept}
+use Rattle.def_step.specs.Routines.{Ran, answered, answers, checked}
 use Rattle.law_places.proofs.Turns.{changed_confined, clock_of, after_written, fits_as}
 use Rattle.law_registers.proofs.Moves.{untagged_puts}
 use Rattle.law_jumps.specs.Jumping.{Lands}
 use Rattle.law_jumps.proofs.Moves.{return_fits, opened_lands, in_rooted}
 use Rattle.law_jumps.proofs.Targets.{opened_opens}
 use Rattle.law_sweeps.proofs.Slices.{live_unpainted}
-use Rattle.law_sweeps.proofs.Moves.{ThreadLeft, ram_same, moved_beside}
+use Rattle.law_sweeps.proofs.Moves.{ram_same, moved_beside}
 use Rattle.law_moves.proofs.Threads.{written_length}
-use Rattle.law_events.proofs.Checking.{AllPass}
-use Rattle.law_events.proofs.Accesses.{all_pass}
-use Rattle.law_events.proofs.Fairness.{has_frames}
+use Rattle.law_licensed.proofs.Checks.{MayTell, AllTell, AllPass, by_checks, all_pass, register_tells}
+use Rattle.law_memory.proofs.Authorities.{headed}
 use Rattle.law_natives.specs.Stands.{Stands}
 use Rattle.law_natives.proofs.Switching.{four_or_five}
-use Rattle.law_natives.proofs.Handing.{option_tells}
+use Rattle.law_routines.proofs.Leaving.{option_tells}
 
 -- the running thread's c1 is a return sentry
 pub record Returning (i : Image) (s : State) (t : ℕ) : Type 0 where
@@ -55,12 +50,22 @@ pub record OfReturn (c : Cap) : Type 0 where
 pub return_says : (c : Cap) → first_failed (return_checks c) ≡ None → OfReturn c
 return_says c none = let all : AllPass (return_checks c) = all_pass (return_checks c) none in record { tagged = all.0; sealed = four_or_five (cap_seal c) all.1.0 }
 
+pub failed_tells : (cs : List Check) (why : Trap) → AllTell cs → first_failed cs ≡ Some why → MayTell why
+failed_tells cs why tells = by_checks (λ (o : Option Trap). o ≡ Some why → MayTell why) cs tells
+    (λ w may e. (let same : w ≡ why = cc in subst MayTell same may))
+    (λ passes e. absurd (let clash : None ≡ Some why = e in cc))
+
 -- what comes after checks stands where what comes does where they passed
-pub checked_stands : (i : Image) (cs : List Check) (ran : Ran) → (first_failed cs ≡ None → Stands i ran) → Stands i (checked cs ran)
-checked_stands i cs ran h = elim (option_tells (first_failed cs)) [
+pub checked_stands : (i : Image) (s : State) (t : ℕ) (cs : List Check) (ran : Ran) → AllTell cs → (first_failed cs ≡ None → Stands i s t ran) → Stands i s t (checked cs ran)
+checked_stands i s t cs ran tells h = elim (option_tells (first_failed cs)) [
   | inl none ↦ rw none (h none)
-  | inr failed ↦ rw failed.1 tt
+  | inr failed ↦ rw failed.1 (failed_tells cs failed.0 tells failed.1)
 ]
+
+-- ---- the traps of checks
+
+pub return_tells : (c : Cap) → AllTell (return_checks c)
+return_tells c = (register_tells TAG_CODE 1 (omega arith) (inr (inl refl)), (register_tells SEAL_CODE 1 (omega arith) (inr (inr (inl refl))), tt))
 
 answered_lands : (i : Image) (s : State) (t : ℕ) → Returning i s t → Lands i s.objects t (thread s t).frames (opened (register (thread s t) 1))
 answered_lands i s t r =
@@ -96,7 +101,9 @@ answered_few : (old : Thread) (v : Cap) → length old.registers ≤ 16 → leng
 answered_few old v few = omega (arith, few, written_length old.registers 10 v, written_length (written old.registers 10 v) 11 (plain 0))
 
 framed : (i : Image) (s : State) (t : ℕ) → Returning i s t → (thread s t).frames ≡ [] → ⊥
-framed i s t r = has_frames i s.objects t (thread s t).frames (register (thread s t) 1) (r.keeps.confined.registers t 1) r.tagged
+framed i s t r e =
+    let head = headed i s.objects t (thread s t).frames (register (thread s t) 1) (r.keeps.confined.registers t 1) r.tagged in
+    let clash : (head.0 ∷ head.1.0) ≡ [] = sym head.1.1 ∙ e in cc
 
 -- the thread goes on with an answer
 pub answers_keeps : (i : Image) (s : State) (t : ℕ) (v : Cap) → Returning i s t → Puts i s t v → Keeps i (answers s t v)

@@ -1,10 +1,8 @@
 -- *Clean calls*: the switch, and the end of a frame.
-use Rattle.std.proofs.Common.{ℕ, ◌≡◌, ◌+◌, ◌≤◌, ◌<◌, true, false, inl, inr, List, [], ◌∷◌, length, Option, Some, None, refl, sym, ap, ◌∙◌, subst, arith, slice_set}
-use Rattle.std.proofs.Math.ListN.{get_or}
+use Rattle.std.proofs.Common.{ℕ, ◌≡◌, ◌≤◌, ◌<◌, true, false, inl, inr, List, [], ◌∷◌, length, Option, Some, refl, sym, ap, ◌∙◌, subst, arith}
 use Rattle.std.proofs.lemmas.List.{get_or_past, get_or-set_same}
 use Rattle.law_lists.proofs.Tests.{lt_tells}
 use Rattle.ct_entry.specs.declared.acts.Act.TheVariants.{Call}
-use Rattle.ct_entry.specs.declared.rows.Owner.{Owner}
 use Rattle.ct_entry.specs.declared.rows.Owner.TheVariants.{Compartment}
 use Rattle.ct_entry.specs.declared.rows.Kind.TheVariants as kind
 use Rattle.def_words.specs.declared.Cap.{Cap}
@@ -13,23 +11,25 @@ use Rattle.def_words.specs.Capability.{with_address}
 use Rattle.def_words.specs.Jumped.{opened}
 use Rattle.def_memory.specs.Granules.{plain}
 use Rattle.def_reach.specs.Roots.{Listing, compartment_of, gate_for}
-use Rattle.def_machine.specs.Image.{Image, root, made_cap, code_entry, globals_entry, stack_entry, stack_base, stack_top}
+use Rattle.def_machine.specs.Image.{Image, root, made_cap, code_entry, globals_entry, stack_top}
 use Rattle.def_machine.specs.State.{State, Thread, Frame, thread, register, nobody}
 use Rattle.def_machine.specs.Memory.{filtered}
-use Rattle.def_machine.specs.Frames.{switched, given, entered, answer, left_by, returned, unwound}
+use Rattle.def_words.specs.Seals.{cap_seal, posture_through}
+use Rattle.def_machine.specs.Frames.{switched, entered, answer, left_by, returned, unwound, posture_of_call}
 use Rattle.def_confined.specs.Capabilities.{Rooted}
-use Rattle.def_confined.specs.Confined.{Confined, FramesHold}
+use Rattle.def_confined.specs.Confined.{FramesHold}
 use Rattle.def_confined.specs.Keeps.{Keeps}
 use Rattle.def_confined.specs.Partitioned.{Partitioned}
 use Rattle.def_step.specs.Switch.{called, frame_top}
 use Rattle.def_step.specs.Routines.{Leaves, switch}
 use Rattle.law_jumps.proofs.Moves.{in_rooted}
 use Rattle.law_memory.proofs.Authorities.{headed}
-use Rattle.law_calls.proofs.Cleans.{entry_plain, return_plain, left_plain, answer_plain, stack_zero}
+use Rattle.law_calls.proofs.Cleans.{entry_plain, left_plain, answer_plain, stack_zero}
 use Rattle.law_calls.specs.Cleans.{IsGiven, IsSaved}
-use Rattle.law_natives.specs.Callable.{Callable}
+use Rattle.def_facts.specs.Facts.{Facts}
+use Rattle.law_natives.proofs.Calling.{code_tagged, globals_tagged, sentry_tagged, stack_tagged}
 use Rattle.law_natives.specs.Clean.{CleanEntry, CleanReturn, StackZero, high_of, given_to}
-use Rattle.law_natives.proofs.Switching.{Told, Passed, callee_of, entered_state, switch_told, checks_say}
+use Rattle.law_natives.proofs.Switching.{callee_of, entered_state, switch_told, checks_say}
 
 -- ---- a thread that changed
 
@@ -53,9 +53,10 @@ Enters i s t export after new =
     ((new.pcc.tag ≡ true) × (new.pcc ≡ (given_to i s t export).pcc))
     × (((register new 1).tag ≡ true) × ((register new 2).tag ≡ true) × ((register new 3).tag ≡ true))
     × ((n : ℕ) → (register new n).tag ≡ true → IsGiven (given_to i s t export) n (register new n))
+    × (new.posture ≡ posture_of_call i export)
 
-pub enters_clean : (i : Image) (s after : State) (t entry export : ℕ) → Partitioned i → Callable i → Keeps i s → s.running ≡ Some t → switch i s t ≡ Leaves after (Some (entry, Call export)) → (root i export).passes ≡ false → CleanEntry i s t export after
-enters_clean i s after t entry export parts calls k runs e plain_one =
+pub enters_clean : (i : Image) (s after : State) (t entry export : ℕ) → Partitioned i → Facts i → Keeps i s → s.running ≡ Some t → switch i s t ≡ Leaves after (Some (entry, Call export)) → (root i export).passes ≡ false → CleanEntry i s t export after
+enters_clean i s after t entry export parts facts k runs e plain_one =
     let told = switch_told i s after t entry export e in
     let says = checks_say i s t told.passes in
     let h = k.confined in
@@ -64,18 +65,19 @@ enters_clean i s after t entry export parts calls k runs e plain_one =
     let holds : FramesHold i s.objects t (head.0 ∷ head.1.0) = subst (λ (fs : List Frame). FramesHold i s.objects t fs) frames (k.confined.frames t) in
     let gate : Rooted i (register (thread s t) 6) = in_rooted i s.objects t (thread s t).frames (register (thread s t) 6) (k.confined.registers t 6) says.gate_tagged in
     let call_is : (root i (register (thread s t) 6).shadow.root).origin ≡ Listing kind.Call = gate.calls says.gate_sealed in
-    let owner = calls.exports (register (thread s t) 6).shadow.root call_is in
+    let owner = (facts.called (register (thread s t) 6).shadow.root call_is).owner_is in
     let owner_is : (root i (root i (register (thread s t) 6).shadow.root).of).owner ≡ Compartment owner.0 = owner.1 in
     let callee : owner.0 ≡ callee_of i (called i.entries (thread s t)) = ap compartment_of (sym owner_is) in
     let below : cap_address (register (thread s t) 2) ≤ stack_top i t = (let top : frame_top (thread s t).frames ≡ head.0.top = ap frame_top frames in let high = holds.0.high in let under = says.stack_high in omega (arith, top, high, under)) in
-    let code_tagged : (given_to i s t (called i.entries (thread s t))).pcc.tag ≡ true = subst (λ b. (with_address (made_cap i (code_entry i b)) (gate_for i.entries.gates (called i.entries (thread s t))).code).tag ≡ true) callee (calls.code (register (thread s t) 6).shadow.root owner.0 call_is owner_is) in
-    let globals_tagged : (given_to i s t (called i.entries (thread s t))).globals.tag ≡ true = subst (λ b. (made_cap i (globals_entry i b)).tag ≡ true) callee (calls.globals (register (thread s t) 6).shadow.root owner.0 call_is owner_is) in
-    let stack_tagged : (given_to i s t (called i.entries (thread s t))).stack.tag ≡ true = calls.stacks t (cap_address (register (thread s t) 2)) (register (thread s t) 2).shadow holds.0.stack says.stack_low below in
+    let code_there : (given_to i s t (called i.entries (thread s t))).pcc.tag ≡ true = subst (λ b. (with_address (made_cap i (code_entry i b)) (gate_for i.entries.gates (called i.entries (thread s t))).code).tag ≡ true) callee (code_tagged i (register (thread s t) 6).shadow.root owner.0 facts call_is owner_is) in
+    let globals_there : (given_to i s t (called i.entries (thread s t))).globals.tag ≡ true = subst (λ b. (made_cap i (globals_entry i b)).tag ≡ true) callee (globals_tagged i (root i (register (thread s t) 6).shadow.root).of owner.0 parts facts owner_is) in
+    let stack_there : (given_to i s t (called i.entries (thread s t))).stack.tag ≡ true = stack_tagged i t (cap_address (register (thread s t) 2)) (register (thread s t) 2).shadow parts facts holds.0.stack says.stack_low below in
     let same : called i.entries (thread s t) ≡ export = sym told.export_is in
     let fresh : Enters i s t export after (entered i (thread s t) (callee_of i export) export (high_of i s t) (given_to i s t export)) = (
-      (subst (λ x. (given_to i s t x).pcc.tag ≡ true) same code_tagged, refl),
-      (calls.sentry, subst (λ x. (given_to i s t x).stack.tag ≡ true) same stack_tagged, subst (λ x. (given_to i s t x).globals.tag ≡ true) same globals_tagged),
+      (subst (λ x. (given_to i s t x).pcc.tag ≡ true) same code_there, refl),
+      (sentry_tagged i facts, subst (λ x. (given_to i s t x).stack.tag ≡ true) same stack_there, subst (λ x. (given_to i s t x).globals.tag ≡ true) same globals_there),
       λ n tagged. entry_plain i (thread s t) (callee_of i export) export (high_of i s t) (given_to i s t export) plain_one n tagged,
+      refl,
     ) in
     let there : thread (entered_state i s t export) t ≡ entered i (thread s t) (callee_of i export) export (high_of i s t) (given_to i s t export) =
     switched_thread i s t (high_of i s t) (entered i (thread s t) (callee_of i export) export (high_of i s t) (given_to i s t export)) s.running head.0 head.1.0 frames in
@@ -83,15 +85,16 @@ enters_clean i s after t entry export parts calls k runs e plain_one =
     (λ j low high. stack_zero i s t (high_of i s t) (entered i (thread s t) (callee_of i export) export (high_of i s t) (given_to i s t export)) s.running j low high))
   where
     clean_of : (z : State) → Enters i s t export after (thread z t) → StackZero i s z t (high_of i s t) → CleanEntry i s t export z
-    clean_of z n zero = record { pcc = n.0; tagged = n.1; registers = n.2; stack = zero }
+    clean_of z n zero = record { pcc = n.0; tagged = n.1; registers = n.2; stack = zero; posture = n.3 }
 
 -- ---- return and unwind
 
-abbrev Leads : Image → State → Frame → Thread → Type 0
-Leads i s f new =
+abbrev Leads : Image → State → ℕ → Frame → Thread → Type 0
+Leads i s t f new =
     (((register new 10).tag ≡ false) × ((register new 11).tag ≡ false))
     × (new.pcc ≡ opened (filtered i s f.c1))
     × ((n : ℕ) → (register new n).tag ≡ true → IsSaved i s f n (register new n))
+    × (new.posture ≡ posture_through (thread s t).posture (cap_seal f.c1) 0 f.c1.shadow.source)
 
 left_clean : (i : Image) (s : State) (t : ℕ) (f g : Frame) (gs : List Frame) (first second : Cap) → (thread s t).frames ≡ f ∷ g ∷ gs → first.tag ≡ false → second.tag ≡ false
     → CleanReturn i s t f (switched i s t f.top (left_by i s (thread s t) f (g ∷ gs) first second) s.running)
@@ -99,12 +102,12 @@ left_clean i s t f g gs first second frames one two =
     let new : Thread = left_by i s (thread s t) f (g ∷ gs) first second in
     let there : thread (switched i s t f.top (left_by i s (thread s t) f (g ∷ gs) first second) s.running) t ≡ left_by i s (thread s t) f (g ∷ gs) first second =
     switched_thread i s t f.top (left_by i s (thread s t) f (g ∷ gs) first second) s.running f (g ∷ gs) frames in
-    let leads : Leads i s f (left_by i s (thread s t) f (g ∷ gs) first second) = ((one, two), refl, λ n tagged. left_plain i s (thread s t) f (g ∷ gs) first second one two n tagged) in
-    clean_of (switched i s t f.top (left_by i s (thread s t) f (g ∷ gs) first second) s.running) (subst (Leads i s f) (sym there) leads)
+    let leads : Leads i s t f (left_by i s (thread s t) f (g ∷ gs) first second) = ((one, two), refl, λ n tagged. left_plain i s (thread s t) f (g ∷ gs) first second one two n tagged, refl) in
+    clean_of (switched i s t f.top (left_by i s (thread s t) f (g ∷ gs) first second) s.running) (subst (Leads i s t f) (sym there) leads)
     (λ j low high. stack_zero i s t f.top (left_by i s (thread s t) f (g ∷ gs) first second) s.running j low high)
   where
-    clean_of : (z : State) → Leads i s f (thread z t) → StackZero i s z t f.top → CleanReturn i s t f z
-    clean_of z n zero = record { results = n.0; pcc = n.1; registers = n.2; stack = zero }
+    clean_of : (z : State) → Leads i s t f (thread z t) → StackZero i s z t f.top → CleanReturn i s t f z
+    clean_of z n zero = record { results = n.0; pcc = n.1; registers = n.2; stack = zero; posture = n.3 }
 
 pub back_clean : (i : Image) (s : State) (t : ℕ) (f g : Frame) (gs : List Frame) → (thread s t).frames ≡ f ∷ g ∷ gs → (root i f.export).passes ≡ false → CleanReturn i s t f (returned i s t (f ∷ g ∷ gs))
 back_clean i s t f g gs frames plain_one =

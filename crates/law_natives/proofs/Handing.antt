@@ -1,18 +1,15 @@
 -- An allocation that tells its deed: the object that it made, and that it is fresh.
-use Rattle.std.proofs.Common.{ℕ, ◌≡◌, ◌+◌, ◌-◌, ◌/◌, ◌*◌, ◌==◌, ◌≤◌, ◌<◌, ◌⊎◌, ◌&&◌, ◌||◌, Bool, true, false, inl, inr, nat_le, nat_lt, List, [], ◌∷◌, Option, Some, None, refl, sym, ap, ◌∙◌, subst, arith, if◌then◌else◌}
-use Rattle.std.proofs.lemmas.Bool.{eqb-false, ltb-false}
-use Rattle.law_lists.proofs.Tests.{chosen, bool_tells, le_tells, lt_tells}
+use Rattle.std.proofs.Common.{ℕ, ◌≡◌, ◌+◌, ◌/◌, ◌*◌, ◌≤◌, ◌<◌, ◌⊎◌, ◌&&◌, ◌||◌, Bool, true, false, inl, inr, nat_le, nat_lt, List, [], ◌∷◌, Option, Some, None, refl, sym, ap, subst, arith, if◌then◌else◌}
+use Rattle.law_lists.proofs.Tests.{chosen, le_tells, lt_tells}
 use Rattle.ct_entry.specs.declared.acts.Act.{Act}
 use Rattle.ct_entry.specs.declared.acts.Act.TheVariants.{Allocate}
-use Rattle.def_words.specs.declared.Trap.{Trap}
 use Rattle.def_words.specs.Authority.{cap_address}
 use Rattle.def_words.specs.LeastBounds.{exponent_for}
 use Rattle.law_words.proofs.Leasts.{ceil_above}
-use Rattle.def_memory.specs.Granules.{plain}
-use Rattle.def_machine.specs.Image.{Image, root, address_of}
-use Rattle.def_machine.specs.State.{State, Object, thread, register, granule}
+use Rattle.def_machine.specs.Image.{Image, address_of}
+use Rattle.def_machine.specs.State.{State, Object, thread, register}
 use Rattle.def_machine.specs.Objects.{Each, charges}
-use Rattle.def_machine.specs.Heap.{IsPlaceFor, length_for, charge_for, place_of, new_object, object_cap, with_object}
+use Rattle.def_machine.specs.Heap.{IsPlaceFor, length_for, place_of, new_object, object_cap, with_object}
 use Rattle.def_confined.specs.Changes.{NewObject}
 use Rattle.def_confined.specs.Confined.{Apart}
 use Rattle.def_confined.specs.Keeps.{Keeps}
@@ -20,13 +17,15 @@ use Rattle.def_confined.specs.Partitioned.{Partitioned}
 use Rattle.def_hidden.specs.Hidden.{Blank, is_live_at}
 use Rattle.def_step.specs.Checks.{Check, first_failed}
 use Rattle.def_step.specs.Switch.{return_checks}
-use Rattle.def_step.specs.Routines.{Ran, Traps, Leaves, answers, tells, checked, code}
-use Rattle.def_step.specs.Quotas.{Allocation, Refused, Made, at_place, allocation, is_quota_cap, quota_in, hands_out, allocated, allocate}
+use Rattle.def_step.specs.Routines.{Ran, Traps, Leaves, tells, checked, code}
+use Rattle.def_step.specs.Quotas.{Allocation, Refused, Made, allocation, is_quota_cap, quota_in, hands_out, allocated, allocate}
 use Rattle.law_made.proofs.Found.{place_found}
 use Rattle.law_routines.proofs.Places as places
 use Rattle.def_facts.specs.Facts.{RootsAway}
 use Rattle.law_fresh.proofs.Covering.{granule_misses, register_misses, pcc_misses, frames_miss}
-use Rattle.law_blank.proofs.Events.{heap_zero}
+use Rattle.law_routines.proofs.Leaving.{option_tells}
+use Rattle.law_routines.proofs.Objects.{Makes, made_says}
+use Rattle.law_natives.proofs.Hiding.{heap_zero}
 use Rattle.law_natives.specs.Fresh.{IsFresh, HandsOut}
 
 -- ---- what a routine told
@@ -42,54 +41,12 @@ state_of s (Leaves z d) = z
 none_told : (s after : State) (t n : ℕ) (d : ℕ × Act) → tells s t (code n) ≡ Leaves after (Some d) → ⊥
 none_told s after t n d e = let clash : None ≡ Some d = ap told_by e in cc
 
-pub option_tells : {A : Type 0} (o : Option A) → (o ≡ None) ⊎ ((x : A) × (o ≡ Some x))
-option_tells None = inl refl
-option_tells (Some x) = inr (x, refl)
-
 -- where the checks passed, and so a deed was told, the rest told it
 past_checks : (cs : List Check) (ran : Ran) (after : State) (d : ℕ × Act) → checked cs ran ≡ Leaves after (Some d) → ran ≡ Leaves after (Some d)
 past_checks cs ran after d e = elim (option_tells (first_failed cs)) [
   | inl none ↦ rw none at e
   | inr failed ↦ (let traps : Traps failed.0 ≡ Leaves after (Some d) = rw failed.1 at e in let clash : None ≡ Some d = ap told_by traps in absurd cc)
 ]
-
--- ---- the object of an allocation
-
-pub record Makes (i : Image) (s : State) (quota size : ℕ) (r : Object) : Type 0 where
-  pub base : ℕ
-  pub is : r ≡ new_object s quota size base
-  pub some : size ≡ 0 → ⊥
-  pub limit : charges quota s.objects + charge_for size ≤ (root i quota).limit
-  pub place : place_of i s.objects (length_for size) ≡ Some base
-
-abbrev made_by : Object → Allocation → Object
-made_by r (Refused n) = r
-made_by r (Made q) = q
-
-abbrev is_made : Allocation → Bool
-is_made (Refused n) = false
-is_made (Made q) = true
-
-not_made : (n : ℕ) (r : Object) → Refused n ≡ Made r → ⊥
-not_made n r e = let clash : false ≡ true = ap is_made e in cc
-
-or_false : (a b : Bool) → (a || b) ≡ false → a ≡ false
-or_false true b h = h
-or_false false b h = refl
-
-pub made_says : (i : Image) (s : State) (quota size : ℕ) (r : Object) → allocation i s quota size ≡ Made r → Makes i s quota size r
-made_says i s quota size r = chosen (λ (a : Allocation). a ≡ Made r → Makes i s quota size r) ((size == 0) || nat_lt (i.heap_end - i.heap_base) size) (Refused 4) (if nat_lt (root i quota).limit (charges quota s.objects + charge_for size) then Refused 2 else at_place s quota size (place_of i s.objects (length_for size)))
-    (λ is e. absurd (not_made 4 r e))
-    (λ sized. chosen (λ (a : Allocation). a ≡ Made r → Makes i s quota size r) (nat_lt (root i quota).limit (charges quota s.objects + charge_for size)) (Refused 2) (at_place s quota size (place_of i s.objects (length_for size)))
-    (λ is e. absurd (not_made 2 r e))
-    (λ within e. at (place_of i s.objects (length_for size)) refl
-    (eqb-false size 0 (or_false (size == 0) (nat_lt (i.heap_end - i.heap_base) size) sized))
-    (ltb-false (root i quota).limit (charges quota s.objects + charge_for size) within)
-    e))
-  where
-    at : (o : Option ℕ) → place_of i s.objects (length_for size) ≡ o → (size ≡ 0 → ⊥) → charges quota s.objects + charge_for size ≤ (root i quota).limit → at_place s quota size o ≡ Made r → Makes i s quota size r
-    at None is some limit e = absurd (not_made _ r e)
-    at (Some base) is some limit e = record { base = base; is = sym (ap (made_by r) e); some = some; limit = limit; place = is }
 
 -- ---- fresh
 

@@ -1,7 +1,11 @@
 pub mod Switching
+pub mod Hiding
+pub mod Calling
 pub mod Cleans
 pub mod Handing
 pub mod Answering
 pub mod Serving
+pub mod Waiting
+pub mod Charging
 pub mod Freeing
 pub mod Licences

@@ -1,53 +1,47 @@
--- What the routines of switcher, scheduler and heap come to stands.
-use Rattle.std.proofs.Common.{ℕ, zero, suc, ◌≡◌, ◌+◌, ◌-◌, ◌*◌, ◌/◌, ◌%◌, ◌^◌, ◌==◌, ◌≤◌, ◌<◌, ◌||◌, Bool, true, false, inl, inr, nat_le, nat_lt, List, [], ◌∷◌, length, Option, Some, None, refl, sym, ap, ◌∙◌, subst, arith, cond, if◌then◌else◌}
+-- What the switch, yield and sleep come to stands.
+use Rattle.std.proofs.Common.{ℕ, zero, suc, ◌≡◌, ◌+◌, ◌-◌, ◌*◌, ◌/◌, ◌%◌, ◌^◌, ◌==◌, ◌≤◌, Bool, true, inl, inr, nat_le, nat_lt, List, ◌∷◌, length, Option, Some, None, refl, sym, ap, ◌∙◌, subst, arith}
 use Rattle.std.specs.Prelude.{find, unwrap_or}
 use Rattle.std.specs.List.{range_with_len}
 use Rattle.std.proofs.Math.Nat.{mul_assoc, mul-mod_left, div-mul-le_self}
 use Rattle.std.proofs.lemmas.Nat.{pow-add}
-use Rattle.std.proofs.lemmas.Bool.{eqb-true, eqb-false, and_parts}
+use Rattle.std.proofs.lemmas.Bool.{eqb-false}
 use Rattle.law_lists.proofs.Tests.{chosen}
-use Rattle.ct_entry.specs.declared.rows.Owner.{Owner}
 use Rattle.ct_entry.specs.declared.rows.Owner.TheVariants.{Compartment}
 use Rattle.ct_entry.specs.declared.rows.Kind.TheVariants as kind
-use Rattle.def_words.specs.declared.Cap.{Cap}
 use Rattle.def_words.specs.declared.Trap.{Trap}
 use Rattle.def_words.specs.Authority.{cap_address}
 use Rattle.def_words.specs.Capability.{integer}
 use Rattle.def_words.specs.Seals.{cap_seal}
 use Rattle.def_reach.specs.Roots.{Listing, compartment_of, gate_for}
 use Rattle.def_sched.specs.declared.Status.{Status}
-use Rattle.def_sched.specs.declared.Status.TheVariants.{Ready, Sleeping, Waiting, Ended}
-use Rattle.def_sched.specs.Statuses.{asleep, awaiting}
-use Rattle.def_machine.specs.Image.{Image, root, made_cap, stack_base, frames_most}
-use Rattle.def_machine.specs.State.{State, Frame, Object, thread, register}
-use Rattle.def_machine.specs.Frames.{given, entered, switched}
-use Rattle.def_machine.specs.Objects.{charges}
-use Rattle.def_machine.specs.Heap.{length_for, object_cap, new_object, with_object}
+use Rattle.def_sched.specs.declared.Status.TheVariants.{Ready, Sleeping, Ended}
+use Rattle.def_sched.specs.Statuses.{asleep}
+use Rattle.def_machine.specs.Image.{Image, root, stack_entry, stack_base, frames_most}
+use Rattle.def_machine.specs.State.{State, Thread, Frame, thread, register}
+use Rattle.def_machine.specs.Frames.{given}
 use Rattle.def_confined.specs.Capabilities.{Rooted}
-use Rattle.def_confined.specs.Changes.{NewObject, Puts}
 use Rattle.def_confined.specs.Confined.{FramesHold}
 use Rattle.def_confined.specs.Keeps.{Keeps}
 use Rattle.def_confined.specs.Partitioned.{Partitioned}
+use Rattle.def_facts.specs.Facts.{Facts}
+use Rattle.def_profile.specs.declared.traps.TheConstants.{TAG_CODE, SEAL_CODE, STORE_CODE, BOUNDS_CODE}
+use Rattle.ct_entry.specs.declared.acts.Act.TheVariants as acts
+use Rattle.def_confined.specs.Licensed.{Licensed}
+use Rattle.law_licensed.proofs.Checks.{AllTell, register_tells}
+use Rattle.law_licensed.proofs.Deeds.{call_licensed}
+use Rattle.def_step.specs.Instructions.{actor_of, deed_told}
 use Rattle.def_step.specs.Checks.{first_failed}
-use Rattle.def_step.specs.Switch.{Switched, TooDeep, NoStack, Enters, return_checks, switch_checks, room_exponent, room_of, new_top, called, with_room, past_checks, frame_top}
-use Rattle.def_step.specs.Routines.{Ran, Leaves, answers, tells, code, switched_to, switch, stops, yield, sleep}
-use Rattle.def_step.specs.Quotas.{Allocation, Refused, Made, allocation, is_quota_cap, quota_in, allocated, allocate, remaining}
+use Rattle.def_step.specs.Switch.{Switched, TooDeep, NoStack, Enters, return_checks, switch_checks, room_exponent, room_of, called, with_room, past_checks, frame_top}
+use Rattle.def_step.specs.Routines.{tells, code, switched_to, switch, stops, yield, sleep}
 use Rattle.law_registers.proofs.Moves.{untagged_puts}
 use Rattle.law_jumps.proofs.Moves.{in_rooted}
 use Rattle.law_memory.proofs.Authorities.{headed}
-use Rattle.law_heap.proofs.Allocates.{add_object_confined, object_puts}
 use Rattle.law_made.proofs.Entering.{given_enters}
-use Rattle.law_made.proofs.Makes.{object_made}
-use Rattle.law_made.proofs.Found.{place_found}
-use Rattle.law_routines.proofs.Places as places
 use Rattle.law_moves.proofs.Threads.{push_keeps}
-use Rattle.law_moves.proofs.Objects.{object_beside}
-use Rattle.law_natives.specs.Callable.{Callable}
 use Rattle.law_natives.specs.Clean.{high_of}
 use Rattle.law_natives.specs.Stands.{Stands}
 use Rattle.law_natives.proofs.Switching.{callee_of, checks_say}
-use Rattle.law_natives.proofs.Handing.{Makes, made_says, long_enough}
-use Rattle.law_natives.proofs.Answering.{Returning, return_says, checked_stands, answers_keeps, stops_keeps}
+use Rattle.law_natives.proofs.Answering.{Returning, return_says, return_tells, failed_tells, checked_stands, answers_keeps, stops_keeps}
 
 -- ---- the room of a callee's stack
 
@@ -74,15 +68,45 @@ room_within n = div-mul-le_self n (2 ^ room_exponent n)
 
 -- ---- the switch
 
-pub switch_stands : (i : Image) (s : State) (t : ℕ) → Partitioned i → Callable i → Keeps i s → s.running ≡ Some t → Stands i (switch i s t)
-switch_stands i s t parts calls k runs = by_failed (first_failed (switch_checks (stack_base i t) (frame_top (thread s t).frames) (thread s t))) refl
+-- the traps of the switch's checks
+switch_tells : (base top : ℕ) (caller : Thread) → AllTell (switch_checks base top caller)
+switch_tells base top caller = (
+  register_tells TAG_CODE 1 (omega arith) (inr (inl refl)),
+  (
+    register_tells SEAL_CODE 1 (omega arith) (inr (inr (inl refl))),
+    (
+      register_tells TAG_CODE 6 (omega arith) (inr (inl refl)),
+      (
+        register_tells SEAL_CODE 6 (omega arith) (inr (inr (inl refl))),
+        (
+          register_tells TAG_CODE 2 (omega arith) (inr (inl refl)),
+          (
+            register_tells SEAL_CODE 2 (omega arith) (inr (inr (inl refl))),
+            (
+              register_tells STORE_CODE 2 (omega arith) (inr (inr (inr (inr (inr (inl refl)))))),
+              (register_tells BOUNDS_CODE 2 (omega arith) (inl refl), tt),
+            ),
+          ),
+        ),
+      ),
+    ),
+  ),
+)
+
+pub switch_stands : (i : Image) (s : State) (t : ℕ) → Partitioned i → Facts i → Keeps i s → s.running ≡ Some t → Stands i s t (switch i s t)
+switch_stands i s t parts facts k runs = by_failed (first_failed (switch_checks (stack_base i t) (frame_top (thread s t).frames) (thread s t))) refl
   where
-    answer : first_failed (switch_checks (stack_base i t) (frame_top (thread s t).frames) (thread s t)) ≡ None → (n : ℕ) → Stands i (tells s t (code n))
+    answer : first_failed (switch_checks (stack_base i t) (frame_top (thread s t).frames) (thread s t)) ≡ None → (n : ℕ) → Stands i s t (tells s t (code n))
     answer none n =
         let says = checks_say i s t none in
-        answers_keeps i s t (code n) (record { parts = parts; keeps = k; runs = runs; tagged = says.return_tagged; sealed = says.return_sealed }) (untagged_puts i s t (code n) refl)
+        (answers_keeps i s t (code n) (record { parts = parts; keeps = k; runs = runs; tagged = says.return_tagged; sealed = says.return_sealed }) (untagged_puts i s t (code n) refl), tt)
 
-    entering : first_failed (switch_checks (stack_base i t) (frame_top (thread s t).frames) (thread s t)) ≡ None → (length (thread s t).frames ≡ frames_most i t → ⊥) → Stands i (switched_to i s t (Enters (called i.entries (thread s t)) (high_of i s t)))
+    licensed : (f : Frame) (fs : List Frame) → (thread s t).frames ≡ f ∷ fs → (register (thread s t) 6).tag ≡ true → cap_seal (register (thread s t) 6) ≡ 9 → Licensed i.entries (deed_told s t ((register (thread s t) 6).shadow.root, acts.Call (called i.entries (thread s t))))
+    licensed f fs frames tagged sealed =
+        let P : List Frame → Type 0 = λ gs. Licensed i.entries (record { thread = t; actor = actor_of gs; entry = (register (thread s t) 6).shadow.root; act = acts.Call (called i.entries (thread s t)) }) in
+        subst P (sym frames) (call_licensed i s t 6 f fs k.confined frames tagged sealed)
+
+    entering : first_failed (switch_checks (stack_base i t) (frame_top (thread s t).frames) (thread s t)) ≡ None → (length (thread s t).frames ≡ frames_most i t → ⊥) → Stands i s t (switched_to i s t (Enters (called i.entries (thread s t)) (high_of i s t)))
     entering none room =
         let says = checks_say i s t none in
         let head = headed i s.objects t (thread s t).frames (register (thread s t) 1) (k.confined.registers t 1) says.return_tagged in
@@ -90,25 +114,27 @@ switch_stands i s t parts calls k runs = by_failed (first_failed (switch_checks 
         let holds : FramesHold i s.objects t (head.0 ∷ head.1.0) = subst (λ (fs : List Frame). FramesHold i s.objects t fs) frames (k.confined.frames t) in
         let gate : Rooted i (register (thread s t) 6) = in_rooted i s.objects t (thread s t).frames (register (thread s t) 6) (k.confined.registers t 6) says.gate_tagged in
         let call_is : (root i (register (thread s t) 6).shadow.root).origin ≡ Listing kind.Call = gate.calls says.gate_sealed in
-        let owner = calls.exports (register (thread s t) 6).shadow.root call_is in
+        let owner = (facts.called (register (thread s t) 6).shadow.root call_is).owner_is in
         let owner_is : (root i (called i.entries (thread s t))).owner ≡ Compartment owner.0 = owner.1 in
         let callee : (root i (called i.entries (thread s t))).owner ≡ Compartment (callee_of i (called i.entries (thread s t))) = owner_is ∙ ap (λ b. Compartment b) (ap compartment_of (sym owner_is)) in
-        let even : high_of i s t % 16 ≡ 0 = (let base = calls.even t holds.0.stack in let more = room_even (cap_address (register (thread s t) 2) - stack_base i t) in omega (arith, base, more)) in
+        let even : high_of i s t % 16 ≡ 0 = (let base = (facts.stacks (stack_entry i t) holds.0.stack).even in let more = room_even (cap_address (register (thread s t) 2) - stack_base i t) in omega (arith, base, more)) in
         let within = room_within (cap_address (register (thread s t) 2) - stack_base i t) in
         let top : frame_top (thread s t).frames ≡ head.0.top = ap frame_top frames in
-        let under : high_of i s t ≤ head.0.top = (let low = says.stack_low in let high = says.stack_high in omega (arith, within, top, low, high)) in
-        push_keeps i s t head.0 head.1.0 (callee_of i (called i.entries (thread s t))) (called i.entries (thread s t)) (high_of i s t)
-        (given i (thread s t) t (callee_of i (called i.entries (thread s t))) (called i.entries (thread s t)) (high_of i s t)) parts k
-        (record {
-          enters = given_enters i s t head.0 head.1.0 (callee_of i (called i.entries (thread s t))) (called i.entries (thread s t)) (high_of i s t) parts k.confined runs frames says.return_tagged says.return_sealed says.gate_tagged says.gate_sealed refl callee says.stack_tagged says.stack_local even (omega arith) under;
-          room = (let deep = k.beside.bounded.deep t in omega (arith, deep, room));
-        })
+        let under : high_of i s t ≤ head.0.top = (let low = says.stack_low in let high = says.stack_high in omega (arith, within, top, low, high)) in (
+          push_keeps i s t head.0 head.1.0 (callee_of i (called i.entries (thread s t))) (called i.entries (thread s t)) (high_of i s t)
+              (given i (thread s t) t (callee_of i (called i.entries (thread s t))) (called i.entries (thread s t)) (high_of i s t)) parts k
+              (record {
+                enters = given_enters i s t head.0 head.1.0 (callee_of i (called i.entries (thread s t))) (called i.entries (thread s t)) (high_of i s t) parts k.confined runs frames says.return_tagged says.return_sealed says.gate_tagged says.gate_sealed refl callee says.stack_tagged says.stack_local even (omega arith) under;
+                room = (let deep = k.beside.bounded.deep t in omega (arith, deep, room));
+              }),
+          licensed head.0 head.1.0 frames says.gate_tagged says.gate_sealed,
+        )
 
-    by_failed : (o : Option Trap) → first_failed (switch_checks (stack_base i t) (frame_top (thread s t).frames) (thread s t)) ≡ o → Stands i (switched_to i s t (past_checks i.entries (stack_base i t) (frames_most i t) (thread s t) o))
-    by_failed (Some why) none = tt
-    by_failed None none = chosen (λ (z : Switched). Stands i (switched_to i s t z)) (length (thread s t).frames == frames_most i t) TooDeep (with_room i.entries (stack_base i t) (high_of i s t) (called i.entries (thread s t)))
+    by_failed : (o : Option Trap) → first_failed (switch_checks (stack_base i t) (frame_top (thread s t).frames) (thread s t)) ≡ o → Stands i s t (switched_to i s t (past_checks i.entries (stack_base i t) (frames_most i t) (thread s t) o))
+    by_failed (Some why) none = failed_tells (switch_checks (stack_base i t) (frame_top (thread s t).frames) (thread s t)) why (switch_tells (stack_base i t) (frame_top (thread s t).frames) (thread s t)) none
+    by_failed None none = chosen (λ (z : Switched). Stands i s t (switched_to i s t z)) (length (thread s t).frames == frames_most i t) TooDeep (with_room i.entries (stack_base i t) (high_of i s t) (called i.entries (thread s t)))
         (λ is. answer none 12)
-        (λ not. chosen (λ (z : Switched). Stands i (switched_to i s t z)) (nat_lt (high_of i s t - stack_base i t) (gate_for i.entries.gates (called i.entries (thread s t))).stack) NoStack (Enters (called i.entries (thread s t)) (high_of i s t))
+        (λ not. chosen (λ (z : Switched). Stands i s t (switched_to i s t z)) (nat_lt (high_of i s t - stack_base i t) (gate_for i.entries.gates (called i.entries (thread s t))).stack) NoStack (Enters (called i.entries (thread s t)) (high_of i s t))
         (λ is. answer none 11)
         (λ fits. entering none (eqb-false (length (thread s t).frames) (frames_most i t) not)))
 
@@ -117,56 +143,11 @@ switch_stands i s t parts calls k runs = by_failed (first_failed (switch_checks 
 asleep_goes_on : (n : ℕ) → asleep n ≡ Ended → ⊥
 asleep_goes_on n = chosen (λ (z : Status). z ≡ Ended → ⊥) (n == 0) Ready (Sleeping n) (λ is e. (let clash : Ready ≡ Ended = e in cc)) (λ not e. (let clash : Sleeping n ≡ Ended = e in cc))
 
-pub rests_stands : (i : Image) (s : State) (t : ℕ) → Partitioned i → Keeps i s → s.running ≡ Some t → Stands i (yield s t) × Stands i (sleep s t)
+pub rests_stands : (i : Image) (s : State) (t : ℕ) → Partitioned i → Keeps i s → s.running ≡ Some t → Stands i s t (yield s t) × Stands i s t (sleep s t)
 rests_stands i s t parts k runs = (
-  checked_stands i (return_checks (register (thread s t) 1)) (stops s t (asleep 0)) (λ none. stops_keeps i s t (integer 0) (asleep 0) (returning none) (untagged_puts i s t (integer 0) refl) (asleep_goes_on 0)),
-  checked_stands i (return_checks (register (thread s t) 1)) (stops s t (asleep (cap_address (register (thread s t) 10)))) (λ none. stops_keeps i s t (integer 0) (asleep (cap_address (register (thread s t) 10))) (returning none) (untagged_puts i s t (integer 0) refl) (asleep_goes_on (cap_address (register (thread s t) 10)))),
+  checked_stands i s t (return_checks (register (thread s t) 1)) (stops s t (asleep 0)) (return_tells (register (thread s t) 1)) (λ none. (stops_keeps i s t (integer 0) (asleep 0) (returning none) (untagged_puts i s t (integer 0) refl) (asleep_goes_on 0), tt)),
+  checked_stands i s t (return_checks (register (thread s t) 1)) (stops s t (asleep (cap_address (register (thread s t) 10)))) (return_tells (register (thread s t) 1)) (λ none. (stops_keeps i s t (integer 0) (asleep (cap_address (register (thread s t) 10))) (returning none) (untagged_puts i s t (integer 0) refl) (asleep_goes_on (cap_address (register (thread s t) 10))), tt)),
 )
   where
     returning : first_failed (return_checks (register (thread s t) 1)) ≡ None → Returning i s t
     returning none = let says = return_says (register (thread s t) 1) none in record { parts = parts; keeps = k; runs = runs; tagged = says.tagged; sealed = says.sealed }
-
--- ---- the heap
-
-pub allocate_stands : (i : Image) (s : State) (t : ℕ) → Partitioned i → Callable i → Keeps i s → s.running ≡ Some t → Stands i (allocate i s t)
-allocate_stands i s t parts calls k runs = checked_stands i (return_checks (register (thread s t) 1)) (if is_quota_cap (register (thread s t) 10) then allocated s t (allocation i s (quota_in s t) (cap_address (register (thread s t) 11))) else tells s t (code 1)) (λ none.
-    let says = return_says (register (thread s t) 1) none in
-    let returning : Returning i s t = record { parts = parts; keeps = k; runs = runs; tagged = says.tagged; sealed = says.sealed } in
-    chosen (Stands i) (is_quota_cap (register (thread s t) 10)) (allocated s t (allocation i s (quota_in s t) (cap_address (register (thread s t) 11)))) (tells s t (code 1))
-    (λ is. by_made returning (and_parts (register (thread s t) 10).tag (cap_seal (register (thread s t) 10) == 10) is).0 (eqb-true (cap_seal (register (thread s t) 10)) 10 (and_parts (register (thread s t) 10).tag (cap_seal (register (thread s t) 10) == 10) is).1)
-    (allocation i s (quota_in s t) (cap_address (register (thread s t) 11))) refl)
-    (λ not. answers_keeps i s t (code 1) returning (untagged_puts i s t (code 1) refl)))
-  where
-    quota_is : (register (thread s t) 10).tag ≡ true → cap_seal (register (thread s t) 10) ≡ 10 → (root i (quota_in s t)).origin ≡ Listing kind.Quota
-    quota_is tagged sealed =
-        let here : Rooted i (register (thread s t) 10) = in_rooted i s.objects t (thread s t).frames (register (thread s t) 10) (k.confined.registers t 10) tagged in
-        calls.quotas (quota_in s t) (sym (here.boot (inr (inr (inr (inr sealed))))).seal ∙ sealed)
-
-    by_made : Returning i s t → (register (thread s t) 10).tag ≡ true → cap_seal (register (thread s t) 10) ≡ 10 → (a : Allocation) → allocation i s (quota_in s t) (cap_address (register (thread s t) 11)) ≡ a → Stands i (allocated s t a)
-    by_made r tagged sealed (Refused n) is = answers_keeps i s t (code n) r (untagged_puts i s t (code n) refl)
-    by_made r tagged sealed (Made o) is =
-        let size : ℕ = cap_address (register (thread s t) 11) in
-        let m = made_says i s (quota_in s t) (cap_address (register (thread s t) 11)) o is in
-        let some = long_enough (cap_address (register (thread s t) 11)) m.some in
-        let place = places.place_found i s.objects (length_for (cap_address (register (thread s t) 11))) m.base some m.place in
-        let limit = m.limit in
-        let new : NewObject i s (new_object s (quota_in s t) (cap_address (register (thread s t) 11)) m.base) = place_found i s (quota_in s t) (cap_address (register (thread s t) 11)) m.base k.confined place.fits (omega (arith, limit)) in
-        let P : Object → Type 0 = λ z. Keeps i (answers (with_object s z) t (object_cap z)) in
-        subst P (sym m.is) (answers_keeps i (with_object s (new_object s (quota_in s t) (cap_address (register (thread s t) 11)) m.base)) t (object_cap (new_object s (quota_in s t) (cap_address (register (thread s t) 11)) m.base))
-        (record {
-          parts = parts;
-          keeps = record { confined = add_object_confined i s (new_object s (quota_in s t) (cap_address (register (thread s t) 11)) m.base) parts k.confined new; beside = object_beside i s (new_object s (quota_in s t) (cap_address (register (thread s t) 11)) m.base) new k.beside };
-          runs = runs;
-          tagged = r.tagged;
-          sealed = r.sealed;
-        })
-        (object_puts i s t (new_object s (quota_in s t) (cap_address (register (thread s t) 11)) m.base) (object_cap (new_object s (quota_in s t) (cap_address (register (thread s t) 11)) m.base)) parts k.confined new tagged refl (quota_is tagged sealed)
-        (λ there. object_made i (s.next + 1) (new_object s (quota_in s t) (cap_address (register (thread s t) 11)) m.base) parts (quota_is tagged sealed) new.fits some there)))
-
-pub remaining_stands : (i : Image) (s : State) (t : ℕ) → Partitioned i → Keeps i s → s.running ≡ Some t → Stands i (remaining i s t)
-remaining_stands i s t parts k runs = checked_stands i (return_checks (register (thread s t) 1)) (if is_quota_cap (register (thread s t) 10) then tells s t (integer ((root i (quota_in s t)).limit - charges (quota_in s t) s.objects)) else tells s t (code 1)) (λ none.
-    let says = return_says (register (thread s t) 1) none in
-    let returning : Returning i s t = record { parts = parts; keeps = k; runs = runs; tagged = says.tagged; sealed = says.sealed } in
-    chosen (Stands i) (is_quota_cap (register (thread s t) 10)) (tells s t (integer ((root i (quota_in s t)).limit - charges (quota_in s t) s.objects))) (tells s t (code 1))
-    (λ is. answers_keeps i s t (integer ((root i (quota_in s t)).limit - charges (quota_in s t) s.objects)) returning (untagged_puts i s t (integer ((root i (quota_in s t)).limit - charges (quota_in s t) s.objects)) refl))
-    (λ not. answers_keeps i s t (code 1) returning (untagged_puts i s t (code 1) refl)))

@@ -1,5 +1,5 @@
 -- What the switch comes to where it tells a call: its checks passed, and it entered the export.
-use Rattle.std.proofs.Common.{ℕ, ◌≡◌, ◌≢◌, ◌+◌, ◌-◌, ◌==◌, ◌≤◌, ◌<◌, ◌⊎◌, ◌&&◌, Bool, true, false, inl, inr, nat_le, nat_lt, List, [], ◌∷◌, ◌++◌, length, Option, Some, None, refl, sym, ap, ◌∙◌, subst, arith, if◌then◌else◌}
+use Rattle.std.proofs.Common.{ℕ, ◌≡◌, ◌-◌, ◌==◌, ◌≤◌, true, inl, inr, nat_le, nat_lt, length, Option, Some, None, refl, sym, ap, ◌∙◌, subst, arith}
 use Rattle.std.proofs.lemmas.Bool.{eqb-true, eqb-false, leb-true, and_parts, cases_eq}
 use Rattle.law_lists.proofs.Tests.{chosen}
 use Rattle.ct_entry.specs.declared.acts.Act.{Act}
@@ -8,17 +8,16 @@ use Rattle.def_words.specs.declared.Cap.{Cap}
 use Rattle.def_words.specs.declared.Trap.{Trap}
 use Rattle.def_words.specs.Authority.{cap_address, cap_base}
 use Rattle.def_words.specs.Permissions.{has, store_local}
-use Rattle.def_words.specs.Seals.{cap_seal, is_unsealed, is_between}
+use Rattle.def_words.specs.Seals.{cap_seal, is_between}
 use Rattle.def_reach.specs.Roots.{compartment_of, gate_for}
 use Rattle.def_machine.specs.Image.{Image, root, stack_base, frames_most}
 use Rattle.def_machine.specs.State.{State, thread, register}
 use Rattle.def_machine.specs.Frames.{switched, given, entered}
 use Rattle.def_confined.specs.Capabilities.{IsReturnType}
-use Rattle.def_step.specs.Checks.{Check, first_failed}
-use Rattle.def_step.specs.Switch.{Switched, Trapped, TooDeep, NoStack, Enters, return_checks, gate_checks, stack_checks, switch_checks, new_top, called, with_room, with_depth, past_checks, frame_top}
+use Rattle.def_step.specs.Checks.{first_failed}
+use Rattle.def_step.specs.Switch.{Switched, TooDeep, NoStack, Enters, switch_checks, called, with_room, past_checks, frame_top}
 use Rattle.def_step.specs.Routines.{Ran, Traps, Leaves, tells, code, enters, switched_to, switch}
-use Rattle.law_events.proofs.Checking.{AllPass}
-use Rattle.law_events.proofs.Accesses.{all_pass}
+use Rattle.law_licensed.proofs.Checks.{AllPass, all_pass}
 use Rattle.law_natives.specs.Clean.{high_of}
 
 abbrev pub callee_of : Image → ℕ → ℕ

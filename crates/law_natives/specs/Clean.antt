@@ -2,12 +2,13 @@
 use Rattle.std.specs.Prelude.{ℕ, ◌≡◌, ◌≤◌, ◌<◌, true, false}
 use Rattle.def_words.specs.Authority.{cap_address}
 use Rattle.def_words.specs.Jumped.{opened}
+use Rattle.def_words.specs.Seals.{cap_seal, posture_through}
 use Rattle.def_memory.specs.Granules.{blank}
 use Rattle.def_reach.specs.Roots.{compartment_of}
 use Rattle.def_machine.specs.Image.{Image, root, address_of, stack_base}
 use Rattle.def_machine.specs.State.{State, Frame, register, granule, thread}
 use Rattle.def_machine.specs.Memory.{filtered}
-use Rattle.def_machine.specs.Frames.{Given, given}
+use Rattle.def_machine.specs.Frames.{Given, given, posture_of_call}
 use Rattle.def_step.specs.Switch.{new_top}
 use Rattle.law_calls.specs.Cleans.{IsGiven, IsSaved}
 
@@ -26,7 +27,7 @@ StackZero i s after t high =
     → granule after k ≡ blank (granule s k)
 
 -- The callee begins: tagged are the program counter, c1, c2 and c3, which are the callee's code at the export, the return
--- sentry, the stack and the callee's globals, and no other register.
+-- sentry, the stack and the callee's globals, and no other register; the posture is the export's.
 pub record CleanEntry (i : Image) (s : State) (t export : ℕ) (after : State) : Type 0 where
   pub pcc : ((thread after t).pcc.tag ≡ true) × ((thread after t).pcc ≡ (given_to i s t export).pcc)
   pub tagged : ((register (thread after t) 1).tag ≡ true)
@@ -34,9 +35,10 @@ pub record CleanEntry (i : Image) (s : State) (t export : ℕ) (after : State) :
   pub registers : (n : ℕ) → (register (thread after t) n).tag ≡ true
       → IsGiven (given_to i s t export) n (register (thread after t) n)
   pub stack : StackZero i s after t (high_of i s t)
+  pub posture : (thread after t).posture ≡ posture_of_call i export
 
 -- The caller goes on, where the frame f ended: the results are untagged, what is tagged else is what it had saved, the
--- program counter is of the saved c1.
+-- program counter is of the saved c1, and so is the posture.
 pub record CleanReturn (i : Image) (s : State) (t : ℕ) (f : Frame) (after : State) : Type 0 where
   pub results : ((register (thread after t) 10).tag ≡ false)
       × ((register (thread after t) 11).tag ≡ false)
@@ -44,3 +46,5 @@ pub record CleanReturn (i : Image) (s : State) (t : ℕ) (f : Frame) (after : St
   pub registers : (n : ℕ) → (register (thread after t) n).tag ≡ true
       → IsSaved i s f n (register (thread after t) n)
   pub stack : StackZero i s after t f.top
+  pub posture : (thread after t).posture
+      ≡ posture_through (thread s t).posture (cap_seal f.c1) 0 f.c1.shadow.source

@@ -1,4 +1,3 @@
-pub mod Callable
 pub mod Clean
 pub mod Fresh
 pub mod Stands

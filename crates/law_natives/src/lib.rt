@@ -2,7 +2,7 @@
 //! allocation, and that the routines of switcher and heap keep a state confined, with all that stands beside.
 #![tactic(auto)]
 
-ghost use Rattle.std.specs.Prelude.{◌≡◌, ℕ, List, ◌∷◌, Option, Some, false};
+ghost use Rattle.std.specs.Prelude.{◌≡◌, ℕ, List, ◌∷◌, Option, Some, None, false};
 ghost use Rattle.ct_entry.specs.declared.acts.Act.{Act};
 ghost use Rattle.ct_entry.specs.declared.acts.Act.TheVariants.{Call, Allocate};
 ghost use Rattle.def_confined.specs.Keeps.{Keeps};
@@ -13,32 +13,39 @@ ghost use Rattle.def_machine.specs.Frames.{returned, unwound};
 ghost use Rattle.def_machine.specs.Image.{Image, root};
 ghost use Rattle.def_machine.specs.State.{State, Frame, thread};
 ghost use Rattle.def_step.specs.Quotas.{allocate, free, remaining};
-ghost use Rattle.def_step.specs.Routines.{Leaves, switch, sleep, yield};
-ghost use Rattle.def_facts.specs.Facts.{RootsAway};
-ghost use Rattle.law_natives.specs.Callable.{Callable};
+ghost use Rattle.def_step.specs.Routines.{Leaves, switch, sleep, yield, wait, wake};
+ghost use Rattle.def_facts.specs.Facts.{Facts, RootsAway};
 ghost use Rattle.law_natives.specs.Clean.{CleanEntry, CleanReturn};
 ghost use Rattle.law_natives.specs.Fresh.{HandsOut};
 ghost use Rattle.law_natives.specs.Stands.{Stands};
 
-/// What the switch, yield, sleep, allocate, free and remaining leave is confined, with all that stands beside.
+/// What each routine comes to stands: a trap is one that may be told; what it leaves is confined, with all
+/// that stands beside; and what it did, a call, an allocation or a free, is licensed as a deed of its caller's.
 pub fn routines_stand()
     ensures switch { (i : Image) (s : State) (t : ℕ)
-        → Partitioned i → Callable i → Keeps i s → s.running ≡ Some t → Stands i (switch i s t) }
+        → Partitioned i → Facts i → Keeps i s → s.running ≡ Some t → Stands i s t (switch i s t) }
+    ensures back { (i : Image) (s : State) (t : ℕ)
+        → Partitioned i → Keeps i s → s.running ≡ Some t
+        → Stands i s t (Leaves (returned i s t (thread s t).frames) None) }
     ensures rests { (i : Image) (s : State) (t : ℕ)
         → Partitioned i → Keeps i s → s.running ≡ Some t
-        → Stands i (yield s t) × Stands i (sleep s t) }
+        → Stands i s t (yield s t) × Stands i s t (sleep s t) }
+    ensures waits { (i : Image) (s : State) (t : ℕ)
+        → Partitioned i → Keeps i s → s.running ≡ Some t → Stands i s t (wait i s t) }
+    ensures wakes { (i : Image) (s : State) (t : ℕ)
+        → Partitioned i → Keeps i s → s.running ≡ Some t → Stands i s t (wake i s t) }
     ensures allocate { (i : Image) (s : State) (t : ℕ)
-        → Partitioned i → Callable i → Keeps i s → s.running ≡ Some t → Stands i (allocate i s t) }
+        → Partitioned i → Facts i → Keeps i s → s.running ≡ Some t → Stands i s t (allocate i s t) }
     ensures free { (i : Image) (s : State) (t : ℕ)
-        → Partitioned i → Keeps i s → s.running ≡ Some t → Stands i (free i s t) }
+        → Partitioned i → Facts i → Keeps i s → s.running ≡ Some t → Stands i s t (free i s t) }
     ensures remaining { (i : Image) (s : State) (t : ℕ)
-        → Partitioned i → Keeps i s → s.running ≡ Some t → Stands i (remaining i s t) }
+        → Partitioned i → Facts i → Keeps i s → s.running ≡ Some t → Stands i s t (remaining i s t) }
 {}
 
 /// A call through an export that passes plain values enters its callee clean.
 pub fn entries_clean()
     ensures { (i : Image) (s after : State) (t entry export : ℕ)
-        → Partitioned i → Callable i → Keeps i s → s.running ≡ Some t
+        → Partitioned i → Facts i → Keeps i s → s.running ≡ Some t
         → switch i s t ≡ Leaves after (Some (entry, Call export)) → (root i export).passes ≡ false
         → CleanEntry i s t export after }
 {}

@@ -1,21 +1,30 @@
--- Events other than Sweep leave the objects of the heap and the sweep as they are.
-use Rattle.std.proofs.Common.{ℕ, ◌≡◌, ◌+◌, ◌&&◌, true, false, not, List, [], ◌∷◌, map, Option, Some, None, Result, Ok, Err, refl, ◌∙◌}
+-- Events other than Sweep leave the sweep as it is, let no object of the heap go and paint none: a step may add one, or
+-- quarantine one.
+use Rattle.std.proofs.Common.{ℕ, ◌≡◌, ◌+◌, ◌&&◌, true, false, not, List, [], ◌∷◌, map, Option, Some, None, Result, Ok, Err, inl, inr, refl, sym, ap, ◌∙◌, subst}
 use Rattle.law_lists.proofs.Tests.{chosen}
 use Rattle.def_words.specs.declared.Cap.{Cap}
 use Rattle.def_words.specs.declared.Trap.{Trap}
 use Rattle.def_words.specs.Authority.{cap_address}
-use Rattle.def_words.specs.Traps.{plain_trap}
-use Rattle.def_profile.specs.declared.traps.TheConstants.{ILLEGAL_INSTRUCTION}
 use Rattle.def_sched.specs.Picks.{pick}
 use Rattle.def_machine.specs.Image.{Image}
-use Rattle.def_machine.specs.State.{State, Frame, thread}
+use Rattle.def_words.specs.Capability.{integer}
+use Rattle.def_machine.specs.State.{State, Frame, Object, thread}
+use Rattle.def_machine.specs.Objects.{Any, Each, placed_among}
+use Rattle.def_machine.specs.Heap.{with_object, quarantined, object_cap}
 use Rattle.def_machine.specs.Threads.{timed, statuses_of}
 use Rattle.def_machine.specs.Frames.{returned, unwound}
 use Rattle.def_step.specs.declared.Next.{Next}
-use Rattle.def_step.specs.declared.Next.TheVariants.{Returning, Instruction, Nothing}
+use Rattle.def_step.specs.Routines.{answers}
+use Rattle.def_step.specs.Quotas.{quota_in, let_go}
+use Rattle.law_places.proofs.Rows.{among_any, any_among}
+use Rattle.law_heap.proofs.Quarantines.{quarantine_any, any_quarantine}
+use Rattle.law_routines.proofs.Cases.{by_next}
+use Rattle.law_routines.proofs.Objects.{made_says}
+use Rattle.law_routines.proofs.Leaving.{Moves, served_left}
+use Rattle.law_reuse.specs.Reuse.{IsRow, Waits, IsPainted}
 use Rattle.def_step.specs.Checks.{first_failed}
 use Rattle.def_step.specs.Operands.{operands_of, class_of}
-use Rattle.def_step.specs.Instructions.{Board, Done, carried_out, named_by, around, space_of, ends, operand, trapped, goes_on, after_fetch, executed, fetch_checks, next_at}
+use Rattle.def_step.specs.Instructions.{Board, Done, carried_out, named_by, around, space_of, ends, operand, goes_on, after_fetch, executed, fetch_checks, next_at}
 use Rattle.def_step.specs.Events.{preempted_from, preempted, picked_as, picked_from, scheduled, continued, one_more_step, stepped, interrupted, ticked}
 
 pub record Same (s r : State) : Type 0 where
@@ -42,18 +51,85 @@ ends_same : (b : Board) (s : State) (t : ℕ) (x : Cap) (r : Result Done Trap) �
 ends_same b s t x (Err why) = unwound_same b.image s t (thread s t).frames
 ends_same b s t x (Ok d) = record { objects = refl; front = refl }
 
-next_same : (b : Board) (s : State) (t : ℕ) (n : Next) → Same s (goes_on b s t n).0
-next_same b s t Returning = returned_same b.image s t (thread s t).frames
-next_same b s t (Instruction k) = ends_same b s t (operand s t (operands_of k).first) (carried_out (class_of k) k (operands_of k).to (operand s t (operands_of k).first) (operand s t (operands_of k).second) (named_by b.image (operand s t (operands_of k).first)) (around b s t))
-next_same b s t Nothing = unwound_same b.image s t (thread s t).frames
+-- ---- a step may add an object, and quarantine one
 
-fetch_same : (b : Board) (s : State) (t : ℕ) (o : Option Trap) → Same s (after_fetch b s t o).0
-fetch_same b s t (Some why) = unwound_same b.image s t (thread s t).frames
-fetch_same b s t None = next_same b s t (next_at (space_of b s) (cap_address (thread s t).pcc))
+pub record Stays (s r : State) : Type 0 where
+  pub front : r.front ≡ s.front
+  pub rows : (q : Object) → Any (IsRow q) s.objects → Any (IsRow q) r.objects
+  pub waits : (q : Object) → Any (Waits q) s.objects → Any (Waits q) r.objects
+  pub painted : (q : Object) → Any (IsPainted q) r.objects → Any (IsPainted q) s.objects
 
-executed_same : (b : Board) (s : State) (t : ℕ) → Same s (executed b s t).0
+pub same_stays : (s r : State) → Same s r → Stays s r
+same_stays s r h = record {
+  front = h.front;
+  rows = λ q any. subst (Any (IsRow q)) (sym h.objects) any;
+  waits = λ q any. subst (Any (Waits q)) (sym h.objects) any;
+  painted = λ q any. subst (Any (IsPainted q)) h.objects any;
+}
+
+stays_on : (s r q : State) → Stays s r → Stays r q → Stays s q
+stays_on s r q a b = record {
+  front = b.front ∙ a.front;
+  rows = λ o any. b.rows o (a.rows o any);
+  waits = λ o any. b.waits o (a.waits o any);
+  painted = λ o any. a.painted o (b.painted o any);
+}
+
+each_unit : (rs : List Object) → Each (λ q. Unit {0}) rs
+each_unit [] = tt
+each_unit (x ∷ xs) = (tt, each_unit xs)
+
+-- an object more, which isn't painted
+added_stays : (s : State) (r : Object) → r.painted ≡ false → Stays s (with_object s r)
+added_stays s r none = record {
+  front = refl;
+  rows = λ q any. among_any (IsRow q) r s.objects (inr any);
+  waits = λ q any. among_any (Waits q) r s.objects (inr any);
+  painted = λ q any. elim (any_among (IsPainted q) r s.objects any) [
+    | inl here ↦ absurd (let clash : false ≡ true = sym none ∙ here.1 in cc)
+    | inr there ↦ there
+  ];
+}
+
+-- an object that is quarantined
+pub quarantined_stays : (i : Image) (s : State) (r : Object) → Stays s (quarantined i s r)
+quarantined_stays i s r = record {
+  front = refl;
+  rows = λ q any. quarantine_any (λ z. Unit {0}) (IsRow q) (IsRow q) r.number s.objects (λ z u k not. k) (λ z u k is. (k.0, k.1, k.2)) (each_unit s.objects) any;
+  waits = λ q any. quarantine_any (λ z. Unit {0}) (Waits q) (Waits q) r.number s.objects (λ z u k not. k) (λ z u k is. ((k.0.0, k.0.1, k.0.2), k.1)) (each_unit s.objects) any;
+  painted = λ q any. any_quarantine (λ z. Unit {0}) (IsPainted q) (IsPainted q) r.number s.objects (λ z u k not. k) (λ z u k is. ((k.0.0, k.0.1, k.0.2), k.1)) (each_unit s.objects) any;
+}
+
+-- whatever a thread's new self is
+pub object_stays : (s : State) (r : Object) (z : State) → r.painted ≡ false → z.objects ≡ placed_among r s.objects → z.front ≡ s.front → Stays s z
+object_stays s r z none objects front =
+    let added = added_stays s r none in
+    stays_on s (with_object s r) z added (same_stays (with_object s r) z (record { objects = objects; front = front }))
+
+moves_stay : (i : Image) (s : State) (t : ℕ) → Moves (λ z told. Stays s z) i s t
+moves_stay i s t = record {
+  tells = λ n. same_stays s _ (record { objects = refl; front = refl });
+  enters = λ high. same_stays s _ (record { objects = refl; front = refl });
+  stops = λ status. same_stays s _ (record { objects = refl; front = refl });
+  wakes = λ address most. same_stays s _ (record { objects = refl; front = refl });
+  hands = λ size r is. object_stays s r (answers (with_object s r) t (object_cap r)) (ap (λ (o : Object). o.painted) (made_says i s (quota_in s t) size r is).is) refl refl;
+  gives = λ r is. stays_on s (quarantined i s r) (answers (let_go i s t r) t (integer 0)) (quarantined_stays i s r) (same_stays (quarantined i s r) (answers (let_go i s t r) t (integer 0)) (record { objects = refl; front = refl }));
+}
+
+next_stays : (b : Board) (s : State) (t : ℕ) → Stays s (goes_on b s t (next_at (space_of b s) (cap_address (thread s t).pcc))).0
+next_stays b s t = by_next (λ (n : Next). Stays s (goes_on b s t n).0) (space_of b s) (cap_address (thread s t).pcc)
+    (same_stays s _ (returned_same b.image s t (thread s t).frames))
+    (λ k away read. same_stays s _ (ends_same b s t (operand s t (operands_of k).first) (carried_out (class_of k) k (operands_of k).to (operand s t (operands_of k).first) (operand s t (operands_of k).second) (named_by b.image (operand s t (operands_of k).first)) (around b s t))))
+    (λ n few other. served_left (Stays s) b s t n few other (same_stays s _ (unwound_same b.image s t (thread s t).frames)) (moves_stay b.image s t))
+    (same_stays s _ (unwound_same b.image s t (thread s t).frames))
+
+fetch_stays : (b : Board) (s : State) (t : ℕ) (o : Option Trap) → Stays s (after_fetch b s t o).0
+fetch_stays b s t (Some why) = same_stays s _ (unwound_same b.image s t (thread s t).frames)
+fetch_stays b s t None = next_stays b s t
+
+executed_stays : (b : Board) (s : State) (t : ℕ) → Stays s (executed b s t).0
 unfolding executed
-executed_same b s t = fetch_same b s t (first_failed (fetch_checks (thread s t).pcc))
+executed_stays b s t = fetch_stays b s t (first_failed (fetch_checks (thread s t).pcc))
 
 preempted_same : (s : State) (o : Option ℕ) → Same s (preempted_from s o)
 preempted_same s None = itself s
@@ -67,15 +143,18 @@ scheduled_same : (b : Board) (s : State) (o : Option ℕ) → Same s (picked_fro
 scheduled_same b s (Some t) = itself s
 scheduled_same b s None = picked_same b s (pick b.image.priorities (statuses_of s.threads) s.picks)
 
-continued_same : (b : Board) (s : State) (o : Option ℕ) → Same s (continued b s o).0
-continued_same b s None = itself s
-continued_same b s (Some t) = let after = executed_same b s t in record { objects = after.objects; front = after.front }
+continued_stays : (b : Board) (s : State) (o : Option ℕ) → Stays s (continued b s o).0
+continued_stays b s None = same_stays s s (itself s)
+continued_stays b s (Some t) = let after = executed_stays b s t in record { front = after.front; rows = after.rows; waits = after.waits; painted = after.painted }
 
-pub stepped_same : (b : Board) (s : State) → Same s (stepped b s).0
-stepped_same b s =
+-- before its thread carries on a step changes neither
+pub ready_same : (b : Board) (s : State) → Same s (scheduled b (preempted (one_more_step s)))
+ready_same b s =
     let before : Same s (preempted (one_more_step s)) = onward s (one_more_step s) (preempted (one_more_step s)) (record { objects = refl; front = refl }) (preempted_same (one_more_step s) s.running) in
-    let turn : Same s (scheduled b (preempted (one_more_step s))) = onward s (preempted (one_more_step s)) (scheduled b (preempted (one_more_step s))) before (scheduled_same b (preempted (one_more_step s)) (preempted (one_more_step s)).running) in
-    onward s (scheduled b (preempted (one_more_step s))) (stepped b s).0 turn (continued_same b (scheduled b (preempted (one_more_step s))) (scheduled b (preempted (one_more_step s))).running)
+    onward s (preempted (one_more_step s)) (scheduled b (preempted (one_more_step s))) before (scheduled_same b (preempted (one_more_step s)) (preempted (one_more_step s)).running)
+
+pub stepped_stays : (b : Board) (s : State) → Stays s (stepped b s).0
+stepped_stays b s = stays_on s (scheduled b (preempted (one_more_step s))) (stepped b s).0 (same_stays s (scheduled b (preempted (one_more_step s))) (ready_same b s)) (continued_stays b (scheduled b (preempted (one_more_step s))) (scheduled b (preempted (one_more_step s))).running)
 
 interrupted_same : (s : State) (o : Option ℕ) → Same s (interrupted s o)
 interrupted_same s None = itself s

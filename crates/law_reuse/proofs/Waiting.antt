@@ -1,9 +1,9 @@
 -- A chunk waits, a sweep paints it, and it leaves at that sweep's end: over events, and over lists of them.
-use Rattle.std.proofs.Common.{ℕ, ◌≡◌, ◌+◌, ◌≤◌, ◌⊎◌, inl, inr, true, false, List, [], ◌∷◌, Option, Some, None, refl, sym, ◌∙◌, subst, arith}
+use Rattle.std.proofs.Common.{ℕ, ◌≡◌, ◌+◌, ◌⊎◌, inl, inr, true, List, [], ◌∷◌, Some, None, refl, sym, ◌∙◌, subst, arith}
 use Rattle.def_machine.specs.Image.{Image}
 use Rattle.def_machine.specs.State.{State, Object}
-use Rattle.def_machine.specs.Objects.{Any, Each, has_quarantined, painted, quarantine, placed_among}
-use Rattle.def_machine.specs.Heap.{with_slice, slice_end, sweep_over, sweep_began, swept, with_object, quarantined}
+use Rattle.def_machine.specs.Objects.{Any, has_quarantined, painted}
+use Rattle.def_machine.specs.Heap.{slice_end, sweep_began, with_object, quarantined}
 use Rattle.def_step.specs.declared.Event.{Event}
 use Rattle.def_step.specs.declared.Event.TheVariants.{Step, Tick, Sweep, Input}
 use Rattle.def_step.specs.Events.{stepped, ticked, happens, run}
@@ -11,10 +11,9 @@ use Rattle.def_step.specs.Instructions.{Board}
 use Rattle.def_confined.specs.Confined.{Apart}
 use Rattle.def_confined.specs.Changes.{NewObject}
 use Rattle.law_places.proofs.Rows.{each_take, among_any}
-use Rattle.law_heap.proofs.Quarantines.{quarantine_any}
 use Rattle.law_reuse.specs.Reuse.{IsRow, Waits, IsPainted, Meets, Begins, EndsIn, SweepsWhole}
-use Rattle.law_reuse.proofs.Same.{Same, stepped_same, ticked_same}
-use Rattle.law_reuse.proofs.Sweeping.{begun, sliced_from, swept_case, sliced_case, painted_row, waits_row, waits_left, row_tells, none_painted}
+use Rattle.law_reuse.proofs.Same.{Same, Stays, quarantined_stays, stepped_stays, ticked_same}
+use Rattle.law_reuse.proofs.Sweeping.{begun, swept_case, sliced_case, painted_row, waits_row, waits_left, row_tells, none_painted}
 
 abbrev counted : State → State
 counted s = record s { counts = record s.counts { sweeps = s.counts.sweeps + 1 } }
@@ -51,8 +50,8 @@ running : (b : Board) (s : State) (r : Object) (x : ℕ) (es : List Event) → s
 unfolding run
 running b s r x [] on h = inl h
 running b s r x (Step ∷ es) on h =
-    let same : Same s (stepped b s).0 = stepped_same b s in
-    elim (running b (happens b s Step).0 r x es (same.front ∙ on) (subst (Any (IsRow r)) (sym same.objects) h)) [ inl there ↦ inl there | inr ends ↦ inr (inr ends) ]
+    let stays : Stays s (stepped b s).0 = stepped_stays b s in
+    elim (running b (happens b s Step).0 r x es (stays.front ∙ on) (stays.rows r h)) [ inl there ↦ inl there | inr ends ↦ inr (inr ends) ]
 running b s r x (Tick ∷ es) on h =
     let same : Same s (ticked s) = ticked_same s in
     elim (running b (happens b s Tick).0 r x es (same.front ∙ on) (subst (Any (IsRow r)) (sym same.objects) h)) [ inl there ↦ inl there | inr ends ↦ inr (inr ends) ]
@@ -66,8 +65,8 @@ pub waiting : (b : Board) (s : State) (r : Object) (es : List Event) → Any (Wa
 unfolding run
 waiting b s r [] h = inl (waits_row r s.objects h)
 waiting b s r (Step ∷ es) h =
-    let same : Same s (stepped b s).0 = stepped_same b s in
-    elim (waiting b (happens b s Step).0 r es (subst (Any (Waits r)) (sym same.objects) h)) [ inl there ↦ inl there | inr whole ↦ inr (inr whole) ]
+    let stays : Stays s (stepped b s).0 = stepped_stays b s in
+    elim (waiting b (happens b s Step).0 r es (stays.waits r h)) [ inl there ↦ inl there | inr whole ↦ inr (inr whole) ]
 waiting b s r (Tick ∷ es) h =
     let same : Same s (ticked s) = ticked_same s in
     elim (waiting b (happens b s Tick).0 r es (subst (Any (Waits r)) (sym same.objects) h)) [ inl there ↦ inl there | inr whole ↦ inr (inr whole) ]
@@ -126,7 +125,7 @@ sweep_leaves b s r h = swept_case (Leaves r s) b.image (counted s)
     (λ gone. absurd (gone h)))
 
 pub leaves : (b : Board) (s : State) (e : Event) (r : Object) → Any (IsRow r) s.objects → (Any (IsRow r) (happens b s e).0.objects → ⊥) → (e ≡ Sweep) × ((happens b s e).0.front ≡ None) × Any (IsPainted r) (sweep_began s s.front).objects
-leaves b s Step r h gone = let same = stepped_same b s in absurd (gone (subst (Any (IsRow r)) (sym same.objects) h))
+leaves b s Step r h gone = let stays = stepped_stays b s in absurd (gone (stays.rows r h))
 leaves b s Tick r h gone = let same = ticked_same s in absurd (gone (subst (Any (IsRow r)) (sym same.objects) h))
 leaves b s (Input n byte) r h gone = absurd (gone h)
 leaves b s Sweep r h gone = let says = sweep_leaves b s r h gone in (refl, says.0, says.1)
@@ -141,7 +140,7 @@ sweep_paints b s r = swept_case (Paints r s) b.image (counted s)
     (λ x runs. sliced_case (Paints r s) b.image (counted s) x (λ is before. absurd (none_painted r s.objects is)) (λ is before. absurd (before is)))
 
 pub paints : (b : Board) (s : State) (e : Event) (r : Object) → Any (IsPainted r) (happens b s e).0.objects → (Any (IsPainted r) s.objects → ⊥) → Begins s e
-paints b s Step r is before = let same = stepped_same b s in absurd (before (subst (Any (IsPainted r)) same.objects is))
+paints b s Step r is before = let stays = stepped_stays b s in absurd (before (stays.painted r is))
 paints b s Tick r is before = let same = ticked_same s in absurd (before (subst (Any (IsPainted r)) same.objects is))
 paints b s (Input n byte) r is before = absurd (before is)
 paints b s Sweep r is before = let says = sweep_paints b s r is before in (refl, says.0, says.1)
@@ -151,9 +150,5 @@ paints b s Sweep r is before = let says = sweep_paints b s r is before in (refl,
 pub object_waits : (s : State) (r q : Object) → Any (Waits r) s.objects → Any (Waits r) (with_object s q).objects
 object_waits s r q h = among_any (Waits r) q s.objects (inr h)
 
-each_unit : (rs : List Object) → Each (λ q. Unit {0}) rs
-each_unit [] = tt
-each_unit (x ∷ xs) = (tt, each_unit xs)
-
 pub freed_waits : (i : Image) (s : State) (r q : Object) → Any (Waits r) s.objects → Any (Waits r) (quarantined i s q).objects
-freed_waits i s r q h = quarantine_any (λ z. Unit {0}) (Waits r) (Waits r) q.number s.objects (λ z any k not. k) (λ z any k is. ((k.0.0, k.0.1, k.0.2), k.1)) (each_unit s.objects) h
+freed_waits i s r q h = let stays = quarantined_stays i s q in stays.waits r h

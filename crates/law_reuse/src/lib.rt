@@ -33,8 +33,7 @@ pub fn sweeps_paint()
         → Begins s e }
 {}
 
-/// An allocation lets no object go and paints none; nor does a free, whose object waits from then on. No event does
-/// either yet: the native routines of the heap will.
+/// An allocation lets no object go and paints none; nor does a free, whose object waits from then on.
 pub fn rows_wait()
     ensures allocate { (s : State) (r q : Object) → Any (Waits r) s.objects
         → Any (Waits r) (with_object s q).objects }

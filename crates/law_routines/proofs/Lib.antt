@@ -1,1 +1,4 @@
 pub mod Places
+pub mod Objects
+pub mod Cases
+pub mod Leaving

@@ -16,7 +16,7 @@ pub record Least (P : ℕ → Bool) (low n b : ℕ) : Type 0 where
   pub passes : P b ≡ true
   pub before : (x : ℕ) → low ≤ x → x < b → P x ≡ false
 
-least : (P : ℕ → Bool) (low n b : ℕ) → find P (range_with_len low n) ≡ Some b → Least P low n b
+pub least : (P : ℕ → Bool) (low n b : ℕ) → find P (range_with_len low n) ≡ Some b → Least P low n b
 least P low zero b e = absurd (let clash : None ≡ Some b = e in cc)
 least P low (suc n) b e = elim (bool_tells (P low)) [
   | inl is ↦
@@ -35,7 +35,7 @@ least P low (suc n) b e = elim (bool_tells (P low)) [
       }
 ]
 
-never : (P : ℕ → Bool) (low n x : ℕ) → find P (range_with_len low n) ≡ None → low ≤ x → x < low + n → P x ≡ false
+pub never : (P : ℕ → Bool) (low n x : ℕ) → find P (range_with_len low n) ≡ None → low ≤ x → x < low + n → P x ≡ false
 never P low zero x e from to = absurd (omega (arith, from, to))
 never P low (suc n) x e from to = elim (bool_tells (P low)) [
   | inl is ↦ absurd (let clash : Some low ≡ None = sym (ap (λ c. cond c (Some low) (find P (range_with_len (low + 1) n))) is) ∙ e in cc)

@@ -4,21 +4,22 @@ use Rattle.def_machine.specs.State.{State}
 use Rattle.def_step.specs.declared.Event.{Event}
 use Rattle.def_step.specs.Instructions.{Board}
 use Rattle.def_step.specs.Events.{happens, run, told}
+use Rattle.def_facts.specs.Facts.{Facts}
 use Rattle.def_board.specs.Wired.{Wired}
 use Rattle.def_confined.specs.Keeps.{Keeps}
 use Rattle.def_confined.specs.Partitioned.{Partitioned}
 use Rattle.def_confined.specs.Telling.{AllLicensed}
 use Rattle.law_events.proofs.Events.{event_keeps, deed_licensed, span_licensed}
 
-pub run_keeps : (b : Board) (s : State) (es : List Event) → Partitioned b.image → Wired b → Keeps b.image s → Keeps b.image (run b s es)
+pub run_keeps : (b : Board) (s : State) (es : List Event) → Partitioned b.image → Facts b.image → Wired b → Keeps b.image s → Keeps b.image (run b s es)
 unfolding run
-run_keeps b s [] parts wired k = k
-run_keeps b s (e ∷ es) parts wired k = run_keeps b (happens b s e).0 es parts wired (event_keeps b s e parts wired k)
+run_keeps b s [] parts facts wired k = k
+run_keeps b s (e ∷ es) parts facts wired k = run_keeps b (happens b s e).0 es parts facts wired (event_keeps b s e parts facts wired k)
 
-pub told_licensed : (b : Board) (s : State) (es : List Event) → Partitioned b.image → Wired b → Keeps b.image s → AllLicensed b.image.entries (told b s es)
+pub told_licensed : (b : Board) (s : State) (es : List Event) → Partitioned b.image → Facts b.image → Wired b → Keeps b.image s → AllLicensed b.image.entries (told b s es)
 unfolding told
-told_licensed b s [] parts wired k = tt
-told_licensed b s (e ∷ es) parts wired k = (
-  record { deed = λ d is. deed_licensed b s e d parts wired k is; off = λ o is. span_licensed b s e o parts wired k is },
-  told_licensed b (happens b s e).0 es parts wired (event_keeps b s e parts wired k),
+told_licensed b s [] parts facts wired k = tt
+told_licensed b s (e ∷ es) parts facts wired k = (
+  record { deed = λ d is. deed_licensed b s e d parts facts wired k is; off = λ o is. span_licensed b s e o parts facts wired k is },
+  told_licensed b (happens b s e).0 es parts facts wired (event_keeps b s e parts facts wired k),
 )

@@ -6,37 +6,45 @@ use Rattle.law_lists.proofs.Sets.{after_set}
 use Rattle.def_words.specs.declared.Cap.{Cap}
 use Rattle.def_words.specs.declared.Trap.{Trap}
 use Rattle.def_words.specs.Authority.{cap_address}
-use Rattle.def_words.specs.Capability.{IsSettled, untagged}
+use Rattle.def_words.specs.Capability.{IsSettled, integer, untagged}
 use Rattle.def_memory.specs.declared.Granule.{Granule}
 use Rattle.def_memory.specs.Granules.{plain, nothing, granule_at}
 use Rattle.def_memory.specs.Ranges.{zeroed_from}
 use Rattle.law_granules.proofs.Lists.{zeroed_at}
 use Rattle.def_instr.specs.declared.Instr.{Instr}
+use Rattle.def_sched.specs.declared.Status.{Status}
 use Rattle.def_sched.specs.Picks.{pick}
-use Rattle.def_machine.specs.Image.{Image, area_of, stack_base}
+use Rattle.def_sched.specs.Statuses.{woken, woken_count}
+use Rattle.def_machine.specs.Image.{Image, root, made_cap, code_entry, globals_entry, area_of, stack_base}
 use Rattle.def_machine.specs.State.{State, Thread, Frame, Object, thread, register, granule, nobody}
 use Rattle.def_machine.specs.Objects.{Each, has_quarantined, painted}
 use Rattle.def_machine.specs.Memory.{filtered}
 use Rattle.def_machine.specs.Registers.{written}
-use Rattle.def_machine.specs.Threads.{picked, timed, statuses_of, jumped}
-use Rattle.def_machine.specs.Frames.{answer, left_by, returned, unwound, switched}
-use Rattle.def_machine.specs.Heap.{sliced, sliced_frames, sliced_thread, unmarked, sweep_over, ram_size, ended_sweep, sweep_on, sweep_began, with_slice, slice_end, is_number}
-use Rattle.def_reach.specs.Roots.{root_of}
+use Rattle.def_machine.specs.Threads.{picked, timed, with_status, statuses_of, with_statuses, jumped}
+use Rattle.def_machine.specs.Frames.{answer, argument, passed, given, entered, left_by, returned, unwound, switched}
+use Rattle.def_machine.specs.Heap.{sliced, sliced_frames, sliced_thread, unmarked, sweep_over, ram_size, ended_sweep, sweep_on, sweep_began, with_slice, slice_end, is_number, with_object, object_cap, quarantined}
+use Rattle.def_reach.specs.Roots.{root_of, gate_for, compartment_of}
 use Rattle.def_step.specs.declared.Class.{Class}
 use Rattle.def_step.specs.declared.Class.TheVariants as class
 use Rattle.def_step.specs.declared.Next.{Next}
-use Rattle.def_step.specs.declared.Next.TheVariants.{Returning, Instruction, Nothing}
 use Rattle.def_step.specs.declared.Event.{Event}
 use Rattle.def_step.specs.declared.Event.TheVariants.{Step, Tick, Sweep, Input}
 use Rattle.def_profile.specs.declared.traps.TheConstants.{ILLEGAL_INSTRUCTION}
 use Rattle.def_words.specs.Traps.{plain_trap}
+use Rattle.def_facts.specs.Facts.{MadeSettled}
+use Rattle.def_step.specs.Routines.{answered, answers, wakes}
+use Rattle.def_step.specs.Switch.{called}
+use Rattle.def_step.specs.Quotas.{let_go}
+use Rattle.law_heap.proofs.Frees.{freed_cap}
+use Rattle.law_routines.proofs.Cases.{by_next}
+use Rattle.law_routines.proofs.Leaving.{Moves, stopped, entering, served_left}
 use Rattle.def_step.specs.Checks.{first_failed}
 use Rattle.def_step.specs.Accesses.{Accessed}
 use Rattle.def_step.specs.Jumps.{Flowed}
 use Rattle.def_step.specs.Operands.{operands_of, class_of}
 use Rattle.def_step.specs.Instructions.{Board, Done, carried_out, named_by, gives, flows, accesses, around, space_of, put_done, ends, operand, trapped, goes_on, after_fetch, executed, fetch_checks, next_at}
 use Rattle.def_step.specs.Events.{preempted_from, preempted, picked_as, picked_from, scheduled, continued, one_more_step, stepped, interrupted, happens, run}
-use Rattle.law_words.proofs.Away.{address_settles, opens_settles}
+use Rattle.law_words.proofs.Away.{address_settles, opens_settles, derives_settle}
 use Rattle.law_lists.proofs.Maps.{at_map}
 use Rattle.law_sweeps.proofs.Slices.{granule_at_slice, register_at_slice, thread_sliced}
 use Rattle.def_confined.specs.Settled.{FrameSettled, ThreadSettled, Settled}
@@ -148,18 +156,94 @@ class_settled b s t class.Fence k to m n h = gives_settled b s t 0 (plain 0) h (
 class_settled b s t class.Call k to m n h = tt
 class_settled b s t class.Break k to m n h = tt
 
-next_settled : (b : Board) (s : State) (t : ℕ) (n : Next) → Settled s → Settled (goes_on b s t n).0
-next_settled b s t Returning h = returned_settled b.image s t (thread s t).frames refl h
-next_settled b s t (Instruction k) h = ends_settled b s t (operand s t (operands_of k).first) (carried_out (class_of k) k (operands_of k).to (operand s t (operands_of k).first) (operand s t (operands_of k).second) (named_by b.image (operand s t (operands_of k).first)) (around b s t)) h (class_settled b s t (class_of k) k (operands_of k).to (operands_of k).first (operands_of k).second h)
-next_settled b s t Nothing h = trapped_settled b s t (plain_trap ILLEGAL_INSTRUCTION) h
+-- ---- a routine
 
-fetch_settled : (b : Board) (s : State) (t : ℕ) (o : Option Trap) → Settled s → Settled (after_fetch b s t o).0
-fetch_settled b s t (Some why) h = trapped_settled b s t why h
-fetch_settled b s t None h = next_settled b s t (next_at (space_of b s) (cap_address (thread s t).pcc)) h
+answered_settled : (s : State) (t : ℕ) (v : Cap) → Settled s → IsSettled v → ThreadSettled (answered (thread s t) v)
+answered_settled s t v h settled = record {
+  pcc = opens_settles (register (thread s t) 1);
+  registers = λ n. written_settled (written (thread s t).registers 10 v) 11 (plain 0) n (λ m. written_settled (thread s t).registers 10 v m (h.threads t).registers settled) (plain_settled 0);
+  frames = (h.threads t).frames;
+}
 
-executed_settled : (b : Board) (s : State) (t : ℕ) → Settled s → Settled (executed b s t).0
+answers_settled : (s : State) (t : ℕ) (v : Cap) → Settled s → IsSettled v → Settled (answers s t v)
+answers_settled s t v h settled = record { granules = h.granules; threads = set_settled s t (answered (thread s t) v) h (answered_settled s t v h settled) }
+
+stops_settled : (s : State) (t : ℕ) (status : Status) → Settled s → Settled (stopped s t status)
+stops_settled s t status h =
+    let new = answered_settled s t (integer 0) h (λ e. refl) in
+    record {
+      granules = h.granules;
+      threads = set_settled s t (with_status (answered (thread s t) (integer 0)) status) h (record { pcc = new.pcc; registers = new.registers; frames = new.frames });
+    }
+
+given_settled : (ts : List Thread) (ss : List Status) → ((t : ℕ) → ThreadSettled (get_or ts t nobody)) → (t : ℕ) → ThreadSettled (get_or (with_statuses ts ss) t nobody)
+given_settled [] ss h t = h t
+given_settled (x ∷ xs) [] h t = h t
+given_settled (x ∷ xs) (y ∷ ys) h zero = let old = h zero in record { pcc = old.pcc; registers = old.registers; frames = old.frames }
+given_settled (x ∷ xs) (y ∷ ys) h (suc t) = given_settled xs ys (λ n. h (suc n)) t
+
+wakes_settled : (s : State) (t address most : ℕ) → Settled s → Settled (wakes s t address most)
+wakes_settled s t address most h =
+    let told = answers_settled s t (integer (woken_count address most (statuses_of s.threads))) h (λ e. refl) in
+    record {
+      granules = told.granules;
+      threads = given_settled (answers s t (integer (woken_count address most (statuses_of s.threads)))).threads (woken address most (statuses_of s.threads)) told.threads;
+    }
+
+-- what passes to a callee
+passed_settled : (i : Image) (s : State) (t export n : ℕ) → Settled s → IsSettled (argument i (thread s t) export n)
+passed_settled i s t export n h = chosen IsSettled (nat_lt n (gate_for i.entries.gates export).args) (passed i export (register (thread s t) (10 + n))) (plain 0)
+    (λ is. chosen IsSettled (root_of i.entries export).passes (register (thread s t) (10 + n)) (untagged (register (thread s t) (10 + n))) (λ is. (h.threads t).registers (10 + n)) (λ not e. refl))
+    (λ not. plain_settled 0)
+
+enters_settled : (i : Image) (s : State) (t export high : ℕ) → MadeSettled i → Settled s → Settled (entering i s t export high)
+enters_settled i s t export high made h =
+    let old = h.threads t in
+    let zero_ : IsSettled (plain 0) = plain_settled 0 in
+    record {
+      granules = zeroed_settled i s t high h;
+      threads = set_settled s t (entered i (thread s t) (compartment_of (root i export).owner) export high (given i (thread s t) t (compartment_of (root i export).owner) export high)) h (record {
+        pcc = address_settles (made_cap i (code_entry i (compartment_of (root i export).owner))) (gate_for i.entries.gates export).code;
+        registers = sixteen IsSettled _ _ _ _ _ _ _ _ _ _ _ _ _ _ _ _ zero_ (made 0) (derives_settle _ _ _ _ _ _ _) (made (globals_entry i (compartment_of (root i export).owner))) zero_ zero_ zero_ zero_ zero_ zero_ (passed_settled i s t export 0 h) (passed_settled i s t export 1 h) (passed_settled i s t export 2 h)
+            (passed_settled i s t export 3 h) (passed_settled i s t export 4 h) (passed_settled i s t export 5 h) zero_;
+        frames = (record { c1 = old.registers 1; c2 = old.registers 2; c3 = old.registers 3; c8 = old.registers 8; c9 = old.registers 9 }, old.frames);
+      });
+    }
+
+freed_settled : (i : Image) (s : State) (t : ℕ) (r : Object) → Settled s → Settled (let_go i s t r)
+freed_settled i s t r h = record {
+  granules = λ k. freed_cap IsSettled i s r k (λ low high. plain_settled 0) (λ outside. h.granules k);
+  threads = set_settled s t (record (thread s t) { registers = map (filtered i (quarantined i s r)) (thread s t).registers }) h (record {
+    pcc = (h.threads t).pcc;
+    registers = λ n. at_map IsSettled (filtered i (quarantined i s r)) (thread s t).registers n (plain 0) (plain_settled 0) (filtered_settled i (quarantined i s r) (register (thread s t) n) ((h.threads t).registers n));
+    frames = (h.threads t).frames;
+  });
+}
+
+moves_settle : (i : Image) (s : State) (t : ℕ) → MadeSettled i → Settled s → Moves (λ z told. Settled z) i s t
+moves_settle i s t made h = record {
+  tells = λ n. answers_settled s t (integer n) h (λ e. refl);
+  enters = λ high. enters_settled i s t (called i.entries (thread s t)) high made h;
+  stops = λ status. stops_settled s t status h;
+  wakes = λ address most. wakes_settled s t address most h;
+  hands = λ size r is. answers_settled (with_object s r) t (object_cap r) (record { granules = h.granules; threads = h.threads }) (derives_settle _ _ _ _ _ _ _);
+  gives = λ r is. answers_settled (let_go i s t r) t (integer 0) (freed_settled i s t r h) (λ e. refl);
+}
+
+next_settled : (b : Board) (s : State) (t : ℕ) → MadeSettled b.image → Settled s → Settled (goes_on b s t (next_at (space_of b s) (cap_address (thread s t).pcc))).0
+next_settled b s t made h = by_next (λ (n : Next). Settled (goes_on b s t n).0) (space_of b s) (cap_address (thread s t).pcc)
+    (returned_settled b.image s t (thread s t).frames refl h)
+    (λ k away read. ends_settled b s t (operand s t (operands_of k).first) (carried_out (class_of k) k (operands_of k).to (operand s t (operands_of k).first) (operand s t (operands_of k).second) (named_by b.image (operand s t (operands_of k).first)) (around b s t)) h (class_settled b s t (class_of k) k (operands_of k).to (operands_of k).first (operands_of k).second h))
+    (λ n few other. served_left Settled b s t n few other (unwound_settled b.image s t (thread s t).frames refl h) (moves_settle b.image s t made h))
+    (trapped_settled b s t (plain_trap ILLEGAL_INSTRUCTION) h)
+
+fetch_settled : (b : Board) (s : State) (t : ℕ) (o : Option Trap) → MadeSettled b.image → Settled s → Settled (after_fetch b s t o).0
+fetch_settled b s t (Some why) made h = trapped_settled b s t why h
+fetch_settled b s t None made h = next_settled b s t made h
+
+executed_settled : (b : Board) (s : State) (t : ℕ) → MadeSettled b.image → Settled s → Settled (executed b s t).0
 unfolding executed
-executed_settled b s t h = fetch_settled b s t (first_failed (fetch_checks (thread s t).pcc)) h
+executed_settled b s t made h = fetch_settled b s t (first_failed (fetch_checks (thread s t).pcc)) made h
 
 -- ---- a step
 
@@ -182,15 +266,15 @@ scheduled_settled : (b : Board) (s : State) (o : Option ℕ) → Settled s → S
 scheduled_settled b s (Some t) h = h
 scheduled_settled b s None h = picked_settled b s (pick b.image.priorities (statuses_of s.threads) s.picks) h
 
-continued_settled : (b : Board) (s : State) (o : Option ℕ) → Settled s → Settled (continued b s o).0
-continued_settled b s None h = h
-continued_settled b s (Some t) h = let after = executed_settled b s t h in record { granules = after.granules; threads = after.threads }
+continued_settled : (b : Board) (s : State) (o : Option ℕ) → MadeSettled b.image → Settled s → Settled (continued b s o).0
+continued_settled b s None made h = h
+continued_settled b s (Some t) made h = let after = executed_settled b s t made h in record { granules = after.granules; threads = after.threads }
 
-stepped_settled : (b : Board) (s : State) → Settled s → Settled (stepped b s).0
-stepped_settled b s h =
+stepped_settled : (b : Board) (s : State) → MadeSettled b.image → Settled s → Settled (stepped b s).0
+stepped_settled b s made h =
     let before = preempted_settled (one_more_step s) s.running (record { granules = h.granules; threads = h.threads }) in
     let chosen_one = scheduled_settled b (preempted (one_more_step s)) (preempted (one_more_step s)).running before in
-    continued_settled b (scheduled b (preempted (one_more_step s))) (scheduled b (preempted (one_more_step s))).running chosen_one
+    continued_settled b (scheduled b (preempted (one_more_step s))) (scheduled b (preempted (one_more_step s))).running made chosen_one
 
 -- ---- a tick
 
@@ -254,16 +338,16 @@ swept_settled i s (Some front) h = ended_settled i (with_slice i s front (slice_
 
 -- ---- whole
 
-pub event_settles : (b : Board) (s : State) (e : Event) → Settled s → Settled (happens b s e).0
-event_settles b s Step h = stepped_settled b s h
-event_settles b s Tick h = interrupted_settled (record s { threads = map timed s.threads; time = s.time + 1; counts = record s.counts { ticks = s.counts.ticks + 1 } }) s.running (record { granules = h.granules; threads = slept_settled s h })
-event_settles b s Sweep h =
+pub event_settles : (b : Board) (s : State) (e : Event) → MadeSettled b.image → Settled s → Settled (happens b s e).0
+event_settles b s Step made h = stepped_settled b s made h
+event_settles b s Tick made h = interrupted_settled (record s { threads = map timed s.threads; time = s.time + 1; counts = record s.counts { ticks = s.counts.ticks + 1 } }) s.running (record { granules = h.granules; threads = slept_settled s h })
+event_settles b s Sweep made h =
     let counted : State = record s { counts = record s.counts { sweeps = s.counts.sweeps + 1 } } in
     let began = began_settled (record s { counts = record s.counts { sweeps = s.counts.sweeps + 1 } }) s.front (record { granules = h.granules; threads = h.threads }) in
     swept_settled b.image (sweep_began (record s { counts = record s.counts { sweeps = s.counts.sweeps + 1 } }) s.front) (sweep_began (record s { counts = record s.counts { sweeps = s.counts.sweeps + 1 } }) s.front).front began
-event_settles b s (Input n byte) h = record { granules = h.granules; threads = h.threads }
+event_settles b s (Input n byte) made h = record { granules = h.granules; threads = h.threads }
 
-pub run_settles : (b : Board) (s : State) (es : List Event) → Settled s → Settled (run b s es)
+pub run_settles : (b : Board) (s : State) (es : List Event) → MadeSettled b.image → Settled s → Settled (run b s es)
 unfolding run
-run_settles b s [] h = h
-run_settles b s (e ∷ es) h = run_settles b (happens b s e).0 es (event_settles b s e h)
+run_settles b s [] made h = h
+run_settles b s (e ∷ es) made h = run_settles b (happens b s e).0 es made (event_settles b s e made h)

@@ -6,15 +6,18 @@ ghost use Rattle.def_machine.specs.State.{State};
 ghost use Rattle.def_step.specs.declared.Event.{Event};
 ghost use Rattle.def_step.specs.Instructions.{Board};
 ghost use Rattle.def_step.specs.Events.{happens, run};
+ghost use Rattle.def_facts.specs.Facts.{MadeSettled};
 ghost use Rattle.def_confined.specs.Settled.{Settled};
 
 /// What is untagged in RAM, in registers, in program counters and in frames is settled after an event, where it was
-/// before.
+/// before and where what boot makes for the image's entries is.
 pub fn events_settle()
-    ensures { (b : Board) (s : State) (e : Event) → Settled s → Settled (happens b s e).0 }
+    ensures { (b : Board) (s : State) (e : Event)
+        → MadeSettled b.image → Settled s → Settled (happens b s e).0 }
 {}
 
 /// So after any list of events.
 pub fn runs_settle()
-    ensures { (b : Board) (s : State) (es : List Event) → Settled s → Settled (run b s es) }
+    ensures { (b : Board) (s : State) (es : List Event)
+        → MadeSettled b.image → Settled s → Settled (run b s es) }
 {}

@@ -35,7 +35,7 @@ none_marked p x (suc n) zero = refl
 none_marked p x (suc n) (suc k) = none_marked p (x + GRANULE) n k
 
 module _ (p : PartsRow) (s : Sound p) where
-  past_none : (k : ℕ) → granules_in p ≤ k → booted (image_of p) k ≡ nothing
+  pub past_none : (k : ℕ) → granules_in p ≤ k → booted (image_of p) k ≡ nothing
   unfolding image_of boot_granules
   past_none k past = past_plain p p.ram (granules_in p) k past
 

@@ -4,3 +4,4 @@ pub mod Granules
 pub mod Whole
 pub mod Shutting
 pub mod Settling
+pub mod Blanking

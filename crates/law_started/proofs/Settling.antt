@@ -1,72 +1,24 @@
 -- What boot makes is settled: what is untagged has no root and no source.
 use Rattle.std.proofs.Common.{ℕ, zero, suc, ◌+◌, ◌-◌, ◌*◌, ◌/◌, ◌%◌, ◌==◌, nat_lt, List, [], ◌∷◌, length, slice_get, slice_index_or, Option, Some, None, if◌then◌else◌}
 use Rattle.law_lists.proofs.Tests.{chosen}
-use Rattle.ct_entry.specs.declared.rows.Entry.{Entry}
-use Rattle.ct_entry.specs.declared.rows.Kind.{Kind}
-use Rattle.ct_entry.specs.declared.rows.Kind.TheVariants as kind
 use Rattle.ct_entry.specs.declared.rows.Owner.{Owner}
 use Rattle.ct_entry.specs.declared.rows.Owner.TheVariants.{Trusted, Compartment, Library, Thread}
 use Rattle.def_profile.specs.declared.layout.TheConstants.{GRANULE, SLOT_SIZE, TABLE_HEAD, TABLE_ROW}
 use Rattle.def_words.specs.declared.Cap.{Cap}
-use Rattle.def_words.specs.declared.Shadow.{Shadow}
-use Rattle.def_words.specs.Capability.{IsSettled, cap_of, word_sealed}
-use Rattle.def_words.specs.Derive.{derive, sealed_as}
+use Rattle.def_words.specs.Capability.{IsSettled}
 use Rattle.def_memory.specs.Granules.{plain, nothing}
 use Rattle.def_machine.specs.State.{nobody}
 use Rattle.def_confined.specs.Settled.{ThreadSettled, Settled}
 use Rattle.def_image.specs.Parts.{CodeRow, ThreadRow, PartsRow}
 use Rattle.def_image.specs.Members.{compartment, library, sealed, code_number, globals_number, library_number, stack_number}
 use Rattle.def_image.specs.Regions.{Holder, CodeOf, TableOf, GlobalsOf, SharedOf, SealedOf, StackOf, TrustedPart, RegionRow}
-use Rattle.def_boot.specs.Entries.{rows_of}
-use Rattle.def_boot.specs.Made.{made_by, made_code, made_from, made_caps, made_for, return_sentry}
+use Rattle.def_boot.specs.Made.{made_for, return_sentry}
 use Rattle.def_boot.specs.Contents.{word_of, gate_word, code_content, owned_content, table_content, content, content_at, region_at, boot_cap, granules_from, granules_in, boot_granules}
 use Rattle.def_boot.specs.Boot.{first_thread, first_threads, entry_address, boot_state}
 use Rattle.law_words.proofs.Away.{address_settles}
-use Rattle.law_words.proofs.Making.{settled}
+use Rattle.law_grants.proofs.Settling.{made_settled, sentry_settled}
 use Rattle.law_settled.proofs.Values.{plain_settled}
 use Rattle.law_settled.proofs.Events.{nobody_settled, sixteen}
-
--- ---- the capabilities of entries
-
-sealed_settled : (c : Cap) (k : ℕ) → IsSettled c → IsSettled (sealed_as c k)
-sealed_settled c k h = chosen IsSettled (k == 0) c (cap_of c.tag (word_sealed c (k % 8)) c.shadow) (λ is. h) (λ not. settled c.tag (word_sealed c (k % 8)) c.shadow)
-
-derived_settled : (high base length set address k : ℕ) (from : Shadow) → IsSettled (derive high base length set address k from)
-unfolding derive
-derived_settled high base length set address k from = sealed_settled _ k (address_settles _ address)
-
-code_settled : (n : ℕ) (r : Entry) (o : Owner) → IsSettled (made_code n r o)
-code_settled n r Trusted = plain_settled 0
-code_settled n r (Compartment b) = derived_settled _ _ _ _ _ _ _
-code_settled n r (Library l) = plain_settled 0
-code_settled n r (Thread t) = plain_settled 0
-
-by_settled : (p : PartsRow) (n : ℕ) (r : Entry) (k : Kind) → IsSettled (made_by p n r k)
-by_settled p n r kind.Code = code_settled n r r.owner
-by_settled p n r kind.Globals = derived_settled _ _ _ _ _ _ _
-by_settled p n r kind.Stack = derived_settled _ _ _ _ _ _ _
-by_settled p n r kind.Service = derived_settled _ _ _ _ _ _ _
-by_settled p n r kind.Device = derived_settled _ _ _ _ _ _ _
-by_settled p n r kind.Shared = derived_settled _ _ _ _ _ _ _
-by_settled p n r kind.Sealed = derived_settled _ _ _ _ _ _ _
-by_settled p n r kind.Call = derived_settled _ _ _ _ _ _ _
-by_settled p n r kind.Library = derived_settled _ _ _ _ _ _ _
-by_settled p n r kind.Quota = derived_settled _ _ _ _ _ _ _
-by_settled p n r kind.Key = derived_settled _ _ _ _ _ _ _
-by_settled p n r kind.Export = plain_settled 0
-
-from_settled : (p : PartsRow) (n : ℕ) (rs : List Entry) (k : ℕ) → IsSettled (slice_index_or (made_from p n rs) k (plain 0))
-from_settled p n [] k = plain_settled 0
-from_settled p n (r ∷ rs) zero = by_settled p n r r.kind
-from_settled p n (r ∷ rs) (suc k) = from_settled p (n + 1) rs k
-
-sentry_settled : IsSettled return_sentry
-sentry_settled = derived_settled _ _ _ _ _ _ _
-
-made_settled : (p : PartsRow) (n : ℕ) → IsSettled (made_for p n)
-unfolding made_caps
-made_settled p zero = sentry_settled
-made_settled p (suc n) = from_settled p 1 (rows_of p) n
 
 -- ---- what stands in RAM
 

@@ -80,7 +80,7 @@ table_there p b c is =
 
 -- ---- apart from the areas
 
-abbrev Ends : PartsRow → ℕ
+abbrev pub Ends : PartsRow → ℕ
 Ends p = p.trusted + TRUSTED_HEAD + areas_size (map (λ (x : ThreadRow). x.frames) p.threads)
 
 pub record Clear (p : PartsRow) (z : Root) : Type 0 where
@@ -95,11 +95,11 @@ areas_even [] = refl
 areas_even (n ∷ ns) = let rest = areas_even ns in omega (arith, rest)
 
 module _ (p : PartsRow) (s : Sound p) where
-  first_region : IsRegion p 0 (trusted_region p)
+  pub first_region : IsRegion p 0 (trusted_region p)
   unfolding regions_of
   first_region = refl
 
-  ends_in : Ends p ≤ p.trusted + regions.trusted_length p
+  pub ends_in : Ends p ≤ p.trusted + regions.trusted_length p
   ends_in = let long = length_above (trusted_size p.threads) in let same = areas_are p.threads in omega (arith, long, same)
 
   not_both : (h : Holder) (place base size x : ℕ) → (i : ℕ) → IsRegion p i (region h place base size) → is_trusted_holder h ≡ false → base ≤ x → x < base + size → p.trusted ≤ x → x < Ends p → ⊥

@@ -8,5 +8,5 @@ mod shut;
 mod started;
 
 pub use settled::boots_settled;
-pub use shut::images_shut;
+pub use shut::{boots_blank, images_shut};
 pub use started::{boots_confined, lawful_runs};

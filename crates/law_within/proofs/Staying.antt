@@ -14,6 +14,7 @@ use Rattle.def_image.specs.Sound.{Sound}
 use Rattle.def_boot.specs.Boot.{image_of, board_of, boot_state}
 use Rattle.law_booted.proofs.Whole.{partitioned}
 use Rattle.law_grants.proofs.Wiring.{wired}
+use Rattle.law_grants.proofs.Holding.{holds}
 use Rattle.law_jumps.proofs.Moves.{in_rooted}
 use Rattle.law_run.proofs.Running.{run_keeps}
 use Rattle.law_started.proofs.Whole.{keeps}
@@ -22,7 +23,7 @@ use Rattle.law_within.proofs.Ranges.{Touches, root_within, heap_within}
 
 module _ (p : PartsRow) (s : Sound p) where
   held : (es : List Event) → Confined (image_of p) (state_after p es)
-  held es = (run_keeps (board_of p) (boot_state p) es (partitioned p s) (wired p s) (keeps p s)).confined
+  held es = (run_keeps (board_of p) (boot_state p) es (partitioned p s) (holds p s) (wired p s) (keeps p s)).confined
 
   -- the rights of a capability are its root's
   touches : (c : Cap) → Rooted (image_of p) c → heap_cap (image_of p) c ≡ false → MayTouch c

@@ -1,0 +1,122 @@
+-- *Sweep before reuse*, by the deeds that are told: a chunk that was freed is handed out again only after a whole sweep.
+use Rattle.std.proofs.Common.{ℕ, ◌≡◌, inl, inr, true, List, Option, Some, None, refl, sym, ap, ◌∙◌, subst, arith}
+use Rattle.ct_entry.specs.declared.acts.Act.{Act}
+use Rattle.ct_entry.specs.declared.acts.Act.TheVariants as acts
+use Rattle.ct_entry.specs.declared.acts.Deed.{Deed}
+use Rattle.def_machine.specs.Image.{Image}
+use Rattle.def_machine.specs.State.{State, Object, register, thread}
+use Rattle.def_machine.specs.Objects.{Any}
+use Rattle.def_confined.specs.Confined.{Apart, Confined, ObjectFits}
+use Rattle.def_confined.specs.Keeps.{Keeps}
+use Rattle.def_confined.specs.Partitioned.{Partitioned}
+use Rattle.def_facts.specs.Facts.{Facts}
+use Rattle.def_board.specs.Wired.{Wired}
+use Rattle.def_hidden.specs.Hidden.{Shut, Blank}
+use Rattle.def_step.specs.declared.Event.{Event}
+use Rattle.def_step.specs.declared.Event.TheVariants.{Step}
+use Rattle.def_step.specs.Events.{noted, happens, run, stepped}
+use Rattle.def_step.specs.Instructions.{Board, executed}
+use Rattle.def_step.specs.Quotas.{quota_in, free}
+use Rattle.def_step.specs.Routines.{Ran, Leaves}
+use Rattle.law_places.proofs.Rows.{each_any, each_take}
+use Rattle.law_routines.specs.Leaving.{Left}
+use Rattle.law_routines.proofs.Leaving.{free_left}
+use Rattle.law_routines.proofs.Objects.{whole_found}
+use Rattle.law_natives.specs.Fresh.{HandsOut}
+use Rattle.law_reuse.specs.Reuse.{IsRow, Waits, SweepsWhole}
+use Rattle.law_reuse.proofs.Same.{Same, quarantined_stays, ready_same}
+use Rattle.law_reuse.proofs.Waiting.{waiting}
+use Rattle.law_events.proofs.Events.{ready_keeps}
+use Rattle.law_run.proofs.Running.{run_keeps}
+use Rattle.law_blank.proofs.Events.{run_blank}
+use Rattle.law_history.specs.Each.{ready}
+use Rattle.law_history.specs.Chunks.{ChunksMeet, chunk_at}
+use Rattle.law_history.proofs.Steps.{none_told, step_case}
+use Rattle.law_history.proofs.Telling.{ToldBy, Tells, executed_tells}
+use Rattle.law_history.proofs.Safety.{step_allocates}
+
+-- ---- a free is told
+
+abbrev number_in : Act → ℕ
+number_in (acts.Free number base long live) = number
+number_in _ = 0
+
+abbrev base_in : Act → ℕ
+base_in (acts.Free number base long live) = base
+base_in _ = 0
+
+abbrev length_in : Act → ℕ
+length_in (acts.Free number base long live) = long
+length_in _ = 0
+
+abbrev act_in : Act → Option (ℕ × Act) → Act
+act_in a None = a
+act_in a (Some d) = d.1
+
+-- what a free that is told leaves waiting
+abbrev FreeWaits : State → Option (ℕ × Act) → Type 0
+FreeWaits z told = (entry number base long live : ℕ) → told ≡ Some (entry, acts.Free number base long live) → Any (Waits (chunk_at number base long)) z.objects
+
+object_waits : (i : Image) (s : State) (r : Object) (number base long : ℕ) → Confined i s → Any (λ q. q ≡ r) s.objects → r.live ≡ true → r.number ≡ number → r.base ≡ base → r.length ≡ long → Any (Waits (chunk_at number base long)) s.objects
+object_waits i s r number base long h there live n b l = each_any (ObjectFits i s.next) (λ q. q ≡ r) (Waits (chunk_at number base long)) s.objects
+    (λ q fits same.
+    ((ap (λ (z : Object). z.number) same ∙ n, ap (λ (z : Object). z.base) same ∙ b, ap (λ (z : Object). z.length) same ∙ l), fits.unpainted (ap (λ (z : Object). z.live) same ∙ live)))
+    h.fits there
+
+free_waits : (i : Image) (s : State) (t : ℕ) → Confined i s → Left FreeWaits (free i s t)
+free_waits i s t h = free_left FreeWaits i s t
+    (λ n entry number base long live e. absurd (let clash : None ≡ Some (entry, acts.Free number base long live) = e in cc))
+    (λ r is entry number base long live e.
+    let f = whole_found s.objects (quota_in s t) (register (thread s t) 11) r is in
+    let same : acts.Free r.number r.base r.length _ ≡ acts.Free number base long live = ap (act_in (acts.Free 0 0 0 0)) e in
+    let waits = object_waits i s r number base long h f.there f.live (ap number_in same) (ap base_in same) (ap length_in same) in
+    let stays = quarantined_stays i s r in
+    stays.waits (chunk_at number base long) waits)
+
+left_by : (Q : State → Option (ℕ × Act) → Type 0) (r : Ran) (z : State) (told : Option (ℕ × Act)) → r ≡ Leaves z told → Left Q r → Q z told
+left_by Q r z told is h = subst (Left Q) is h
+
+step_frees : (b : Board) (s : State) (d : Deed) (number base long live : ℕ) → Partitioned b.image → Keeps b.image s → d.act ≡ acts.Free number base long live → (stepped b s).1 ≡ Some d → Any (Waits (chunk_at number base long)) (stepped b s).0.objects
+step_frees b s d number base long live parts k act = step_case (λ (r : State × Option Deed). r.1 ≡ Some d → Any (Waits (chunk_at number base long)) r.0.objects) b s
+    (λ idle e. none_told d e)
+    (λ t runs e. at t (executed_tells b (ready b s) t d e))
+  where
+    at : (t : ℕ) → Tells b (ready b s) t (executed b (ready b s) t).0 d → Any (Waits (chunk_at number base long)) (noted (executed b (ready b s) t)).0.objects
+    at t told =
+        let by : ToldBy b.image (ready b s) t (executed b (ready b s) t).0 d.entry (acts.Free number base long live) = subst (λ (a : Act). ToldBy b.image (ready b s) t (executed b (ready b s) t).0 d.entry a) act told.by in
+        let held = (ready_keeps b s parts k).confined in
+        let left = left_by FreeWaits (free b.image (ready b s) t) (executed b (ready b s) t).0 (Some (d.entry, acts.Free number base long live)) by (free_waits b.image (ready b s) t held) in
+        left d.entry number base long live refl
+
+-- ---- an allocation that meets it
+
+-- what holds of a machine whose events are counted on
+pub record Sound (b : Board) (s : State) : Type 0 where
+  pub parts : Partitioned b.image
+  pub facts : Facts b.image
+  pub wired : Wired b
+  pub shut : Shut b.image
+  pub keeps : Keeps b.image s
+  pub blank : Blank b.image s
+
+pub waits_whole : (b : Board) (s : State) (es : List Event) (n base long : ℕ) (d : Deed) (number from size live : ℕ) → Sound b s → Any (Waits (chunk_at n base long)) s.objects → (happens b (run b s es) Step).1.deed ≡ Some d → d.act ≡ acts.Allocate number from size live → ChunksMeet from size base long
+    → SweepsWhole b s es
+waits_whole b s es n base long d number from size live x waits is act meets = elim (waiting b s (chunk_at n base long) es waits) [
+  | inr whole ↦ whole
+  | inl there ↦
+      let keeps = run_keeps b s es x.parts x.facts x.wired x.keeps in
+      let blank = run_blank b s es x.parts x.facts x.wired x.shut x.keeps x.blank in
+      let out : HandsOut b.image (ready b (run b s es)) d.thread number from size (executed b (ready b (run b s es)) d.thread).0 = step_allocates b (run b s es) d number from size live x.parts x.facts keeps blank act is in
+      let same : Same (run b s es) (ready b (run b s es)) = ready_same b (run b s es) in
+      let here : Any (IsRow (chunk_at n base long)) (ready b (run b s es)).objects = subst (Any (IsRow (chunk_at n base long))) (sym same.objects) there in
+      let starts = out.told.1 in
+      let spans = out.told.2 in
+      absurd (each_take (Apart out.object) (IsRow (chunk_at n base long)) ⊥ (ready b (run b s es)).objects
+      (λ q apart row. meets (elim apart.1 [ inl below ↦ inl (omega (arith, below, row.1, starts, spans)) | inr above ↦ inr (omega (arith, above, row.1, row.2, starts)) ]))
+      out.fresh.object.apart here)
+]
+
+pub free_then_allocate : (b : Board) (s : State) (es : List Event) (d : Deed) (n base long live : ℕ) (c : Deed) (number from size left : ℕ) → Sound b s → Sound b (happens b s Step).0 → (happens b s Step).1.deed ≡ Some d → d.act ≡ acts.Free n base long live
+    → (happens b (run b (happens b s Step).0 es) Step).1.deed ≡ Some c → c.act ≡ acts.Allocate number from size left → ChunksMeet from size base long → SweepsWhole b (happens b s Step).0 es
+free_then_allocate b s es d n base long live c number from size left x after frees act allocates by meets =
+    waits_whole b (happens b s Step).0 es n base long c number from size left after (step_frees b s d n base long live x.parts x.keeps act frees) allocates by meets

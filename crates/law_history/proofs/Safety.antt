@@ -1,0 +1,90 @@
+-- *Licensed accesses* and *Temporal safety*, of one event.
+use Rattle.std.proofs.Common.{ℕ, ◌≡◌, ◌+◌, ◌<◌, ◌&&◌, true, nat_le, List, Option, Some, sym, subst, arith}
+use Rattle.std.proofs.lemmas.Bool.{leb-true, and_parts}
+use Rattle.law_lists.proofs.Tests.{chosen}
+use Rattle.ct_entry.specs.declared.acts.Act.{Act}
+use Rattle.ct_entry.specs.declared.acts.Act.TheVariants as acts
+use Rattle.ct_entry.specs.declared.acts.Deed.{Deed}
+use Rattle.def_words.specs.declared.Cap.{Cap}
+use Rattle.def_words.specs.Authority.{cap_address, cap_base, cap_top}
+use Rattle.def_words.specs.Capability.{is_range_inside}
+use Rattle.def_machine.specs.Image.{Image}
+use Rattle.def_machine.specs.State.{State, register, thread}
+use Rattle.def_confined.specs.Keeps.{Keeps}
+use Rattle.def_confined.specs.Partitioned.{Partitioned}
+use Rattle.def_facts.specs.Facts.{Facts}
+use Rattle.def_hidden.specs.Hidden.{Blank}
+use Rattle.def_step.specs.declared.Access.{Access}
+use Rattle.def_step.specs.declared.Event.{Event}
+use Rattle.def_step.specs.declared.Event.TheVariants.{Step, Tick, Sweep, Input}
+use Rattle.def_step.specs.Accesses.{access_of, access_checks, load_checks, store_checks, access_address}
+use Rattle.def_step.specs.Checks.{Check}
+use Rattle.def_step.specs.Events.{stepped}
+use Rattle.def_step.specs.Instructions.{Board, executed, operand}
+use Rattle.def_step.specs.Operands.{operands_of}
+use Rattle.def_step.specs.Routines.{word_checks, lies_in_ram}
+use Rattle.law_licensed.proofs.Checks.{AllPass, all_pass}
+use Rattle.law_licensed.proofs.Deeds.{register_used, pcc_used}
+use Rattle.law_events.proofs.Accesses.{load_passes, store_passes, width_of}
+use Rattle.law_events.proofs.Events.{ready_keeps}
+use Rattle.law_blank.proofs.Events.{ready_blank}
+use Rattle.law_natives.specs.Fresh.{HandsOut}
+use Rattle.law_natives.proofs.Handing.{hands_fresh}
+use Rattle.law_history.specs.Each.{ready}
+use Rattle.law_history.specs.Accesses.{UsesReach}
+use Rattle.law_history.specs.Temporal.{OfLive, UsesLive, AllocatesFresh}
+use Rattle.law_history.proofs.Steps.{none_told, step_case}
+use Rattle.law_history.proofs.Telling.{ToldBy, Tells, executed_tells}
+
+-- ---- what is used
+
+abbrev Used : Cap → Type 0
+Used x = (x.tag ≡ true) × (cap_base x < cap_top x)
+
+access_uses : (a : Access) (x y : Cap) (at : ℕ) → 0 < a.width → AllPass (access_checks a x y at) → Used x
+access_uses a x y at some = chosen (λ (cs : List Check). AllPass cs → Used x) a.loads (load_checks a x at) (store_checks a x at (a.whole && y.tag))
+    (λ loads h. (let p = load_passes a x at h in let low = p.low in let high = p.high in (p.tagged, omega (arith, some, low, high))))
+    (λ stores h. (let p = store_passes a x at (a.whole && y.tag) h in let low = p.low in let high = p.high in (p.tagged, omega (arith, some, low, high))))
+
+word_uses : (i : Image) (s : State) (c : Cap) → AllPass (word_checks i s c) → Used c
+word_uses i s c h =
+    let both = and_parts (is_range_inside c (cap_address c) (cap_address c + 4)) (lies_in_ram i s (cap_address c) 4) h.1.1.1.0 in
+    let ends = and_parts (nat_le (cap_base c) (cap_address c)) (nat_le (cap_address c + 4) (cap_top c)) both.0 in
+    let low = leb-true (cap_base c) (cap_address c) ends.0 in
+    let high = leb-true (cap_address c + 4) (cap_top c) ends.1 in
+    (h.0, omega (arith, low, high))
+
+pub uses_live : (b : Board) (s : State) → Partitioned b.image → Keeps b.image s → UsesLive b s
+uses_live b s parts k = record {
+  access = λ t i runs passes. of_register t (operands_of i).first runs (access_uses (access_of i) (operand (ready b s) t (operands_of i).first) (operand (ready b s) t (operands_of i).second) (access_address (access_of i) (operand (ready b s) t (operands_of i).first)) (width_of i).some (all_pass (access_checks (access_of i) (operand (ready b s) t (operands_of i).first) (operand (ready b s) t (operands_of i).second) (access_address (access_of i) (operand (ready b s) t (operands_of i).first))) passes));
+  word = λ t runs passes. of_register t 10 runs (word_uses b.image (ready b s) (register (thread (ready b s) t) 10) (all_pass (word_checks b.image (ready b s) (register (thread (ready b s) t) 10)) passes));
+}
+  where
+    of_register : (t n : ℕ) → (ready b s).running ≡ Some t → Used (register (thread (ready b s) t) n) → OfLive b.image (ready b s).objects (register (thread (ready b s) t) n)
+    of_register t n runs used heap = (ready_keeps b s parts k).confined.live t runs n used.0 heap used.1
+
+pub uses_reach : (b : Board) (s : State) → Partitioned b.image → Keeps b.image s → UsesReach b s
+uses_reach b s parts k = record {
+  registers = λ t n f fs runs frames tagged. register_used b.image (ready b s) t n f fs (ready_keeps b s parts k).confined runs frames tagged;
+  counter = λ t f fs runs frames tagged. pcc_used b.image (ready b s) t f fs (ready_keeps b s parts k).confined frames tagged;
+}
+
+-- ---- what is handed out
+
+pub step_allocates : (b : Board) (s : State) (d : Deed) (number base long live : ℕ) → Partitioned b.image → Facts b.image → Keeps b.image s → Blank b.image s → d.act ≡ acts.Allocate number base long live → (stepped b s).1 ≡ Some d
+    → HandsOut b.image (ready b s) d.thread number base long (executed b (ready b s) d.thread).0
+step_allocates b s d number base long live parts facts k blank act = step_case (λ (r : State × Option Deed). r.1 ≡ Some d → HandsOut b.image (ready b s) d.thread number base long (executed b (ready b s) d.thread).0) b s
+    (λ idle e. none_told d e)
+    (λ t runs e. at t (executed_tells b (ready b s) t d e))
+  where
+    at : (t : ℕ) → Tells b (ready b s) t (executed b (ready b s) t).0 d → HandsOut b.image (ready b s) d.thread number base long (executed b (ready b s) d.thread).0
+    at t told =
+        let by : ToldBy b.image (ready b s) t (executed b (ready b s) t).0 d.entry (acts.Allocate number base long live) = subst (λ (a : Act). ToldBy b.image (ready b s) t (executed b (ready b s) t).0 d.entry a) act told.by in
+        subst (λ u. HandsOut b.image (ready b s) u number base long (executed b (ready b s) u).0) (sym told.thread)
+        (hands_fresh b.image (ready b s) (executed b (ready b s) t).0 t d.entry number base long live parts facts.away (ready_keeps b s parts k) (ready_blank b s blank) by)
+
+pub allocates_fresh : (b : Board) (s : State) (e : Event) → Partitioned b.image → Facts b.image → Keeps b.image s → Blank b.image s → AllocatesFresh b s e
+allocates_fresh b s Step parts facts k blank d number base long live is act = step_allocates b s d number base long live parts facts k blank act is
+allocates_fresh b s Tick parts facts k blank d number base long live is act = none_told d is
+allocates_fresh b s Sweep parts facts k blank d number base long live is act = none_told d is
+allocates_fresh b s (Input n byte) parts facts k blank d number base long live is act = none_told d is

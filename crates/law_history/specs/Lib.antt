@@ -1,0 +1,5 @@
+pub mod Each
+pub mod Clean
+pub mod Temporal
+pub mod Chunks
+pub mod Accesses
