@@ -1,13 +1,15 @@
 -- What an instruction of the running thread works on beside that thread, and what it finds and leaves there.
 use Rattle.std.specs.Prelude.{ℕ, ◌+◌, ◌*◌, ◌%◌, ◌≡◌, ◌≤◌, List, [], Result, Ok, Err, MatchResult}
 use Rattle.def_profile.specs.declared.limits.TheConstants.{RAM_END}
+use Rattle.def_profile.specs.declared.native.TheConstants.{RETURN}
 use Rattle.def_words.specs.declared.Cap.{Cap}
 use Rattle.def_words.specs.declared.Trap.{Trap}
 use Rattle.def_memory.specs.declared.Granule.{Granule}
 use Rattle.def_instr.specs.declared.Instr.{Instr}
 use Rattle.def_instr.specs.Table.{InRange}
 use Rattle.def_step.specs.declared.Next.{Next}
-use Rattle.def_step.specs.declared.Next.TheVariants.{Returning, Instruction, Nothing}
+use Rattle.def_step.specs.declared.Next.TheVariants.{Returning, Instruction, Native, Nothing}
+use Rattle.def_step.specs.declared.TheConstants.{LAST_ROUTINE}
 use Rattle.def_step.specs.Accesses.{Space, access_result}
 use Rattle.def_step.specs.Devices.{Bank}
 use Rattle.def_step.specs.Instructions.{next_at}
@@ -25,10 +27,16 @@ no_bank = record { bases = []; states = [] }
 abbrev pub next_in : Seen → ℕ → Next
 next_in s at = next_at (space_in s no_bank 0) at
 
-abbrev pub InstructionInRange : Next → Type 0
-InstructionInRange Returning = Unit {0}
-InstructionInRange (Instruction i) = InRange i
-InstructionInRange Nothing = Unit {0}
+-- of a native routine but the return: its number is at most the last
+pub record IsRoutine (number : ℕ) : Type 0 where
+  pub few : number ≤ LAST_ROUTINE
+  pub other : number ≡ RETURN → ⊥
+
+abbrev pub NextInRange : Next → Type 0
+NextInRange Returning = Unit {0}
+NextInRange (Instruction i) = InRange i
+NextInRange (Native number) = IsRoutine number
+NextInRange Nothing = Unit {0}
 
 -- RAM of so many granules, and the heap from an address to RAM's end
 pub record IsHeapPlaced (ram heap granules : ℕ) : Type 0 where

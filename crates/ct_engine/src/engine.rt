@@ -11,7 +11,7 @@ ghost use Rattle.def_veil.specs.Steps.{IsSeen, SeesAccess};
 ghost use Rattle.ct_areas.specs.Parts.{saved_in};
 ghost use Rattle.ct_engine.specs.Starts.{MayStart, started};
 ghost use Rattle.ct_engine.specs.Seen.{hides, thread, has_room, innermost, with_granules, with_running, resumed, went, called, left};
-ghost use Rattle.ct_engine.specs.Steps.{space_in, next_in, InstructionInRange, IsHeapPlaced, IsMoved};
+ghost use Rattle.ct_engine.specs.Steps.{space_in, next_in, NextInRange, IsHeapPlaced, IsMoved};
 ghost use Rattle.ct_exports.specs.Exports.{AreSorted};
 ghost use Rattle.ct_switch.specs.Calls.{told};
 ghost use Rattle.ct_engine.specs.Calls.{TopLies, MayCall, switch_at, after_call, returned, ended_with};
@@ -292,7 +292,7 @@ impl<M: Memory + Drop> Engine<M> {
         requires even { self.now.region.ram % 16 ≡ 0 }
         requires seen { IsSeen (hides self.now.region) self.now.region.ram at }
         ensures is { result ≡ next_in self.now at }
-        ensures ranged { InstructionInRange result }
+        ensures ranged { NextInRange result }
     {
         next(&self.mem, self.rows.region.ram, at)
     }

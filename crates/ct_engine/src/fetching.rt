@@ -1,14 +1,14 @@
 //! What stands at an address.
 
 ghost use Rattle.std.specs.Prelude.{◌≡◌, ◌+◌, ◌*◌, ◌%◌, ◌&&◌, ◌==◌, length, nat_le};
-ghost use Rattle.def_step.specs.Instructions.{fetched, next_at, is_native_entry};
+ghost use Rattle.def_step.specs.Instructions.{fetched, next_at, next_native, is_native_entry};
 ghost use Rattle.ct_loadstore.specs.Shapes.{space_of};
-ghost use Rattle.ct_engine.specs.Steps.{no_bank, InstructionInRange};
+ghost use Rattle.ct_engine.specs.Steps.{no_bank, NextInRange};
 
 use ct_isa::decode;
 use ct_mem::Memory;
 use def_profile::native::{LAST_NATIVE, NATIVE_BASE, NATIVE_UNIT, RETURN_ENTRY};
-use def_step::Next;
+use def_step::{LAST_ROUTINE, Next};
 
 /// Whether an aligned word at an address lies in RAM.
 fn is_word_of_ram<M: Memory>(mem: &M, ram: u32, at: u32) -> bool
@@ -36,17 +36,28 @@ fn is_native_entry(at: u32) -> bool
     NATIVE_BASE <= at && at < NATIVE_BASE + NATIVE_UNIT * (LAST_NATIVE + 1) && at % NATIVE_UNIT == 0
 }
 
+/// The native routine of a number, where one is carried out.
+fn native(number: u32) -> Next
+    ensures { result ≡ next_native number }
+{
+    if number <= LAST_ROUTINE {
+        Next::Native { number }
+    } else {
+        Next::Nothing
+    }
+}
+
 /// What stands at an address, hidden or not.
 pub(crate) fn next<M: Memory>(mem: &M, ram: u32, at: u32) -> Next
     requires { ram % 16 ≡ 0 }
     ensures is { result ≡ next_at (space_of ram (M.granules mem.now) no_bank 0) at }
-    ensures ranged { InstructionInRange result }
+    ensures ranged { NextInRange result }
 {
     if at == RETURN_ENTRY {
         return Next::Returning;
     }
     if is_native_entry(at) {
-        return Next::Nothing;
+        return native((at - NATIVE_BASE) / NATIVE_UNIT);
     }
     match decode(fetch(mem, ram, at)) {
         Some(instruction) => Next::Instruction { instruction },

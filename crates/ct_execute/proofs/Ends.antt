@@ -1,11 +1,19 @@
 -- What each decision leaves.
-use Rattle.std.proofs.Common.{ℕ, ◌≡◌, sym, subst}
+use Rattle.std.proofs.Common.{ℕ, ◌≡◌, Result, Ok, Err, sym, subst}
+use Rattle.def_words.specs.declared.Trap.{Trap}
 use Rattle.def_step.specs.Devices.{Bank}
+use Rattle.def_step.specs.Instructions.{Done}
 use Rattle.ct_engine.specs.Seen.{Seen}
 use Rattle.ct_execute.specs.declared.ran.Ran.{Ran}
-use Rattle.ct_execute.specs.Deciding.{Decision, Goes, Returns, Traps, Decided, IfEnds}
+use Rattle.ct_execute.specs.Deciding.{Decision, Goes, Returns, Serves, Traps, by_result, Decided, IfUnfinished, RanInRange}
 
-pub decided_ends : (d : Decision) (t : ℕ) (s new : Seen) (k bank : Bank) (r : Ran) → Decided d t s k new bank r → IfEnds r ((new ≡ s) × (bank ≡ k))
-decided_ends (Goes d entry) t s new k bank r h = subst (λ (x : Ran). IfEnds x ((new ≡ s) × (bank ≡ k))) (sym h.2) tt
-decided_ends Returns t s new k bank r h = subst (λ (x : Ran). IfEnds x ((new ≡ s) × (bank ≡ k))) (sym h.2) (h.0, h.1)
-decided_ends (Traps why) t s new k bank r h = subst (λ (x : Ran). IfEnds x ((new ≡ s) × (bank ≡ k))) (sym h.2) (h.0, h.1)
+pub decided_unfinished : (d : Decision) (t : ℕ) (s new : Seen) (k bank : Bank) (r : Ran) → Decided d t s k new bank r → IfUnfinished r ((new ≡ s) × (bank ≡ k))
+decided_unfinished (Goes d entry) t s new k bank r h = subst (λ (x : Ran). IfUnfinished x ((new ≡ s) × (bank ≡ k))) (sym h.2) tt
+decided_unfinished Returns t s new k bank r h = subst (λ (x : Ran). IfUnfinished x ((new ≡ s) × (bank ≡ k))) (sym h.2) (h.0, h.1)
+decided_unfinished (Serves number) t s new k bank r h = subst (λ (x : Ran). IfUnfinished x ((new ≡ s) × (bank ≡ k))) (sym h.2) (h.0, h.1)
+decided_unfinished (Traps why) t s new k bank r h = subst (λ (x : Ran). IfUnfinished x ((new ≡ s) × (bank ≡ k))) (sym h.2) (h.0, h.1)
+
+-- an instruction goes on or traps
+pub no_routine : (entry : ℕ) (d : Result Done Trap) (t : ℕ) (s new : Seen) (k bank : Bank) (r : Ran) → Decided (by_result entry d) t s k new bank r → RanInRange r
+no_routine entry (Ok d) t s new k bank r h = subst RanInRange (sym h.2) tt
+no_routine entry (Err why) t s new k bank r h = subst RanInRange (sym h.2) tt

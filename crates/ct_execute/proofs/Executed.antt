@@ -5,7 +5,7 @@ use Rattle.def_words.specs.declared.Trap.{Trap}
 use Rattle.def_words.specs.Authority.{cap_address}
 use Rattle.def_machine.specs.State.{State, thread}
 use Rattle.def_step.specs.declared.Next.{Next}
-use Rattle.def_step.specs.declared.Next.TheVariants.{Returning, Instruction, Nothing}
+use Rattle.def_step.specs.declared.Next.TheVariants.{Returning, Instruction, Native, Nothing}
 use Rattle.def_step.specs.Checks.{first_failed}
 use Rattle.def_step.specs.Operands.{operands_of, class_of}
 use Rattle.def_step.specs.Instructions.{Board, Done, executed, after_fetch, goes_on, ends, fetch_checks, next_at, space_of, operand, carried_out, named_by, around}
@@ -20,6 +20,7 @@ next_is b s t Returning = refl
 next_is b s t (Instruction i) =
     result_is b s t (operand s t (operands_of i).first)
     (carried_out (class_of i) i (operands_of i).to (operand s t (operands_of i).first) (operand s t (operands_of i).second) (named_by b.image (operand s t (operands_of i).first)) (around b s t))
+next_is b s t (Native number) = refl
 next_is b s t Nothing = refl
 
 fetched_is : (b : Board) (s : State) (t : ℕ) (o : Option Trap) → after_fetch b s t o ≡ settle b s t (decide_fetched b.image.entries (thread s t) (space_of b s) o)

@@ -13,22 +13,25 @@ use Rattle.def_machine.specs.State.{State, Thread, register}
 use Rattle.def_machine.specs.State as state
 use Rattle.def_machine.specs.Frames.{returned}
 use Rattle.def_step.specs.declared.Next.{Next}
-use Rattle.def_step.specs.declared.Next.TheVariants.{Returning, Instruction, Nothing}
+use Rattle.def_step.specs.declared.Next.TheVariants.{Returning, Instruction, Native as Routine, Nothing}
 use Rattle.def_profile.specs.declared.traps.TheConstants.{ILLEGAL_INSTRUCTION}
 use Rattle.def_step.specs.Checks.{first_failed}
 use Rattle.def_step.specs.Devices.{Bank}
 use Rattle.def_step.specs.Accesses.{Space}
 use Rattle.def_step.specs.Operands.{operands_of, class_of}
-use Rattle.def_step.specs.Instructions.{Board, Done, Around, carried_out, fetch_checks, next_at, trapped, put_done, deed}
+use Rattle.def_step.specs.Instructions.{Board, Done, Around, carried_out, fetch_checks, next_at, served, trapped, put_done, deed}
 use Rattle.ct_engine.specs.Seen.{Seen, thread, went, with_granules}
-use Rattle.ct_engine.specs.Steps.{space_in}
+use Rattle.def_step.specs.Native.{native}
+use Rattle.ct_engine.specs.Steps.{space_in, IsRoutine}
 use Rattle.ct_execute.specs.declared.ran.Ran.{Ran}
-use Rattle.ct_execute.specs.declared.ran.Ran.TheVariants.{Went, Returned, Trapped}
+use Rattle.ct_execute.specs.declared.ran.Ran.TheVariants.{Went, Returned, Native, Trapped}
 
--- it goes on, and the capability that was used has this root; it returns; it traps
+-- it goes on, and the capability that was used has this root; it returns; a native routine of this number serves it;
+-- it traps
 pub data Decision : Type 0 where
   Goes : Done → ℕ → Decision
   Returns : Decision
+  Serves : ℕ → Decision
   Traps : Trap → Decision
 
 abbrev pub around_of : Thread → Space → Around
@@ -55,6 +58,7 @@ decide_instruction e w p i = decide_by (named_in e (register w (operands_of i).f
 abbrev pub decide_next : Listed → Thread → Space → Next → Decision
 decide_next e w p Returning = Returns
 decide_next e w p (Instruction i) = decide_instruction e w p i
+decide_next e w p (Routine number) = Serves number
 decide_next e w p Nothing = Traps (plain_trap ILLEGAL_INSTRUCTION)
 
 abbrev pub decide_fetched : Listed → Thread → Space → Option Trap → Decision
@@ -68,6 +72,7 @@ decide e w p = decide_fetched e w p (first_failed (fetch_checks w.pcc))
 abbrev pub settle : Board → State → ℕ → Decision → State × Option Deed
 settle b s t (Goes d entry) = (put_done s t d, option_map (deed s t entry) d.act)
 settle b s t Returns = (returned b.image s t (state.thread s t).frames, None)
+settle b s t (Serves number) = served b s t (native b.image s t number)
 settle b s t (Traps why) = trapped b s t why
 
 -- of thread t of an engine, with these devices at a time
@@ -80,13 +85,20 @@ Decided (Goes d entry) t s k new bank r =
     (new ≡ with_granules (went s t d.pcc d.posture d.to d.value) d.granules) × (bank ≡ d.bank)
     × (r ≡ Went d.act entry)
 Decided Returns t s k new bank r = (new ≡ s) × (bank ≡ k) × (r ≡ Returned)
+Decided (Serves number) t s k new bank r = (new ≡ s) × (bank ≡ k) × (r ≡ Native number)
 Decided (Traps why) t s k new bank r = (new ≡ s) × (bank ≡ k) × (r ≡ Trapped why)
 
--- of one instruction that ends its thread's innermost frame: it returned or trapped
-abbrev pub IfEnds : Ran → Type 0 → Type 0
-IfEnds (Went act entry) P = Unit {0}
-IfEnds Returned P = P
-IfEnds (Trapped why) P = P
+-- of one instruction after which something is left to do: it returned or trapped, or a native routine is to run
+abbrev pub IfUnfinished : Ran → Type 0 → Type 0
+IfUnfinished (Went act entry) P = Unit {0}
+IfUnfinished Returned P = P
+IfUnfinished (Native number) P = P
+IfUnfinished (Trapped why) P = P
+
+-- of a native routine: it isn't the return, and its number is at most the last
+abbrev pub RanInRange : Ran → Type 0
+RanInRange (Native number) = IsRoutine number
+RanInRange ran = Unit {0}
 
 -- what no instruction changes of an engine
 pub record Stays (s new : Seen) : Type 0 where

@@ -2,7 +2,7 @@
 
 ghost use Rattle.std.specs.Prelude.{◌≡◌, Some, length};
 ghost use Rattle.ct_engine.specs.Steps.{IsHeapPlaced};
-ghost use Rattle.ct_execute.specs.Deciding.{decision, Decided, IfEnds, Stays};
+ghost use Rattle.ct_execute.specs.Deciding.{decision, Decided, IfUnfinished, RanInRange, Stays};
 ghost use Rattle.ct_execute.specs.Opening.{IsOpen};
 
 use crate::carrying::carry_out;
@@ -30,7 +30,8 @@ pub fn execute<M: Memory + Drop>(
     requires heap { IsHeapPlaced engine.old.region.ram heap (length engine.old.granules) }
     ensures is { Decided (decision entries.now engine.old t bus.old time) t engine.old bus.old
         engine.new bus.new result }
-    ensures ends { IfEnds result ((engine.new ≡ engine.old) × (bus.new ≡ bus.old)) }
+    ensures unfinished { IfUnfinished result ((engine.new ≡ engine.old) × (bus.new ≡ bus.old)) }
+    ensures ranged { RanInRange result }
     ensures stays { Stays engine.old engine.new }
     ensures bases { bus.new.bases ≡ bus.old.bases }
 {
@@ -40,6 +41,7 @@ pub fn execute<M: Memory + Drop>(
     }
     match engine.next(pcc.address()) {
         Next::Returning => Ran::Returned,
+        Next::Native { number } => Ran::Native { number },
         Next::Instruction { instruction } => {
             carry_out(instruction, entries, engine, t, bus, heap, time)
         }

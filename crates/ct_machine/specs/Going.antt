@@ -1,24 +1,44 @@
--- The running thread carries on: what that asks, and what is left where its frame ends.
-use Rattle.std.specs.Prelude.{ℕ, ◌+◌, Bool, true, length, map, nat_lt, Option, Some, None, option_map, slice_set, cond}
+-- The running thread carries on: what that asks, what an instruction or a native routine came to, and what is left
+-- where its frame ends.
+use Rattle.std.specs.Prelude.{ℕ, ◌+◌, ◌≡◌, ◌<◌, Bool, true, length, map, nat_lt, Option, Some, None, option_map, slice_set, cond}
 use Rattle.ct_entry.specs.Listed.{Listed}
 use Rattle.ct_entry.specs.declared.acts.Deed.{Deed}
-use Rattle.ct_entry.specs.declared.acts.Act.TheVariants.{Trap}
+use Rattle.ct_entry.specs.declared.acts.Act.TheVariants.{Call, Trap}
+use Rattle.def_words.specs.declared.Trap as words
 use Rattle.def_confined.specs.Keeps.{Keeps}
 use Rattle.def_hidden.specs.Hidden.{Shut}
+use Rattle.def_machine.specs.Frames as frames
+use Rattle.def_machine.specs.State as state
 use Rattle.def_machine.specs.State.{State}
 use Rattle.def_machine.specs.Threads.{timed}
 use Rattle.def_sched.specs.declared.Status.TheVariants.{Ended}
 use Rattle.def_step.specs.Events.{MachineRow}
+use Rattle.def_step.specs.Instructions.{Board, actor_of, trapped, served}
+use Rattle.def_step.specs.Native.{native}
 use Rattle.ct_sched.specs.Sched.{SchedRow, with_statuses}
+use Rattle.ct_switch.specs.declared.calls.Called.{Called}
+use Rattle.ct_switch.specs.declared.calls.Called.TheVariants as called
 use Rattle.ct_engine.specs.Seen.{Seen, thread}
 use Rattle.ct_engine.specs.Calls.{returned, ended_with}
 use Rattle.ct_execute.specs.declared.ran.Ran.{Ran}
-use Rattle.ct_execute.specs.declared.ran.Ran.TheVariants.{Went, Returned, Trapped}
+use Rattle.ct_execute.specs.declared.ran.Ran.TheVariants.{Went, Returned, Native, Trapped}
+use Rattle.ct_execute.specs.Deciding.{IfUnfinished}
 
 -- No entry reaches what is hidden, and the state is confined, with what stands beside.
 pub record MayGoOn (m : MachineRow) : Type 0 where
   pub shut : Shut m.board.image
   pub keeps : Keeps m.board.image m.state
+
+-- Thread t runs, and has a frame.
+pub record Runs (m : MachineRow) (t : ℕ) : Type 0 where
+  pub runs : m.state.running ≡ Some t
+  pub some : 0 < length (state.thread m.state t).frames
+
+-- It may end its innermost frame, which is this compartment's.
+pub record MayEnd (m : MachineRow) (t actor : ℕ) : Type 0 where
+  pub may : MayGoOn m
+  pub runs : Runs m t
+  pub acts : actor ≡ actor_of (state.thread m.state t).frames
 
 -- ---- a tick before it interrupts
 
@@ -33,6 +53,19 @@ clock_on s = record s {
 abbrev pub sleepers_on : State → State
 sleepers_on s = record s { threads = map timed s.threads }
 
+-- ---- what a routine came to
+
+-- of a service: a check that failed, or nothing that is told
+abbrev pub ran_by_service : Option words.Trap → Ran
+ran_by_service (Some why) = Trapped why
+ran_by_service None = Went None 0
+
+abbrev pub ran_by_call : Called → Ran
+ran_by_call (called.Entered entry export) = Went (Some (Call export)) entry
+ran_by_call called.TooDeep = Went None 0
+ran_by_call called.NoStack = Went None 0
+ran_by_call (called.Trapped why) = Trapped why
+
 -- ---- where its innermost frame ends
 
 -- an unwind's value, of a trap
@@ -42,12 +75,14 @@ UNWOUND = 0xFFFFFFFF
 abbrev pub left_after : Ran → Seen → Listed → ℕ → Seen
 left_after (Went act entry) s e t = s
 left_after Returned s e t = returned s e t
+left_after (Native number) s e t = s
 left_after (Trapped why) s e t = ended_with s t UNWOUND
 
 -- whether the thread has a frame left
 abbrev pub goes_after : Ran → Seen → ℕ → Bool
 goes_after (Went act entry) s t = true
 goes_after Returned s t = nat_lt 1 (length (thread s t).frames)
+goes_after (Native number) s t = true
 goes_after (Trapped why) s t = nat_lt 1 (length (thread s t).frames)
 
 -- a thread without frames has ended for the scheduler too
@@ -61,6 +96,7 @@ abbrev pub deed_by : ℕ → ℕ → Ran → Option Deed
 deed_by t actor (Went act entry) =
     option_map (λ a. record { thread = t; actor = actor; entry = entry; act = a }) act
 deed_by t actor Returned = None
+deed_by t actor (Native number) = None
 deed_by t actor (Trapped why) =
     Some (record {
       thread = t;
@@ -68,3 +104,26 @@ deed_by t actor (Trapped why) =
       entry = 0;
       act = Trap why.cause why.code why.register;
     })
+
+-- ---- the written step, from what its instruction came to
+
+-- What is left to do in this state, where `actor` was the innermost frame's compartment before the instruction: a frame
+-- ends, or a native routine runs; and the deed is told.
+abbrev pub finished : Board → ℕ → ℕ → State → Ran → State × Option Deed
+finished b t actor s (Went act entry) = (s, deed_by t actor (Went act entry))
+finished b t actor s Returned = (frames.returned b.image s t (state.thread s t).frames, None)
+finished b t actor s (Native number) = served b s t (native b.image s t number)
+finished b t actor s (Trapped why) = trapped b s t why
+
+-- of a step after its instruction and its native routine
+abbrev pub IsDone : Ran → Type 0
+IsDone (Native number) = ⊥
+IsDone ran = Unit {0}
+
+-- Thread t of machine m carried on, which left machine n and came to this. What is left to do makes the written step
+-- whole; where a frame is to end, or a routine to run, nothing has changed.
+pub record CameTo (m n : MachineRow) (t : ℕ) (ran : Ran) (whole : State × Option Deed) : Type 0 where
+  pub is : finished m.board t (actor_of (state.thread m.state t).frames) n.state ran ≡ whole
+  pub board : n.board ≡ m.board
+  pub counts : n.state.counts ≡ m.state.counts
+  pub unfinished : IfUnfinished ran (n ≡ m)

@@ -1,12 +1,12 @@
 //! The running thread carries on.
 
-ghost use Rattle.std.specs.Prelude.{◌≡◌, ◌<◌, Some, length, slice_set};
-ghost use Rattle.def_sched.specs.declared.Status.TheVariants.{Ended};
-ghost use Rattle.def_step.specs.Events.{run_on};
+ghost use Rattle.std.specs.Prelude.{◌≡◌, ◌<◌, Some, length, false};
+ghost use Rattle.def_step.specs.Events.{run_on, noted};
+ghost use Rattle.def_step.specs.Instructions.{executed};
 ghost use Rattle.ct_engine.specs.Calls.{TopLies};
-ghost use Rattle.ct_execute.specs.Deciding.{IfEnds};
+ghost use Rattle.ct_execute.specs.Deciding.{IfUnfinished, RanInRange};
 ghost use Rattle.ct_exports.specs.Exports.{AreSorted};
-ghost use Rattle.ct_machine.specs.Going.{MayGoOn, left_after, goes_after, status_after, deed_by};
+ghost use Rattle.ct_machine.specs.Going.{MayGoOn, Runs, MayEnd, CameTo, IsDone, finished, left_after, goes_after, status_after, deed_by};
 ghost use Rattle.ct_machine.specs.Parts.{deeds_of};
 
 use crate::engine::Engine;
@@ -19,14 +19,13 @@ use ct_sched::Sched;
 /// Where the running thread returned or trapped, its innermost frame ends. `false` exactly where it
 /// has none left.
 fn leave<M: Memory + Drop>(threads: &mut Threads<M>, t: u32, entries: &Entries, ran: Ran) -> bool
-    requires runs { threads.old.running ≡ Some t }
-    requires top { IfEnds ran (TopLies threads.old t) }
+    requires runs { IfUnfinished ran ((threads.old.running ≡ Some t) × TopLies threads.old t) }
     requires sorted { AreSorted entries.now.gates }
     ensures result { result ≡ goes_after ran threads.old t }
     ensures is { threads.new ≡ left_after ran threads.old entries.now t }
 {
     match ran {
-        Ran::Went { .. } => true,
+        Ran::Went { .. } | Ran::Native { .. } => true,
         Ran::Returned => threads.give_back(t, entries),
         Ran::Trapped { .. } => threads.unwind(t, entries),
     }
@@ -34,7 +33,7 @@ fn leave<M: Memory + Drop>(threads: &mut Threads<M>, t: u32, entries: &Entries, 
 
 /// A thread that goes on no more has ended.
 fn note_end(sched: &mut Sched, t: u32, goes: bool)
-    requires { t < length sched.old.statuses }
+    requires { goes ≡ false → t < length sched.old.statuses }
     ensures { sched.new ≡ status_after goes sched.old t }
 {
     if !goes {
@@ -56,7 +55,7 @@ fn deed_of(thread: u32, actor: u32, ran: Ran) -> Option<Deed>
             }),
             None => None,
         },
-        Ran::Returned => None,
+        Ran::Returned | Ran::Native { .. } => None,
         Ran::Trapped { trap } => Some(Deed {
             thread,
             actor,
@@ -71,6 +70,53 @@ fn deed_of(thread: u32, actor: u32, ran: Ran) -> Option<Deed>
 }
 
 impl<M: Memory + Drop> Engine<M> {
+    /// One instruction of the running thread.
+    fn execute(&mut self, t: u32) -> Ran
+        requires may { MayGoOn self.old }
+        requires runs { self.old.state.running ≡ Some t }
+        ensures came { CameTo self.old self.new t result (executed self.old.board self.old.state t) }
+        ensures ranged { RanInRange result }
+    {
+        execute(
+            &mut self.threads,
+            t,
+            self.plan.entries(),
+            &mut self.bus,
+            self.plan.heap(),
+            self.time,
+        )
+    }
+
+    /// One instruction of the running thread, and the native routine that it came to.
+    fn run(&mut self, t: u32) -> Ran
+        requires may { MayGoOn self.old }
+        requires runs { Runs self.old t }
+        ensures came { CameTo self.old self.new t result (executed self.old.board self.old.state t) }
+        ensures done { IsDone result }
+    {
+        match self.execute(t) {
+            Ran::Native { number } => self.serve(t, number),
+            ran => ran,
+        }
+    }
+
+    /// What is left of a step after its instruction and its native routine: where it returned or trapped
+    /// its innermost frame ends, and what it did counts.
+    fn finish(&mut self, t: u32, actor: u32, ran: Ran) -> Option<Deed>
+        requires done { IsDone ran }
+        requires ends { IfUnfinished ran (MayEnd self.old t actor) }
+        requires deeds { deeds_of self.old.state.counts < self.old.state.counts.steps }
+        ensures is { (self.new.state, result)
+            ≡ noted (finished self.old.board t actor self.old.state ran) }
+        ensures board { self.new.board ≡ self.old.board }
+    {
+        let goes = leave(&mut self.threads, t, self.plan.entries(), ran);
+        note_end(&mut self.sched, t, goes);
+        let deed = deed_of(t, actor, ran);
+        self.counts.note(deed);
+        deed
+    }
+
     /// The running thread carries on, by one instruction or native routine.
     pub(crate) fn carry_on(&mut self) -> Option<Deed>
         requires may { MayGoOn self.old }
@@ -81,21 +127,8 @@ impl<M: Memory + Drop> Engine<M> {
         match self.threads.running() {
             Some(t) => {
                 let actor = self.threads.actor(t);
-                let heap = self.plan.heap();
-                let entries = self.plan.entries();
-                let ran = execute(
-                    &mut self.threads,
-                    t,
-                    entries,
-                    &mut self.bus,
-                    heap,
-                    self.time,
-                );
-                let goes = leave(&mut self.threads, t, entries, ran);
-                note_end(&mut self.sched, t, goes);
-                let deed = deed_of(t, actor, ran);
-                self.counts.note(deed);
-                deed
+                let ran = self.run(t);
+                self.finish(t, actor, ran)
             }
             None => None,
         }

@@ -6,6 +6,7 @@ mod events;
 mod going;
 mod machine;
 mod plan;
+mod serving;
 mod starting;
 mod tally;
 mod turns;

@@ -3,6 +3,7 @@
 ghost use Rattle.std.specs.Prelude.{◌≡◌, IfOk};
 ghost use Rattle.def_boot.specs.Boot.{image_of};
 ghost use Rattle.ct_exports.specs.Exports.{AreSorted};
+ghost use Rattle.ct_machine.specs.Starting.{IsOfSound};
 
 use ct_entries::entries;
 use ct_entry::Entries;
@@ -12,26 +13,27 @@ use def_refusals::NoMemory;
 use std::alloc::Global;
 use std::marker::Model;
 
-/// The entries of an image, and where its heap begins. The image itself isn't kept.
+/// The entries of an image, and where its RAM and its heap begin. The image itself isn't kept.
 ///
 /// Contracts see it as the machine's image.
 #[derive(Drop)]
 pub(crate) struct Plan {
     entries: Entries,
+    ram: u32,
     heap: u32,
     image: Known<Image>,
 }
 
 impl Model for Plan {
-    ghost use Rattle.std.specs.Prelude.{◌≡◌};
     ghost use Rattle.def_machine.specs.Image as machine;
     ghost use Rattle.def_boot.specs.Boot.{image_of};
+    ghost use Rattle.ct_machine.specs.Starting.{IsPlan};
 
     ghost Value = { machine.Image };
 
     ghost view = { λ p. image_of p.image.value };
 
-    ghost invariant = { λ p. (p.entries ≡ (image_of p.image.value).entries) × (p.heap ≡ (image_of p.image.value).heap_base) };
+    ghost invariant = { λ p. IsPlan p.image.value p.entries p.ram p.heap };
 }
 
 impl Plan {
@@ -41,10 +43,11 @@ impl Plan {
         ensures { IfOk result (λ p. p ≡ image_of image.now) }
     {
         let entries = entries(alloc, image)?;
-        let heap = image.parts().heap;
+        let parts = image.parts();
         Ok(Plan {
             entries,
-            heap,
+            ram: parts.ram,
+            heap: parts.heap,
             image: Known::of(image),
         })
     }
@@ -53,8 +56,16 @@ impl Plan {
     pub(crate) fn entries(&self) -> &Entries
         ensures is { result.now ≡ self.now.entries }
         ensures sorted { AreSorted result.now.gates }
+        ensures sound { IsOfSound self.now }
     {
         &self.entries
+    }
+
+    /// Where RAM begins.
+    pub(crate) fn ram(&self) -> u32
+        ensures { result ≡ self.now.ram }
+    {
+        self.ram
     }
 
     /// Where the heap begins.

@@ -6,7 +6,10 @@ use Rattle.def_words.specs.Authority.{cap_address}
 use Rattle.def_words.specs.Capability.{integer, is_range_inside}
 use Rattle.def_words.specs.Permissions.{has, load_data}
 use Rattle.def_sched.specs.declared.Status.{Status}
+use Rattle.ct_entry.specs.Listed.{Listed}
 use Rattle.def_step.specs.Routines.{answered, code}
+use Rattle.def_step.specs.Switch.{Switched, Trapped, TooDeep, NoStack, Enters}
+use Rattle.ct_engine.specs.Calls.{after_call}
 use Rattle.ct_engine.specs.Seen.{Seen, thread, with_thread, with_running}
 use Rattle.ct_sched.specs.Sched.{SchedRow, with_statuses}
 
@@ -52,3 +55,10 @@ pub record IsWord (ram size : ℕ) (c : Cap) : Type 0 where
 abbrev pub IfPasses : Option Trap → Type 0 → Type 0
 IfPasses (Some why) P = Unit {0}
 IfPasses None P = P
+
+-- where a call isn't made for want of frames or of stack, the thread goes on with -12 or -11
+abbrev pub switched_in : Seen → Listed → ℕ → Switched → Seen
+switched_in s e t (Trapped why) = s
+switched_in s e t TooDeep = answered_in s t (code 12)
+switched_in s e t NoStack = answered_in s t (code 11)
+switched_in s e t (Enters export high) = after_call s e t (Enters export high)

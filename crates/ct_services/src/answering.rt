@@ -1,6 +1,7 @@
 //! How a routine answers.
 
-ghost use Rattle.std.specs.Prelude.{◌≡◌, Some};
+ghost use Rattle.std.specs.Prelude.{◌≡◌, ◌<◌, Some};
+ghost use Rattle.def_step.specs.Routines.{code};
 ghost use Rattle.ct_services.specs.Served.{answered_in};
 
 use ct_cap::{Live, open};
@@ -20,4 +21,12 @@ pub fn answer<M: Memory + Drop>(engine: &mut Engine<M>, t: u32, value: Live)
     engine.go(t, open(link), posture, 10, value);
     let pcc = engine.pcc(t);
     engine.go(t, pcc, posture, 11, Live::integer(0));
+}
+
+/// A negative answer as a word.
+pub(crate) fn code(n: u32) -> Live
+    requires { 0 < n }
+    ensures { result ≡ code n }
+{
+    Live::integer(0u32.wrapping_sub(n))
 }

@@ -1,14 +1,17 @@
-//! The scheduler's services: what yield, sleep, wait and wake make of the running thread and of the
-//! scheduler.
+//! Native routines of the switcher and the scheduler: what the switch, yield, sleep, wait and wake make of
+//! the running thread and of the scheduler.
 //!
 //! Contracts are equations with the written routines of def_step: a check of c1, and of the word that c10
 //! names, that fails is the answer and nothing changes; else the thread goes on where c1 leads with its
-//! result in c10, or rests. No call takes memory. docs/use/machine.md tells the rules in prose.
+//! result in c10, or rests, or enters a callee. No call takes memory. docs/use/machine.md tells the rules in prose.
 #![tactic(auto)]
 
 mod answering;
+mod calling;
 mod resting;
 mod words;
 
 pub use answering::answer;
+pub use calling::switch;
+pub use ct_engine::Called;
 pub use resting::{pause, sleep, wait, wake};

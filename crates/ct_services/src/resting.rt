@@ -10,13 +10,13 @@ ghost use Rattle.def_sched.specs.declared.Status.TheVariants.{Ready};
 ghost use Rattle.def_sched.specs.Statuses.{status_of, asleep, awaiting, woken, woken_count};
 ghost use Rattle.def_step.specs.Checks.{first_failed};
 ghost use Rattle.def_step.specs.Switch.{return_checks};
-ghost use Rattle.def_step.specs.Routines.{word_checks, code};
+ghost use Rattle.def_step.specs.Routines.{word_checks};
 ghost use Rattle.ct_engine.specs.Seen.{thread};
 ghost use Rattle.ct_execute.specs.Opening.{IsOpen};
 ghost use Rattle.ct_sched.specs.Sched.{with_statuses};
 ghost use Rattle.ct_services.specs.Served.{answered_in, rested, waited, with_status, either, unless, unless_row, IfPasses, IsWord};
 
-use crate::answering::answer;
+use crate::answering::{answer, code};
 use crate::words::word_trap;
 use ct_cap::{Live, Trap};
 use ct_engine::Engine;
@@ -26,14 +26,6 @@ use ct_sched::Sched;
 
 /// What a wait answers where the word holds another value than the one that is wanted, negated.
 const DIFFERS: u32 = 21;
-
-/// A negative answer as a word.
-fn code(n: u32) -> Live
-    requires { 0 < n }
-    ensures { result ≡ code n }
-{
-    Live::integer(0u32.wrapping_sub(n))
-}
 
 /// The running thread stops, to be ready after so many ticks.
 fn stop_for<M: Memory + Drop>(engine: &mut Engine<M>, sched: &mut Sched, t: u32, ticks: u32)

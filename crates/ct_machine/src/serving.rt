@@ -1,0 +1,125 @@
+//! Native routines of the running thread.
+
+ghost use Rattle.std.specs.Prelude.{◌≡◌};
+ghost use Rattle.def_step.specs.Instructions.{ran, served};
+ghost use Rattle.def_step.specs.Native.{native};
+ghost use Rattle.def_step.specs.Routines as routine;
+ghost use Rattle.ct_engine.specs.Steps.{IsRoutine};
+ghost use Rattle.ct_machine.specs.Going.{MayGoOn, Runs, CameTo, IsDone, ran_by_service, ran_by_call};
+
+use crate::engine::Engine;
+use ct_entry::Act;
+use ct_execute::Ran;
+use ct_mem::Memory;
+use ct_services::{Called, pause, sleep, switch, wait, wake};
+use def_profile::native::{SLEEP, SWITCH, WAIT, YIELD};
+use def_words::Trap;
+
+/// What a service came to: a check that failed, or nothing that is told.
+fn ran_by_service(trap: Option<Trap>) -> Ran
+    ensures is { result ≡ ran_by_service trap }
+    ensures done { IsDone result }
+{
+    match trap {
+        Some(trap) => Ran::Trapped { trap },
+        None => Ran::Went {
+            act: None,
+            entry: 0,
+        },
+    }
+}
+
+/// What a call came to: the callee was entered by an entry, or a check failed, or nothing is told.
+fn ran_by_call(called: Called) -> Ran
+    ensures is { result ≡ ran_by_call called }
+    ensures done { IsDone result }
+{
+    match called {
+        Called::Entered { entry, export } => Ran::Went {
+            act: Some(Act::Call { export }),
+            entry,
+        },
+        Called::TooDeep | Called::NoStack => Ran::Went {
+            act: None,
+            entry: 0,
+        },
+        Called::Trapped { trap } => Ran::Trapped { trap },
+    }
+}
+
+impl<M: Memory + Drop> Engine<M> {
+    /// The switch.
+    fn call(&mut self, t: u32) -> Ran
+        requires may { MayGoOn self.old }
+        requires runs { Runs self.old t }
+        ensures came { CameTo self.old self.new t result
+            (ran self.old.board self.old.state t
+            (routine.switch self.old.board.image self.old.state t)) }
+        ensures done { IsDone result }
+    {
+        ran_by_call(switch(&mut self.threads, t, self.plan.entries()))
+    }
+
+    /// Yield.
+    fn pause(&mut self, t: u32) -> Ran
+        requires runs { Runs self.old t }
+        ensures came { CameTo self.old self.new t result
+            (ran self.old.board self.old.state t (routine.yield self.old.state t)) }
+        ensures done { IsDone result }
+    {
+        ran_by_service(pause(&mut self.threads, &mut self.sched, t))
+    }
+
+    /// Sleep.
+    fn sleep(&mut self, t: u32) -> Ran
+        requires runs { Runs self.old t }
+        ensures came { CameTo self.old self.new t result
+            (ran self.old.board self.old.state t (routine.sleep self.old.state t)) }
+        ensures done { IsDone result }
+    {
+        ran_by_service(sleep(&mut self.threads, &mut self.sched, t))
+    }
+
+    /// Wait.
+    fn wait(&mut self, t: u32) -> Ran
+        requires may { MayGoOn self.old }
+        requires runs { Runs self.old t }
+        ensures came { CameTo self.old self.new t result
+            (ran self.old.board self.old.state t
+            (routine.wait self.old.board.image self.old.state t)) }
+        ensures done { IsDone result }
+    {
+        ran_by_service(wait(&mut self.threads, &mut self.sched, t, self.plan.ram()))
+    }
+
+    /// Wake.
+    fn wake(&mut self, t: u32) -> Ran
+        requires runs { Runs self.old t }
+        ensures came { CameTo self.old self.new t result
+            (ran self.old.board self.old.state t
+            (routine.wake self.old.board.image self.old.state t)) }
+        ensures done { IsDone result }
+    {
+        ran_by_service(wake(&mut self.threads, &mut self.sched, t, self.plan.ram()))
+    }
+
+    /// The native routine of a number, which isn't the return's.
+    pub(crate) fn serve(&mut self, t: u32, number: u32) -> Ran
+        requires may { MayGoOn self.old }
+        requires runs { Runs self.old t }
+        requires routine { IsRoutine number }
+        ensures came { CameTo self.old self.new t result
+            (served self.old.board self.old.state t
+            (native self.old.board.image self.old.state t number)) }
+        ensures done { IsDone result }
+    {
+        match number {
+            SWITCH => self.call(t),
+            YIELD => self.pause(t),
+            SLEEP => self.sleep(t),
+            WAIT => self.wait(t),
+            // Only the wake is left.
+            _ => self.wake(t),
+        }
+    }
+}
