@@ -1,5 +1,5 @@
--- What the code leaves of a step is what the written step leaves.
-use Rattle.std.proofs.Common.{ℕ, suc, ◌≡◌, ◌<◌, Bool, true, nat_lt, List, [], ◌∷◌, length, Option, Some, None, option_map, refl, sym, ap, ◌∙◌, slice_set, arith, inl, inr}
+-- What the code leaves of an instruction, and of a frame's end, is what the written step leaves.
+use Rattle.std.proofs.Common.{ℕ, suc, ◌≡◌, ◌<◌, Bool, true, nat_lt, List, [], ◌∷◌, length, Option, Some, None, option_map, refl, sym, ap, ◌∙◌, subst, slice_set, arith, inl, inr}
 use Rattle.std.proofs.Math.ListN.{get_or, set}
 use Rattle.law_lists.proofs.Tests.{lt_tells}
 use Rattle.ct_entry.specs.Listed.{Listed}
@@ -17,8 +17,8 @@ use Rattle.def_machine.specs.Frames as frames
 use Rattle.def_machine.specs.Frames.{left_with, left_by, answer_by}
 use Rattle.def_step.specs.Devices.{Bank}
 use Rattle.def_step.specs.Accesses.{Space}
-use Rattle.def_step.specs.Instructions.{Board, actor_of, deed, space_of}
-use Rattle.def_step.specs.Events.{continued, run_on, noted, with_deed}
+use Rattle.def_step.specs.Instructions.{Board, actor_of, deed, space_of, executed}
+use Rattle.def_step.specs.Events.{MachineRow, noted, with_deed}
 use Rattle.ct_sched.specs.Sched as sched
 use Rattle.ct_sched.specs.Sched.{SchedRow}
 use Rattle.ct_engine.specs.Seen as engine
@@ -26,28 +26,34 @@ use Rattle.ct_engine.specs.Seen.{Seen, went, with_granules, area_at}
 use Rattle.ct_engine.specs.Steps.{space_in}
 use Rattle.ct_engine.specs.Calls as calls
 use Rattle.ct_execute.specs.declared.ran.Ran.{Ran}
-use Rattle.ct_execute.specs.declared.ran.Ran.TheVariants.{Trapped}
-use Rattle.ct_execute.specs.Deciding.{Decision, Goes, Returns, Traps, decide, decision, settle, Decided}
+use Rattle.ct_execute.specs.declared.ran.Ran.TheVariants.{Went, Returned, Native, Trapped}
+use Rattle.ct_execute.specs.Deciding.{Decision, Goes, Returns, Serves, Traps, decide, decision, settle, Decided, IfUnfinished}
 use Rattle.ct_execute.proofs.Executed.{executed_is}
 use Rattle.ct_machine.specs.Parts.{state_by, IsKept}
-use Rattle.ct_machine.specs.Going.{UNWOUND, left_after, goes_after, status_after, deed_by}
+use Rattle.ct_machine.specs.Going.{UNWOUND, left_after, goes_after, status_after, deed_by, finished, IsDone, CameTo}
 use Rattle.ct_machine.proofs.Statuses.{thread_with, set_with, end_with, like_with}
+use Rattle.ct_machine.proofs.Keeping.{unfinished_map}
 use Rattle.ct_machine.proofs.Taking.{ram_is, frames_with}
+
+-- the stack stands where the image has it, and the actor is the frame's
+pub record Ends (i : Image) (e : Seen) (s : State) (t actor : ℕ) : Type 0 where
+  pub base : (area_at e t).stack ≡ stack_base i t
+  pub some : 0 < length (engine.thread e t).frames
+  pub acts : actor ≡ actor_of (thread s t).frames
 
 two_more : (n : ℕ) → nat_lt 1 (suc (suc n)) ≡ true
 two_more n = elim (lt_tells 1 (suc (suc n))) [ inl a ↦ a.0 | inr a ↦ absurd (let few = a.1 in omega (arith, few)) ]
 
 module _ (i : Image) (e : Seen) (r : SchedRow) (pending : Bool) (devices : List DeviceState) (time : ℕ) (c : Counts) (t : ℕ) (kept : IsKept i e r) where
   -- a thread goes on, and RAM and the devices change
-  pub went_is : (pcc : Cap) (posture : Posture) (to : ℕ) (value : Cap) (gs : List Granule) (states : List DeviceState) (c' : Counts)
-      → state_by (with_granules (went e t pcc posture to value) gs) r pending states time c'
+  pub went_is : (pcc : Cap) (posture : Posture) (to : ℕ) (value : Cap) (gs : List Granule) (states : List DeviceState)
+      → state_by (with_granules (went e t pcc posture to value) gs) r pending states time c
       ≡ record (state_by e r pending devices time c) {
         granules = gs;
         threads = set (with_statuses e.threads r.statuses) t (jumped (get_or (with_statuses e.threads r.statuses) t nobody) pcc posture to value);
         devices = states;
-        counts = c';
       }
-  went_is pcc posture to value gs states c' =
+  went_is pcc posture to value gs states =
       let there : with_statuses (set e.threads t (jumped (get_or e.threads t nobody) pcc posture to value)) r.statuses
       ≡ set (with_statuses e.threads r.statuses) t (jumped (get_or (with_statuses e.threads r.statuses) t nobody) pcc posture to value) =
       set_with e.threads r.statuses t (jumped (get_or e.threads t nobody) pcc posture to value) kept.statuses
@@ -90,13 +96,14 @@ module _ (i : Image) (e : Seen) (r : SchedRow) (pending : Bool) (devices : List 
   unwound_by (f ∷ []) base some = ended_one f base
   unwound_by (f ∷ g ∷ fs) base some = rw (two_more (length fs)) (ended_more f (g ∷ fs) (plain UNWOUND) (plain 0) base)
 
-module _ (i : Image) (entries : Listed) (e : Seen) (r : SchedRow) (k : Bank) (pending : Bool) (time : ℕ) (c : Counts) (t : ℕ)
-    (kept : IsKept i e r) (same : entries ≡ i.entries) (base : (area_at e t).stack ≡ stack_base i t) (some : 0 < length (engine.thread e t).frames) where
+module _ (i : Image) (entries : Listed) (e : Seen) (r : SchedRow) (k : Bank) (pending : Bool) (time : ℕ) (c : Counts) (t : ℕ) (kept : IsKept i e r) (same : entries ≡ i.entries) where
   abbrev board : Board
   board = record { image = i; bases = k.bases }
 
   abbrev here : State
   here = state_by e r pending k.states time c
+
+  -- ---- an instruction
 
   -- the scheduler's status is no part of what decides
   decided_alike : (p : Space) → decide i.entries (get_or (with_statuses e.threads r.statuses) t nobody) p ≡ decide i.entries (get_or e.threads t nobody) p
@@ -111,42 +118,63 @@ module _ (i : Image) (entries : Listed) (e : Seen) (r : SchedRow) (k : Bank) (pe
       ∙ ap (λ (p : Space). decide i.entries (get_or e.threads t nobody) p) space_alike
       ∙ sym (decided_alike (space_of board here))
 
-  actor_alike : (actor : ℕ) → actor ≡ actor_of (engine.thread e t).frames → actor ≡ actor_of (thread here t).frames
-  actor_alike actor is = is ∙ ap actor_of (sym (frames_with e.threads r.statuses t))
+  settled : (D : Decision) (e' : Seen) (k' : Bank) (ran : Ran) → Decided D t e k e' k' ran
+      → finished board t (actor_of (thread here t).frames) (state_by e' r pending k'.states time c) ran ≡ settle board here t D
+  settled (Goes d entry) e' k' ran h =
+      let there = went_is i e r pending k.states time c t kept d.pcc d.posture d.to d.value d.granules d.bank.states in
+      rw (h.0, h.1, h.2) (ap (λ (x : State). (x, option_map (deed here t entry) d.act)) there)
+  settled Returns e' k' ran h = rw (h.0, h.1, h.2) refl
+  settled (Serves number) e' k' ran h = rw (h.0, h.1, h.2) refl
+  settled (Traps why) e' k' ran h = rw (h.0, h.1, h.2) refl
 
-  returns_as : state_by (calls.returned e entries t) (status_after (nat_lt 1 (length (engine.thread e t).frames)) r t) pending k.states time c
-      ≡ frames.returned i here t (thread here t).frames
-  returns_as =
-      returned_by i e r pending k.states time c t kept entries (engine.thread e t).frames same base some
-      ∙ ap (λ (fs : List Frame). frames.returned i here t fs) (sym (frames_with e.threads r.statuses t))
+  executed_so : (e' : Seen) (k' : Bank) (ran : Ran) → Decided (decision entries e t k time) t e k e' k' ran
+      → finished board t (actor_of (thread here t).frames) (state_by e' r pending k'.states time c) ran ≡ executed board here t
+  executed_so e' k' ran h = settled (decision entries e t k time) e' k' ran h ∙ ap (settle board here t) decision_is ∙ sym (executed_is board here t)
 
-  unwinds_as : state_by (calls.ended_with e t UNWOUND) (status_after (nat_lt 1 (length (engine.thread e t).frames)) r t) pending k.states time c
-      ≡ frames.unwound i here t (thread here t).frames
-  unwinds_as =
-      unwound_by i e r pending k.states time c t kept (engine.thread e t).frames base some
-      ∙ ap (λ (fs : List Frame). frames.unwound i here t fs) (sym (frames_with e.threads r.statuses t))
+  -- a machine of the same image
+  abbrev machine : Seen → Bank → MachineRow
+  machine x b = record { board = record { image = i; bases = b.bases }; state = state_by x r pending b.states time c }
 
-  abbrev after : Seen → Bank → ℕ → Ran → State × Option Deed
-  after e' k' actor ran = (
-    state_by (left_after ran e' entries t) (status_after (goes_after ran e' t) r t) pending k'.states time (with_deed c (deed_by t actor ran)),
+  same_machine : (e' : Seen) (k' : Bank) → (e' ≡ e) × (k' ≡ k) → machine e' k' ≡ machine e k
+  same_machine e' k' h = rw (h.0, h.1) refl
+
+  pub came : (e' : Seen) (k' : Bank) (ran : Ran) → Decided (decision entries e t k time) t e k e' k' ran → k'.bases ≡ k.bases → IfUnfinished ran ((e' ≡ e) × (k' ≡ k))
+      → CameTo (machine e k) (machine e' k') t ran (executed board here t)
+  came e' k' ran h bases waits = record {
+    is = executed_so e' k' ran h;
+    board = ap (λ (bs : List ℕ). record { image = i; bases = bs }) bases;
+    counts = refl;
+    unfinished = unfinished_map ran ((e' ≡ e) × (k' ≡ k)) (machine e' k' ≡ machine e k) (same_machine e' k') waits;
+  }
+
+  -- ---- what is left to do
+
+  module _ (base : (area_at e t).stack ≡ stack_base i t) (some : 0 < length (engine.thread e t).frames) where
+    returns_as : state_by (calls.returned e entries t) (status_after (nat_lt 1 (length (engine.thread e t).frames)) r t) pending k.states time c
+        ≡ frames.returned i here t (thread here t).frames
+    returns_as =
+        returned_by i e r pending k.states time c t kept entries (engine.thread e t).frames same base some
+        ∙ ap (λ (fs : List Frame). frames.returned i here t fs) (sym (frames_with e.threads r.statuses t))
+
+    unwinds_as : state_by (calls.ended_with e t UNWOUND) (status_after (nat_lt 1 (length (engine.thread e t).frames)) r t) pending k.states time c
+        ≡ frames.unwound i here t (thread here t).frames
+    unwinds_as =
+        unwound_by i e r pending k.states time c t kept (engine.thread e t).frames base some
+        ∙ ap (λ (fs : List Frame). frames.unwound i here t fs) (sym (frames_with e.threads r.statuses t))
+
+  abbrev after : ℕ → Ran → State × Option Deed
+  after actor ran = (
+    state_by (left_after ran e entries t) (status_after (goes_after ran e t) r t) pending k.states time (with_deed c (deed_by t actor ran)),
     deed_by t actor ran,
   )
 
-  settled : (D : Decision) (e' : Seen) (k' : Bank) (actor : ℕ) (ran : Ran) → actor ≡ actor_of (engine.thread e t).frames → Decided D t e k e' k' ran
-      → noted (settle board here t D) ≡ after e' k' actor ran
-  settled (Goes d entry) e' k' actor ran is h =
-      let there = went_is i e r pending k.states time c t kept d.pcc d.posture d.to d.value d.granules d.bank.states (with_deed c (option_map (deed here t entry) d.act)) in
-      rw (h.0, h.1, h.2, actor_alike actor is) (ap (λ (x : State). (x, option_map (deed here t entry) d.act)) (sym there))
-  settled Returns e' k' actor ran is h = rw (h.0, h.1, h.2) (ap (λ (x : State). noted (x, None)) (sym returns_as))
-  settled (Traps why) e' k' actor ran is h =
-      rw (h.0, h.1, h.2, actor_alike actor is)
-      (ap (λ (x : State). noted (x, deed_by t (actor_of (thread here t).frames) (Trapped why))) (sym unwinds_as))
+  finishes : (actor : ℕ) (ran : Ran) → IsDone ran → IfUnfinished ran (Ends i e here t actor) → after actor ran ≡ noted (finished board t actor here ran)
+  finishes actor (Went act entry) done h = refl
+  finishes actor Returned done h = ap (λ (x : State). noted (x, None)) (returns_as h.base h.some)
+  finishes actor (Native number) done h = absurd done
+  finishes actor (Trapped why) done h = rw h.acts (ap (λ (x : State). noted (x, deed_by t (actor_of (thread here t).frames) (Trapped why))) (unwinds_as h.base h.some))
 
-  pub carried_is : (e' e'' : Seen) (k' : Bank) (r'' : SchedRow) (c'' : Counts) (actor : ℕ) (ran : Ran) (d : Option Deed)
-      → e.running ≡ Some t → actor ≡ actor_of (engine.thread e t).frames → Decided (decision entries e t k time) t e k e' k' ran
-      → e'' ≡ left_after ran e' entries t → r'' ≡ status_after (goes_after ran e' t) r t → d ≡ deed_by t actor ran → c'' ≡ with_deed c d
-      → (state_by e'' r'' pending k'.states time c'', d) ≡ run_on board here
-  carried_is e' e'' k' r'' c'' actor ran d runs is h left status deed_is counts =
-      let whole : run_on board here ≡ after e' k' actor ran =
-      ap (continued board here) runs ∙ ap noted (executed_is board here t ∙ ap (settle board here t) (sym decision_is)) ∙ settled (decision entries e t k time) e' k' actor ran is h in
-      rw (left, status, counts, deed_is) (sym whole)
+  pub finished_so : (e'' : Seen) (r'' : SchedRow) (c'' : Counts) (actor : ℕ) (ran : Ran) (d : Option Deed) → IsDone ran → IfUnfinished ran (Ends i e here t actor)
+      → e'' ≡ left_after ran e entries t → r'' ≡ status_after (goes_after ran e t) r t → d ≡ deed_by t actor ran → c'' ≡ with_deed c d
+      → (state_by e'' r'' pending k.states time c'', d) ≡ noted (finished board t actor here ran)
+  finished_so e'' r'' c'' actor ran d done h left status deed_is counts = rw (left, status, counts, deed_is) (finishes actor ran done h)

@@ -1,9 +1,11 @@
+pub mod Calling
 pub mod Carried
 pub mod Gates
 pub mod Guards
 pub mod Keeping
 pub mod Opened
 pub mod Ready
+pub mod Serving
 pub mod Sizes
 pub mod Starts
 pub mod Statuses

@@ -1,6 +1,8 @@
 -- What the machine's state is, from what the code keeps of it, and what is kept beside it.
-use Rattle.std.specs.Prelude.{ℕ, ◌+◌, ◌*◌, ◌^◌, ◌≡◌, ◌≤◌, ◌<◌, Bool, List, [], length, None}
+use Rattle.std.specs.Prelude.{ℕ, ◌+◌, ◌*◌, ◌^◌, ◌≡◌, ◌≤◌, ◌<◌, Bool, List, [], length, Some, None}
 use Rattle.def_profile.specs.declared.limits.TheConstants.{MOST_STEPS}
+use Rattle.def_sched.specs.declared.Status.TheVariants.{Ready}
+use Rattle.def_sched.specs.Statuses.{status_of}
 use Rattle.def_machine.specs.Image.{Image}
 use Rattle.def_machine.specs.State.{State, DeviceState, Counts}
 use Rattle.def_machine.specs.Threads.{with_statuses}
@@ -28,8 +30,8 @@ state_by e r pending devices time counts = record {
   counts = counts;
 }
 
--- What is kept beside the state: where the image has the threads' areas and stacks, RAM and the heap, and
--- a status and a priority for each thread.
+-- What is kept beside the state: where the image has the threads' areas and stacks, RAM and the heap, a
+-- status and a priority for each thread, and that the running one is ready.
 pub record IsKept (i : Image) (e : Seen) (r : SchedRow) : Type 0 where
   pub region : e.region ≡ region_of i
   pub heap : IsHeapPlaced i.ram i.heap_base (length e.granules)
@@ -38,6 +40,7 @@ pub record IsKept (i : Image) (e : Seen) (r : SchedRow) : Type 0 where
   pub priorities : r.priorities ≡ i.priorities
   pub statuses : length r.statuses ≡ length e.threads
   pub few : length r.statuses < 2 ^ 32
+  pub ready : (t : ℕ) → e.running ≡ Some t → status_of r.statuses t ≡ Ready
 
 -- ---- counts
 

@@ -470,7 +470,7 @@ fn return_sentry_by_the_wrong_register(rt: HostRuntime) -> Result<(), Fail> {
 }
 
 /// The switch's forward sentry, of type 1, is in slot 0: it takes no immediate, and with none it leads to
-/// the native entry, where nothing is carried out yet.
+/// the switch, which finds no tag in c6.
 #[test]
 fn forward_sentry_with_an_offset(rt: HostRuntime) -> Result<(), Fail> {
     let alloc = rt.alloc();
@@ -487,7 +487,7 @@ fn forward_sentry_with_an_offset(rt: HostRuntime) -> Result<(), Fail> {
             &rt,
             alloc,
             &[0x0000_0297, 0xFF02_B283, jump],
-            trap(4, 2, 0, 0),
+            trap(4, 28, 2, 6),
         )?;
     }
     Ok(())

@@ -1,0 +1,193 @@
+-- What the code leaves of a service of the scheduler is what the written routine leaves.
+use Rattle.std.proofs.Common.{ℕ, zero, suc, ◌-◌, ◌==◌, ◌≡◌, ◌<◌, Bool, true, false, List, [], ◌∷◌, length, Option, Some, None, inl, inr, refl, sym, ap, ◌∙◌, subst, if◌then◌else◌, arith}
+use Rattle.std.proofs.Math.ListN.{get_or, set}
+use Rattle.std.proofs.lemmas.List.{length-set}
+use Rattle.law_lists.proofs.Tests.{bool_tells}
+use Rattle.def_words.specs.declared.Cap.{Cap}
+use Rattle.def_words.specs.declared.Trap.{Trap}
+use Rattle.def_words.specs.Authority.{cap_address}
+use Rattle.def_words.specs.Capability.{integer}
+use Rattle.def_memory.specs.Accesses.{loaded}
+use Rattle.def_sched.specs.declared.Status.{Status}
+use Rattle.def_sched.specs.declared.Status.TheVariants.{Ready, Ended}
+use Rattle.def_sched.specs.Statuses.{status_of, asleep, awaiting, woken, woken_count}
+use Rattle.def_machine.specs.Image.{Image}
+use Rattle.def_machine.specs.State.{State, Thread, Counts, thread, nobody, register}
+use Rattle.def_machine.specs.Registers as registers
+use Rattle.def_machine.specs.Threads as threads
+use Rattle.def_machine.specs.Threads.{with_statuses, statuses_of}
+use Rattle.def_step.specs.Devices.{Bank}
+use Rattle.def_step.specs.Checks.{Check, first_failed}
+use Rattle.def_step.specs.Switch.{return_checks}
+use Rattle.def_step.specs.Routines as routine
+use Rattle.def_step.specs.Routines.{Traps, Leaves, checked, answered, answers, code, stops, waits, wakes, word_checks, yield, sleep, wait, wake}
+use Rattle.def_step.specs.Instructions.{Board, ran}
+use Rattle.def_step.specs.Events.{MachineRow}
+use Rattle.ct_sched.specs.Sched as sched
+use Rattle.ct_sched.specs.Sched.{SchedRow}
+use Rattle.ct_engine.specs.Seen as engine
+use Rattle.ct_engine.specs.Seen.{Seen}
+use Rattle.ct_services.specs.Served.{answered_in, rested, waited, with_status, either, unless, unless_row}
+use Rattle.ct_machine.specs.Parts.{state_by, IsKept}
+use Rattle.ct_machine.specs.Going.{ran_by_service, CameTo}
+use Rattle.ct_machine.proofs.Statuses.{thread_with, like_with, set_with, set_both, set_over, statuses_with}
+
+-- ---- checks
+
+-- a check that failed, or what comes after the checks
+pub by_trap : Option Trap → routine.Ran → routine.Ran
+by_trap (Some why) x = Traps why
+by_trap None x = x
+
+checked_so : (cs : List Check) (x : routine.Ran) (o : Option Trap) → first_failed cs ≡ o → checked cs x ≡ by_trap o x
+checked_so cs x (Some why) is = rw is refl
+checked_so cs x None is = rw is refl
+
+pub checked_once : (cs : List Check) (x : routine.Ran) → checked cs x ≡ by_trap (first_failed cs) x
+checked_once cs x = checked_so cs x (first_failed cs) refl
+
+either_so : (a b : Option Trap) (x : routine.Ran) → by_trap a (by_trap b x) ≡ by_trap (either a b) x
+either_so (Some why) b x = refl
+either_so None b x = refl
+
+pub checked_twice : (cs ds : List Check) (x : routine.Ran) → checked cs (checked ds x) ≡ by_trap (either (first_failed cs) (first_failed ds)) x
+checked_twice cs ds x = checked_once cs (checked ds x) ∙ ap (by_trap (first_failed cs)) (checked_once ds x) ∙ either_so (first_failed cs) (first_failed ds) x
+
+-- ---- a status that is there already
+
+set_same : (ss : List Status) (t : ℕ) (s : Status) → status_of ss t ≡ s → t < length ss → set ss t s ≡ ss
+set_same [] t s is there = absurd (omega (arith, there))
+set_same (x ∷ ss) zero s is there = ap (λ (y : Status). y ∷ ss) (sym is)
+set_same (x ∷ ss) (suc t) s is there = ap (λ (ys : List Status). x ∷ ys) (set_same ss t s is (omega (arith, there)))
+
+module _ (i : Image) (e : Seen) (r : SchedRow) (k : Bank) (pending : Bool) (time : ℕ) (c : Counts) (t : ℕ) (kept : IsKept i e r) where
+  abbrev board : Board
+  board = record { image = i; bases = k.bases }
+
+  abbrev here : State
+  here = state_by e r pending k.states time c
+
+  abbrev machine : Seen → SchedRow → MachineRow
+  machine x y = record { board = board; state = state_by x y pending k.states time c }
+
+  pub register_alike : (n : ℕ) → register (engine.thread e t) n ≡ register (thread here t) n
+  register_alike n = ap (λ (u : Thread). register u n) (sym (like_with e.threads r.statuses t Ended))
+
+  -- ---- what a service came to
+
+  pub came_service : (o : Option Trap) (e' after : Seen) (r' row : SchedRow) (x : routine.Ran) (s : State) → x ≡ by_trap o (Leaves s None) → e' ≡ unless o e after → r' ≡ unless_row o r row
+      → state_by after row pending k.states time c ≡ s → CameTo (machine e r) (machine e' r') t (ran_by_service o) (ran board here t x)
+  came_service (Some why) e' after r' row x s is now turn left = rw (is, now, turn) (record { is = refl; board = refl; counts = refl; unfinished = refl })
+  came_service None e' after r' row x s is now turn left = rw (is, now, turn, sym left) (record { is = refl; board = refl; counts = refl; unfinished = tt })
+
+  -- ---- answers
+
+  pub answers_are : (v : Cap) → state_by (answered_in e t v) r pending k.states time c ≡ answers here t v
+  answers_are v =
+      let there : with_statuses (set e.threads t (answered (engine.thread e t) v)) r.statuses ≡ set (with_statuses e.threads r.statuses) t (answered (thread here t) v) =
+      set_with e.threads r.statuses t (answered (engine.thread e t) v) kept.statuses
+      ∙ ap (λ (x : Thread). set (with_statuses e.threads r.statuses) t (answered x v)) (sym (thread_with e.threads r.statuses t kept.statuses)) in
+      rw there refl
+
+  rests : (status : Status) → state_by (rested e t) (with_status r t status) pending k.states time c
+      ≡ record (registers.with_thread here t (threads.with_status (answered (thread here t) (integer 0)) status)) { running = None }
+  rests status =
+      let there : with_statuses (set e.threads t (answered (engine.thread e t) (integer 0))) (set r.statuses t status)
+      ≡ set (with_statuses e.threads r.statuses) t (threads.with_status (answered (thread here t) (integer 0)) status) =
+      set_both e.threads r.statuses t (answered (engine.thread e t) (integer 0)) status kept.statuses
+      ∙ ap (λ (x : Thread). set (with_statuses e.threads r.statuses) t (threads.with_status (answered x (integer 0)) status)) (sym (like_with e.threads r.statuses t status)) in
+      rw there refl
+
+  -- ---- yield and sleep
+
+  pub came_rest : (status : Status) (o : Option Trap) (e' : Seen) (r' : SchedRow) → o ≡ first_failed (return_checks (register (engine.thread e t) 1))
+      → e' ≡ unless o e (rested e t) → r' ≡ unless_row o r (with_status r t status)
+      → CameTo (machine e r) (machine e' r') t (ran_by_service o) (ran board here t (checked (return_checks (register (thread here t) 1)) (stops here t status)))
+  came_rest status o e' r' trap now turn =
+      came_service o e' (rested e t) r' (with_status r t status) (checked (return_checks (register (thread here t) 1)) (stops here t status))
+      (record (registers.with_thread here t (threads.with_status (answered (thread here t) (integer 0)) status)) { running = None })
+      (checked_once (return_checks (register (thread here t) 1)) (stops here t status)
+      ∙ ap (λ (x : Cap). by_trap (first_failed (return_checks x)) (stops here t status)) (sym (register_alike 1))
+      ∙ ap (λ (p : Option Trap). by_trap p (stops here t status)) (sym trap))
+      now turn (rests status)
+
+  pub came_sleep : (o : Option Trap) (e' : Seen) (r' : SchedRow) → o ≡ first_failed (return_checks (register (engine.thread e t) 1))
+      → e' ≡ unless o e (rested e t) → r' ≡ unless_row o r (with_status r t (asleep (cap_address (register (engine.thread e t) 10))))
+      → CameTo (machine e r) (machine e' r') t (ran_by_service o) (ran board here t (sleep here t))
+  came_sleep o e' r' trap now turn =
+      came_rest (asleep (cap_address (register (thread here t) 10))) o e' r' trap now
+      (turn ∙ ap (λ (x : Cap). unless_row o r (with_status r t (asleep (cap_address x)))) (register_alike 10))
+
+  -- ---- wait
+
+  waited_so : (b : Bool) (address held wanted : ℕ) → (held == wanted) ≡ b → status_of r.statuses t ≡ Ready → t < length r.statuses
+      → waits here t address held wanted ≡ Leaves (state_by (waited e t held wanted) (with_status r t (awaiting address held wanted)) pending k.states time c) None
+  waited_so true address held wanted same ready there =
+      rw same (ap (λ (s : State). Leaves s None) (sym (rests (awaiting address held wanted)) ∙ rw same refl))
+  waited_so false address held wanted other ready there =
+      let stays : with_status r t Ready ≡ r = ap (λ (ss : List Status). sched.with_statuses r ss) (set_same r.statuses t Ready ready there) in
+      rw (other, stays) (ap (λ (s : State). Leaves s None) (sym (answers_are (code 21))))
+
+  pub came_wait : (ram : ℕ) (o : Option Trap) (e' : Seen) (r' : SchedRow) → ram ≡ i.ram → status_of r.statuses t ≡ Ready → t < length r.statuses
+      → o ≡ either (first_failed (return_checks (register (engine.thread e t) 1))) (first_failed (word_checks i here (register (engine.thread e t) 10)))
+      → e' ≡ unless o e (waited e t (loaded e.granules (cap_address (register (engine.thread e t) 10) - ram) 4) (cap_address (register (engine.thread e t) 11)))
+      → r' ≡ unless_row o r
+      (with_status r t (awaiting (cap_address (register (engine.thread e t) 10)) (loaded e.granules (cap_address (register (engine.thread e t) 10) - ram) 4) (cap_address (register (engine.thread e t) 11))))
+      → CameTo (machine e r) (machine e' r') t (ran_by_service o) (ran board here t (wait i here t))
+  came_wait ram o e' r' place ready there trap now turn =
+      let ten = register_alike 10 in
+      let eleven = register_alike 11 in
+      let address : ℕ = cap_address (register (thread here t) 10) in
+      let held : ℕ = loaded e.granules (address - i.ram) 4 in
+      let wanted : ℕ = cap_address (register (thread here t) 11) in
+      came_service o e' (waited e t held wanted) r' (with_status r t (awaiting address held wanted)) (wait i here t)
+      (state_by (waited e t held wanted) (with_status r t (awaiting address held wanted)) pending k.states time c)
+      (checked_twice (return_checks (register (thread here t) 1)) (word_checks i here (register (thread here t) 10)) (waits here t address held wanted)
+      ∙ ap (λ (x : Cap). by_trap (either (first_failed (return_checks x)) (first_failed (word_checks i here (register (thread here t) 10)))) (waits here t address held wanted)) (sym (register_alike 1))
+      ∙ ap (λ (x : Cap). by_trap (either (first_failed (return_checks (register (engine.thread e t) 1))) (first_failed (word_checks i here x))) (waits here t address held wanted)) (sym ten)
+      ∙ ap (λ (p : Option Trap). by_trap p (waits here t address held wanted)) (sym trap)
+      ∙ ap (by_trap o) (waited_so (held == wanted) address held wanted refl ready there))
+      (now
+      ∙ ap (λ (x : Cap). unless o e (waited e t (loaded e.granules (cap_address x - ram) 4) (cap_address (register (engine.thread e t) 11)))) ten
+      ∙ ap (λ n. unless o e (waited e t (loaded e.granules (address - n) 4) (cap_address (register (engine.thread e t) 11)))) place
+      ∙ ap (λ (x : Cap). unless o e (waited e t held (cap_address x))) eleven)
+      (turn
+      ∙ ap (λ (x : Cap). unless_row o r (with_status r t (awaiting (cap_address x) (loaded e.granules (cap_address x - ram) 4) (cap_address (register (engine.thread e t) 11))))) ten
+      ∙ ap (λ n. unless_row o r (with_status r t (awaiting address (loaded e.granules (address - n) 4) (cap_address (register (engine.thread e t) 11))))) place
+      ∙ ap (λ (x : Cap). unless_row o r (with_status r t (awaiting address held (cap_address x)))) eleven)
+      refl
+
+  -- ---- wake
+
+  wakes_are : (address most : ℕ) → length (woken address most r.statuses) ≡ length r.statuses
+      → state_by (answered_in e t (integer (woken_count address most r.statuses))) (sched.with_statuses r (woken address most r.statuses)) pending k.states time c ≡ wakes here t address most
+  wakes_are address most many =
+      let v : Cap = integer (woken_count address most r.statuses) in
+      let there : with_statuses (set (with_statuses e.threads r.statuses) t (answered (thread here t) v)) (woken address most r.statuses)
+      ≡ with_statuses (set e.threads t (answered (engine.thread e t) v)) (woken address most r.statuses) =
+      set_over (λ (x : Thread). answered x v) (λ x q s. refl) e.threads r.statuses (woken address most r.statuses) t kept.statuses (many ∙ kept.statuses) in
+      rw (statuses_with e.threads r.statuses kept.statuses, there) refl
+
+  pub came_wake : (o : Option Trap) (e' : Seen) (r' : SchedRow)
+      → length (woken (cap_address (register (thread here t) 10)) (cap_address (register (thread here t) 11)) r.statuses) ≡ length r.statuses
+      → o ≡ either (first_failed (return_checks (register (engine.thread e t) 1))) (first_failed (word_checks i here (register (engine.thread e t) 10)))
+      → e' ≡ unless o e (answered_in e t (integer (woken_count (cap_address (register (engine.thread e t) 10)) (cap_address (register (engine.thread e t) 11)) r.statuses)))
+      → r' ≡ unless_row o r (sched.with_statuses r (woken (cap_address (register (engine.thread e t) 10)) (cap_address (register (engine.thread e t) 11)) r.statuses))
+      → CameTo (machine e r) (machine e' r') t (ran_by_service o) (ran board here t (wake i here t))
+  came_wake o e' r' many trap now turn =
+      let ten = register_alike 10 in
+      let eleven = register_alike 11 in
+      let address : ℕ = cap_address (register (thread here t) 10) in
+      let most : ℕ = cap_address (register (thread here t) 11) in
+      came_service o e' (answered_in e t (integer (woken_count address most r.statuses))) r' (sched.with_statuses r (woken address most r.statuses)) (wake i here t) (wakes here t address most)
+      (checked_twice (return_checks (register (thread here t) 1)) (word_checks i here (register (thread here t) 10)) (Leaves (wakes here t address most) None)
+      ∙ ap (λ (x : Cap). by_trap (either (first_failed (return_checks x)) (first_failed (word_checks i here (register (thread here t) 10)))) (Leaves (wakes here t address most) None)) (sym (register_alike 1))
+      ∙ ap (λ (x : Cap). by_trap (either (first_failed (return_checks (register (engine.thread e t) 1))) (first_failed (word_checks i here x))) (Leaves (wakes here t address most) None)) (sym ten)
+      ∙ ap (λ (p : Option Trap). by_trap p (Leaves (wakes here t address most) None)) (sym trap))
+      (now
+      ∙ ap (λ (x : Cap). unless o e (answered_in e t (integer (woken_count (cap_address x) (cap_address (register (engine.thread e t) 11)) r.statuses)))) ten
+      ∙ ap (λ (x : Cap). unless o e (answered_in e t (integer (woken_count address (cap_address x) r.statuses)))) eleven)
+      (turn
+      ∙ ap (λ (x : Cap). unless_row o r (sched.with_statuses r (woken (cap_address x) (cap_address (register (engine.thread e t) 11)) r.statuses))) ten
+      ∙ ap (λ (x : Cap). unless_row o r (sched.with_statuses r (woken address (cap_address x) r.statuses))) eleven)
+      (wakes_are address most many)
