@@ -1,4 +1,6 @@
 pub mod Rising
 pub mod Tops
 pub mod Rows
+pub mod Boots
 pub mod Heads
+pub mod Calls

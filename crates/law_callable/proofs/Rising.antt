@@ -5,7 +5,8 @@ use Rattle.ct_entry.specs.declared.rows.Gate.{Gate}
 use Rattle.def_image.specs.Parts.{GateRow, CodeRow, CompartmentRow, PartsRow}
 use Rattle.def_image.specs.Sizes.{sum_of}
 use Rattle.def_image.specs.Members.{compartment_entries, library_entries, first_library}
-use Rattle.def_boot.specs.Gates.{gates_in, compartment_gates, library_gates, gates_of}
+use Rattle.def_boot.specs.Boot.{image_of}
+use Rattle.def_boot.specs.Gates.{gates_in, compartment_gates, library_gates, gates_of, entries_of}
 use Rattle.ct_exports.specs.Exports.{AreSorted}
 
 -- from a number on
@@ -59,7 +60,15 @@ shared_rise n (c ∷ cs) =
     rises_from first n (gates_in first c c.exports ++ later) (omega arith)
     (gates_rise first c c.exports later (rises_from (n + library_entries c) (first + length c.exports) later (omega arith) (shared_rise (n + library_entries c) cs)))
 
-pub sorted_gates : (p : PartsRow) → AreSorted (gates_of p)
+sorted_gates : (p : PartsRow) → AreSorted (gates_of p)
 unfolding gates_of
 sorted_gates p = rises_sorted 1 (compartment_gates 1 p.compartments ++ library_gates (first_library p) p.libraries)
     (own_rise 1 p.compartments (library_gates (first_library p) p.libraries) (shared_rise (first_library p) p.libraries))
+
+sorted_entries : (p : PartsRow) → AreSorted (entries_of p).gates
+unfolding entries_of
+sorted_entries p = sorted_gates p
+
+pub image_sorted : (p : PartsRow) → AreSorted (image_of p).entries.gates
+unfolding image_of
+image_sorted p = sorted_entries p

@@ -2,34 +2,38 @@
 //! Functions with empty bodies whose contracts are the laws.
 #![tactic(auto)]
 
-ghost use Rattle.std.specs.Prelude.{ℕ, ◌≡◌, ◌*◌, List, ◌∷◌, length};
+ghost use Rattle.std.specs.Prelude.{ℕ, ◌≡◌, ◌<◌, true, length};
 ghost use Rattle.ct_entry.specs.declared.rows.Kind.TheVariants as kind;
+ghost use Rattle.def_profile.specs.declared.seals.TheConstants.{EXPORT_TYPE};
+ghost use Rattle.def_words.specs.Seals.{cap_seal};
 ghost use Rattle.def_boot.specs.Boot.{image_of};
-ghost use Rattle.def_boot.specs.Gates.{gates_of, entries_of};
+ghost use Rattle.def_boot.specs.Gates.{entries_of};
 ghost use Rattle.def_confined.specs.Confined.{Confined};
 ghost use Rattle.def_image.specs.Parts.{PartsRow};
 ghost use Rattle.def_image.specs.Sound.{Sound};
 ghost use Rattle.def_machine.specs.Image.{Image, root};
-ghost use Rattle.def_machine.specs.State.{State, Frame};
+ghost use Rattle.def_machine.specs.State.{State, register};
 ghost use Rattle.def_machine.specs.State as state;
 ghost use Rattle.def_reach.specs.Roots.{Listing};
+ghost use Rattle.def_step.specs.Switch.{Enters};
 ghost use Rattle.ct_exports.specs.Exports.{AreSorted, IsCallable};
 ghost use Rattle.ct_engine.specs.Seen.{Seen, thread, area_at};
-ghost use Rattle.ct_engine.specs.Calls.{TopLies, MayCall};
+ghost use Rattle.ct_engine.specs.Calls.{TopLies, MayCall, HeadStands, switch_at};
 ghost use Rattle.ct_launch.specs.Launching.{region_of};
 ghost use Rattle.ct_launch.specs.Placed.{IsPlaced};
+ghost use Rattle.law_callable.specs.Showing.{IsOfSound, ShowsCaller};
 
 /// The gates of an image stand by the numbers of their exports.
 pub fn gates_sorted()
-    ensures { (p : PartsRow) → AreSorted (gates_of p) }
+    ensures { (p : PartsRow) → AreSorted (image_of p).entries.gates }
 {}
 
-/// Where a state is confined, and the engine has a thread's frames and its stack where state and image have them, the
+/// Where a state is confined, and a thread that has frames is seen with the state's and with the image's stack, the
 /// innermost frame's top lies in the stack.
 pub fn tops_lie()
-    ensures { (i : Image) (m : State) (s : Seen) (size t : ℕ) (f : Frame) (fs : List Frame)
+    ensures { (i : Image) (m : State) (s : Seen) (size t : ℕ)
         → Confined i m → IsPlaced i size t (area_at s t)
-        → (thread s t).frames ≡ (state.thread m t).frames → (state.thread m t).frames ≡ f ∷ fs
+        → (thread s t).frames ≡ (state.thread m t).frames → 0 < length (thread s t).frames
         → TopLies s t }
 {}
 
@@ -40,12 +44,31 @@ pub fn exports_callable()
         → IsCallable (entries_of p) p.ram p.size (root (image_of p) n).of }
 {}
 
-/// Where a sound image's state is confined, and an engine over RAM of its size has its region, and has the thread, its
-/// stack and its frames where state and image have them, the thread may call.
+/// In each confined state of a sound image the head of an export table is as boot made it, of each export that a call
+/// import names.
+pub fn heads_stand()
+    ensures { (i : Image) (m : State) (s : Seen) (size t n : ℕ)
+        → IsOfSound i → Confined i m → IsPlaced i size t (area_at s t)
+        → s.region ≡ region_of i → s.granules ≡ m.granules
+        → (root i n).origin ≡ Listing kind.Call
+        → HeadStands i s t (root i n).of }
+{}
+
+/// A thread of a confined state of a sound image may call, where it has frames and an engine shows it.
 pub fn calls_asked()
-    ensures { (p : PartsRow) (m : State) (s : Seen) (size t : ℕ) (f : Frame) (fs : List Frame)
-        → Sound p → Confined (image_of p) m → IsPlaced (image_of p) size t (area_at s t)
-        → thread s t ≡ state.thread m t → (state.thread m t).frames ≡ f ∷ fs
-        → s.region ≡ region_of (image_of p) → 8 * length s.granules ≡ p.size
-        → MayCall s t (entries_of p) }
+    ensures { (i : Image) (m : State) (s : Seen) (t : ℕ)
+        → ShowsCaller i m s t → 0 < length (thread s t).frames
+        → MayCall s t i.entries }
+{}
+
+/// And the head of the export table is as boot made it, of the export that its call import names, if c6 is one, and of
+/// the export that its call enters.
+pub fn calls_stand()
+    ensures imported { (i : Image) (m : State) (s : Seen) (t : ℕ)
+        → ShowsCaller i m s t → (register (thread s t) 6).tag ≡ true
+        → cap_seal (register (thread s t) 6) ≡ EXPORT_TYPE
+        → HeadStands i s t (root i (register (thread s t) 6).shadow.root).of }
+    ensures entered { (i : Image) (m : State) (s : Seen) (t export high : ℕ)
+        → ShowsCaller i m s t → switch_at s i.entries t ≡ Enters export high
+        → HeadStands i s t export }
 {}

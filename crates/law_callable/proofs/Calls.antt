@@ -1,0 +1,89 @@
+-- What a call of a confined state's thread asks, and that the head of the export's table stands as boot made it.
+use Rattle.std.proofs.Common.{ℕ, ◌≡◌, ◌+◌, ◌*◌, ◌<◌, ◌≤◌, true, List, length, slice_index_or, sym, ap, ◌∙◌, arith, subst}
+use Rattle.ct_entry.specs.declared.rows.Kind.TheVariants as kind
+use Rattle.def_profile.specs.declared.seals.TheConstants.{EXPORT_TYPE}
+use Rattle.def_words.specs.declared.Cap.{Cap}
+use Rattle.def_words.specs.Seals.{cap_seal}
+use Rattle.def_memory.specs.declared.Granule.{Granule}
+use Rattle.def_memory.specs.Granules.{plain}
+use Rattle.def_reach.specs.Roots.{Listing}
+use Rattle.def_image.specs.Parts.{PartsRow}
+use Rattle.def_image.specs.Sound.{Sound}
+use Rattle.def_boot.specs.Boot.{image_of}
+use Rattle.def_machine.specs.Image.{Image, root}
+use Rattle.def_machine.specs.State.{State, register}
+use Rattle.def_machine.specs.State as state
+use Rattle.def_confined.specs.Confined.{Confined}
+use Rattle.def_step.specs.Switch.{Enters, frame_top}
+use Rattle.law_jumps.proofs.Moves.{in_rooted}
+use Rattle.law_grants.proofs.Imports.{named}
+use Rattle.ct_areas.specs.Threads.{frames_most}
+use Rattle.ct_switch.proofs.Failing.{checks_passed}
+use Rattle.ct_engine.specs.Seen.{Seen, thread, area_at}
+use Rattle.ct_engine.specs.Calls.{MayCall, HeadStands, switch_at}
+use Rattle.ct_engine.proofs.Entering.{enters_by}
+use Rattle.ct_launch.specs.Launching.{region_of}
+use Rattle.ct_launch.specs.Placed.{IsPlaced}
+use Rattle.law_callable.specs.Showing.{IsOfSound, ShowsCaller}
+use Rattle.law_callable.proofs.Rising.{image_sorted}
+use Rattle.law_callable.proofs.Tops.{top_lies}
+use Rattle.law_callable.proofs.Heads.{enterable, export_stands}
+
+-- RAM has the image's size
+size_in : (p : PartsRow) (m : State) → Confined (image_of p) m → p.size ≤ 8 * length m.granules
+unfolding image_of
+size_in p m confined = let whole : p.ram + p.size ≤ p.ram + 8 * length m.granules = confined.size in omega (arith, whole)
+
+-- a tagged capability of an export's type in c6 is a call import
+import_is : (i : Image) (m : State) (s : Seen) (t : ℕ) → Confined i m → (thread s t).registers ≡ (state.thread m t).registers
+    → (register (thread s t) 6).tag ≡ true → cap_seal (register (thread s t) 6) ≡ EXPORT_TYPE
+    → (root i (register (thread s t) 6).shadow.root).origin ≡ Listing kind.Call
+import_is i m s t confined registers tagged sealed =
+    let six : register (thread s t) 6 ≡ register (state.thread m t) 6 = ap (λ (cs : List Cap). slice_index_or cs 6 (plain 0)) registers in
+    let rooted = in_rooted i m.objects t (state.thread m t).frames (register (state.thread m t) 6) (confined.registers t 6) (sym (ap (λ (c : Cap). c.tag) six) ∙ tagged) in
+    subst (λ (c : Cap). (root i c.shadow.root).origin ≡ Listing kind.Call) (sym six) (rooted.calls (sym (ap cap_seal six) ∙ sealed))
+
+-- ---- of an image by its parts
+
+caller_asks : (p : PartsRow) (m : State) (s : Seen) (t : ℕ) → Sound p → ShowsCaller (image_of p) m s t → 0 < length (thread s t).frames → MayCall s t (image_of p).entries
+caller_asks p m s t sound shows some = record {
+  top = top_lies (image_of p) m s (8 * length s.granules) t shows.confined shows.placed shows.frames some;
+  sorted = image_sorted p;
+  import = λ tagged sealed.
+      let n : ℕ = (register (thread s t) 6).shadow.root in
+      let is = import_is (image_of p) m s t shows.confined shows.registers tagged sealed in
+      let size = subst (λ (gs : List Granule). p.size ≤ 8 * length gs) (sym shows.granules) (size_in p m shows.confined) in
+      enterable p (root (image_of p) n).of sound ((named p sound n).call is) s shows.region size;
+}
+
+head_stands : (p : PartsRow) (m : State) (s : Seen) (size t n : ℕ) → Sound p → Confined (image_of p) m → IsPlaced (image_of p) size t (area_at s t)
+    → s.region ≡ region_of (image_of p) → s.granules ≡ m.granules → (root (image_of p) n).origin ≡ Listing kind.Call → HeadStands (image_of p) s t (root (image_of p) n).of
+head_stands p m s size t n sound confined placed region granules is =
+    export_stands p (root (image_of p) n).of sound ((named p sound n).call is) s region m confined granules size t placed
+
+-- ---- of the machine's image
+
+pub may_call : (i : Image) (m : State) (s : Seen) (t : ℕ) → ShowsCaller i m s t → 0 < length (thread s t).frames → MayCall s t i.entries
+may_call i m s t shows some =
+    subst (λ (j : Image). ShowsCaller j m s t → MayCall s t j.entries) (sym shows.booted.is)
+    (λ here. caller_asks shows.booted.parts m s t shows.booted.sound here some) shows
+
+pub heads_stand : (i : Image) (m : State) (s : Seen) (size t n : ℕ) → IsOfSound i → Confined i m → IsPlaced i size t (area_at s t)
+    → s.region ≡ region_of i → s.granules ≡ m.granules → (root i n).origin ≡ Listing kind.Call → HeadStands i s t (root i n).of
+heads_stand i m s size t n booted confined placed region granules is =
+    subst (λ (j : Image). Confined j m → IsPlaced j size t (area_at s t) → s.region ≡ region_of j → (root j n).origin ≡ Listing kind.Call → HeadStands j s t (root j n).of) (sym booted.is)
+    (λ held lies here call. head_stands booted.parts m s size t n booted.sound held lies here granules call) confined placed region is
+
+pub import_stands : (i : Image) (m : State) (s : Seen) (t : ℕ) → ShowsCaller i m s t → (register (thread s t) 6).tag ≡ true
+    → cap_seal (register (thread s t) 6) ≡ EXPORT_TYPE → HeadStands i s t (root i (register (thread s t) 6).shadow.root).of
+import_stands i m s t shows tagged sealed =
+    heads_stand i m s (8 * length s.granules) t (register (thread s t) 6).shadow.root shows.booted shows.confined shows.placed shows.region shows.granules
+    (import_is i m s t shows.confined shows.registers tagged sealed)
+
+pub entered_stands : (i : Image) (m : State) (s : Seen) (t export high : ℕ) → ShowsCaller i m s t → switch_at s i.entries t ≡ Enters export high → HeadStands i s t export
+entered_stands i m s t export high shows enters =
+    let base : ℕ = (area_at s t).stack in
+    let top : ℕ = frame_top (thread s t).frames in
+    let by = enters_by i.entries base top (frames_most (area_at s t)) (thread s t) export high enters in
+    let passed = checks_passed base top (register (thread s t) 1) (register (thread s t) 6) (register (thread s t) 2) by.passed in
+    subst (λ n. HeadStands i s t n) (sym by.export_is) (import_stands i m s t shows passed.tagged passed.import)
