@@ -1,85 +1,16 @@
 #!/usr/bin/env python3
-"""Worked rows of the program: writes a case for each into a folder, and prints NAME=FILE for each source.
+"""Worked rows of the program: each command, the smallest sample with other code, sources, descriptions and images.
 
-    rows.py OUT     writes OUT/NAME, OUT/NAME.args and OUT/NAME.stdout
-
-What a row must write was worked out by hand; reports and images are those of the references beside run_reports and
-run_images, which know nothing of the program. samples/try.sh runs the cases.
+    rows.py OUT     writes the cases that cases.py tells of
 """
 import copy
-import importlib.util
 import json
-import os
-import sys
 
-HERE = os.path.dirname(os.path.abspath(__file__))
-spec = importlib.util.spec_from_file_location("reports", os.path.join(HERE, "..", "crates", "run_reports", "reference.py"))
-reports = importlib.util.module_from_spec(spec)
-sys.dont_write_bytecode = True
-spec.loader.exec_module(reports)
-images = reports.r
+from cases import case, ended, image, lines, report, run, sample, source
 
-OUT = sys.argv[1]
-RAM = 0x80000000
-TINY = json.load(open(os.path.join(HERE, "tiny", "tiny.json")))
-BOARD = json.load(open(os.path.join(HERE, "board", "board.json")))
-DEVICE_KINDS = {"uart": 1, "timer": 2, "gpio": 3}
-DEVICE_RIGHTS = {"R": 50, "W": 49, "RW": 51}
+TINY = sample("tiny")
+BOARD = sample("board")
 STORE = "4 store t0 c0 e4 10000000 4 00000041"
-
-
-def case(name, words, data, wanted):
-    """One run: its words, where {} stands for a file of this data, and what it must write."""
-    for path, content in ((name, data), (name + ".args", "\n".join(words) + "\n"), (name + ".stdout", wanted)):
-        with open(os.path.join(OUT, path), "wb") as file:
-            file.write(content if isinstance(content, bytes) else content.encode())
-
-
-def source(name, lines):
-    """A source of this file name, and the option by which the kit hands it to the program."""
-    path = os.path.join(OUT, "..", os.path.basename(OUT) + "-" + name)
-    with open(path, "w") as file:
-        file.write("".join(line + "\n" for line in lines))
-    print(f"{name}={os.path.abspath(path)}")
-    return {"file": name}
-
-
-def lines(*all_lines):
-    return "".join(line + "\n" for line in all_lines)
-
-
-def ended(kind, steps, devices=0, traps=0, ticks=0):
-    return f"end {kind} steps {steps} ticks {ticks} calls 0 devices {devices} allocations 0 frees 0 traps {traps}"
-
-
-def image(firmware, text, initial=b"", posture=3):
-    """The image of a firmware of one compartment, whose text is these bytes, or so many words of it; its threads have
-    stacks of 256 bytes and 2 frames."""
-    text = text if isinstance(text, bytes) else bytes(4 * text)
-    own = firmware["compartments"][0]
-    slots = [images.SWITCH]
-    for it in own.get("imports", []):
-        if "call" in it:  # of its own one export
-            slots.append((images.import_row(5, 50, 0, 0), it["as"]))
-        else:
-            at = [d["name"] for d in firmware["devices"]].index(it["device"])
-            slots.append((images.import_row(2, DEVICE_RIGHTS[it["rights"]], at), it["as"]))
-    names = [thread["name"] for thread in firmware["threads"]]
-    sizes = [8 * len(slots) + len(text), 32, max(16, len(initial))] + [256] * len(names) + [16 + 288 * len(names)]
-    bases = [RAM]
-    for size in sizes:
-        bases.append(bases[-1] + (size + 15) // 16 * 16)
-    code, table, data, *stacks, trusted, heap = bases
-    owner = images.owner(True, own["name"], code, table - code, slots,
-                         [(images.export_row(0, 0, 6, posture, 1, 3 + len(slots)), "main")], text, table,
-                         data, stacks[0] - data, initial)
-    return images.image(1, firmware.get("quantum", 100), RAM, firmware["ram"]["size"], trusted, heap, 64, firmware["firmware"],
-                        [(d["name"], DEVICE_KINDS[d["kind"]], d["base"]) for d in firmware.get("devices", [])], [], [],
-                        [owner], [], [(name, stack, 256, 0, 0, 1, 2) for name, stack in zip(names, stacks)])
-
-
-def report(*firmware):
-    return reports.report(image(*firmware))[0]
 
 
 def tiny(words=None, device=None, rights=None, size=None, **members):
@@ -96,36 +27,32 @@ def tiny(words=None, device=None, rights=None, size=None, **members):
     return firmware
 
 
-def run(name, firmware, text, limit, *wanted, **shape):
-    case(name, ["run", "{}", str(limit)], json.dumps(firmware), lines(reports.report(image(firmware, text, **shape))[0], *wanted))
-
-
 # ---- runs of the smallest sample with other code
 
 SLOT = ["00000297", "ff82b283"]
-run("limit", TINY, 5, 3, ended("limit", 3))
-run("past_the_device", tiny(SLOT + ["00a2a823"]), 3, 100, "3 trap t0 c0 28 1 5", ended("finished", 3, traps=1))
-run("divided_by_zero", tiny(SLOT + ["00700513", "020555b3", "00b2a023", "00008067"]), 6, 100,
+run("limit", TINY, 3, ended("limit", 3))
+run("past_the_device", tiny(SLOT + ["00a2a823"]), 100, "3 trap t0 c0 28 1 5", ended("finished", 3, traps=1))
+run("divided_by_zero", tiny(SLOT + ["00700513", "020555b3", "00b2a023", "00008067"]), 100,
     "5 store t0 c0 e4 10000000 4 ffffffff", ended("finished", 7, devices=1))
-run("register_16", tiny(["00000813"]), 1, 100, "1 trap t0 c0 2 0 0", ended("finished", 1, traps=1))
-run("endless", tiny(["0000006f"]), 1, 5, ended("limit", 5))
-run("load_without_the_right", tiny(SLOT + ["0002a503"]), 3, 100, "3 trap t0 c0 28 18 5", ended("finished", 3, traps=1))
-run("pins", tiny(SLOT + ["04100513", "00a2a023", "0002a583", "00008067"], "gpio", "RW"), 6, 100, STORE,
+run("register_16", tiny(["00000813"]), 100, "1 trap t0 c0 2 0 0", ended("finished", 1, traps=1))
+run("endless", tiny(["0000006f"]), 5, ended("limit", 5))
+run("load_without_the_right", tiny(SLOT + ["0002a503"]), 100, "3 trap t0 c0 28 18 5", ended("finished", 3, traps=1))
+run("pins", tiny(SLOT + ["04100513", "00a2a023", "0002a583", "00008067"], "gpio", "RW"), 100, STORE,
     "5 load t0 c0 e4 10000000 4 00000041", ended("finished", 7, devices=2))
 disabled = tiny()
 disabled["compartments"][0]["exports"][0]["posture"] = "disabled"
-run("disabled_entry", disabled, 5, 100, "1 off t0 c0 e5", STORE, ended("finished", 6, devices=1), posture=2)
+run("disabled_entry", disabled, 100, "1 off t0 c0 e5", STORE, ended("finished", 6, devices=1))
 # Two threads of the smallest sample's code: the first runs to its end, and then the second; with a tick before every
 # other step they take turns of two steps. Step 9, the first thread's jump to its return sentry, comes after the fourth
 # tick, and step 11, the second thread's, after the fifth.
 twins = TINY["threads"] + [dict(TINY["threads"][0], name="u")]
 ALSO = "10000000 4 00000041"
-run("two_threads", tiny(threads=twins), 5, 100, STORE, f"10 store t1 c0 e4 {ALSO}", ended("finished", 12, devices=2))
-run("threads_in_turns", tiny(threads=twins, quantum=2), 5, 100, f"6 store t0 c0 e4 {ALSO}", f"8 store t1 c0 e4 {ALSO}",
+run("two_threads", tiny(threads=twins), 100, STORE, f"10 store t1 c0 e4 {ALSO}", ended("finished", 12, devices=2))
+run("threads_in_turns", tiny(threads=twins, quantum=2), 100, f"6 store t0 c0 e4 {ALSO}", f"8 store t1 c0 e4 {ALSO}",
     ended("finished", 12, ticks=5, devices=2))
-run("turns_cut_short", tiny(threads=twins, quantum=2), 5, 7, f"6 store t0 c0 e4 {ALSO}",
+run("turns_cut_short", tiny(threads=twins, quantum=2), 7, f"6 store t0 c0 e4 {ALSO}",
     ended("limit", 7, ticks=3, devices=1))
-case("room", ["audit", "{}"], json.dumps(tiny(size=656)), lines(report(tiny(size=656), 5)))
+case("room", ["audit", "{}"], json.dumps(tiny(size=656)), lines(report(tiny(size=656))))
 case("no_room", ["audit", "{}"], json.dumps(tiny(size=640)), "refused 6 link L2 656 640\n")
 case("no_steps", ["run", "{}", "0"], json.dumps(TINY), "refused 1 usage\n")
 
@@ -140,33 +67,34 @@ def filed(name, source_lines, **members):
     return firmware
 
 
-def hostile(name, text, limit, wanted, *source_lines):
+def hostile(name, limit, wanted, *source_lines):
     """A firmware without devices, with the bytes of a capability for all of memory in its globals."""
     firmware = filed(name, ["main: " + source_lines[0], *source_lines[1:], ".data", ".word 0", ".word 0x7E3C0100"],
                      firmware="forge")
     del firmware["devices"], firmware["compartments"][0]["imports"]
-    run(name, firmware, text, limit, *wanted, initial=bytes.fromhex("0000000000013c7e"))
+    run(name, firmware, limit, *wanted)
 
 
 def trapped(step, cause, code, register):
     return f"{step} trap t0 c0 {cause} {code} {register}", ended("finished", step, traps=1)
 
 
-hostile("forged", 2, 100, trapped(2, 28, 2, 5), "clc ct0, 0(cgp)", "clw a0, 0(ct0)")
-hostile("smuggled", 3, 100, trapped(3, 28, 2, 5), "csc csp, 0(cgp)", "clc ct0, 0(cgp)", "clw a0, 0(ct0)")
-hostile("high_word", 2, 100, trapped(2, 28, 2, 5), "csethigh ct0, cgp, ca0", "clw a0, 0(ct0)")
-hostile("wider_bounds", 2, 100, trapped(2, 28, 2, 5), "csetboundsimm ct0, cgp, 32", "clw a0, 0(ct0)")
-hostile("jump_to_data", 1, 100, trapped(1, 28, 17, 3), "cjr cgp")
-hostile("not_aligned", 1, 100, trapped(1, 4, 0, 0), "clw a0, 1(cgp)")
-hostile("store_to_code", 2, 100, trapped(2, 28, 19, 5), "auipcc ct0, 0", "csw a0, 0(ct0)")
+hostile("forged", 100, trapped(2, 28, 2, 5), "clc ct0, 0(cgp)", "clw a0, 0(ct0)")
+hostile("smuggled", 100, trapped(3, 28, 2, 5), "csc csp, 0(cgp)", "clc ct0, 0(cgp)", "clw a0, 0(ct0)")
+hostile("high_word", 100, trapped(2, 28, 2, 5), "csethigh ct0, cgp, ca0", "clw a0, 0(ct0)")
+hostile("wider_bounds", 100, trapped(2, 28, 2, 5), "csetboundsimm ct0, cgp, 32", "clw a0, 0(ct0)")
+hostile("jump_to_data", 100, trapped(1, 28, 17, 3), "cjr cgp")
+hostile("not_aligned", 100, trapped(1, 4, 0, 0), "clw a0, 1(cgp)")
+hostile("store_to_code", 100, trapped(2, 28, 19, 5), "auipcc ct0, 0", "csw a0, 0(ct0)")
 for name, line, wanted in (("store_past", "csw a0, 16(ct0)", trapped(3, 28, 1, 5)),
                            ("load_of_stores", "clw a0, 0(ct0)", trapped(3, 28, 18, 5))):
-    run(name, filed(name, ["main: cimport ct0, uart", line]), 3, 100, *wanted)
+    run(name, filed(name, ["main: cimport ct0, uart", line]), 100, *wanted)
 sealed = filed("sealed_export", ["main: cimport ct0, self", "cjr ct0"])
 sealed["compartments"][0]["imports"] = [{"as": "self", "call": "app.main"}]
-run("sealed_export", sealed, 3, 100, *trapped(3, 28, 3, 5))
-run("words_of_li", filed("words_of_li", ["main: li a0, 4096", "li a1, 4294967295", "cret"]), 4, 100, ended("finished", 5))
-case("mnemonic", ["audit", "{}"], json.dumps(filed("mnemonic", ["main: nop", "frob a0"])), "refused 5 assembly A2 app 2\n")
+run("sealed_export", sealed, 100, *trapped(3, 28, 3, 5))
+run("words_of_li", filed("words_of_li", ["main: li a0, 4096", "li a1, 4294967295", "cret"]), 100, ended("finished", 5))
+case("mnemonic", ["audit", "{}"], json.dumps(filed("mnemonic", ["main: nop", "frob a0"])),
+     "refused 5 assembly A2 app 2\n")
 case("undeclared", ["image", "{}"], json.dumps(filed("undeclared", ["main: cimport ct0, nosuch"])),
      "refused 6 link L3 app 1\n")
 case("no_source", ["audit", "{}"], json.dumps(dict(TINY, compartments=[dict(TINY["compartments"][0],
@@ -178,7 +106,8 @@ for missing in range(3):
     firmware = copy.deepcopy(BOARD)
     for at, owner in enumerate(firmware["compartments"] + firmware["libraries"]):
         name = f"file_{missing}_{at}"
-        owner["code"] = source(name + ".s", ["put: cret", "main: cret", "digit: cret"]) if at < missing else {"file": name}
+        here = at < missing
+        owner["code"] = source(name + ".s", ["put: cret", "main: cret", "digit: cret"]) if here else {"file": name}
     case(f"missing_{missing}", ["audit", "{}"], json.dumps(firmware), f"refused 2 read file_{missing}_{missing}\n")
 
 # ---- descriptions that are refused
@@ -222,10 +151,10 @@ for name, rights, ends, wanted in (("shared", "RWC", ("a", "b"), "path a b"), ("
 
 # ---- images
 
-BYTES = image(TINY, b"".join(int(word, 16).to_bytes(4, "little") for word in TINY["compartments"][0]["code"]["words"]))
+BYTES = image(TINY)
 assert len(BYTES) == 412
 case("image", ["image", "{}"], json.dumps(TINY), BYTES)
-case("runimage", ["runimage", "{}", "100"], BYTES, lines(report(TINY, 5), STORE, ended("finished", 6, devices=1)))
+case("runimage", ["runimage", "{}", "100"], BYTES, lines(report(TINY), STORE, ended("finished", 6, devices=1)))
 
 
 def altered(name, data, wanted):

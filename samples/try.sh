@@ -1,8 +1,9 @@
 #!/bin/bash
 # Runs every sample through the program, unproved, and compares what it writes with what stands beside
-# the sample: report.json (audit), run.txt after it (run, at most 100 steps), and each line of why.txt
+# the sample: report.json (audit), run.txt after it (run, at most 200 steps), and each line of why.txt
 # (an owner, a compartment, and what why writes of them). The kit builds the program once for all of
-# them, in about a minute. The worked rows of rows.py are run with them.
+# them, in about a minute. The worked rows are run with them: rows.py (commands, sources, images),
+# calls.py (calls between compartments), threads.py (turns and services).
 here=$(cd "$(dirname "$0")" && pwd) || exit 1
 cases=$(mktemp -d) || exit 1
 trap 'rm -rf "$cases" "$cases"-*' EXIT
@@ -19,7 +20,7 @@ expect() {
 for report in "$here"/*/report.json; do
     folder=$(dirname "$report")
     expect "$folder" audit "$(cat "$report")" audit {}
-    expect "$folder" run "$(cat "$report" "$folder/run.txt")" run {} 100
+    expect "$folder" run "$(cat "$report" "$folder/run.txt")" run {} 200
     while read -r owner compartment answer; do
         expect "$folder" "why-$owner-$compartment" "$answer" why {} "$owner" "$compartment"
     done < <([ ! -f "$folder/why.txt" ] || cat "$folder/why.txt")
@@ -27,8 +28,10 @@ for report in "$here"/*/report.json; do
         [ ! -f "$source" ] || sources+=(--data "${source##*/}=$source")
     done
 done
-rows=$(python3 "$here/rows.py" "$cases") || exit 1
-while IFS= read -r row; do
-    sources+=(--data "$row")
-done <<< "$rows"
+for table in rows calls threads; do
+    rows=$(python3 "$here/$table.py" "$cases") || exit 1
+    while IFS= read -r row; do
+        sources+=(--data "$row")
+    done <<< "$rows"
+done
 cd "$here/../crates/ct_main" && rt try "${sources[@]}" --cases "$cases"

@@ -1,0 +1,192 @@
+#!/usr/bin/env python3
+"""Compares runs of random firmware with those of the plain machine in samples/model.
+
+    compare_machine.py COUNT SEED [STEPS]
+
+writes COUNT cases and runs them through the program by `rt try --cases`, which proves nothing; the kit says of each
+case whether it wrote what the plain machine writes. Two compartments that call one another, a library, a shared word,
+three devices and up to five threads; code is random statements, most of which go on.
+"""
+import os
+import random
+import subprocess
+import sys
+import tempfile
+
+HERE = os.path.dirname(os.path.abspath(__file__))
+COUNT, SEED = int(sys.argv[1]), int(sys.argv[2])
+STEPS = int(sys.argv[3]) if len(sys.argv) > 3 else 400
+OUT = tempfile.mkdtemp()
+sys.argv = [sys.argv[0], OUT]
+sys.path.insert(0, os.path.join(HERE, "..", "samples"))
+sys.dont_write_bytecode = True
+from cases import case, compartment, image, lines, modelled, report, source  # noqa: E402
+import json  # noqa: E402
+
+REGISTERS = ["ra", "sp", "gp", "tp", "t0", "t1", "t2", "s0", "s1", "a0", "a1", "a2", "a3", "a4", "a5"]
+PLAIN = ["tp", "t0", "t1", "a0", "a1", "a2", "a3", "a4", "a5"]
+INTEGER = ["add", "sub", "sll", "slt", "sltu", "xor", "srl", "sra", "or", "and", "mul", "mulh", "mulhsu", "mulhu",
+           "div", "divu", "rem", "remu"]
+BRANCHES = ["beq", "bne", "blt", "bge", "bltu", "bgeu"]
+LOOKS = ["cgetperm", "cgettype", "cgetbase", "cgetlen", "cgettag", "crrl", "cram", "cgetaddr", "cgethigh", "cgettop"]
+MAKES = ["csetbounds", "csetboundsexact", "cseal", "cunseal", "candperm", "csetaddr", "cincaddr", "csub", "csethigh",
+         "ctestsubset", "csetequalexact"]
+SERVICES = ["yield", "sleep", "wait", "wake"]
+DEVICES = [("uart0", "uart"), ("pins", "gpio"), ("clock", "timer")]
+
+
+class Code:
+    """Random statements of one owner, over the names of its slots."""
+
+    def __init__(self, rng, slots, gates, labels):
+        self.rng, self.slots, self.gates, self.labels = rng, slots, gates, labels
+
+    def number(self):
+        near, far = self.rng.randrange(-2048, 2048), self.rng.randrange(2 ** 32)
+        return self.rng.choice([0, 1, 2, 3, 4, 8, 16, -1, -4, -8, -16, near, near, far])
+
+    def small(self):
+        return self.rng.choice([0, 0, 0, 4, 8, -4, -8, -16, 1, 2, 12, self.rng.randrange(-64, 64)])
+
+    def register(self):
+        return self.rng.choice(PLAIN if self.rng.random() < 0.85 else REGISTERS)
+
+    def shown(self):
+        """A register's word at the port, so that it is told; or what a device reads."""
+        if self.rng.random() < 0.2:
+            at = self.rng.choice([0, 0, 4, 4, 8, 2])
+            return [f"cimport ct0, {self.rng.choice(['pins', 'clock'])}",
+                    f"{self.rng.choice(['lw', 'lw', 'lhu', 'clc', 'sw', 'csc'])} {self.register()}, {at}(ct0)"]
+        return ["cimport ct0, uart0", f"csw {self.rng.choice(REGISTERS)}, 0(ct0)"]
+
+    def called(self):
+        return [f"cimport ct1, {self.rng.choice(self.gates)}", "cimport ct2, switch", "cjalr cra, ct2"]
+
+    def served(self):
+        rng, name = self.rng, self.rng.choice(SERVICES)
+        word = rng.choice([["cmove ca0, cgp"], ["cimport ca0, box"], [f"cincaddrimm ca0, cgp, {self.small()}"], []])
+        value = [f"li a1, {rng.choice([0, 0, 0, 1, 2, -1])}"] if rng.random() < 0.8 else []
+        return (word if name != "sleep" else [f"li a0, {rng.randrange(4)}"]) + value + [
+            f"cimport ct2, {name}", rng.choice(["cjalr cra, ct2"] * 5 + ["cjr ct2", "cjalr ct0, ct2"])]
+
+    def accessed(self):
+        rng = self.rng
+        through = rng.choice(["cgp", "csp", "cgp", "csp", f"c{self.register()}"])
+        within, below = rng.choice([0, 0, 8, 4, 12, -8, -16, self.small()]), self.small() - 16 * rng.randrange(3)
+        at = within if through == "cgp" else below
+        op = rng.choice(["clw", "csw", "clc", "csc", "csc", "clc", "lb", "lbu", "lh", "lhu", "sb", "sh"])
+        return [f"{op} {self.register()}, {at}({through})"]
+
+    def made(self):
+        rng, to = self.rng, self.register()
+        return [rng.choice([
+            f"{rng.choice(MAKES)} {to}, {rng.choice(REGISTERS)}, {rng.choice(REGISTERS)}",
+            f"cincaddrimm {to}, {rng.choice(REGISTERS)}, {self.small()}",
+            f"csetboundsimm {to}, {rng.choice(REGISTERS)}, {rng.choice([0, 4, 8, 16, 32, rng.randrange(4096)])}",
+            f"cmove {to}, {rng.choice(REGISTERS)}", f"ccleartag {to}, {rng.choice(REGISTERS)}",
+            f"{rng.choice(LOOKS)} {to}, {rng.choice(REGISTERS)}", f"auipcc {to}, {rng.randrange(-2, 2)}",
+            f"auicgp {to}, {rng.randrange(-2, 2)}"])]
+
+    def counted(self):
+        rng, to = self.rng, self.register()
+        return [rng.choice([
+            f"{rng.choice(INTEGER)} {to}, {rng.choice(REGISTERS)}, {rng.choice(REGISTERS)}",
+            f"{rng.choice(['addi', 'slti', 'sltiu', 'xori', 'ori', 'andi'])} {to}, {rng.choice(REGISTERS)}, "
+            f"{rng.randrange(-2048, 2048)}",
+            f"{rng.choice(['slli', 'srli', 'srai'])} {to}, {rng.choice(REGISTERS)}, {rng.randrange(32)}",
+            f"li {to}, {self.number()}", f"lui {to}, {rng.randrange(-524288, 524288)}"])]
+
+    def turned(self):
+        rng = self.rng
+        where = rng.choice(self.labels)
+        return [rng.choice([
+            f"{rng.choice(BRANCHES)} {rng.choice(REGISTERS)}, {rng.choice(REGISTERS)}, {rng.choice([8, 12, 16])}",
+            f"jal {rng.choice(['ct0', 'cra', 'ct1'])}, {where}", "cret", "cmove cra, cs0",
+            f"cjr c{self.register()}", f"cjalr cra, c{self.register()}", "fence", "ebreak", "ecall",
+            "cimport ct2, crit\ncjalr cra, ct2"])]
+
+    def statement(self):
+        rng = self.rng
+        kind = rng.choices([self.shown, self.called, self.served, self.accessed, self.made, self.counted, self.turned,
+                            lambda: [f"cimport c{self.register()}, {rng.choice(self.slots)}"]],
+                           [3, 2, 3, 3, 4, 2, 1, 2])[0]
+        return [part for line in kind() for part in line.split("\n")]
+
+
+def text_of(rng, slots, gates, exports):
+    """Code with a few statements at each export, which ends by its way back."""
+    code, out = Code(rng, slots, gates, exports), []
+    for export in exports:
+        out += [f"{export}:", "cmove cs0, cra"]
+        if rng.random() < 0.7:
+            out.append(f"cincaddrimm csp, csp, {-16 * rng.randrange(4)}")
+        for _ in range(rng.randrange(4, 16)):
+            out += code.statement()
+        out += ["cmove cra, cs0", "cret"]
+    return out
+
+
+def exports_of(rng, names):
+    return [{"name": name, "at": name, "args": rng.randrange(7), "stack": rng.choice([0, 0, 16, 100, 300]),
+             "posture": rng.choice(["enabled", "enabled", "disabled"]), "passes": rng.choice(["data", "capabilities"])}
+            for name in names]
+
+
+def firmware(rng, name):
+    devices = [{"name": device, "kind": kind, "base": 0x10000000 + 16 * n} for n, (device, kind) in enumerate(DEVICES)]
+    owners = []
+    for own, other in (("a", "b"), ("b", "a")):
+        names = [f"{own}{n}" for n in range(rng.randrange(1, 4))]
+        owners.append((own, other, names))
+    out = []
+    for n, (own, other, names) in enumerate(owners):
+        gates = [f"{which}.{export}" for which, export in
+                 [(other, rng.choice(owners[1 - n][2])), (other, owners[1 - n][2][0]), (own, names[0])]]
+        imports = [{"as": f"g{k}", "call": gate} for k, gate in enumerate(gates)]
+        imports += [{"as": service, "service": service} for service in SERVICES]
+        rights = {"uart0": ["W"], "pins": ["R", "W", "RW"], "clock": ["R", "W", "RW"]}
+        imports += [{"as": device, "device": device, "rights": rng.choice(rights[device])} for device, _ in DEVICES]
+        imports += [{"as": "box", "shared": "box", "rights": rng.choice(["R", "RW", "RWC", "RC", "W"])},
+                    {"as": "secret", "sealed": "secret"}, {"as": "crit", "library": "guard.crit"}]
+        slots = ["switch", "q", "key13"] + [row["as"] for row in imports]
+        code = text_of(rng, slots, [row["as"] for row in imports[:3]], names) + [".data"] + [
+            f".word {rng.randrange(2 ** 32)}" for _ in range(rng.randrange(5))]
+        out.append(compartment(own, imports, exports_of(rng, names), *code, globals=rng.choice([0, 16, 40, 64]),
+                               quotas=[{"name": "q", "limit": 64}], keys=[13]))
+    threads = [{"name": f"t{n}", "entry": f"{own}.{rng.choice(names)}", "priority": rng.randrange(3),
+                "stack": rng.choice([256, 256, 512, 1008]), "frames": rng.randrange(1, 6)}
+               for n, (own, _, names) in enumerate(rng.choice(owners) for _ in range(rng.randrange(1, 6)))]
+    guard = {"name": "guard", "code": {"lines": ["crit: jal ct0, 4", rng.choice(["nop", "addi a0, a0, 1"]), "cret"]},
+             "exports": [{"name": "crit", "at": "crit", "posture": rng.choice(["inherit", "enabled", "disabled"])}]}
+    whole = {"firmware": name, "ram": {"base": 0x80000000, "size": 32768}, "quantum": rng.choice([1, 3, 7, 20, 100]),
+             "devices": devices, "shared": [{"name": "box", "size": 16}],
+             "sealed": [{"name": "secret", "type": 13, "bytes": "00"}], "compartments": out, "libraries": [guard],
+             "threads": threads}
+    for owner in out + [guard]:
+        owner["code"] = source(f"{name}_{owner['name']}.s", owner["code"]["lines"])
+    return whole
+
+
+def main():
+    rng, total = random.Random(SEED), {}
+    options = []
+    stdout, sys.stdout = sys.stdout, open(os.path.join(OUT + "-list"), "w")
+    for n in range(COUNT):
+        whole = firmware(rng, f"r{n}")
+        found = modelled(image(whole), STEPS)
+        for line in found:
+            word = line.split()[1]
+            total[word] = total.get(word, 0) + 1
+        case(f"r{n}", ["run", "{}", str(STEPS)], json.dumps(whole), lines(report(whole), *found))
+    sys.stdout.close()
+    sys.stdout = stdout
+    with open(OUT + "-list") as file:
+        for line in file:
+            options += ["--data", line.strip()]
+    print(OUT, total)
+    done = subprocess.run(["rt", "try", "--cases", OUT, *options], cwd=os.path.join(HERE, "..", "crates", "ct_main"))
+    sys.exit(done.returncode)
+
+
+if __name__ == "__main__":
+    main()

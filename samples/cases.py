@@ -1,0 +1,149 @@
+"""What the tables of worked rows share: a case of the program for each row, sources, images and runs.
+
+A table is run as TABLE.py OUT: it writes OUT/NAME, OUT/NAME.args and OUT/NAME.stdout for each row, and prints
+SOURCE=FILE for each source. What a row must write was worked out by hand. Images and reports are made by
+model/linker.py and the reference beside run_reports; the plain machine of model/machine.py must write of each run what
+its row says, so what the program's output is compared with was found twice. samples/try.sh runs the cases.
+"""
+import json
+import os
+import sys
+
+sys.dont_write_bytecode = True
+from model.linker import images, link, reports  # noqa: E402
+from model.machine import Machine  # noqa: E402
+
+HERE = os.path.dirname(os.path.abspath(__file__))
+OUT = sys.argv[1]
+SOURCES = {}
+
+
+def sample(name):
+    """The description of a sample."""
+    return json.loads(text_of(name, name + ".json"))
+
+
+def text_of(*path):
+    with open(os.path.join(HERE, *path)) as file:
+        return file.read()
+
+
+def case(name, words, data, wanted):
+    """One call of the program: its words, where {} stands for a file of this data, and what it must write."""
+    for path, content in ((name, data), (name + ".args", "\n".join(words) + "\n"), (name + ".stdout", wanted)):
+        with open(os.path.join(OUT, path), "wb") as file:
+            file.write(content if isinstance(content, bytes) else content.encode())
+
+
+def source(name, text):
+    """A source of these lines as code, and the option by which the kit hands it to the program."""
+    path = os.path.join(OUT, "..", os.path.basename(OUT) + "-" + name)
+    with open(path, "w") as file:
+        file.write("".join(line + "\n" for line in text))
+    print(f"{name}={os.path.abspath(path)}")
+    SOURCES[name] = text
+    return {"file": name}
+
+
+def lines(*all_lines):
+    return "".join(line + "\n" for line in all_lines)
+
+
+def ended(kind, steps, ticks=0, calls=0, devices=0, traps=0):
+    return f"end {kind} steps {steps} ticks {ticks} calls {calls} devices {devices} allocations 0 frees 0 traps {traps}"
+
+
+def image(firmware):
+    return link(firmware, SOURCES)
+
+
+def report(firmware):
+    return reports.report(image(firmware))[0]
+
+
+def modelled(data, limit):
+    """The lines of a run of an image by the plain machine."""
+    read = images.read(data)
+    return Machine(read).run(limit, read.quantum)
+
+
+def run(name, firmware, limit, *wanted):
+    found = modelled(image(firmware), limit)
+    assert found == list(wanted), "\n".join([name, "found:", *found, "wanted:", *wanted])
+    case(name, ["run", "{}", str(limit)], json.dumps(firmware), lines(report(firmware), *wanted))
+
+
+# The samples' runs, which samples/try.sh compares with the program's.
+for name in sorted(os.listdir(HERE)):
+    if os.path.exists(os.path.join(HERE, name, "run.txt")):
+        sources = {file: text_of(name, file).split("\n") for file in os.listdir(os.path.join(HERE, name))}
+        assert lines(*modelled(link(sample(name), sources), 200)) == text_of(name, "run.txt"), name
+
+
+# ---- firmware by a few words
+
+UART = {"as": "uart", "device": "uart0", "rights": "W"}
+DEVICES = [{"name": "uart0", "kind": "uart", "base": 0x10000000}]
+
+
+def gate(export):
+    """The import of `compartment.export`, by the export's name."""
+    return {"as": export.split(".")[1], "call": export}
+
+
+def service(name):
+    return {"as": name, "service": name}
+
+
+def served(name):
+    """The lines that call a service: four steps, the routine's own among them."""
+    return [f"cimport ct2, {name}", "cjalr cra, ct2"]
+
+
+def calls(name):
+    """The lines that call another compartment: six steps, the switcher's own among them."""
+    return [f"cimport ct1, {name}", *served("switch")]
+
+
+def export(name, **members):
+    return dict({"name": name, "at": name}, **members)
+
+
+def compartment(name, imports, exports, *text, **members):
+    """A compartment whose code is a file; an export is a name or a row, a line a text or a list of lines."""
+    flat = [line for part in text for line in ([part] if isinstance(part, str) else part)]
+    return dict({"name": name, "code": {"lines": flat}, "imports": imports,
+                 "exports": [export(row) if isinstance(row, str) else row for row in exports]}, **members)
+
+
+def thread(entry, name="t", priority=1, stack=256, frames=2):
+    return {"name": name, "entry": entry, "priority": priority, "stack": stack, "frames": frames}
+
+
+def row(name, compartments, threads, limit, *wanted, **members):
+    """A run of a firmware of this name, with a serial port, whose code stands in lines."""
+    whole = dict({"firmware": name, "ram": {"base": 0x80000000, "size": 16384}, "devices": DEVICES,
+                  "compartments": compartments, "threads": threads}, **members)
+    for owner in compartments + whole.get("libraries", []):
+        if "lines" in owner["code"]:
+            owner["code"] = source(f"{name}_{owner['name']}.s", owner["code"]["lines"])
+    run(name, whole, limit, *wanted)
+
+
+# ---- lines of a run
+
+def stored(step, thread, actor, entry, value):
+    """A word that was stored at the serial port."""
+    return f"{step} store t{thread} c{actor} e{entry} 10000000 4 {value % 2 ** 32:08x}"
+
+
+def called(step, thread, actor, entry, target):
+    return f"{step} call t{thread} c{actor} e{entry} e{target}"
+
+
+def trap(step, thread, actor, cause, code=0, register=0):
+    return f"{step} trap t{thread} c{actor} {cause} {code} {register}"
+
+
+def off(step, thread, actor, target):
+    return f"{step} off t{thread} c{actor} e{target}"
