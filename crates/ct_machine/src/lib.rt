@@ -15,4 +15,6 @@ pub use def_step::Event;
 pub use machine::Machine;
 
 #[cfg(test)]
+mod routine_tests;
+#[cfg(test)]
 mod tests;

@@ -24,7 +24,7 @@ const SERVICE: u8 = 40;
 const LIBRARY: u8 = 43;
 
 /// The bytes of words, each low byte first.
-fn text_of(alloc: Global, words: &[u32]) -> Result<Vec<u8>, AllocError> {
+pub(crate) fn text_of(alloc: Global, words: &[u32]) -> Result<Vec<u8>, AllocError> {
     let mut text = Vec::new(alloc);
     for word in words.iter() {
         text.extend_from_slice(&word.to_le_bytes())?;
@@ -33,7 +33,12 @@ fn text_of(alloc: Global, words: &[u32]) -> Result<Vec<u8>, AllocError> {
 }
 
 /// A slot by its row and its name; what it names has index 0.
-fn slot(alloc: Global, kind: SlotKind, rights: u8, name: &str) -> Result<Slot, AllocError> {
+pub(crate) fn slot(
+    alloc: Global,
+    kind: SlotKind,
+    rights: u8,
+    name: &str,
+) -> Result<Slot, AllocError> {
     let row = ImportRow {
         kind,
         rights,
@@ -45,7 +50,7 @@ fn slot(alloc: Global, kind: SlotKind, rights: u8, name: &str) -> Result<Slot, A
 }
 
 /// An export whose code is the first word of the text.
-fn export(
+pub(crate) fn export(
     alloc: Global,
     name: &str,
     args: u8,
@@ -66,7 +71,7 @@ fn export(
 
 /// The compartment: its code at the begin of RAM with the switch and this slot before the text, its
 /// export table at 0x80000030 and its globals at 0x80000050. Its export is entry 5.
-fn app(
+pub(crate) fn app(
     alloc: Global,
     import: Slot,
     posture: Mode,
@@ -91,7 +96,7 @@ fn app(
 }
 
 /// The thread, which enters the compartment's export.
-fn thread(alloc: Global) -> Result<Thread, AllocError> {
+pub(crate) fn thread(alloc: Global) -> Result<Thread, AllocError> {
     Ok(Thread {
         name: String::from_str(alloc, "t")?,
         stack: 0x8000_0070,
@@ -104,7 +109,7 @@ fn thread(alloc: Global) -> Result<Thread, AllocError> {
 }
 
 /// An image of 4,096 bytes of RAM with this device, compartment and libraries.
-fn image_of(
+pub(crate) fn image_of(
     alloc: Global,
     kind: DeviceKind,
     app: Compartment,
@@ -201,7 +206,7 @@ struct Expected<'a> {
 }
 
 /// The image of these parts, written and accepted.
-fn accepted(rt: &impl Abort, alloc: Global, parts: &Parts) -> Result<Image, NoMemory> {
+pub(crate) fn accepted(rt: &impl Abort, alloc: Global, parts: &Parts) -> Result<Image, NoMemory> {
     let bytes = written(alloc, parts)?;
     assert!(rt; bytes.len() < 4096);
     match accept(alloc, bytes.as_slice()) {
@@ -213,6 +218,12 @@ fn accepted(rt: &impl Abort, alloc: Global, parts: &Parts) -> Result<Image, NoMe
     }
 }
 
+/// The image's machine.
+pub(crate) fn start(alloc: Global, image: &Image) -> Result<Machine<Plain>, NoMemory> {
+    let mem = Plain::new(alloc, image.parts().size)?;
+    Machine::start(alloc, image, mem)
+}
+
 /// Starts the image and gives it its steps; each must tell what is told of it. Where it is to end, it
 /// ends with the last step.
 fn run_image(
@@ -221,8 +232,7 @@ fn run_image(
     image: &Image,
     expected: &Expected<'_>,
 ) -> Result<Totals, NoMemory> {
-    let mem = Plain::new(alloc, image.parts().size)?;
-    let mut machine = Machine::start(alloc, image, mem)?;
+    let mut machine = start(alloc, image)?;
     for step in 0..expected.steps {
         assert_eq!(rt; machine.ended(), None);
         assert!(rt; machine.lawful(Event::Step));
@@ -669,8 +679,7 @@ fn turn_deed(step: u32) -> Option<Deed> {
 
 /// Gives an image twelve steps and a tick after each third but the last.
 fn run_turns(rt: &impl Abort, alloc: Global, image: &Image) -> Result<Totals, NoMemory> {
-    let mem = Plain::new(alloc, image.parts().size)?;
-    let mut machine = Machine::start(alloc, image, mem)?;
+    let mut machine = start(alloc, image)?;
     for step in 1..13 {
         assert_eq!(rt; machine.ended(), None);
         assert!(rt; machine.lawful(Event::Step));
