@@ -182,3 +182,15 @@ altered("offset", put(288, 20), "I3 288")
 altered("entry", put(300, 4), "I3 300")
 altered("compartment", put(396, 1), "I5 396")
 altered("export", put(400, 1), "I5 396")
+
+# ---- images in the last version of the format
+
+UPGRADED = BYTES[:4] + bytes([2, 0, 0, 0]) + BYTES[8:52] + bytes([64, 0, 0, 0]) + BYTES[52:]
+assert len(UPGRADED) == 416
+case("upgrade", ["upgrade", "{}"], BYTES, UPGRADED)
+case("upgrade_again", ["upgrade", "{}"], UPGRADED, UPGRADED)
+case("upgrade_cut", ["upgrade", "{}"], BYTES[:411], "refused 7 image I2 411\n")
+case("upgrade_no_file", ["upgrade", "nosuch.image"], "", "refused 2 read nosuch.image\n")
+case("runimage_upgraded", ["runimage", "{}", "100"], UPGRADED, lines(report(TINY, 5), STORE, ended("finished", 6, devices=1)))
+altered("no_sweep", UPGRADED[:52] + bytes(4) + UPGRADED[56:], "I3 52")
+altered("upgraded_globals", UPGRADED[:176] + UPGRADED[172:176] + UPGRADED[180:], "I4 176")

@@ -2,6 +2,7 @@
 
 ghost use Rattle.std.specs.Prelude.{◌≡◌, ◌≤◌, ℕ, List, IfOk, option_map, string_bytes};
 ghost use Rattle.def_boot.specs.Boot.{booted_machine};
+ghost use Rattle.def_image.specs.Parts.{upgraded};
 ghost use Rattle.def_image.specs.Spelling.{image_bytes};
 ghost use Rattle.def_lines.specs.Report.{report_line};
 ghost use Rattle.def_profile.specs.declared.limits.TheConstants.{MOST_STEPS};
@@ -52,6 +53,17 @@ fn write_image<S: Sink>(alloc: Global, image: &Image, sink: &mut S) -> Status
 {
     match ct_image::write(alloc, image) {
         Ok(bytes) => close(bytes.as_slice(), Status::Done, sink),
+        Err(_) => Status::NoMemory,
+    }
+}
+
+/// Writes the bytes of an image in the last version of the format, with its sweep rate.
+fn upgrade<S: Sink>(alloc: Global, image: &Image, sink: &mut S) -> Status
+    ensures { IsDone (S.bytes sink.old) (S.bytes sink.new) (S.faults sink.old)
+        (S.faults sink.new) (image_bytes (upgraded image.now)) result }
+{
+    match image.copy(alloc) {
+        Ok(copy) => write_image(alloc, &copy.upgraded(), sink),
         Err(_) => Status::NoMemory,
     }
 }
@@ -140,5 +152,6 @@ pub fn finish<S: Sink>(alloc: Global, task: Task, image: &Image, sink: &mut S) -
         Task::Run { limit } => run(alloc, image, limit, sink),
         Task::RunImage { limit } => run(alloc, image, limit, sink),
         Task::Why { owner, compartment } => why(alloc, image, owner, compartment, sink),
+        Task::Upgrade => upgrade(alloc, image, sink),
     }
 }

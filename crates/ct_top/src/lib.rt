@@ -30,7 +30,9 @@ use std::alloc::Global;
 ///   and the summary;
 /// - `runimage IMAGE LIMIT` does the same with the image in the file IMAGE;
 /// - `why DESC OWNER COMPARTMENT` writes how a compartment or a library of the description reaches a
-///   compartment.
+///   compartment;
+/// - `upgrade IMAGE` writes the image in the file IMAGE in the last version of the format, with its sweep
+///   rate.
 ///
 /// The clauses:
 ///

@@ -29,6 +29,8 @@ pub enum Task<'a> {
         owner: &'a str,
         compartment: &'a str,
     },
+    /// An image is written in the last version of the format.
+    Upgrade,
 }
 
 impl<'a> Task<'a> {
@@ -37,7 +39,7 @@ impl<'a> Task<'a> {
         ensures { (name : List ℕ) → result ≡ spec.reads_image (command_for name self.entry) }
     {
         match self {
-            Task::RunImage { .. } => true,
+            Task::RunImage { .. } | Task::Upgrade => true,
             _ => false,
         }
     }
@@ -109,7 +111,7 @@ pub fn form_of<'a>(words: &'a [String]) -> Option<Form<'a>>
     }
 }
 
-/// `audit DESC`, `image DESC`.
+/// `audit DESC`, `image DESC`, `upgrade IMAGE`.
 fn of_one<'a>(word: &str, name: &'a str) -> Option<Form<'a>>
     ensures short { IfSome result (λ f. IsShort f.task) }
     ensures command { option_map command_of result ≡ spec.of_one word.now name.now }
@@ -120,6 +122,10 @@ fn of_one<'a>(word: &str, name: &'a str) -> Option<Form<'a>>
     }
     if word == "image" {
         let task = Task::Image;
+        return Some(Form { name, task });
+    }
+    if word == "upgrade" {
+        let task = Task::Upgrade;
         return Some(Form { name, task });
     }
     None

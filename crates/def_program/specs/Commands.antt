@@ -10,6 +10,7 @@ pub data Command : Type 0 where
   Run : List ℕ → ℕ → Command
   RunImage : List ℕ → ℕ → Command
   Why : List ℕ → List ℕ → List ℕ → Command
+  Upgrade : List ℕ → Command
 
 -- ---- a limit: decimal digits without sign or leading zero, of 1 to 4,000,000,000
 
@@ -30,11 +31,12 @@ limit_of (c ∷ cs) = if is_limit c cs then Some (value_of (c ∷ cs)) else None
 
 -- ---- forms
 
--- `audit DESC`, `image DESC`
+-- `audit DESC`, `image DESC`, `upgrade IMAGE`
 abbrev pub of_one : List ℕ → List ℕ → Option Command
 of_one word name =
     if bytes_eq word (codes "audit") then Some (Audit name)
-    else if bytes_eq word (codes "image") then Some (Image name) else None
+    else if bytes_eq word (codes "image") then Some (Image name)
+    else if bytes_eq word (codes "upgrade") then Some (Upgrade name) else None
 
 -- `run DESC LIMIT`, `runimage IMAGE LIMIT`
 abbrev pub of_two : List ℕ → List ℕ → List ℕ → Option Command
@@ -63,8 +65,10 @@ file_of (Image name) = name
 file_of (Run name limit) = name
 file_of (RunImage name limit) = name
 file_of (Why name owner compartment) = name
+file_of (Upgrade name) = name
 
 -- whether that file is an image; else it is a description
 abbrev pub reads_image : Command → Bool
 reads_image (RunImage name limit) = true
+reads_image (Upgrade name) = true
 reads_image _ = false

@@ -1,7 +1,7 @@
 -- The dialogue: what is due after the files that were read so far.
 use Rattle.std.specs.Prelude.{ℕ, ◌≡◌, ◌⊎◌, List, [], ◌∷◌, ◌++◌, length, Bool, true, false, Option, Some, None, Result, Ok, Err, map, slice_get}
 use Rattle.ct_entry.specs.declared.rows.Owner.{Owner}
-use Rattle.def_image.specs.Parts.{PartsRow}
+use Rattle.def_image.specs.Parts.{PartsRow, upgraded}
 use Rattle.def_image.specs.Accepted.{IsImage, FaultAt}
 use Rattle.def_image.specs.Spelling.{image_bytes}
 use Rattle.def_description.specs.declared.faults.Fault.{Fault}
@@ -12,7 +12,7 @@ use Rattle.def_link.specs.Linked.{linked}
 use Rattle.def_lines.specs.Report.{report_line}
 use Rattle.def_program.specs.declared.Status.{Status}
 use Rattle.def_program.specs.declared.Status.TheVariants as status
-use Rattle.def_program.specs.Commands.{Command, Audit, Image, Run, RunImage, Why, file_of, reads_image}
+use Rattle.def_program.specs.Commands.{Command, Audit, Image, Run, RunImage, Why, Upgrade, file_of, reads_image}
 use Rattle.def_program.specs.Lines.{description_line, link_status, link_text, image_line, name_line}
 use Rattle.def_program.specs.Runs.{run_text}
 use Rattle.def_program.specs.Paths.{IsWhyLine, owner_named, compartment_named}
@@ -55,6 +55,7 @@ OfParts (Run name limit) p turn = turn ≡ Ends status.Done (run_text p limit)
 OfParts (RunImage name limit) p turn = turn ≡ Ends status.Done (run_text p limit)
 OfParts (Why name owner compartment) p turn =
     Looked p (owner_named p owner) (compartment_named p compartment) turn
+OfParts (Upgrade name) p turn = turn ≡ Ends status.Done (image_bytes (upgraded p))
 
 -- ---- descriptions
 

@@ -3,7 +3,7 @@ use Rattle.std.proofs.Common.{ℕ, ◌≡◌, ◌≢◌, ◌^◌, ◌<◌, inl, 
 use Rattle.ct_entry.specs.declared.rows.Owner.{Owner}
 use Rattle.ct_entry.specs.declared.rows.Owner.TheVariants.{Trusted, Compartment, Library}
 use Rattle.def_image.specs.Accepted.{IsFaultless}
-use Rattle.def_image.specs.Parts.{PartsRow}
+use Rattle.def_image.specs.Parts.{PartsRow, upgraded}
 use Rattle.def_image.specs.Spelling.{image_bytes}
 use Rattle.def_boot.specs.Gates.{entries_of}
 use Rattle.def_description.specs.Rows.{DescRow}
@@ -12,7 +12,7 @@ use Rattle.def_link.specs.declared.LinkFault.{LinkFault}
 use Rattle.def_link.specs.Linked.{linked}
 use Rattle.def_lines.specs.Report.{report_line}
 use Rattle.def_program.specs.declared.Status.TheVariants as status
-use Rattle.def_program.specs.Commands.{Command, Audit, Image, Run, RunImage, Why, file_of, reads_image}
+use Rattle.def_program.specs.Commands.{Command, Audit, Image, Run, RunImage, Why, Upgrade, file_of, reads_image}
 use Rattle.def_program.specs.Lines.{description_line, link_status, link_text, image_line, name_line}
 use Rattle.def_program.specs.Paths.{IsWhyLine, none_line, path_line, or_library, compartment_named, library_named}
 use Rattle.def_program.specs.Runs.{run_text}
@@ -69,6 +69,7 @@ of_parts (Image name) p f = (Ends status.Done (image_bytes p), refl)
 of_parts (Run name limit) p f = (Ends status.Done (run_text p limit), refl)
 of_parts (RunImage name limit) p f = (Ends status.Done (run_text p limit), refl)
 of_parts (Why name owner compartment) p f = looked p f (compartment_named p owner) (library_named p owner) (compartment_named p compartment)
+of_parts (Upgrade name) p f = (Ends status.Done (image_bytes (upgraded p)), refl)
 
 -- ---- of descriptions
 

@@ -11,7 +11,7 @@ use Rattle.def_link.specs.declared.LinkFault.{LinkFault}
 use Rattle.def_link.specs.Linked.{linked}
 use Rattle.def_program.specs.declared.Status.{Status}
 use Rattle.def_program.specs.declared.Status.TheVariants as status
-use Rattle.def_program.specs.Commands.{Command, Audit, Image, Run, RunImage, Why, form_of, file_of, reads_image}
+use Rattle.def_program.specs.Commands.{Command, Audit, Image, Run, RunImage, Why, Upgrade, form_of, file_of, reads_image}
 use Rattle.def_program.specs.Ends as ends
 use Rattle.def_program.specs.Ends.{Holds, IsLarge, most}
 use Rattle.def_program.specs.Licences.{LinksTo}
@@ -68,6 +68,7 @@ parts_end (Image name) p s text h = let same = h in cc
 parts_end (Run name limit) p s text h = let same = h in cc
 parts_end (RunImage name limit) p s text h = let same = h in cc
 parts_end (Why name owner compartment) p s text h = looked_ends p (owner_named p owner) (compartment_named p compartment) s text h
+parts_end (Upgrade name) p s text h = let same = h in cc
 
 -- no file is due of parts
 looked_asks : (p : PartsRow) (o : Option Owner) (c : Option ℕ) (name : List ℕ) → Looked p o c (Asks name) → ⊥
@@ -81,6 +82,7 @@ parts_ask (Image file) p name h = absurd (let clash = h in cc)
 parts_ask (Run file limit) p name h = absurd (let clash = h in cc)
 parts_ask (RunImage file limit) p name h = absurd (let clash = h in cc)
 parts_ask (Why file owner compartment) p name h = looked_asks p (owner_named p owner) (compartment_named p compartment) name h
+parts_ask (Upgrade file) p name h = absurd (let clash = h in cc)
 
 -- ---- what is due after files that stand for parts
 

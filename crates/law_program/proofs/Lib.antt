@@ -2,3 +2,4 @@ pub mod Sources
 pub mod Then
 pub mod Once
 pub mod Ending
+pub mod Upgraded

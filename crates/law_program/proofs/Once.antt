@@ -10,7 +10,7 @@ use Rattle.def_description.specs.Rows.{DescRow}
 use Rattle.def_link.specs.declared.LinkFault.{LinkFault}
 use Rattle.def_link.specs.Linked.{linked}
 use Rattle.def_program.specs.declared.Status.TheVariants as status
-use Rattle.def_program.specs.Commands.{Command, Audit, Image, Run, RunImage, Why, reads_image}
+use Rattle.def_program.specs.Commands.{Command, Audit, Image, Run, RunImage, Why, Upgrade, reads_image}
 use Rattle.def_program.specs.Lines.{description_line, image_line}
 use Rattle.def_program.specs.Paths.{IsWhyLine, path_line, owner_named, compartment_named}
 use Rattle.def_program.specs.Turns.{Turn, Ends, Looked, OfParts, OfLinked, OfSources, OfRows, OfDescription, OfImage, OfFirst, Follows, source_names}
@@ -78,6 +78,7 @@ of_parts (Image name) p s t a b = a ∙ sym b
 of_parts (Run name limit) p s t a b = a ∙ sym b
 of_parts (RunImage name limit) p s t a b = a ∙ sym b
 of_parts (Why name owner compartment) p s t a b = of_names p (owner_named p owner) (compartment_named p compartment) s t a b
+of_parts (Upgrade name) p s t a b = a ∙ sym b
 
 -- ---- of descriptions
 

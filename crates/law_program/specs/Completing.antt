@@ -1,12 +1,12 @@
 -- What follows from the answers: the status of a call whose files the folder tells, and the statuses
 -- that are left where no fault is counted.
-use Rattle.std.specs.Prelude.{◌≡◌, ◌≤◌, ◌⊎◌, ℕ, List, [], ◌∷◌, length, Bool, true, false, Option, Some, None, if◌then◌else◌}
+use Rattle.std.specs.Prelude.{◌≡◌, ◌≤◌, ◌⊎◌, ℕ, List, [], ◌∷◌, length, Bool, true, false, Option, Some, None}
 use Rattle.ct_entry.specs.declared.rows.Owner.{Owner}
 use Rattle.def_port.specs.Bytes.{Rose}
 use Rattle.def_port.specs.Told.{File}
 use Rattle.def_image.specs.Accepted.{IsImage}
 use Rattle.def_image.specs.Parts.{PartsRow}
-use Rattle.def_program.specs.Commands.{Command, Audit, Image, Run, RunImage, Why, form_of, file_of, reads_image}
+use Rattle.def_program.specs.Commands.{Command, Audit, Image, Run, RunImage, Why, Upgrade, form_of, file_of, reads_image}
 use Rattle.def_program.specs.Ends.{Ends, most}
 use Rattle.def_program.specs.Licences.{LinksTo}
 use Rattle.def_program.specs.Paths.{owner_named, compartment_named}
@@ -63,6 +63,7 @@ status_of (Run name limit) p = status.Done
 status_of (RunImage name limit) p = status.Done
 status_of (Why name owner compartment) p =
     looked_status (owner_named p owner) (compartment_named p compartment)
+status_of (Upgrade name) p = status.Done
 
 -- where no fault is counted, what is asked of files that stand for parts ends so, or wants memory
 abbrev pub Completes : Ends → Status → Type 0

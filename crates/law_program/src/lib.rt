@@ -11,7 +11,7 @@ mod turns;
 mod words;
 
 pub use answers::{answers_no_fault, completes, constant_counts_rise_not, misuse_is_usage};
-pub use dialogue::image_then_run;
+pub use dialogue::{image_then_run, upgrade_then_run};
 pub use samples::samples_are_told;
 pub use turns::one_turn;
 pub use words::{forms_of_words, refusal_lines, rounds};

@@ -5,7 +5,7 @@ ghost use Rattle.ct_entry.specs.declared.rows.Owner.TheVariants.{Compartment, Li
 ghost use Rattle.def_description.specs.declared.faults.PartWord.TheVariants as part;
 ghost use Rattle.def_link.specs.declared.LinkFault.TheVariants as fault;
 ghost use Rattle.def_step.specs.declared.Event.TheVariants.{Step, Sweep, Tick};
-ghost use Rattle.def_program.specs.Commands.{form_of, Audit, Image, Run, RunImage, Why};
+ghost use Rattle.def_program.specs.Commands.{form_of, Audit, Image, Run, RunImage, Why, Upgrade};
 ghost use Rattle.def_program.specs.Lines.{usage_line, read_line, large_line, description_line, link_text, image_line, name_line};
 ghost use Rattle.def_program.specs.Runs.{round};
 ghost use Rattle.law_description.specs.Samples.{at};
@@ -22,6 +22,8 @@ pub fn forms_of_words()
         ≡ Some (RunImage (codes "a.img") 4000000000) }
     ensures why { form_of (codes "why" ∷ codes "a.json" ∷ codes "hex" ∷ codes "app" ∷ [])
         ≡ Some (Why (codes "a.json") (codes "hex") (codes "app")) }
+    ensures upgrade { form_of (codes "upgrade" ∷ codes "a.img" ∷ [])
+        ≡ Some (Upgrade (codes "a.img")) }
     ensures no_steps { form_of (codes "run" ∷ codes "a.json" ∷ codes "0" ∷ []) ≡ None }
     ensures leading { form_of (codes "run" ∷ codes "a.json" ∷ codes "01" ∷ []) ≡ None }
     ensures past { form_of (codes "runimage" ∷ codes "a.img" ∷ codes "4000000001" ∷ []) ≡ None }

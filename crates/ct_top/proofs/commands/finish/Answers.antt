@@ -17,3 +17,6 @@ returns-in-RunImage g c = λ name. rw c.in-RunImage.is (is_done _ _ _ _ _ _ _ re
 
 pub returns-in-Why : goal.returns-in-Why
 returns-in-Why g c = λ name. rw c.in-Why.is (due_by _ _ _ _ _ _ _ (λ t due. due) c.why.ensures)
+
+pub returns-in-Upgrade : goal.returns-in-Upgrade
+returns-in-Upgrade g c = λ name. rw c.in-Upgrade.is (is_done _ _ _ _ _ _ _ refl c.upgrade.ensures)

@@ -4,7 +4,6 @@ use Rattle.ct_entry.specs.declared.rows.Owner.TheVariants.{Compartment}
 use Rattle.def_description.specs.Tables.{kind_of, posture_of, library_posture_of, passes_of, service_of}
 use Rattle.def_link.specs.declared.LinkFault.TheVariants as fault
 use Rattle.def_program.specs.Commands.{Audit, Image, Run}
-use Rattle.def_program.specs.declared.Status.TheVariants as status
 use Rattle.def_program.specs.Turns.{Asks, OfSources}
 use Rattle.law_images.specs.Tiny.{tiny}
 use Rattle.law_linked.specs.Samples.{tiny_rows, tiny_in, filed, tiny_source, unknown_mnemonic}
