@@ -44,8 +44,8 @@ use std::marker::Model;
 /// it; one without frames has ended. Offsets count bytes from RAM's begin. No method takes memory.
 #[derive(Drop)]
 pub struct Engine<M: Memory + Drop> {
-    mem: M,
-    rows: Rows,
+    pub(crate) mem: M,
+    pub(crate) rows: Rows,
 }
 
 impl<M: Memory + Drop> Model for Engine<M> {

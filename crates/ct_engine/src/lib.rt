@@ -11,6 +11,7 @@ mod calls;
 mod engine;
 mod fetching;
 mod frames;
+mod heaps;
 mod rows;
 mod starting;
 mod steps;

@@ -1,0 +1,70 @@
+-- A slice of a sweep over all that is seen: what stands at an offset of RAM passes the load filter where the slice has
+-- that offset. What a thread saved stands at the offset of its granule in the thread's area.
+use Rattle.std.specs.Prelude.{ℕ, ◌+◌, ◌-◌, ◌*◌, ◌&&◌, Bool, cond, nat_le, nat_lt, List, [], ◌∷◌, length, Option}
+use Rattle.def_profile.specs.declared.layout.TheConstants.{GRANULE, AREA_HEAD, FRAME_SIZE}
+use Rattle.def_words.specs.declared.Cap.{Cap}
+use Rattle.def_memory.specs.declared.Granule.{Granule}
+use Rattle.def_machine.specs.State.{Thread, Frame}
+use Rattle.def_machine.specs.Heap.{is_number}
+use Rattle.def_machine.specs.Memory.{filtered_in}
+use Rattle.ct_areas.specs.declared.thread.Area.{Area}
+use Rattle.ct_engine.specs.Seen.{Seen}
+
+-- what stands at an offset, after the slice from one offset to another
+abbrev pub passed : ℕ → List Granule → ℕ → ℕ → ℕ → Cap → Cap
+passed ram gs low high offset c =
+    cond (nat_le low offset && nat_lt offset high) (filtered_in ram gs c) c
+
+-- ---- of what stands at each offset this is kept
+
+abbrev pub kept_granules : (ℕ → Cap → Cap) → ℕ → List Granule → List Granule
+kept_granules keep offset [] = []
+kept_granules keep offset (g ∷ gs) =
+    record g { cap = keep offset g.cap } ∷ kept_granules keep (offset + GRANULE) gs
+
+-- a frame that begins at an offset
+abbrev pub kept_frame : (ℕ → Cap → Cap) → ℕ → Frame → Frame
+kept_frame keep at f = record f {
+  c1 = keep at f.c1;
+  c2 = keep (at + 8) f.c2;
+  c3 = keep (at + 16) f.c3;
+  c8 = keep (at + 24) f.c8;
+  c9 = keep (at + 32) f.c9;
+}
+
+-- the frames of an area that begins at an offset, the outermost first
+abbrev pub kept_frames : (ℕ → Cap → Cap) → ℕ → List Frame → List Frame
+kept_frames keep area [] = []
+kept_frames keep area (f ∷ fs) =
+    kept_frame keep (area + AREA_HEAD + FRAME_SIZE * length fs) f ∷ kept_frames keep area fs
+
+abbrev pub kept_registers : (ℕ → Cap → Cap) → ℕ → List Cap → List Cap
+kept_registers keep at [] = []
+kept_registers keep at (c ∷ cs) = keep at c ∷ kept_registers keep (at + GRANULE) cs
+
+-- while it runs its registers and its program counter capability stand nowhere in RAM
+abbrev pub kept_thread : (ℕ → Cap → Cap) → ℕ → Bool → Thread → Thread
+kept_thread keep area runs t = record t {
+  pcc = cond runs t.pcc (keep area t.pcc);
+  registers = cond runs t.registers (kept_registers keep area t.registers);
+  frames = kept_frames keep area t.frames;
+}
+
+-- the threads with their areas, of which the first has number n
+abbrev pub kept_threads : (ℕ → Cap → Cap) → ℕ → Option ℕ → ℕ → List Area → List Thread → List Thread
+kept_threads keep ram running n as [] = []
+kept_threads keep ram running n [] ts = ts
+kept_threads keep ram running n (a ∷ as) (t ∷ ts) =
+    kept_thread keep (a.trusted - ram) (is_number running n) t
+    ∷ kept_threads keep ram running (n + 1) as ts
+
+-- ---- all that is seen
+
+abbrev pub passes : Seen → ℕ → ℕ → ℕ → Cap → Cap
+passes s low high = passed s.region.ram s.granules low high
+
+abbrev pub sliced : Seen → ℕ → ℕ → Seen
+sliced s low high = record s {
+  granules = kept_granules (passes s low high) 0 s.granules;
+  threads = kept_threads (passes s low high) s.region.ram s.running 0 s.areas s.threads;
+}
