@@ -5,8 +5,8 @@ ghost use Rattle.std.specs.Prelude.{◌≡◌, IfOk, None};
 ghost use Rattle.ct_launch.specs.Placed.{AreFirst};
 
 use crate::launch;
-use ct_engine::Engine;
 use ct_entry::Mode;
+use ct_heaped::Engine;
 use ct_image::{Image, ImageFault, accept};
 use ct_mem::Plain;
 use ct_parts::{Code, Compartment, Export, Parts, Slot, Thread, written};
@@ -106,15 +106,15 @@ fn accepted(rt: &impl Abort, alloc: Global, parts: &Parts) -> Result<Image, NoMe
 
 /// An image launched into memory of its size.
 fn launched(alloc: Global, image: &Image) -> Result<Engine<Plain>, NoMemory>
-    ensures none { IfOk result (λ e. e.running ≡ None) }
-    ensures first { IfOk result (λ e. AreFirst e) }
+    ensures none { IfOk result (λ e. e.threads.running ≡ None) }
+    ensures first { IfOk result (λ e. AreFirst e.threads) }
 {
     let parts = image.parts();
     let mem = Plain::new(alloc, parts.size)?;
-    launch(alloc, image, mem)
+    launch(alloc, image, mem, &[0, 0, 0, 0, 0, 0, 0])
 }
 
-/// The second thread runs with its own stack, and calls once and no more.
+/// The second thread runs with its own stack.
 #[test]
 fn two_threads_start(rt: HostRuntime) -> Result<(), Fail> {
     let image = accepted(&rt, rt.alloc(), &pair(rt.alloc())?)?;
@@ -122,7 +122,5 @@ fn two_threads_start(rt: HostRuntime) -> Result<(), Fail> {
     assert_eq!(rt; engine.count(), 2);
     engine.pick(1);
     assert_eq!(rt; engine.register(1, 2).address(), 0x8000_0240);
-    assert_eq!(rt; engine.push(1, 0, 4, 0x8000_0200), true);
-    assert_eq!(rt; engine.push(1, 0, 4, 0x8000_01c0), false);
     Ok(())
 }

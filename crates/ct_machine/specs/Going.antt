@@ -49,6 +49,10 @@ clock_on s = record s {
   counts = record s.counts { ticks = s.counts.ticks + 1 };
 }
 
+-- a sweep counts before its slice
+abbrev pub one_more_sweep : State → State
+one_more_sweep s = record s { counts = record s.counts { sweeps = s.counts.sweeps + 1 } }
+
 -- each sleep is one tick shorter
 abbrev pub sleepers_on : State → State
 sleepers_on s = record s { threads = map timed s.threads }
