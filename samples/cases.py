@@ -49,8 +49,9 @@ def lines(*all_lines):
     return "".join(line + "\n" for line in all_lines)
 
 
-def ended(kind, steps, ticks=0, calls=0, devices=0, traps=0):
-    return f"end {kind} steps {steps} ticks {ticks} calls {calls} devices {devices} allocations 0 frees 0 traps {traps}"
+def ended(kind, steps, ticks=0, calls=0, devices=0, allocations=0, frees=0, traps=0):
+    return (f"end {kind} steps {steps} ticks {ticks} calls {calls} devices {devices} "
+            f"allocations {allocations} frees {frees} traps {traps}")
 
 
 def image(firmware):
@@ -67,10 +68,15 @@ def modelled(data, limit):
     return Machine(read).run(limit, read.quantum)
 
 
+def run_alone(name, firmware, limit, *wanted):
+    """A run that the plain machine can't do: it has no heap."""
+    case(name, ["run", "{}", str(limit)], json.dumps(firmware), lines(report(firmware), *wanted))
+
+
 def run(name, firmware, limit, *wanted):
     found = modelled(image(firmware), limit)
     assert found == list(wanted), "\n".join([name, "found:", *found, "wanted:", *wanted])
-    case(name, ["run", "{}", str(limit)], json.dumps(firmware), lines(report(firmware), *wanted))
+    run_alone(name, firmware, limit, *wanted)
 
 
 # The samples' runs, which samples/try.sh compares with the program's.
@@ -120,14 +126,14 @@ def thread(entry, name="t", priority=1, stack=256, frames=2):
     return {"name": name, "entry": entry, "priority": priority, "stack": stack, "frames": frames}
 
 
-def row(name, compartments, threads, limit, *wanted, **members):
+def row(name, compartments, threads, limit, *wanted, runs=run, **members):
     """A run of a firmware of this name, with a serial port, whose code stands in lines."""
     whole = dict({"firmware": name, "ram": {"base": 0x80000000, "size": 16384}, "devices": DEVICES,
                   "compartments": compartments, "threads": threads}, **members)
     for owner in compartments + whole.get("libraries", []):
         if "lines" in owner["code"]:
             owner["code"] = source(f"{name}_{owner['name']}.s", owner["code"]["lines"])
-    run(name, whole, limit, *wanted)
+    runs(name, whole, limit, *wanted)
 
 
 # ---- lines of a run
@@ -147,3 +153,11 @@ def trap(step, thread, actor, cause, code=0, register=0):
 
 def off(step, thread, actor, target):
     return f"{step} off t{thread} c{actor} e{target}"
+
+
+def allocated(step, thread, actor, entry, number, base, length, live):
+    return f"{step} allocate t{thread} c{actor} e{entry} n{number} {base:08x} {length} {live}"
+
+
+def freed(step, thread, actor, entry, number, base, length, live):
+    return f"{step} free t{thread} c{actor} e{entry} n{number} {base:08x} {length} {live}"

@@ -15,6 +15,8 @@ pub use def_step::Event;
 pub use machine::Machine;
 
 #[cfg(test)]
+mod heap_tests;
+#[cfg(test)]
 mod routine_tests;
 #[cfg(test)]
 mod tests;

@@ -18,7 +18,7 @@ const CALL: u8 = 50;
 const SERVICE: u8 = 40;
 
 /// The slot of a service, by the number of its routine.
-fn service(alloc: Global, number: u32, name: &str) -> Result<Slot, AllocError> {
+pub(crate) fn service(alloc: Global, number: u32, name: &str) -> Result<Slot, AllocError> {
     let mut slot = slot(alloc, SlotKind::Service, SERVICE, name)?;
     slot.row.first = number;
     Ok(slot)
@@ -26,9 +26,9 @@ fn service(alloc: Global, number: u32, name: &str) -> Result<Slot, AllocError> {
 
 /// A step, counted from 1, and what it is to tell.
 #[derive(Clone, Copy, Drop)]
-struct Told {
-    step: u32,
-    deed: Deed,
+pub(crate) struct Told {
+    pub(crate) step: u32,
+    pub(crate) deed: Deed,
 }
 
 /// The deed of a step.
@@ -42,7 +42,13 @@ fn deed_at(told: &[Told], step: u32) -> Option<Deed> {
 }
 
 /// Gives a machine its steps from one number up to before another; each must tell what is told of it.
-fn run_steps(rt: &impl Abort, machine: &mut Machine<Plain>, first: u32, past: u32, told: &[Told]) {
+pub(crate) fn run_steps(
+    rt: &impl Abort,
+    machine: &mut Machine<Plain>,
+    first: u32,
+    past: u32,
+    told: &[Told],
+) {
     for step in first..past {
         assert_eq!(rt; machine.ended(), None);
         assert!(rt; machine.lawful(Event::Step));
