@@ -1,26 +1,15 @@
 -- A slice of a sweep over all that is seen: what stands at an offset of RAM passes the load filter where the slice has
 -- that offset. What a thread saved stands at the offset of its granule in the thread's area.
-use Rattle.std.specs.Prelude.{ℕ, ◌+◌, ◌-◌, ◌*◌, ◌&&◌, Bool, cond, nat_le, nat_lt, List, [], ◌∷◌, length, Option}
+use Rattle.std.specs.Prelude.{ℕ, ◌+◌, ◌-◌, ◌*◌, Bool, cond, List, [], ◌∷◌, length, Option}
 use Rattle.def_profile.specs.declared.layout.TheConstants.{GRANULE, AREA_HEAD, FRAME_SIZE}
 use Rattle.def_words.specs.declared.Cap.{Cap}
-use Rattle.def_memory.specs.declared.Granule.{Granule}
 use Rattle.def_machine.specs.State.{Thread, Frame}
 use Rattle.def_machine.specs.Heap.{is_number}
-use Rattle.def_machine.specs.Memory.{filtered_in}
+use Rattle.law_heaped.specs.Slices.{passed, kept_granules}
 use Rattle.ct_areas.specs.declared.thread.Area.{Area}
 use Rattle.ct_engine.specs.Seen.{Seen}
 
--- what stands at an offset, after the slice from one offset to another
-abbrev pub passed : ℕ → List Granule → ℕ → ℕ → ℕ → Cap → Cap
-passed ram gs low high offset c =
-    cond (nat_le low offset && nat_lt offset high) (filtered_in ram gs c) c
-
 -- ---- of what stands at each offset this is kept
-
-abbrev pub kept_granules : (ℕ → Cap → Cap) → ℕ → List Granule → List Granule
-kept_granules keep offset [] = []
-kept_granules keep offset (g ∷ gs) =
-    record g { cap = keep offset g.cap } ∷ kept_granules keep (offset + GRANULE) gs
 
 -- a frame that begins at an offset
 abbrev pub kept_frame : (ℕ → Cap → Cap) → ℕ → Frame → Frame

@@ -1,21 +1,12 @@
 -- What contracts see of an engine with a heap: threads and memory, behind a second veil over the heap outside live
 -- objects; the heap's objects as rows; and how far a sweep has come.
-use Rattle.std.specs.Prelude.{ℕ, ◌+◌, ◌*◌, ◌&&◌, ◌||◌, Bool, not, nat_le, nat_lt, List, Option, map, slice_index_or}
-use Rattle.def_profile.specs.declared.layout.TheConstants.{GRANULE}
-use Rattle.def_memory.specs.declared.Granule.{Granule}
+use Rattle.std.specs.Prelude.{ℕ, ◌+◌, ◌||◌, Bool, List, Option, map, slice_index_or}
 use Rattle.def_machine.specs.State.{Object}
-use Rattle.def_hidden.specs.Hidden.{is_live_at}
 use Rattle.def_veil.specs.Veil.{veiled}
 use Rattle.def_chunks.specs.declared.rows.Account.{Account}
-use Rattle.def_chunks.specs.declared.rows.Range.{Range}
 use Rattle.def_chunks.specs.Heaps.{HeapRow, objects_of}
+use Rattle.law_heaped.specs.Heaped.{hides_heap, heap_hides}
 use Rattle.ct_engine.specs.Seen as engine
-
--- a granule of the heap, in no live object, of RAM from `ram` on
-abbrev pub hides_heap : ℕ → ℕ → ℕ → List Object → ℕ → Bool
-hides_heap ram base end objects k =
-    nat_le base (ram + GRANULE * k) && nat_lt (ram + GRANULE * k) end
-    && not (is_live_at objects (ram + GRANULE * k))
 
 -- `threads` is memory behind both veils, with the threads; `limits` are by the quotas' numbers. Where the heap lies, and
 -- what quotas may take, never changes.
@@ -35,10 +26,6 @@ hides s k =
     || hides_heap s.threads.region.ram s.heap_base s.heap_end s.objects k
 
 -- ---- a heap over what is seen of threads
-
-abbrev pub heap_hides : HeapRow → List Granule → ℕ → Bool
-heap_hides h gs =
-    hides_heap h.range.ram h.range.base (h.range.base + h.range.length) (objects_of h gs)
 
 abbrev pub covered : HeapRow → engine.Seen → engine.Seen
 covered h e = engine.with_granules e (veiled (heap_hides h e.granules) e.granules)

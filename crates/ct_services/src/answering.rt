@@ -12,7 +12,7 @@ use ct_mem::Memory;
 
 /// The running thread goes on where its c1 leads, by the posture of that return sentry, with a value in
 /// c10 and 0 in c11.
-#[tactic(auto, using(crate::proofs::Answers::answers))]
+#[tactic(auto, using(crate::proofs::Answers::answers_in))]
 pub fn answer<M: Memory + Drop>(engine: &mut Engine<M>, t: u32, value: Live)
     requires { engine.old.threads.running ≡ Some t }
     ensures { engine.new ≡ with_threads engine.old (answered_in engine.old.threads t value) }

@@ -1,0 +1,4 @@
+pub mod Shown
+pub mod Slices
+pub mod Objects
+pub mod Effects
