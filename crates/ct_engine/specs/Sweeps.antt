@@ -40,12 +40,13 @@ kept_thread keep area runs t = record t {
 }
 
 -- the threads with their areas, of which the first has number n
-abbrev pub kept_threads : (ℕ → Cap → Cap) → ℕ → Option ℕ → ℕ → List Area → List Thread → List Thread
-kept_threads keep ram running n as [] = []
-kept_threads keep ram running n [] ts = ts
-kept_threads keep ram running n (a ∷ as) (t ∷ ts) =
+abbrev pub kept_threads : (ℕ → Cap → Cap) → ℕ → Option ℕ → ℕ → List Area → List Thread
+    → List Thread
+kept_threads keep ram running n areas [] = []
+kept_threads keep ram running n [] (t ∷ ts) = t ∷ ts
+kept_threads keep ram running n (a ∷ areas) (t ∷ ts) =
     kept_thread keep (a.trusted - ram) (is_number running n) t
-    ∷ kept_threads keep ram running (n + 1) as ts
+    ∷ kept_threads keep ram running (n + 1) areas ts
 
 -- ---- all that is seen
 

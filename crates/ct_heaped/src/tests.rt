@@ -92,7 +92,10 @@ fn seven_slices_and_eight(rt: HostRuntime) -> Result<(), Fail> {
     assert_eq!(rt; engine.allocate(1, 0), Err(HeapRefusal::Size));
     assert_eq!(rt; engine.free(0, 2, HEAP + 8, 0x8000_0FF0), Err(NotWhole));
     assert_eq!(rt; engine.free(0, 1, HEAP + 8, 0x8000_0FE8), Err(NotWhole));
-    assert_eq!(rt; engine.free(0, 1, HEAP + 8, 0x8000_0FF0), Ok(object(1, 40, 0)));
+    assert_eq!(rt;
+        engine.free(0, 1, HEAP + 8, 0x8000_0FF0),
+        Ok(object(1, 40, 0))
+    );
     assert_eq!(rt; engine.quarantined(), true);
     assert_eq!(rt; engine.remaining(1), 200);
     assert_eq!(rt; engine.allocate(1, 40), Err(HeapRefusal::NoGap));
@@ -121,7 +124,10 @@ fn stale_pointer_of_another_thread(rt: HostRuntime) -> Result<(), Fail> {
     engine.stop(1);
     engine.pick(0);
     engine.go(0, pcc, ON, 9, capability(1, made));
-    assert_eq!(rt; engine.free(0, 1, HEAP + 8, 0x8000_0FF0), Ok(object(1, 40, 0)));
+    assert_eq!(rt;
+        engine.free(0, 1, HEAP + 8, 0x8000_0FF0),
+        Ok(object(1, 40, 0))
+    );
     assert_eq!(rt; engine.register(0, 9).cap.tag, false);
     for _ in 0..8 {
         engine.sweep(64);
@@ -144,7 +150,10 @@ fn filtered_when_picked(rt: HostRuntime) -> Result<(), Fail> {
     engine.go(1, pcc, ON, 8, capability(1, made));
     engine.stop(1);
     engine.pick(0);
-    assert_eq!(rt; engine.free(0, 1, HEAP + 8, 0x8000_0FF0), Ok(object(1, 40, 0)));
+    assert_eq!(rt;
+        engine.free(0, 1, HEAP + 8, 0x8000_0FF0),
+        Ok(object(1, 40, 0))
+    );
     engine.stop(0);
     engine.pick(1);
     assert_eq!(rt; engine.register(1, 8).cap.tag, false);

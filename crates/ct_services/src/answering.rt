@@ -6,8 +6,8 @@ ghost use Rattle.ct_heaped.specs.Seen.{with_threads};
 ghost use Rattle.ct_services.specs.Served.{answered_in};
 
 use ct_cap::{Live, open};
-use ct_heaped::Engine;
 use ct_flow::posture_through;
+use ct_heaped::Engine;
 use ct_mem::Memory;
 
 /// The running thread goes on where its c1 leads, by the posture of that return sentry, with a value in

@@ -10,8 +10,8 @@ ghost use Rattle.ct_heaped.specs.Seen.{with_threads};
 ghost use Rattle.ct_services.specs.Served.{switched_in};
 
 use crate::answering::{answer, code};
-use ct_heaped::{Called, Engine};
 use ct_entry::Entries;
+use ct_heaped::{Called, Engine};
 use ct_mem::Memory;
 
 /// What a call answers, negated, where the callee's stack would have too little room.

@@ -91,13 +91,7 @@ fn refused(why: HeapRefusal, waits: bool) -> u32
     match why {
         HeapRefusal::Size => NO_SIZE,
         HeapRefusal::Quota => PAST_LIMIT,
-        HeapRefusal::NoGap => {
-            if waits {
-                NO_PLACE_YET
-            } else {
-                NO_PLACE
-            }
-        }
+        HeapRefusal::NoGap => { if waits { NO_PLACE_YET } else { NO_PLACE } }
     }
 }
 

@@ -20,8 +20,8 @@ ghost use Rattle.ct_services.specs.Served.{answered_in, rested, waited, with_sta
 use crate::answering::{answer, code};
 use crate::words::word_trap;
 use ct_cap::{Live, Trap};
-use ct_heaped::Engine;
 use ct_exports::return_trap;
+use ct_heaped::Engine;
 use ct_mem::Memory;
 use ct_sched::Sched;
 

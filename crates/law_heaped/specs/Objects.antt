@@ -28,4 +28,3 @@ pub record Vanishes (ram heap end : ℕ) (old new : List Object) (gs hs : List G
   pub rest : (k : ℕ) → (ram + 8 * k + 8 < base) ⊎ (top ≤ ram + 8 * k) → granule_at hs k ≡ granule_at gs k
   pub live : (x : ℕ) → (x < base) ⊎ (top ≤ x) → is_live_at new x ≡ is_live_at old x
   pub head : (k : ℕ) → base ≤ ram + 8 * k + 8 → ram + 8 * k < base → hides_heap ram heap end old k ≡ true
-
