@@ -1,35 +1,12 @@
 -- A slice of a sweep over all that is seen: what stands at an offset of RAM passes the load filter where the slice has
 -- that offset. What a thread saved stands at the offset of its granule in the thread's area.
-use Rattle.std.specs.Prelude.{ℕ, ◌+◌, ◌-◌, ◌*◌, Bool, cond, List, [], ◌∷◌, length, Option}
-use Rattle.def_profile.specs.declared.layout.TheConstants.{GRANULE, AREA_HEAD, FRAME_SIZE}
+use Rattle.std.specs.Prelude.{ℕ, ◌+◌, ◌-◌, Bool, cond, List, [], ◌∷◌, Option}
 use Rattle.def_words.specs.declared.Cap.{Cap}
-use Rattle.def_machine.specs.State.{Thread, Frame}
+use Rattle.def_machine.specs.State.{Thread}
 use Rattle.def_machine.specs.Heap.{is_number}
-use Rattle.law_heaped.specs.Slices.{passed, kept_granules}
+use Rattle.law_heaped.specs.Slices.{passed, kept_granules, kept_frames, kept_registers}
 use Rattle.ct_areas.specs.declared.thread.Area.{Area}
 use Rattle.ct_engine.specs.Seen.{Seen}
-
--- ---- of what stands at each offset this is kept
-
--- a frame that begins at an offset
-abbrev pub kept_frame : (ℕ → Cap → Cap) → ℕ → Frame → Frame
-kept_frame keep at f = record f {
-  c1 = keep at f.c1;
-  c2 = keep (at + 8) f.c2;
-  c3 = keep (at + 16) f.c3;
-  c8 = keep (at + 24) f.c8;
-  c9 = keep (at + 32) f.c9;
-}
-
--- the frames of an area that begins at an offset, the outermost first
-abbrev pub kept_frames : (ℕ → Cap → Cap) → ℕ → List Frame → List Frame
-kept_frames keep area [] = []
-kept_frames keep area (f ∷ fs) =
-    kept_frame keep (area + AREA_HEAD + FRAME_SIZE * length fs) f ∷ kept_frames keep area fs
-
-abbrev pub kept_registers : (ℕ → Cap → Cap) → ℕ → List Cap → List Cap
-kept_registers keep at [] = []
-kept_registers keep at (c ∷ cs) = keep at c ∷ kept_registers keep (at + GRANULE) cs
 
 -- while it runs its registers and its program counter capability stand nowhere in RAM
 abbrev pub kept_thread : (ℕ → Cap → Cap) → ℕ → Bool → Thread → Thread

@@ -2,3 +2,4 @@ pub mod Shown
 pub mod Slices
 pub mod Objects
 pub mod Effects
+pub mod Areas

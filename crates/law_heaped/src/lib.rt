@@ -3,11 +3,12 @@
 //! behind it.
 #![tactic(auto)]
 
-ghost use Rattle.std.specs.Prelude.{◌≡◌, ◌-◌, ℕ, Bool, List, true, length};
+ghost use Rattle.std.specs.Prelude.{◌≡◌, ◌-◌, ◌*◌, ℕ, Bool, List, true, length};
 ghost use Rattle.def_memory.specs.declared.Granule.{Granule};
 ghost use Rattle.def_memory.specs.Granules.{granule_at};
 ghost use Rattle.def_memory.specs.Ranges.{zeroed_from, marked_from};
 ghost use Rattle.def_machine.specs.State.{Object};
+ghost use Rattle.def_areas.specs.Areas.{held_from, frames_from};
 ghost use Rattle.def_veil.specs.Veil.{veiled};
 ghost use Rattle.def_chunks.specs.Heaps.{HeapRow, Laid};
 ghost use Rattle.law_chunks.specs.Kept.{KeepsHeap};
@@ -15,7 +16,7 @@ ghost use Rattle.law_heaped.specs.Heaped.{hides_heap, heap_hides, IsOpenFrom};
 ghost use Rattle.ct_heap.specs.declared.rows.HeapRefusal.{HeapRefusal};
 ghost use Rattle.ct_heap.specs.Effects.{Allocates, Refuses, Frees, Paints, Flushes};
 ghost use Rattle.law_heaped.specs.Objects.{Appears, Vanishes};
-ghost use Rattle.law_heaped.specs.Slices.{passed, kept_granules};
+ghost use Rattle.law_heaped.specs.Slices.{passed, kept_granules, kept_frames, kept_registers};
 
 /// A heap lies the same in memory and in what is seen of it, where nothing from the heap on is hidden.
 pub fn heap_shown()
@@ -73,4 +74,15 @@ pub fn slice_behind()
     ensures { (v : ℕ → Bool) (ram : ℕ) (gs : List Granule) (low high : ℕ)
         → kept_granules (λ n c. passed ram (veiled v gs) low high n c) 0 (veiled v gs)
         ≡ veiled v (kept_granules (λ n c. passed ram gs low high n c) 0 gs) }
+{}
+
+/// A slice over memory is the slice over the frames and the registers that stand in a thread's area.
+pub fn areas_sliced()
+    ensures frames { (ram : ℕ) (gs : List Granule) (low high area actor top : ℕ) (handling : Bool) (j : ℕ)
+        → frames_from (kept_granules (λ n c. passed ram gs low high n c) 0 gs) area actor top handling j
+        ≡ kept_frames (λ n c. passed ram gs low high n c) (8 * area)
+        (frames_from gs area actor top handling j) }
+    ensures registers { (ram : ℕ) (gs : List Granule) (low high k n : ℕ)
+        → held_from (kept_granules (λ n c. passed ram gs low high n c) 0 gs) k n
+        ≡ kept_registers (λ n c. passed ram gs low high n c) (8 * k) (held_from gs k n) }
 {}
