@@ -13,4 +13,4 @@ pub mod Turning
 pub mod Entering
 pub mod Leaving
 pub mod AsWritten
-pub mod Heaps
+pub mod Behind

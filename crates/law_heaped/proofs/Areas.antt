@@ -20,7 +20,7 @@ kept_at f z n (g ∷ gs) (suc k) =
     kept_at f z (n + 8) gs k ∙ ap (λ m. f m (granule_at gs k).cap) next
 
 pub held_kept : (f : ℕ → Cap → Cap) → KeepsWords f → (gs : List Granule) (k : ℕ) → held (kept_granules f 0 gs) k ≡ f (8 * k) (held gs k)
-held_kept f z gs k = kept_at f z 0 gs k
+held_kept f z gs k = let here : 0 + 8 * k ≡ 8 * k = omega arith in kept_at f z 0 gs k ∙ ap (λ m. f m (held gs k)) here
 
 pub registers_kept : (f : ℕ → Cap → Cap) → KeepsWords f → (gs : List Granule) (k n : ℕ) → held_from (kept_granules f 0 gs) k n ≡ kept_registers f (8 * k) (held_from gs k n)
 registers_kept f z gs k zero = refl

@@ -4,8 +4,8 @@ use Rattle.law_heaped.proofs.Effects.{stays_shown}
 use Rattle.def_veil.specs.Veil.{veiled}
 use Rattle.ct_engine.specs.Seen.{hides}
 use Rattle.ct_engine.proofs.Away.{away_holds}
-use Rattle.ct_engine.proofs.Heaps.{granules_by, inside_by, stays_region, kept_is, laid_after, objects_after}
-use Rattle.ct_engine.proofs.heaps.Engine.lay.Goals as goal
+use Rattle.ct_engine.proofs.Behind.{granules_by, inside_by, stays_region, kept_is, laid_after, objects_after}
+use Rattle.ct_engine.proofs.engine.Engine.lay.Goals as goal
 
 pub lay-requires-clause-inside : goal.lay-requires-clause-inside
 lay-requires-clause-inside g c = inside_by (g.M.Memory.granules c.self.inside.mem) c.self.inside.rows c.args.self.now c.args.heap.now.range c.self.view_is c.requires.inside
