@@ -67,7 +67,7 @@ frames_kept f z gs area actor top handling (suc j) =
     let place : 8 * frame_place area j ≡ 8 * area + 160 + 64 * j = omega arith in
     let more = frames_kept f z gs area (caller_actor gs (frame_place area j)) (caller_top gs (frame_place area j)) (caller_handling gs (frame_place area j)) j in
     let first : frame_at (kept_granules f 0 gs) (frame_place area j) actor top handling ≡ kept_frame f (8 * area + 160 + 64 * j) (frame_at gs (frame_place area j) actor top handling) =
-        frame_kept f z gs (frame_place area j) actor top handling ∙ ap (λ m. kept_frame f m (frame_at gs (frame_place area j) actor top handling)) place in
+    frame_kept f z gs (frame_place area j) actor top handling ∙ ap (λ m. kept_frame f m (frame_at gs (frame_place area j) actor top handling)) place in
     rw (high_kept f z gs (frame_place area j + 5), low_kept f z gs (frame_place area j + 6), low_kept f z gs (frame_place area j + 7), first, more, count) refl
 
 -- the slice of a sweep is such
