@@ -48,7 +48,7 @@ open_by gs rows v r is b =
 
 -- ---- what is asked
 
-granules_by : (gs : List Granule) (rows : Rows) (v : Seen) → seen gs rows ≡ v → v.granules ≡ veiled (hides rows.region) gs
+pub granules_by : (gs : List Granule) (rows : Rows) (v : Seen) → seen gs rows ≡ v → v.granules ≡ veiled (hides rows.region) gs
 granules_by gs rows v is = ap (λ (s : Seen). s.granules) (sym is)
 
 pub laid_by : (gs : List Granule) (rows : Rows) (v : Seen) (h : HeapRow) → seen gs rows ≡ v → IsBehind v h.range → Laid h v.granules → Laid h gs
