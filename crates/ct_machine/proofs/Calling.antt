@@ -1,27 +1,28 @@
 -- What the code leaves of a call is what the written switch leaves.
-use Rattle.std.proofs.Common.{ℕ, ◌≡◌, Bool, true, Some, None, refl, sym, ap, ◌∙◌}
+use Rattle.std.proofs.Common.{ℕ, ◌≡◌, ◌<◌, Bool, List, length, Some, None, refl, sym, ap, ◌∙◌, subst}
 use Rattle.std.proofs.Math.ListN.{get_or, set}
+use Rattle.std.proofs.lemmas.List.{length-set}
+use Rattle.law_granules.proofs.Lists.{zeroed_length}
+use Rattle.def_confined.specs.Confined.{Confined}
 use Rattle.ct_entry.specs.Listed.{Listed}
 use Rattle.ct_entry.specs.declared.acts.Act.{Act}
 use Rattle.ct_entry.specs.declared.acts.Act.TheVariants.{Call}
 use Rattle.def_words.specs.declared.Cap.{Cap}
-use Rattle.def_words.specs.Seals.{cap_seal}
 use Rattle.def_sched.specs.declared.Status.{Status}
 use Rattle.def_sched.specs.declared.Status.TheVariants.{Ended}
 use Rattle.def_reach.specs.Roots.{compartment_of}
 use Rattle.def_machine.specs.Image.{Image, root, stack_base, frames_most}
-use Rattle.def_machine.specs.State.{State, Thread, Counts, thread, nobody, register}
+use Rattle.def_machine.specs.State.{State, Thread, DeviceState, Counts, thread, nobody, register}
 use Rattle.def_machine.specs.Threads as threads
 use Rattle.def_machine.specs.Threads.{with_statuses}
 use Rattle.def_machine.specs.Frames as frames
 use Rattle.def_machine.specs.Frames.{given, entered}
 use Rattle.def_step.specs.Devices.{Bank}
-use Rattle.def_step.specs.Switch.{Switched, Trapped, TooDeep, NoStack, Enters, switch_of, called, frame_top}
+use Rattle.def_step.specs.Switch.{Switched, Trapped, TooDeep, NoStack, Enters, switch_of, frame_top}
 use Rattle.def_step.specs.Routines as routine
 use Rattle.def_step.specs.Routines.{Leaves, switched_to, switch, code}
 use Rattle.def_step.specs.Instructions.{Board, ran, deed, actor_of}
 use Rattle.def_step.specs.Events.{MachineRow}
-use Rattle.law_natives.proofs.Switching.{switch_told, checks_say}
 use Rattle.ct_areas.specs.Threads as areas
 use Rattle.ct_sched.specs.Sched.{SchedRow}
 use Rattle.ct_switch.specs.declared.calls.Called.{Called}
@@ -32,18 +33,15 @@ use Rattle.ct_engine.specs.Seen.{Seen, area_at}
 use Rattle.ct_engine.specs.Calls.{HeadStands, switch_at, after_call}
 use Rattle.ct_engine.specs.Written.{Shows, written, callee_thread}
 use Rattle.ct_engine.proofs.AsWritten.{enters_is}
-use Rattle.ct_services.specs.Served.{switched_in}
+use Rattle.ct_services.specs.Served.{answered_in, switched_in}
+use Rattle.law_callable.specs.Showing.{IsOfSound, ShowsCaller}
 use Rattle.ct_machine.specs.Parts.{state_by, IsKept}
 use Rattle.ct_machine.specs.Going.{ran_by_call, CameTo}
 use Rattle.ct_machine.proofs.Statuses.{thread_with, like_with, set_with}
-use Rattle.ct_machine.proofs.Taking.{ram_is}
-use Rattle.ct_machine.proofs.Serving.{answers_are, register_alike}
-
--- c6 of thread t is a call import, of this export
-pub record Imports (i : Image) (s : State) (t export : ℕ) : Type 0 where
-  pub tagged : (register (thread s t) 6).tag ≡ true
-  pub sealed : cap_seal (register (thread s t) 6) ≡ 9
-  pub is : export ≡ called i.entries (thread s t)
+use Rattle.ct_machine.proofs.Taking.{ram_is, frames_with}
+use Rattle.ct_machine.proofs.Keeping.{same_kept}
+use Rattle.ct_machine.proofs.Opened.{placed_at}
+use Rattle.ct_machine.proofs.Resting.{answers_are, register_alike}
 
 module _ (i : Image) (e : Seen) (r : SchedRow) (k : Bank) (pending : Bool) (time : ℕ) (c : Counts) (t : ℕ) (kept : IsKept i e r)
     (base : (area_at e t).stack ≡ stack_base i t) (most : areas.frames_most (area_at e t) ≡ frames_most i t) where
@@ -68,12 +66,6 @@ module _ (i : Image) (e : Seen) (r : SchedRow) (k : Bank) (pending : Bool) (time
       ∙ ap (λ (u : Thread). switch_of i.entries (stack_base i t) (frame_top u.frames) (frames_most i t) u) (sym (like_with e.threads r.statuses t Ended))
 
   -- ---- where it enters
-
-  pub imports : (export high : ℕ) → comes ≡ Enters export high → Imports i here t export
-  imports export high is =
-      let out = switch_told i here _ t _ export (ap (switched_to i here t) is) in
-      let says = checks_say i here t out.passes in
-      record { tagged = says.gate_tagged; sealed = says.gate_sealed; is = out.export_is }
 
   -- the engine's threads as a state's, all else the same
   abbrev twin : State
@@ -119,10 +111,36 @@ module _ (i : Image) (e : Seen) (r : SchedRow) (k : Bank) (pending : Bool) (time
         unfinished = tt;
       })
 
-  pub came_call : (entries : Listed) (e' : Seen) (x : Called) → entries ≡ i.entries → ((export high : ℕ) → comes ≡ Enters export high → HeadStands i e t export)
+  pub came_call : (entries : Listed) (e' : Seen) (x : Called) → entries ≡ i.entries → ((export high : ℕ) → switch_at e i.entries t ≡ Enters export high → HeadStands i e t export)
       → x ≡ told (register (engine.thread e t) 6) (switch_at e entries t) → e' ≡ switched_in e entries t (switch_at e entries t)
       → CameTo (machine e) (machine e') t (ran_by_call x) (ran board here t (switch i here t))
   came_call entries e' x same heads told_is now =
       let is = comes_is entries same in
-      came_so comes e' x heads (told_is ∙ ap (told (register (engine.thread e t) 6)) is)
+      came_so comes e' x (λ export high enters. heads export high (comes_is i.entries refl ∙ enters)) (told_is ∙ ap (told (register (engine.thread e t) 6)) is)
       (now ∙ ap (switched_in e entries t) is ∙ ap (λ (es : Listed). switched_in e es t comes) same)
+
+  -- ---- what it asks, and what is kept
+
+  kept_so_far : (w : Switched) (e' : Seen) → e' ≡ switched_in e i.entries t w → IsKept i e' r
+  kept_so_far (Trapped why) e' now = subst (λ (x : Seen). IsKept i x r) (sym now) kept
+  kept_so_far TooDeep e' now = subst (λ (x : Seen). IsKept i x r) (sym now) (same_kept i e (answered_in e t (code 12)) r kept refl refl refl (length-set e.threads t _) kept.ready)
+  kept_so_far NoStack e' now = subst (λ (x : Seen). IsKept i x r) (sym now) (same_kept i e (answered_in e t (code 11)) r kept refl refl refl (length-set e.threads t _) kept.ready)
+  kept_so_far (Enters export high) e' now =
+      subst (λ (x : Seen). IsKept i x r) (sym now)
+      (same_kept i e (after_call e i.entries t (Enters export high)) r kept refl refl (zeroed_length (area_at e t).stack high e.region.ram e.granules) (length-set e.threads t _) kept.ready)
+
+  pub call_kept : (entries : Listed) (e' : Seen) → entries ≡ i.entries → e' ≡ switched_in e entries t (switch_at e entries t) → IsKept i e' r
+  call_kept entries e' same now = kept_so_far (switch_at e entries t) e' (now ∙ ap (λ (es : Listed). switched_in e es t (switch_at e entries t)) same)
+
+-- what an engine shows of the thread that calls
+pub shows_caller : (i : Image) (e : Seen) (r : SchedRow) (pending : Bool) (devices : List DeviceState) (time : ℕ) (c : Counts) (t : ℕ) → IsKept i e r → IsOfSound i → Confined i (state_by e r pending devices time c)
+    → 0 < length (engine.thread e t).frames → ShowsCaller i (state_by e r pending devices time c) e t
+shows_caller i e r pending devices time c t kept sound confined some = record {
+  booted = sound;
+  confined = confined;
+  region = kept.region;
+  granules = refl;
+  placed = placed_at i e r pending devices time c t kept some;
+  registers = ap (λ (u : Thread). u.registers) (sym (like_with e.threads r.statuses t Ended));
+  frames = sym (frames_with e.threads r.statuses t);
+}

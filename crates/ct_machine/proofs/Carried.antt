@@ -1,7 +1,6 @@
 -- What the code leaves of an instruction, and of a frame's end, is what the written step leaves.
-use Rattle.std.proofs.Common.{ℕ, suc, ◌≡◌, ◌<◌, Bool, true, nat_lt, List, [], ◌∷◌, length, Option, Some, None, option_map, refl, sym, ap, ◌∙◌, subst, slice_set, arith, inl, inr}
+use Rattle.std.proofs.Common.{ℕ, suc, ◌≡◌, ◌<◌, Bool, true, nat_lt, List, [], ◌∷◌, length, Option, Some, None, option_map, refl, sym, ap, ◌∙◌, subst, slice_set, arith}
 use Rattle.std.proofs.Math.ListN.{get_or, set}
-use Rattle.law_lists.proofs.Tests.{lt_tells}
 use Rattle.ct_entry.specs.Listed.{Listed}
 use Rattle.ct_entry.specs.declared.acts.Deed.{Deed}
 use Rattle.def_words.specs.declared.Cap.{Cap}
@@ -32,7 +31,7 @@ use Rattle.ct_execute.proofs.Executed.{executed_is}
 use Rattle.ct_machine.specs.Parts.{state_by, IsKept}
 use Rattle.ct_machine.specs.Going.{UNWOUND, left_after, goes_after, status_after, deed_by, finished, IsDone, CameTo}
 use Rattle.ct_machine.proofs.Statuses.{thread_with, set_with, end_with, like_with}
-use Rattle.ct_machine.proofs.Keeping.{unfinished_map}
+use Rattle.ct_machine.proofs.Keeping.{two_more, unfinished_map}
 use Rattle.ct_machine.proofs.Taking.{ram_is, frames_with}
 
 -- the stack stands where the image has it, and the actor is the frame's
@@ -40,9 +39,6 @@ pub record Ends (i : Image) (e : Seen) (s : State) (t actor : ℕ) : Type 0 wher
   pub base : (area_at e t).stack ≡ stack_base i t
   pub some : 0 < length (engine.thread e t).frames
   pub acts : actor ≡ actor_of (thread s t).frames
-
-two_more : (n : ℕ) → nat_lt 1 (suc (suc n)) ≡ true
-two_more n = elim (lt_tells 1 (suc (suc n))) [ inl a ↦ a.0 | inr a ↦ absurd (let few = a.1 in omega (arith, few)) ]
 
 module _ (i : Image) (e : Seen) (r : SchedRow) (pending : Bool) (devices : List DeviceState) (time : ℕ) (c : Counts) (t : ℕ) (kept : IsKept i e r) where
   -- a thread goes on, and RAM and the devices change

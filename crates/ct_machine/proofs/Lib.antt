@@ -1,12 +1,12 @@
 pub mod Calling
 pub mod Carried
-pub mod Gates
 pub mod Guards
 pub mod Keeping
 pub mod Opened
 pub mod Ready
-pub mod Serving
+pub mod Resting
 pub mod Sizes
 pub mod Starts
 pub mod Statuses
+pub mod Stepping
 pub mod Taking

@@ -1,17 +1,19 @@
 -- Of a confined state: the running thread is open to the engine, and its innermost frame's top lies in its stack.
-use Rattle.std.proofs.Common.{ℕ, zero, suc, ◌≡◌, ◌+◌, ◌<◌, Bool, List, [], ◌∷◌, length, Some, refl, sym, ap, arith}
+use Rattle.std.proofs.Common.{ℕ, zero, suc, ◌≡◌, ◌*◌, ◌<◌, Bool, List, [], ◌∷◌, length, Some, sym, ap, subst, arith}
 use Rattle.std.proofs.Math.ListN.{get_or}
 use Rattle.def_sched.specs.declared.Status.TheVariants.{Ready}
-use Rattle.def_confined.specs.Confined.{Confined, FramesHold}
+use Rattle.def_confined.specs.Confined.{Confined}
 use Rattle.def_hidden.specs.Hidden.{Shut}
-use Rattle.def_machine.specs.Image.{Image, stack_base, stack_top}
-use Rattle.def_machine.specs.State.{Thread, Frame, DeviceState, Counts, nobody}
+use Rattle.def_machine.specs.Image.{Image, stack_base}
+use Rattle.def_machine.specs.State.{Thread, Frame, DeviceState, Counts, thread, nobody}
 use Rattle.ct_sched.specs.Sched.{SchedRow}
 use Rattle.ct_engine.specs.Seen as engine
 use Rattle.ct_engine.specs.Seen.{Seen, area_at}
 use Rattle.ct_engine.specs.Calls.{TopLies}
 use Rattle.ct_execute.specs.Opening.{IsOpen}
 use Rattle.ct_execute.proofs.Opens.{running_open}
+use Rattle.ct_launch.specs.Placed.{IsPlaced}
+use Rattle.law_callable.proofs.Tops.{top_lies}
 use Rattle.ct_machine.specs.Parts.{state_by, IsKept}
 use Rattle.ct_machine.proofs.Statuses.{like_with}
 use Rattle.ct_machine.proofs.Taking.{frames_with}
@@ -32,20 +34,18 @@ module _ (i : Image) (e : Seen) (r : SchedRow) (pending : Bool) (devices : List 
         pcc = sym (ap (λ (u : Thread). u.pcc) (like_with e.threads r.statuses t Ready));
       })
 
-  lies_by : (fs : List Frame) → 0 < length fs → FramesHold i [] t fs → (area_at e t).stack ≡ stack_base i t → (area_at e t).stack + (area_at e t).stack_length ≡ stack_top i t
-      → (engine.thread e t).frames ≡ fs → TopLies e t
-  lies_by [] some h base top is = absurd (omega (arith, some))
-  lies_by (f ∷ fs) some h base top is = let first = h.0 in record { even = rw is first.even; low = rw (is, base) first.low; high = rw (is, top) first.high }
+  pub some_seen : 0 < length (thread (state_by e r pending devices time c) t).frames → 0 < length (engine.thread e t).frames
+  some_seen some = subst (λ (fs : List Frame). 0 < length fs) (frames_with e.threads r.statuses t) some
+
+  pub placed_at : IsKept i e r → 0 < length (engine.thread e t).frames → IsPlaced i (8 * length e.granules) t (area_at e t)
+  placed_at kept some =
+      let within : t < length e.threads = some_within e.threads t some in
+      let count : length e.areas ≡ length e.threads = kept.threads in
+      kept.areas.each t (omega (arith, within, count))
 
   pub base_of : IsKept i e r → 0 < length (engine.thread e t).frames → (area_at e t).stack ≡ stack_base i t
-  base_of kept some =
-      let within : t < length e.threads = some_within e.threads t some in
-      let count : length e.areas ≡ length e.threads = kept.threads in
-      (kept.areas.each t (omega (arith, within, count))).base_is
+  base_of kept some = (placed_at kept some).base_is
 
-  pub top_lies : IsKept i e r → Confined i (state_by e r pending devices time c) → 0 < length (engine.thread e t).frames → TopLies e t
-  top_lies kept held some =
-      let within : t < length e.threads = some_within e.threads t some in
-      let count : length e.areas ≡ length e.threads = kept.threads in
-      let placed = kept.areas.each t (omega (arith, within, count)) in
-      lies_by (engine.thread e t).frames some (rw (frames_with e.threads r.statuses t) at (held.frames t)) placed.base_is placed.top_is refl
+  pub tops : IsKept i e r → Confined i (state_by e r pending devices time c) → 0 < length (engine.thread e t).frames → TopLies e t
+  tops kept held some =
+      top_lies i (state_by e r pending devices time c) e (8 * length e.granules) t held (placed_at kept some) (sym (frames_with e.threads r.statuses t)) some

@@ -2,6 +2,7 @@
 use Rattle.std.proofs.Common.{ℕ, zero, suc, ◌+◌, ◌*◌, ◌≡◌, ◌∙◌, false, List, [], ◌∷◌, length, replicate, refl, ap, sym, subst, arith}
 use Rattle.std.proofs.lemmas.List.{length-map, length-replicate}
 use Rattle.def_profile.specs.declared.layout.TheConstants.{GRANULE}
+use Rattle.ct_entry.specs.Listed.{Listed}
 use Rattle.def_machine.specs.Image.{Image}
 use Rattle.def_machine.specs.State.{Thread}
 use Rattle.def_machine.specs.Threads.{with_statuses}
@@ -18,7 +19,7 @@ use Rattle.ct_sched.specs.Sched.{SchedRow}
 use Rattle.ct_launch.specs.Launching.{launched}
 use Rattle.ct_launch.specs.Placed.{ArePlaced}
 use Rattle.ct_machine.specs.Parts.{state_by, IsKept, IsCounted}
-use Rattle.ct_machine.specs.Starting.{bank_of, rows_of}
+use Rattle.ct_machine.specs.Starting.{IsPlan, bank_of, rows_of}
 
 -- ---- what contracts see
 
@@ -97,6 +98,7 @@ kept p s placed =
       priorities = priorities_are p;
       statuses = count ∙ sym (threads_count p 0 p.threads);
       few = omega (arith, few, count);
+      ready = λ t runs. absurd cc;
     }
 
 pub started_kept : (p : PartsRow) (i : Image) (e : Seen) (r : SchedRow) → Sound p → i ≡ image_of p → e ≡ launched p → ArePlaced (image_of p) (8 * length e.granules) e.areas → r ≡ rows_of p
@@ -108,3 +110,8 @@ started_kept p i e r s image engine placed rows = (
       (kept p s (subst (λ (x : Seen). ArePlaced (image_of p) (8 * length x.granules) x.areas) engine placed)))),
   record { steps = omega arith; ticks = omega arith; sweeps = omega arith; inputs = omega arith; deeds = omega arith; clock = omega arith },
 )
+
+-- what is kept of a sound image
+pub plan_of : (p value parts : PartsRow) (entries : Listed) → Sound p → value ≡ p → parts ≡ p → entries ≡ (image_of p).entries → IsPlan value entries parts.ram parts.heap
+unfolding image_of
+plan_of p value parts entries s is there same = rw (is, there) (record { sound = s; entries_are = same; ram_is = refl; heap_is = refl })

@@ -4,7 +4,6 @@ use Rattle.ct_entry.specs.Listed.{Listed, DeviceRow}
 use Rattle.def_sched.specs.declared.Status.TheVariants.{Ready}
 use Rattle.def_sched.specs.Picks.{first_order}
 use Rattle.def_step.specs.Devices.{Bank, fresh_device}
-use Rattle.def_machine.specs.Image.{Image}
 use Rattle.def_image.specs.Parts.{ThreadRow, PartsRow}
 use Rattle.def_image.specs.Sound.{Sound}
 use Rattle.def_boot.specs.Boot.{image_of}
@@ -34,12 +33,6 @@ rows_of p = record {
 -- what is kept of a sound image: its entries, and where RAM and its heap begin
 pub record IsPlan (p : PartsRow) (entries : Listed) (ram heap : ℕ) : Type 0 where
   pub sound : Sound p
-  pub entries : entries ≡ (image_of p).entries
-  pub ram : ram ≡ (image_of p).ram
-  pub heap : heap ≡ (image_of p).heap_base
-
--- a machine's image that comes of a sound one
-pub record IsOfSound (i : Image) : Type 0 where
-  pub parts : PartsRow
-  pub sound : Sound parts
-  pub is : i ≡ image_of parts
+  pub entries_are : entries ≡ (image_of p).entries
+  pub ram_is : ram ≡ (image_of p).ram
+  pub heap_is : heap ≡ (image_of p).heap_base

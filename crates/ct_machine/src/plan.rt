@@ -3,7 +3,7 @@
 ghost use Rattle.std.specs.Prelude.{◌≡◌, IfOk};
 ghost use Rattle.def_boot.specs.Boot.{image_of};
 ghost use Rattle.ct_exports.specs.Exports.{AreSorted};
-ghost use Rattle.ct_machine.specs.Starting.{IsOfSound};
+ghost use Rattle.law_callable.specs.Showing.{IsOfSound};
 
 use ct_entries::entries;
 use ct_entry::Entries;

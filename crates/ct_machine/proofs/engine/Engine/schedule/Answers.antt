@@ -2,6 +2,7 @@ use Rattle.std.proofs.Common.{ap, sym, subst, ◌∙◌}
 use Rattle.def_confined.specs.Holding.{EndsFit}
 use Rattle.def_step.specs.Events.{MachineRow, scheduled}
 use Rattle.ct_machine.proofs.Taking.{none_is, some_is, picked_alive}
+use Rattle.ct_machine.proofs.Keeping.{picked_kept}
 use Rattle.ct_machine.proofs.engine.Engine.schedule.Goals as goal
 
 pub pick-requires-in-Some-pick-clause-alive : goal.pick-requires-in-Some-pick-clause-alive
@@ -20,3 +21,10 @@ returns-in-None-pick-clause-state g c =
     none_is (record { image = c.self.inside.plan; bases = c.self.inside.bus.bases }) c.self.inside.threads c.self.inside.sched c.self.inside.pending c.self.inside.bus.states c.self.inside.time c.self.inside.counts
     c.pick.new.self c.self.invariant.0 c.in-None.ensures c.in-None-pick.ensures.picked c.in-None-pick.ensures.row
     ∙ ap (λ (m : MachineRow). scheduled m.board m.state) c.self.view_is
+
+pub invariant_of-self : goal.invariant_of-self
+invariant_of-self g c = (
+  picked_kept c.self.inside.plan c.self.inside.threads c.pick-in-Some-pick.new.self c.self.inside.sched c.pick.new.self c.in-Some-pick.t c.self.invariant.0 c.in-Some-pick.ensures.picked
+      c.pick-in-Some-pick.ensures c.in-Some-pick.ensures.row,
+  c.self.invariant.1,
+)

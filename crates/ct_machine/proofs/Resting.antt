@@ -1,18 +1,19 @@
 -- What the code leaves of a service of the scheduler is what the written routine leaves.
 use Rattle.std.proofs.Common.{ℕ, zero, suc, ◌-◌, ◌==◌, ◌≡◌, ◌<◌, Bool, true, false, List, [], ◌∷◌, length, Option, Some, None, inl, inr, refl, sym, ap, ◌∙◌, subst, if◌then◌else◌, arith}
 use Rattle.std.proofs.Math.ListN.{get_or, set}
-use Rattle.std.proofs.lemmas.List.{length-set}
-use Rattle.law_lists.proofs.Tests.{bool_tells}
+use Rattle.std.proofs.lemmas.List.{length-set, get_or_past}
+use Rattle.std.proofs.lemmas.List.FromFn.{get_or-map-range_with_len, length-map-range_with_len}
+use Rattle.law_lists.proofs.Tests.{chosen, lt_tells}
 use Rattle.def_words.specs.declared.Cap.{Cap}
 use Rattle.def_words.specs.declared.Trap.{Trap}
 use Rattle.def_words.specs.Authority.{cap_address}
 use Rattle.def_words.specs.Capability.{integer}
 use Rattle.def_memory.specs.Accesses.{loaded}
 use Rattle.def_sched.specs.declared.Status.{Status}
-use Rattle.def_sched.specs.declared.Status.TheVariants.{Ready, Ended}
-use Rattle.def_sched.specs.Statuses.{status_of, asleep, awaiting, woken, woken_count}
+use Rattle.def_sched.specs.declared.Status.TheVariants.{Ready, Waiting, Ended}
+use Rattle.def_sched.specs.Statuses.{status_of, asleep, awaiting, woken, woken_count, after_wake, wakes as woke}
 use Rattle.def_machine.specs.Image.{Image}
-use Rattle.def_machine.specs.State.{State, Thread, Counts, thread, nobody, register}
+use Rattle.def_machine.specs.State.{State, Thread, Frame, Counts, thread, nobody, register}
 use Rattle.def_machine.specs.Registers as registers
 use Rattle.def_machine.specs.Threads as threads
 use Rattle.def_machine.specs.Threads.{with_statuses, statuses_of}
@@ -30,12 +31,15 @@ use Rattle.ct_engine.specs.Seen.{Seen}
 use Rattle.ct_services.specs.Served.{answered_in, rested, waited, with_status, either, unless, unless_row}
 use Rattle.ct_machine.specs.Parts.{state_by, IsKept}
 use Rattle.ct_machine.specs.Going.{ran_by_service, CameTo}
+use Rattle.ct_machine.proofs.Keeping.{RunsReady, kept_so, none_runs}
+use Rattle.ct_machine.proofs.Opened.{some_within}
+use Rattle.ct_machine.proofs.Taking.{frames_with}
 use Rattle.ct_machine.proofs.Statuses.{thread_with, like_with, set_with, set_both, set_over, statuses_with}
 
 -- ---- checks
 
 -- a check that failed, or what comes after the checks
-pub by_trap : Option Trap → routine.Ran → routine.Ran
+abbrev pub by_trap : Option Trap → routine.Ran → routine.Ran
 by_trap (Some why) x = Traps why
 by_trap None x = x
 
@@ -59,6 +63,20 @@ set_same : (ss : List Status) (t : ℕ) (s : Status) → status_of ss t ≡ s �
 set_same [] t s is there = absurd (omega (arith, there))
 set_same (x ∷ ss) zero s is there = ap (λ (y : Status). y ∷ ss) (sym is)
 set_same (x ∷ ss) (suc t) s is there = ap (λ (ys : List Status). x ∷ ys) (set_same ss t s is (omega (arith, there)))
+
+-- ---- whom a wake leaves ready
+
+pub woken_many : (address most : ℕ) (ss : List Status) → length (woken address most ss) ≡ length ss
+woken_many address most ss = length-map-range_with_len (after_wake address most ss) 0 (length ss)
+
+still : (address most : ℕ) (ss : List Status) (t : ℕ) → status_of ss t ≡ Ready → after_wake address most ss t ≡ Ready
+still address most ss t is = chosen (λ (x : Status). x ≡ Ready) (woke address most ss t) Ready (status_of ss t) (λ woken_is. refl) (λ not. is)
+
+woken_ready : (address most : ℕ) (ss : List Status) (t : ℕ) → status_of ss t ≡ Ready → status_of (woken address most ss) t ≡ Ready
+woken_ready address most ss t is = elim (lt_tells t (length ss)) [
+  | inl within ↦ get_or-map-range_with_len (after_wake address most ss) 0 (length ss) t t Ended within.1 (omega arith) ∙ still address most ss t is
+  | inr past ↦ absurd (let clash : Ended ≡ Ready = sym (get_or_past ss t Ended past.1) ∙ is in cc)
+]
 
 module _ (i : Image) (e : Seen) (r : SchedRow) (k : Bank) (pending : Bool) (time : ℕ) (c : Counts) (t : ℕ) (kept : IsKept i e r) where
   abbrev board : Board
@@ -123,10 +141,17 @@ module _ (i : Image) (e : Seen) (r : SchedRow) (k : Bank) (pending : Bool) (time
   waited_so : (b : Bool) (address held wanted : ℕ) → (held == wanted) ≡ b → status_of r.statuses t ≡ Ready → t < length r.statuses
       → waits here t address held wanted ≡ Leaves (state_by (waited e t held wanted) (with_status r t (awaiting address held wanted)) pending k.states time c) None
   waited_so true address held wanted same ready there =
-      rw same (ap (λ (s : State). Leaves s None) (sym (rests (awaiting address held wanted)) ∙ rw same refl))
+      let first : waits here t address held wanted
+      ≡ Leaves (record (registers.with_thread here t (threads.with_status (answered (thread here t) (integer 0)) (awaiting address held wanted))) { running = None }) None = rw same refl in
+      let seen : state_by (waited e t held wanted) (with_status r t (awaiting address held wanted)) pending k.states time c
+      ≡ state_by (rested e t) (with_status r t (awaiting address held wanted)) pending k.states time c = rw same refl in
+      first ∙ ap (λ (s : State). Leaves s None) (sym (seen ∙ rests (awaiting address held wanted)))
   waited_so false address held wanted other ready there =
-      let stays : with_status r t Ready ≡ r = ap (λ (ss : List Status). sched.with_statuses r ss) (set_same r.statuses t Ready ready there) in
-      rw (other, stays) (ap (λ (s : State). Leaves s None) (sym (answers_are (code 21))))
+      let first : waits here t address held wanted ≡ Leaves (answers here t (code 21)) None = rw other refl in
+      let seen : state_by (waited e t held wanted) (with_status r t (awaiting address held wanted)) pending k.states time c
+      ≡ state_by (answered_in e t (code 21)) (sched.with_statuses r (set r.statuses t Ready)) pending k.states time c = rw other refl in
+      let row = ap (λ (ss : List Status). state_by (answered_in e t (code 21)) (sched.with_statuses r ss) pending k.states time c) (set_same r.statuses t Ready ready there) in
+      first ∙ ap (λ (s : State). Leaves s None) (sym (seen ∙ row ∙ answers_are (code 21)))
 
   pub came_wait : (ram : ℕ) (o : Option Trap) (e' : Seen) (r' : SchedRow) → ram ≡ i.ram → status_of r.statuses t ≡ Ready → t < length r.statuses
       → o ≡ either (first_failed (return_checks (register (engine.thread e t) 1))) (first_failed (word_checks i here (register (engine.thread e t) 10)))
@@ -191,3 +216,44 @@ module _ (i : Image) (e : Seen) (r : SchedRow) (k : Bank) (pending : Bool) (time
       ∙ ap (λ (x : Cap). unless_row o r (sched.with_statuses r (woken (cap_address x) (cap_address (register (engine.thread e t) 11)) r.statuses))) ten
       ∙ ap (λ (x : Cap). unless_row o r (sched.with_statuses r (woken address (cap_address x) r.statuses))) eleven)
       (wakes_are address most many)
+
+  -- ---- what is kept beside the state
+
+  stays_kept : (e' : Seen) (ss : List Status) (o : Option Trap) (after : Seen) (r' : SchedRow) → e' ≡ unless o e after → r' ≡ unless_row o r (sched.with_statuses r ss) → IsKept i after (sched.with_statuses r ss) → IsKept i e' r'
+  stays_kept e' ss (Some why) after r' now turn h = rw (now, turn) kept
+  stays_kept e' ss None after r' now turn h = rw (now, turn) h
+
+  rested_kept : (ss : List Status) → length ss ≡ length r.statuses → IsKept i (rested e t) (sched.with_statuses r ss)
+  rested_kept ss many = kept_so i e (rested e t) r ss kept refl refl refl (length-set e.threads t _) many (none_runs (rested e t) ss refl)
+
+  answered_kept : (v : Cap) (ss : List Status) → length ss ≡ length r.statuses → RunsReady e ss → IsKept i (answered_in e t v) (sched.with_statuses r ss)
+  answered_kept v ss many ready = kept_so i e (answered_in e t v) r ss kept refl refl refl (length-set e.threads t _) many ready
+
+  pub kept_rest : (status : Status) (o : Option Trap) (e' : Seen) (r' : SchedRow) → e' ≡ unless o e (rested e t) → r' ≡ unless_row o r (with_status r t status) → IsKept i e' r'
+  kept_rest status o e' r' now turn = stays_kept e' (set r.statuses t status) o (rested e t) r' now turn (rested_kept (set r.statuses t status) (length-set r.statuses t status))
+
+  waited_kept : (b : Bool) (address held wanted : ℕ) → (held == wanted) ≡ b → status_of r.statuses t ≡ Ready → t < length r.statuses → IsKept i (waited e t held wanted) (with_status r t (awaiting address held wanted))
+  waited_kept true address held wanted same ready there = rw same (rested_kept (set r.statuses t (Waiting address)) (length-set r.statuses t (Waiting address)))
+  waited_kept false address held wanted other ready there = rw (other, set_same r.statuses t Ready ready there) (answered_kept (code 21) r.statuses refl kept.ready)
+
+  pub kept_wait : (address held wanted : ℕ) (o : Option Trap) (e' : Seen) (r' : SchedRow) → status_of r.statuses t ≡ Ready → t < length r.statuses
+      → e' ≡ unless o e (waited e t held wanted) → r' ≡ unless_row o r (with_status r t (awaiting address held wanted)) → IsKept i e' r'
+  kept_wait address held wanted o e' r' ready there now turn =
+      stays_kept e' (set r.statuses t (awaiting address held wanted)) o (waited e t held wanted) r' now turn (waited_kept (held == wanted) address held wanted refl ready there)
+
+  pub kept_wake : (v : Cap) (address most : ℕ) (o : Option Trap) (e' : Seen) (r' : SchedRow) → e' ≡ unless o e (answered_in e t v) → r' ≡ unless_row o r (sched.with_statuses r (woken address most r.statuses)) → IsKept i e' r'
+  kept_wake v address most o e' r' now turn =
+      stays_kept e' (woken address most r.statuses) o (answered_in e t v) r' now turn
+      (answered_kept v (woken address most r.statuses) (woken_many address most r.statuses) (λ u runs. woken_ready address most r.statuses u (kept.ready u runs)))
+
+  -- ---- the running thread
+
+  pub runs_ready : e.running ≡ Some t → status_of r.statuses t ≡ Ready
+  runs_ready runs = kept.ready t runs
+
+  pub runs_there : 0 < length (thread here t).frames → t < length r.statuses
+  runs_there some =
+      let frames : (thread here t).frames ≡ (engine.thread e t).frames = frames_with e.threads r.statuses t in
+      let within = some_within e.threads t (subst (λ (fs : List Frame). 0 < length fs) frames some) in
+      let many = kept.statuses in
+      omega (arith, within, many)

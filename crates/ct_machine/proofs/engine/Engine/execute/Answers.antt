@@ -1,0 +1,28 @@
+use Rattle.std.proofs.Common.{◌≡◌, Some, refl, subst, sym}
+use Rattle.def_step.specs.Events.{MachineRow}
+use Rattle.def_step.specs.Instructions.{executed}
+use Rattle.ct_execute.specs.Deciding.{decision}
+use Rattle.ct_machine.specs.Going.{MayGoOn}
+use Rattle.ct_machine.proofs.Opened.{is_open}
+use Rattle.ct_machine.proofs.Keeping.{ran_kept, came_by}
+use Rattle.ct_machine.proofs.Carried.{came}
+use Rattle.ct_machine.proofs.engine.Engine.execute.Goals as goal
+
+pub execute-requires-clause-opened : goal.execute-requires-clause-opened
+execute-requires-clause-opened g c =
+    let may = subst MayGoOn (sym c.self.view_is) c.requires.may in
+    is_open c.self.inside.plan c.self.inside.threads c.self.inside.sched c.self.inside.pending c.self.inside.bus.states c.self.inside.time c.self.inside.counts c.args.t
+    c.self.invariant.0 may.shut may.keeps.confined (subst (λ (m : MachineRow). m.state.running ≡ Some c.args.t) (sym c.self.view_is) c.requires.runs)
+
+pub invariant_of-self : goal.invariant_of-self
+invariant_of-self g c = (
+  ran_kept c.self.inside.plan (decision c.entries.result.now c.self.inside.threads c.args.t c.self.inside.bus c.self.inside.time) c.args.t
+      c.self.inside.threads c.execute.new.engine c.self.inside.sched c.self.inside.bus c.execute.new.bus c.execute.result c.self.invariant.0 c.execute.ensures.is c.execute.ensures.stays,
+  c.self.invariant.1,
+)
+
+pub returns-clause-came : goal.returns-clause-came
+returns-clause-came g c =
+    came_by (λ (m : MachineRow). executed m.board m.state c.args.t) c.self.view_is refl
+    (came c.self.inside.plan c.entries.result.now c.self.inside.threads c.self.inside.sched c.self.inside.bus c.self.inside.pending c.self.inside.time c.self.inside.counts c.args.t
+    c.self.invariant.0 c.entries.ensures.is c.execute.new.engine c.execute.new.bus c.execute.result c.execute.ensures.is c.execute.ensures.bases c.execute.ensures.unfinished)

@@ -1,0 +1,30 @@
+use Rattle.std.proofs.Common.{sym, subst}
+use Rattle.def_sched.specs.Statuses.{asleep}
+use Rattle.def_step.specs.Events.{MachineRow}
+use Rattle.def_step.specs.Instructions.{ran}
+use Rattle.def_step.specs.Routines.{yield}
+use Rattle.ct_machine.specs.Going.{Runs}
+use Rattle.ct_machine.proofs.Resting.{came_rest, kept_rest, runs_there}
+use Rattle.ct_machine.proofs.Keeping.{came_by}
+use Rattle.ct_machine.proofs.engine.Engine.pause.Goals as goal
+
+pub pause-requires-clause-there : goal.pause-requires-clause-there
+pause-requires-clause-there g c =
+    let i = c.self.inside in
+    let runs = subst (λ (m : MachineRow). Runs m c.args.t) (sym c.self.view_is) c.requires.runs in
+    runs_there i.plan i.threads i.sched i.bus i.pending i.time i.counts c.args.t c.self.invariant.0 runs.some
+
+pub invariant_of-self : goal.invariant_of-self
+invariant_of-self g c =
+    let i = c.self.inside in (
+      kept_rest i.plan i.threads i.sched i.bus i.pending i.time i.counts c.args.t c.self.invariant.0 (asleep 0) c.pause.result c.pause.new.engine c.pause.new.sched
+          c.pause.ensures.engine c.pause.ensures.sched,
+      c.self.invariant.1,
+    )
+
+pub returns-clause-came : goal.returns-clause-came
+returns-clause-came g c =
+    let i = c.self.inside in
+    came_by (λ (m : MachineRow). ran m.board m.state c.args.t (yield m.state c.args.t)) c.self.view_is c.ran_by_service.ensures.is
+    (came_rest i.plan i.threads i.sched i.bus i.pending i.time i.counts c.args.t c.self.invariant.0 (asleep 0) c.pause.result c.pause.new.engine c.pause.new.sched
+    c.pause.ensures.trap c.pause.ensures.engine c.pause.ensures.sched)
