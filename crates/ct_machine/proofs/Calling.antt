@@ -1,37 +1,33 @@
 -- What the code leaves of a call is what the written switch leaves.
-use Rattle.std.proofs.Common.{ℕ, ◌≡◌, ◌<◌, Bool, List, length, Some, None, refl, sym, ap, ◌∙◌, subst}
+use Rattle.std.proofs.Common.{ℕ, ◌≡◌, ◌<◌, Bool, List, length, Some, refl, sym, ap, ◌∙◌, subst}
 use Rattle.std.proofs.Math.ListN.{get_or, set}
 use Rattle.std.proofs.lemmas.List.{length-set}
 use Rattle.law_granules.proofs.Lists.{zeroed_length}
 use Rattle.def_confined.specs.Confined.{Confined}
 use Rattle.ct_entry.specs.Listed.{Listed}
-use Rattle.ct_entry.specs.declared.acts.Act.{Act}
 use Rattle.ct_entry.specs.declared.acts.Act.TheVariants.{Call}
 use Rattle.def_words.specs.declared.Cap.{Cap}
-use Rattle.def_sched.specs.declared.Status.{Status}
 use Rattle.def_sched.specs.declared.Status.TheVariants.{Ended}
 use Rattle.def_reach.specs.Roots.{compartment_of}
 use Rattle.def_machine.specs.Image.{Image, root, stack_base, frames_most}
-use Rattle.def_machine.specs.State.{State, Thread, DeviceState, Counts, thread, nobody, register}
+use Rattle.def_machine.specs.State.{State, Thread, DeviceState, Counts, thread, register}
 use Rattle.def_machine.specs.Threads as threads
 use Rattle.def_machine.specs.Threads.{with_statuses}
 use Rattle.def_machine.specs.Frames as frames
 use Rattle.def_machine.specs.Frames.{given, entered}
 use Rattle.def_step.specs.Devices.{Bank}
 use Rattle.def_step.specs.Switch.{Switched, Trapped, TooDeep, NoStack, Enters, switch_of, frame_top}
-use Rattle.def_step.specs.Routines as routine
-use Rattle.def_step.specs.Routines.{Leaves, switched_to, switch, code}
-use Rattle.def_step.specs.Instructions.{Board, ran, deed, actor_of}
+use Rattle.def_step.specs.Routines.{switched_to, switch, code}
+use Rattle.def_step.specs.Instructions.{Board, ran, deed}
 use Rattle.def_step.specs.Events.{MachineRow}
 use Rattle.ct_areas.specs.Threads as areas
 use Rattle.ct_sched.specs.Sched.{SchedRow}
 use Rattle.ct_switch.specs.declared.calls.Called.{Called}
-use Rattle.ct_switch.specs.declared.calls.Called.TheVariants as result
 use Rattle.ct_switch.specs.Calls.{told}
 use Rattle.ct_engine.specs.Seen as engine
 use Rattle.ct_engine.specs.Seen.{Seen, area_at}
 use Rattle.ct_engine.specs.Calls.{HeadStands, switch_at, after_call}
-use Rattle.ct_engine.specs.Written.{Shows, written, callee_thread}
+use Rattle.ct_engine.specs.Written.{Shows, callee_thread}
 use Rattle.ct_engine.proofs.AsWritten.{enters_is}
 use Rattle.ct_services.specs.Served.{answered_in, switched_in}
 use Rattle.law_callable.specs.Showing.{IsOfSound, ShowsCaller}

@@ -1,5 +1,5 @@
 -- What the code leaves of an instruction, and of a frame's end, is what the written step leaves.
-use Rattle.std.proofs.Common.{ℕ, suc, ◌≡◌, ◌<◌, Bool, true, nat_lt, List, [], ◌∷◌, length, Option, Some, None, option_map, refl, sym, ap, ◌∙◌, subst, slice_set, arith}
+use Rattle.std.proofs.Common.{ℕ, ◌≡◌, ◌<◌, Bool, nat_lt, List, [], ◌∷◌, length, Option, None, option_map, refl, sym, ap, ◌∙◌, slice_set, arith}
 use Rattle.std.proofs.Math.ListN.{get_or, set}
 use Rattle.ct_entry.specs.Listed.{Listed}
 use Rattle.ct_entry.specs.declared.acts.Deed.{Deed}

@@ -23,7 +23,7 @@ use Rattle.ct_sched.specs.Sched.{SchedRow, with_statuses, after_pick}
 use Rattle.ct_engine.specs.Seen as engine
 use Rattle.ct_engine.specs.Seen.{Seen, area_at, resumed}
 use Rattle.ct_engine.specs.Steps.{IsHeapPlaced}
-use Rattle.ct_engine.specs.Calls.{TopLies, switched, ended_by}
+use Rattle.ct_engine.specs.Calls.{switched, ended_by}
 use Rattle.ct_execute.specs.declared.ran.Ran.{Ran}
 use Rattle.ct_execute.specs.declared.ran.Ran.TheVariants.{Went, Returned, Native, Trapped}
 use Rattle.ct_execute.specs.Deciding.{Decision, Goes, Returns, Serves, Traps, Decided, IfUnfinished, Stays}
@@ -150,4 +150,4 @@ ticked_kept i e r row kept turn =
 -- ---- what a thread came to, of another spelling of the same
 
 pub came_by : {m whole n : MachineRow} {t : ℕ} {x y : Ran} (w : MachineRow → State × Option Deed) → m ≡ whole → y ≡ x → CameTo m n t x (w m) → CameTo whole n t y (w whole)
-came_by {m = m} {n = n} {t = t} {x = x} w same ran h = subst (λ (k : MachineRow). CameTo k n t _ (w k)) same (subst (λ (r : Ran). CameTo m n t r (w m)) (sym ran) h)
+came_by {m = m} {n = n} {t = t} {y = y} w same ran h = subst (λ (k : MachineRow). CameTo k n t y (w k)) same (subst (λ (r : Ran). CameTo m n t r (w m)) (sym ran) h)

@@ -11,6 +11,7 @@ use Rattle.def_step.specs.Devices.{Bank}
 use Rattle.def_step.specs.Events.{MachineRow}
 use Rattle.def_image.specs.Parts.{ThreadRow, PartsRow}
 use Rattle.def_image.specs.Sound.{Sound}
+use Rattle.def_boot.specs.Gates.{entries_of}
 use Rattle.def_boot.specs.Boot.{boot_state, booted_machine, first_thread, first_threads, image_of, no_counts}
 use Rattle.def_boot.specs.Contents.{boot_granules, granules_from, granules_in}
 use Rattle.ct_engine.specs.Seen.{Seen}
@@ -112,6 +113,6 @@ started_kept p i e r s image engine placed rows = (
 )
 
 -- what is kept of a sound image
-pub plan_of : (p value parts : PartsRow) (entries : Listed) → Sound p → value ≡ p → parts ≡ p → entries ≡ (image_of p).entries → IsPlan value entries parts.ram parts.heap
+pub plan_of : (p value : PartsRow) (entries : Listed) (ram heap : ℕ) → Sound p → value ≡ p → entries ≡ entries_of p → ram ≡ p.ram → heap ≡ p.heap → IsPlan value entries ram heap
 unfolding image_of
-plan_of p value parts entries s is there same = rw (is, there) (record { sound = s; entries_are = same; ram_is = refl; heap_is = refl })
+plan_of p value entries ram heap s is same begins heaps = rw (is, begins, heaps) (record { sound = s; entries_are = same; ram_is = refl; heap_is = refl })

@@ -113,13 +113,17 @@ impl<M: Memory + Drop> Engine<M> {
             (native self.old.board.image self.old.state t number)) }
         ensures done { IsDone result }
     {
-        match number {
-            SWITCH => self.call(t),
-            YIELD => self.pause(t),
-            SLEEP => self.sleep(t),
-            WAIT => self.wait(t),
+        if number == SWITCH {
+            self.call(t)
+        } else if number == YIELD {
+            self.pause(t)
+        } else if number == SLEEP {
+            self.sleep(t)
+        } else if number == WAIT {
+            self.wait(t)
+        } else {
             // Only the wake is left.
-            _ => self.wake(t),
+            self.wake(t)
         }
     }
 }

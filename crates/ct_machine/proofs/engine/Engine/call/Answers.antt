@@ -1,4 +1,4 @@
-use Rattle.std.proofs.Common.{ap, sym, subst, ◌∙◌, refl}
+use Rattle.std.proofs.Common.{sym, subst}
 use Rattle.ct_entry.specs.Listed.{Listed}
 use Rattle.def_step.specs.Events.{MachineRow}
 use Rattle.def_step.specs.Instructions.{ran}

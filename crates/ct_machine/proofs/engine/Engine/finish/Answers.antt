@@ -6,7 +6,7 @@ use Rattle.ct_engine.specs.Seen.{Seen, thread}
 use Rattle.ct_engine.specs.Calls.{TopLies}
 use Rattle.ct_execute.specs.Deciding.{IfUnfinished}
 use Rattle.ct_machine.specs.Parts.{IsKept, IsCounted, deeds_of}
-use Rattle.ct_machine.specs.Going.{MayEnd, finished, left_after, goes_after, status_after}
+use Rattle.ct_machine.specs.Going.{MayEnd, finished, left_after, status_after}
 use Rattle.ct_machine.proofs.Opened.{tops, base_of, some_seen}
 use Rattle.ct_machine.proofs.Keeping.{left_kept, unfinished_map}
 use Rattle.ct_machine.proofs.Sizes.{deed_counts}
@@ -44,8 +44,8 @@ returns-clause-is g c =
     let i = c.self.inside in
     let ends = unfinished_map c.args.ran (MayEnd _ c.args.t c.args.actor) (Ends i.plan i.threads _ c.args.t c.args.actor)
     (λ m.
-        let some = some_seen i.plan i.threads i.sched i.pending i.bus.states i.time i.counts c.args.t m.runs.some in
-        record { base = base_of i.plan i.threads i.sched i.pending i.bus.states i.time i.counts c.args.t c.self.invariant.0 some; some = some; acts = m.acts })
+    let some = some_seen i.plan i.threads i.sched i.pending i.bus.states i.time i.counts c.args.t m.runs.some in
+    record { base = base_of i.plan i.threads i.sched i.pending i.bus.states i.time i.counts c.args.t c.self.invariant.0 some; some = some; acts = m.acts })
     (subst (λ (m : MachineRow). IfUnfinished c.args.ran (MayEnd m c.args.t c.args.actor)) (sym c.self.view_is) c.requires.ends) in
     finished_so i.plan c.entries.result.now i.threads i.sched i.bus i.pending i.time i.counts c.args.t c.self.invariant.0 c.entries.ensures.is
     c.leave-goes.new.threads c.note_end.new.sched c.note.new.self c.args.actor c.args.ran c.deed_of-deed.result c.requires.done ends

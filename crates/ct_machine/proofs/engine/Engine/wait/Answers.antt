@@ -1,4 +1,4 @@
-use Rattle.std.proofs.Common.{◌≡◌, ◌-◌, Some, refl, sym, subst, ◌∙◌}
+use Rattle.std.proofs.Common.{◌-◌, refl, sym, subst, ◌∙◌}
 use Rattle.def_words.specs.Authority.{cap_address}
 use Rattle.def_memory.specs.Accesses.{loaded}
 use Rattle.def_machine.specs.State.{register}

@@ -1,12 +1,9 @@
-use Rattle.std.proofs.Common.{ap, sym, subst, ◌∙◌}
-use Rattle.def_image.specs.Parts.{PartsRow}
-use Rattle.def_image.specs.Sound.{Sound}
-use Rattle.def_boot.specs.Boot.{image_of}
+use Rattle.std.proofs.Common.{ap, ◌∙◌}
 use Rattle.law_image.proofs.Sounds.{sound}
 use Rattle.ct_machine.proofs.Starts.{plan_of}
 use Rattle.ct_machine.proofs.plan.Plan.of.Goals as goal
 
 pub invariant_of-result : goal.invariant_of-result
 invariant_of-result c =
-    plan_of c.args.image.now c.of.result.value c.parts.inside c.in_ok-entries.entries (sound c.args.image.now c.parts-parts.ensures.faultless) c.of.ensures
-    (c.parts.view_is ∙ c.parts-parts.ensures.parts) c.in_ok-entries.ensures.entries
+    plan_of c.args.image.now c.of.result.value c.in_ok-entries.entries c.parts.inside.ram c.parts.inside.heap (sound c.args.image.now c.parts-parts.ensures.faultless) c.of.ensures
+    c.in_ok-entries.ensures.entries (ap (λ p. p.ram) (c.parts.view_is ∙ c.parts-parts.ensures.parts)) (ap (λ p. p.heap) (c.parts.view_is ∙ c.parts-parts.ensures.parts))
