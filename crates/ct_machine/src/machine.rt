@@ -1,10 +1,14 @@
 //! The machine: an engine whose state is confined.
 
-ghost use Rattle.std.specs.Prelude.{◌≡◌, IsTrue, IfOk};
+ghost use Rattle.std.specs.Prelude.{◌≡◌, List, IsTrue, IfOk};
 ghost use Rattle.def_board.specs.Guarded.{Guarded};
 ghost use Rattle.def_boot.specs.Boot.{booted_machine};
-ghost use Rattle.def_confined.specs.Telling.{IsLicensedEvent};
-ghost use Rattle.def_step.specs.Events.{happens, is_lawful, end_of, totals_of};
+ghost use Rattle.def_confined.specs.Telling.{AllLicensed, IsLicensedEvent};
+ghost use Rattle.def_step.specs.declared.Event as events;
+ghost use Rattle.law_history.specs.Accesses.{UsesReach};
+ghost use Rattle.law_history.specs.Clean.{CleanEvent};
+ghost use Rattle.law_history.specs.Each.{EachEvent};
+ghost use Rattle.def_step.specs.Events.{told, happens, is_lawful, end_of, totals_of};
 ghost use Rattle.law_boot_words.specs.Booting.{empty_granules};
 
 use crate::engine::Engine;
@@ -90,5 +94,19 @@ impl<M: Memory + Drop> Machine<M> {
         ensures licensed { IsLicensedEvent self.old.board.image.entries result }
     {
         self.engine.advance(event)
+    }
+
+    /// Whatever events come next, one after another: calls are clean, each access goes through a capability
+    /// whose owner reaches the actor, and each deed and each span with interrupts off is licensed by the
+    /// image's entries. A law, told of the machine as it is now: nothing is done. docs/claims/theorems.md.
+    pub fn whatever_comes(&self)
+        ensures calls { (es : List events.Event)
+            → EachEvent (CleanEvent self.now.board) self.now.board self.now.state es }
+        ensures accesses { (es : List events.Event)
+            → EachEvent (λ z e. UsesReach self.now.board z) self.now.board self.now.state es }
+        ensures licensed { (es : List events.Event) → AllLicensed self.now.board.image.entries
+            (told self.now.board self.now.state es) }
+    {
+        let _engine = &self.engine;
     }
 }

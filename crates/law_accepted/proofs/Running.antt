@@ -23,10 +23,11 @@ use Rattle.law_started.proofs.Shutting.{shut}
 use Rattle.law_started.proofs.Blanking.{blank}
 use Rattle.law_reuse.specs.Reuse.{SweepsWhole}
 use Rattle.law_history.specs.Each.{EachEvent}
+use Rattle.law_history.specs.Accesses.{UsesReach}
 use Rattle.law_history.specs.Clean.{CleanEvent}
 use Rattle.law_history.specs.Temporal.{UsesLive, AllocatesFresh}
 use Rattle.law_history.specs.Chunks.{ChunksMeet}
-use Rattle.law_history.proofs.Running.{run_clean, run_uses_live, run_charges, run_fresh, run_reuses}
+use Rattle.law_history.proofs.Running.{run_clean, run_uses_reach, run_uses_live, run_charges, run_fresh, run_reuses}
 
 pub partitioned : (p : PartsRow) → IsFaultless p → Partitioned (image_of p)
 partitioned p f = booted.partitioned p (sound p f)
@@ -41,6 +42,9 @@ licensed p es f = told_licensed (board_of p) (boot_state p) es (partitioned p f)
 
 pub calls : (p : PartsRow) (es : List Event) → IsFaultless p → EachEvent (CleanEvent (board_of p)) (board_of p) (boot_state p) es
 calls p es f = run_clean (board_of p) (partitioned p f) (holds p (sound p f)) (wired p (sound p f)) (boot_state p) es (keeps p (sound p f))
+
+pub accesses : (p : PartsRow) (es : List Event) → IsFaultless p → EachEvent (λ z e. UsesReach (board_of p) z) (board_of p) (boot_state p) es
+accesses p es f = run_uses_reach (board_of p) (partitioned p f) (holds p (sound p f)) (wired p (sound p f)) (boot_state p) es (keeps p (sound p f))
 
 pub uses : (p : PartsRow) (es : List Event) → IsFaultless p → EachEvent (λ z e. UsesLive (board_of p) z) (board_of p) (boot_state p) es
 uses p es f = run_uses_live (board_of p) (partitioned p f) (holds p (sound p f)) (wired p (sound p f)) (boot_state p) es (keeps p (sound p f))

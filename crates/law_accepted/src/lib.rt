@@ -17,6 +17,7 @@ ghost use Rattle.def_machine.specs.Objects.{charges};
 ghost use Rattle.def_step.specs.Events.{happens, run, told};
 ghost use Rattle.def_step.specs.declared.Event.{Event};
 ghost use Rattle.def_step.specs.declared.Event.TheVariants.{Step};
+ghost use Rattle.law_history.specs.Accesses.{UsesReach};
 ghost use Rattle.law_history.specs.Chunks.{ChunksMeet};
 ghost use Rattle.law_history.specs.Clean.{CleanEvent};
 ghost use Rattle.law_history.specs.Each.{EachEvent};
@@ -40,13 +41,15 @@ pub fn accepted_images_run()
         → AllLicensed (image_of p).entries (told (board_of p) (boot_state p) es) }
 {}
 
-/// Whatever events come from its boot: calls are clean; nothing is loaded, stored, waited for or woken through
+/// Whatever events come from its boot: calls are clean; each access is licensed; nothing is loaded, stored, waited for or woken through
 /// a capability of an object after its free; an allocation hands out a fresh object; a chunk that was freed
 /// is handed out again only after a whole sweep that began after its free; and the live charges on each
 /// quota are at most its limit.
 pub fn accepted_images_are_safe()
     ensures calls { (bytes : List ℕ) (p : PartsRow) (es : List Event) → IsImage bytes p
         → EachEvent (CleanEvent (board_of p)) (board_of p) (boot_state p) es }
+    ensures accesses { (bytes : List ℕ) (p : PartsRow) (es : List Event) → IsImage bytes p
+        → EachEvent (λ z e. UsesReach (board_of p) z) (board_of p) (boot_state p) es }
     ensures uses { (bytes : List ℕ) (p : PartsRow) (es : List Event) → IsImage bytes p
         → EachEvent (λ z e. UsesLive (board_of p) z) (board_of p) (boot_state p) es }
     ensures fresh { (bytes : List ℕ) (p : PartsRow) (es : List Event) → IsImage bytes p
