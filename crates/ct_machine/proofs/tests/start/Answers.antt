@@ -3,4 +3,4 @@ use Rattle.law_image.proofs.Sounds.{sound}
 use Rattle.ct_machine.proofs.tests.start.Goals as goal
 
 pub new-requires : goal.new-requires
-new-requires g c = ap (λ p. p.size % 16) (c.behind-image.view_is ∙ c.parts.ensures.parts) ∙ (sound c.args.image.now c.parts.ensures.faultless).ram.size
+new-requires c = ap (λ p. p.size % 16) (c.behind-image.view_is ∙ c.parts.ensures.parts) ∙ (sound c.args.image.now c.parts.ensures.faultless).ram.size
