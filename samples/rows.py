@@ -194,3 +194,27 @@ case("upgrade_no_file", ["upgrade", "nosuch.image"], "", "refused 2 read nosuch.
 case("runimage_upgraded", ["runimage", "{}", "100"], UPGRADED, lines(report(TINY), STORE, ended("finished", 6, devices=1)))
 altered("no_sweep", UPGRADED[:52] + bytes(4) + UPGRADED[56:], "I3 52")
 altered("upgraded_globals", UPGRADED[:176] + UPGRADED[172:176] + UPGRADED[180:], "I4 176")
+
+# ---- policies
+
+
+def judged(name, rules, wanted, firmware=None):
+    """The board with two threads and an allocation, or another firmware, judged by a policy of these rules."""
+    policy = source(name + ".policy", rules)["file"]
+    case("check_" + name, ["check", "{}", policy], json.dumps(firmware or both), wanted + "\n")
+
+
+judged("allowed", ["device uart0 only driver", "call driver.put only app", "apart app driver", "quota app 64"], "allow")
+judged("empty", [], "allow")
+judged("device", ["device uart0 only app"], "denied 1 12")
+judged("total", ["quota total 63"], "denied 1 7")
+judged("apart", ["apart hex app"], "denied 1 path hex app")
+judged("several", ["device uart0 only driver", "quota app 63", "call driver.put only driver", "apart hex app"],
+       "denied 2 7\ndenied 3 5\ndenied 4 path hex app")
+judged("no_form", ["frob"], "refused 13 policy P1 1")
+judged("no_name", ["quota app 64", "device uart9 only app"], "refused 13 policy P2 2")
+judged("no_description", ["frob"], "refused 4 description F6 firmware 0 0", tiny(sweep=32))
+judged("no_link", ["frob"], "refused 5 assembly A2 app 2", filed("judged_mnemonic", ["main: nop", "frob a0"]))
+case("check_no_policy", ["check", "{}", "nosuch.policy"], json.dumps(BOARD), "refused 2 read nosuch.policy\n")
+case("check_no_source", ["check", "{}", "nosuch.policy"], json.dumps(dict(TINY, compartments=[dict(
+     TINY["compartments"][0], code={"file": "nosuch.s"})])), "refused 2 read nosuch.s\n")

@@ -69,7 +69,7 @@ line_some : (ws : List (List ℕ)) → 0 < length (line_of ws)
 line_some [] = omega arith
 line_some (w ∷ ws) = omega (arith, length-append w (ended ws), ended_some ws)
 
-ended_long : (ws : List (List ℕ)) (rest : List ℕ) → length rest < length (line_of ws ++ rest)
+pub ended_long : (ws : List (List ℕ)) (rest : List ℕ) → length rest < length (line_of ws ++ rest)
 ended_long ws rest = omega (arith, length-append (line_of ws) rest, line_some ws)
 
 pub goes_on : (p : PartsRow) (text left rest : List ℕ) (old new : List Ruling) → Going p text old left → Takes p old new left rest → Going p text new rest
@@ -96,7 +96,7 @@ starts p text = record { rules = []; lines = λ k d inside. absurd (omega (arith
 
 -- ---- the end
 
-known_by : (p : PartsRow) (rules : List Rule) (rulings : List Ruling) → map (meant p) rules ≡ map (λ r. Some r) rulings → All (IsKnown p) rules
+pub known_by : (p : PartsRow) (rules : List Rule) (rulings : List Ruling) → map (meant p) rules ≡ map (λ r. Some r) rulings → All (IsKnown p) rules
 known_by p [] rulings are k d inside = absurd (omega (arith, inside))
 known_by p (r ∷ rs) [] are k d inside = absurd (omega (arith, ap length are))
 known_by p (r ∷ rs) (x ∷ xs) are ℕ.zero d inside = let here : meant p r ≡ Some x = cc in rw here refl

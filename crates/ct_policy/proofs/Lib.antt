@@ -6,3 +6,6 @@ pub mod Told
 pub mod Untrusted
 pub mod Accounts
 pub mod Members
+pub mod Gates
+pub mod Judged
+pub mod Denying

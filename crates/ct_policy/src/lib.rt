@@ -1,9 +1,14 @@
-//! Policies: rules on an image's report, read from a text (docs/use/policies.md; definitions in
-//! def_policy). A text is taken apart once, line by line, and each name in it is looked up, in time
-//! that grows as the text does.
+//! Policies: rules on an image's report, read from a text and judged (docs/use/policies.md;
+//! definitions in def_policy).
+//!
+//! `read` takes a text apart once, line by line, and looks each name up; `broken` goes through the
+//! entries once for each rule. Both take time that grows as the text does.
 #![tactic(auto)]
 
+mod breaking;
 mod forms;
+mod judging;
+mod kinds;
 mod names;
 mod parts;
 mod policy;
@@ -12,4 +17,4 @@ mod rulings;
 mod words;
 
 pub use def_policy::PolicyFault;
-pub use policy::{Rules, read};
+pub use policy::{Rules, broken, read};

@@ -1,12 +1,19 @@
 //! A policy, and what denies it.
 
-ghost use Rattle.std.specs.Prelude.{◌<◌, ◌^◌, MatchResult, length};
+ghost use Rattle.std.specs.Prelude.{◌≡◌, ◌<◌, ◌^◌, IfOk, MatchResult, length, string_bytes};
+ghost use Rattle.def_boot.specs.Gates.{entries_of};
+ghost use Rattle.def_policy.specs.Denials.{AllDenied};
 ghost use Rattle.def_policy.specs.Texts.{IsCause, Reads};
 
+use crate::breaking::gates_of;
+use crate::judging::add_ruling;
 use crate::reading::read_lines;
 use crate::rulings::Ruling;
+use ct_entry::Entries;
+use ct_graph::Graph;
 use ct_image::Image;
 use def_policy::PolicyFault;
+use def_refusals::NoMemory;
 use std::alloc::Global;
 use std::marker::Model;
 
@@ -39,4 +46,42 @@ pub fn read(alloc: Global, bytes: &[u8], image: &Image) -> Result<Rules, PolicyF
     let parts = image.parts();
     let rows = read_lines(alloc, bytes, parts)?;
     Ok(Rules { rows })
+}
+
+/// The lines that deny a policy (docs/use/policies.md): for each rule, in order, one for each entry
+/// that breaks it, by the entry's number; or the path of an owner that is to be apart from a compartment
+/// and reaches it. It is empty exactly where the policy holds. `NoMemory`: want of memory.
+///
+/// Condition: `entries` are the image's, `graph` is their graph, and the rules are of this image.
+#[tactic(auto, using(crate::proofs::Denying::begins, crate::proofs::Denying::next_rule, crate::proofs::Denying::all_denied, crate::proofs::Denying::kept_at))]
+pub fn broken(
+    alloc: Global,
+    rules: &Rules,
+    image: &Image,
+    entries: &Entries,
+    graph: &Graph,
+) -> Result<String, NoMemory>
+    requires entries { entries.now ≡ entries_of image.now }
+    requires few { length entries.now.rows < 2 ^ 32 }
+    requires graph { graph.now ≡ entries_of image.now }
+    ensures { IfOk result (λ s. AllDenied image.now 1 rules.now (string_bytes s)) }
+{
+    let parts = image.parts();
+    let gates = gates_of(alloc, entries)?;
+    let mut text = String::new(alloc);
+    for index in 0..rules.rows.len() {
+        let line = index as u32 + 1;
+        let ruling = &rules.rows[index];
+        add_ruling(
+            alloc,
+            &mut text,
+            line,
+            ruling,
+            parts,
+            entries,
+            gates.as_slice(),
+            graph,
+        )?;
+    }
+    Ok(text)
 }

@@ -64,6 +64,7 @@ fn read_files<'a, F: Folder>(
         (λ stop.
         SomeGiven (F.file folder.old) (texts names.now) (F.calls folder.old)
         (F.calls folder.new) (F.faults folder.old) (F.faults folder.new) stop) }
+    ensures same { (n : List ℕ) → F.file folder.new n ≡ F.file folder.old n }
 {
     let mut all = Vec::new(alloc);
     for name in names {
@@ -86,7 +87,7 @@ pub fn read_sources<'a, F: Folder>(
     desc: &'a Desc,
     folder: &mut F,
 ) -> Result<Vec<Vec<u8>>, Stop<'a>>
-    ensures { MatchResult result
+    ensures answer { MatchResult result
         (λ v.
         AllGiven (F.file folder.old) (spec.source_names desc.now) (F.calls folder.old)
         (F.calls folder.new) (F.faults folder.old) (F.faults folder.new)
@@ -94,6 +95,7 @@ pub fn read_sources<'a, F: Folder>(
         (λ stop.
         SomeGiven (F.file folder.old) (spec.source_names desc.now) (F.calls folder.old)
         (F.calls folder.new) (F.faults folder.old) (F.faults folder.new) stop) }
+    ensures same { (n : List ℕ) → F.file folder.new n ≡ F.file folder.old n }
 {
     match source_names(alloc, desc) {
         Ok(names) => read_files(alloc, names.as_slice(), folder),

@@ -1,6 +1,7 @@
 -- From what was read and written to the answer of a call.
-use Rattle.std.proofs.Common.{◌≡◌, ℕ, List, [], ◌∷◌, true, false, Some, None, slice_get, length, sym, ◌∙◌, subst, ◌⊎◌, inl, inr}
-use Rattle.std.proofs.lemmas.List.{append-nil}
+use Rattle.std.proofs.Common.{◌≡◌, ℕ, suc, List, [], ◌∷◌, ◌++◌, true, false, Some, None, slice_get, length, take, drop, refl, sym, ap, ◌∙◌, subst, ◌⊎◌, inl, inr, arith, length-append}
+use Rattle.std.proofs.lemmas.List.{append-nil, append_assoc, map-append}
+use Rattle.std.proofs.lemmas.Option.{slice_get_past}
 use Rattle.def_port.specs.Told.{Told, Call}
 use Rattle.def_port.specs.Bytes.{Rose}
 use Rattle.def_description.specs.Rows.{DescRow}
@@ -10,17 +11,30 @@ use Rattle.def_program.specs.declared.Status.{Status}
 use Rattle.def_program.specs.declared.Status.TheVariants.{ReadFault, TooLarge}
 use Rattle.def_program.specs.Lines.{read_line, large_line}
 use Rattle.def_program.specs.Commands.{Command, form_of, file_of, reads_image}
-use Rattle.def_program.specs.Ends.{Ends}
-use Rattle.def_program.specs.Turns.{Turn, Follows, OfFirst, OfImage, OfSources, OfLinked, OfDescription, source_names}
-use Rattle.def_program.specs.Answers.{Answers, Read, contents, AllRead}
+use Rattle.def_program.specs.Ends.{Ends, Exceeds, IsFile}
+use Rattle.def_program.specs.Turns.{Turn, Asks, Follows, OfFirst, OfImage, OfLinked, OfRows, OfDescription, source_names}
+use Rattle.def_program.specs.Answers.{Answers, Read, contents, read_call, read_calls, AllRead, WereDue}
 use Rattle.ct_reading.specs.declared.files.Stop.{Stop}
 use Rattle.ct_reading.specs.declared.files.Stop.TheVariants.{Unread, Large, NoMemory}
-use Rattle.ct_reading.specs.Whole.{WasGiven, NotGiven, Front, AllGiven, SomeGiven, NextStops, WantsBetween}
+use Rattle.ct_reading.specs.Whole.{names_of, WasGiven, NotGiven, Front, AllGiven, SomeGiven, NextStops, WantsBetween}
 use Rattle.ct_refusals.specs.Closing.{Closes}
+use Rattle.ct_refusals.specs.Ended.{EndsBy, EndsAtOnce, EndsAfter}
 use Rattle.ct_refusals.specs.Settled.{Settles}
 use Rattle.ct_refusals.proofs.Endings.{wanting, settled, unread, too_large, due_by}
 use Rattle.ct_refusals.specs.Stopped.{Refuses}
-use Rattle.ct_refusals.proofs.Due.{first_read, nothing_due, none_due, first_due, sources_due, next_due, none_left, told_before, calls_both, calls_last, of_first}
+use Rattle.ct_refusals.proofs.Due.{first_read, nothing_due, none_due, first_due, sources_due, next_due, none_left, told_before, calls_both, calls_last, of_first, one_more_due}
+
+as_many : (done : List Read) → length (names_of done) ≡ length (contents done)
+as_many [] = refl
+as_many (r ∷ done) = ap suc (as_many done)
+
+take_front : (xs ys : List (List ℕ)) → take (length xs) (xs ++ ys) ≡ xs
+take_front [] ys = refl
+take_front (x ∷ xs) ys = ap (λ zs. x ∷ zs) (take_front xs ys)
+
+drop_front : (xs ys : List (List ℕ)) → drop (length xs) (xs ++ ys) ≡ ys
+drop_front [] ys = refl
+drop_front (x ∷ xs) ys = drop_front xs ys
 
 module _ (e : Ends) (c : Command) (result : Status) (form : form_of e.words ≡ Some c) where
   -- ---- the first file isn't given
@@ -41,12 +55,69 @@ module _ (e : Ends) (c : Command) (result : Status) (form : form_of e.words ≡ 
   alone : (bytes : List ℕ) → WasGiven (file_of c) (e.told (file_of c)) e.calls e.calls_after e.read_faults e.read_faults_after bytes → AllRead e c (first_read c bytes ∷ [])
   alone bytes w = record { due = first_due e c bytes w.file; calls = w.call; same = w.same }
 
-  pub image_done : (bytes : List ℕ) → WasGiven (file_of c) (e.told (file_of c)) e.calls e.calls_after e.read_faults e.read_faults_after bytes
-      → reads_image c ≡ true → Settles (OfImage c bytes) e.bytes e.bytes_after e.write_faults e.write_faults_after result → Answers e result
-  image_done bytes w kind s =
-      settled e c (first_read c bytes ∷ []) result form (alone bytes w)
-      (due_by (OfImage c bytes) (Follows c (bytes ∷ [])) e.bytes e.bytes_after e.write_faults e.write_faults_after result
-      (λ t due. subst (λ b. OfFirst b c bytes [] t) (sym kind) due) s)
+  -- ---- the call ends after these files, or after one more
+
+  -- the ends of what comes after some reads
+  abbrev pub later : (List ℕ → Told) → List Call → ℕ → Ends
+  later here mid counted = record e { words = []; told = here; calls = mid; read_faults = counted }
+
+  module _ (rs : List Read) (due : WereDue e c rs) (here : List ℕ → Told) (mid : List Call) (counted : ℕ)
+      (calls : mid ≡ e.calls ++ read_calls rs) (same : counted ≡ e.read_faults) (kept : (n : List ℕ) → here n ≡ e.told n)
+      (Due : List (List ℕ) → Turn → Type 0) (then : (more : List (List ℕ)) (t : Turn) → Due more t → Follows c (contents rs ++ more) t) where
+    next_asked : (name : List ℕ) → Due [] (Asks name) → Follows c (contents rs) (Asks name)
+    next_asked name asked = subst (λ fs. Follows c fs (Asks name)) (append-nil (contents rs)) (then [] (Asks name) asked)
+
+    at_once : EndsAtOnce Due (later here mid counted) result → Answers e result
+    at_once x =
+        settled e c rs result form (record { due = due; calls = x.calls ∙ calls; same = x.same ∙ same })
+        (due_by (Due []) (Follows c (contents rs)) e.bytes e.bytes_after e.write_faults e.write_faults_after result
+        (λ t is. subst (λ fs. Follows c fs t) (append-nil (contents rs)) (then [] t is)) x.settles)
+
+    after_one : EndsAfter Due (later here mid counted) result → Answers e result
+    after_one x =
+        let last : Read = record { name = x.name; bytes = x.bytes } in
+        let file = subst (λ (t : Told). IsFile t x.bytes) (kept x.name) x.given.file in
+        let all : contents (rs ++ last ∷ []) ≡ contents rs ++ x.bytes ∷ [] = map-append (λ (r : Read). r.bytes) rs (last ∷ []) in
+        let called : read_calls (rs ++ last ∷ []) ≡ read_calls rs ++ read_call last ∷ [] = map-append read_call rs (last ∷ []) in
+        settled e c (rs ++ last ∷ []) result form
+        (record {
+          due = one_more_due e c rs last due (next_asked x.name x.asked) file;
+          calls = x.given.call ∙ ap (λ (cs : List Call). cs ++ read_call last ∷ []) calls ∙ append_assoc e.calls (read_calls rs) (read_call last ∷ []) ∙ ap (λ (cs : List Call). e.calls ++ cs) (sym called);
+          same = x.given.same ∙ same;
+        })
+        (due_by (Due (x.bytes ∷ [])) (Follows c (contents (rs ++ last ∷ []))) e.bytes e.bytes_after e.write_faults e.write_faults_after result
+        (λ t is. subst (λ fs. Follows c fs t) (sym all) (then (x.bytes ∷ []) t is)) x.settles)
+
+    called_last : (last : Call) → e.calls_after ≡ mid ++ last ∷ [] → e.calls_after ≡ e.calls ++ (read_calls rs ++ last ∷ [])
+    called_last last is = is ∙ ap (λ (cs : List Call). cs ++ last ∷ []) calls ∙ append_assoc e.calls (read_calls rs) (last ∷ [])
+
+    without : (name : List ℕ) (stop : Stop) → Follows c (contents rs) (Asks name)
+        → NotGiven name (here name) mid e.calls_after counted e.read_faults_after stop
+        → Refuses stop e.bytes e.bytes_after e.write_faults e.write_faults_after result → Answers e result
+    without name (Unread n) asked why closes =
+        unread e c rs name result form (record { due = due; asked = asked })
+        (called_last (record { name = name; failed = true }) why.1.call)
+        (subst (λ n. Rose n e.read_faults_after) same why.1.rose)
+        (subst (λ x. Closes e.bytes e.bytes_after e.write_faults e.write_faults_after (read_line x) ReadFault result) why.0 closes)
+    without name (Large n) asked why closes =
+        too_large e c rs name result form (record { due = due; asked = asked })
+        (called_last (record { name = name; failed = false }) why.1.call)
+        (why.1.same ∙ same) (subst (λ (t : Told). Exceeds t) (kept name) why.1.large)
+        (subst (λ x. Closes e.bytes e.bytes_after e.write_faults e.write_faults_after (large_line x) TooLarge result) why.0 closes)
+    without name NoMemory asked why silent =
+        wanting e c rs result form due (why.call ∙ calls) (why.same ∙ same) silent
+
+    pub ended : EndsBy Due (later here mid counted) result → Answers e result
+    ended (inl x) = at_once x
+    ended (inr (inl x)) = after_one x
+    ended (inr (inr x)) = without x.name x.stop (next_asked x.name x.asked) x.why x.refused
+
+  pub image_done : (bytes : List ℕ) (here : List ℕ → Told) (mid : List Call) (counted : ℕ)
+      → WasGiven (file_of c) (e.told (file_of c)) e.calls mid e.read_faults counted bytes
+      → ((n : List ℕ) → here n ≡ e.told n) → reads_image c ≡ true → EndsBy (OfImage c bytes) (later here mid counted) result → Answers e result
+  image_done bytes here mid counted w kept kind s =
+      ended (first_read c bytes ∷ []) (first_due e c bytes w.file) here mid counted w.call w.same kept (OfImage c bytes)
+      (λ more t due. subst (λ b. OfFirst b c bytes more t) (sym kind) due) s
 
   pub description_refused : (bytes : List ℕ) → WasGiven (file_of c) (e.told (file_of c)) e.calls e.calls_after e.read_faults e.read_faults_after bytes
       → reads_image c ≡ false → Settles (OfDescription c bytes []) e.bytes e.bytes_after e.write_faults e.write_faults_after result → Answers e result
@@ -60,23 +131,28 @@ module _ (e : Ends) (c : Command) (result : Status) (form : form_of e.words ≡ 
   module _ (bytes : List ℕ) (d : DescRow) (here : List ℕ → Told) (mid : List Call) (counted : ℕ)
       (w : WasGiven (file_of c) (e.told (file_of c)) e.calls mid e.read_faults counted bytes)
       (kept : (n : List ℕ) → here n ≡ e.told n) (kind : reads_image c ≡ false) (lawful : WellFormed bytes d) where
-    pub linked_done : (sources : List (List ℕ)) → AllGiven here (source_names d) mid e.calls_after counted e.read_faults_after sources
-        → Settles (OfLinked c d (linked d sources)) e.bytes e.bytes_after e.write_faults e.write_faults_after result → Answers e result
-    linked_done sources all s =
+    pub linked_done : (sources : List (List ℕ)) (there : List ℕ → Told) (end : List Call) (risen : ℕ) → AllGiven here (source_names d) mid end counted risen sources
+        → ((n : List ℕ) → there n ≡ e.told n) → EndsBy (OfLinked c d (linked d sources)) (later there end risen) result → Answers e result
+    linked_done sources there end risen all same s =
         let files = told_before e.told here all.done kept all.front.files in
-        settled e c (first_read c bytes ∷ all.done) result form
-        (record {
-          due = sources_due e c bytes d kind lawful w.file all.done [] all.front.whole files;
-          calls = calls_both e.calls mid e.calls_after (first_read c bytes) all.done w.call all.front.calls;
-          same = all.same ∙ w.same;
-        })
-        (due_by (OfLinked c d (linked d sources)) (Follows c (bytes ∷ contents all.done)) e.bytes e.bytes_after e.write_faults e.write_faults_after result
-        (λ t due. of_first e c bytes d kind lawful w.file (contents all.done) t (inr (d, (lawful, of_linked t all.done sources all.given (none_left e c bytes d kind lawful w.file all.done all.front.whole) due)))) s)
+        ended (first_read c bytes ∷ all.done) (sources_due e c bytes d kind lawful w.file all.done [] all.front.whole files)
+        there end risen (calls_both e.calls mid end (first_read c bytes) all.done w.call all.front.calls) (all.same ∙ w.same) same
+        (OfLinked c d (linked d sources))
+        (λ more t due. of_first e c bytes d kind lawful w.file (contents all.done ++ more) t
+        (inr (d, (lawful, of_linked more t all.done sources all.given (none_left e c bytes d kind lawful w.file all.done all.front.whole) (counted_all all.done all.front.whole) due)))) s
       where
-        of_linked : (t : Turn) (done : List Read) (sources : List (List ℕ)) → contents done ≡ sources → slice_get (source_names d) (length (contents done)) ≡ None
-            → OfLinked c d (linked d sources) t → OfSources c d (contents done) (slice_get (source_names d) (length (contents done))) t
-        of_linked t done sources same none due =
-            subst (λ o. OfSources c d (contents done) o t) (sym none) (subst (λ ss. OfLinked c d (linked d ss) t) (sym same) due)
+        -- as many files as names
+        counted_all : (done : List Read) → names_of done ++ [] ≡ source_names d → length (source_names d) ≡ length (contents done)
+        counted_all done names = sym (ap length names) ∙ ap length (append-nil (names_of done)) ∙ as_many done
+
+        of_linked : (more : List (List ℕ)) (t : Turn) (done : List Read) (sources : List (List ℕ)) → contents done ≡ sources → slice_get (source_names d) (length (contents done)) ≡ None
+            → length (source_names d) ≡ length (contents done) → OfLinked c d (linked d sources) more t → OfRows c d (contents done ++ more) t
+        of_linked more t done sources given none size due =
+            let own : take (length (source_names d)) (contents done ++ more) ≡ sources = ap (λ n. take n (contents done ++ more)) size ∙ take_front (contents done) more ∙ given in
+            let rest : drop (length (source_names d)) (contents done ++ more) ≡ more = ap (λ n. drop n (contents done ++ more)) size ∙ drop_front (contents done) more in
+            let past : slice_get (source_names d) (length (contents done ++ more)) ≡ None =
+            slice_get_past (source_names d) (length (contents done ++ more)) (omega (arith, size, length-append (contents done) more)) in
+            rw (own, rest, past) due
 
     between : (done : List Read) (left : List (List ℕ)) (last : List Call) (stop : Stop) → Front here (source_names d) mid last done left
         → WantsBetween last e.calls_after counted e.read_faults_after stop

@@ -1,5 +1,5 @@
 -- Files that were due when they were read.
-use Rattle.std.proofs.Common.{◌≡◌, ℕ, zero, suc, List, [], ◌∷◌, ◌++◌, length, take, false, Option, Some, None, slice_get, refl, sym, ap, ◌∙◌, subst, inr}
+use Rattle.std.proofs.Common.{◌≡◌, ℕ, zero, suc, List, [], ◌∷◌, ◌++◌, length, take, drop, false, Option, Some, None, slice_get, refl, sym, ap, ◌∙◌, subst, ◌⊎◌, inl, inr}
 use Rattle.std.specs.List.{AllByRecursion}
 use Rattle.std.proofs.lemmas.List.{append_assoc}
 use Rattle.def_port.specs.Told.{Told, Call}
@@ -60,7 +60,7 @@ module _ (e : Ends) (c : Command) (bytes : List ℕ) (d : DescRow) (kind : reads
   of_first sources t due = subst (λ b. OfFirst b c bytes sources t) (sym kind) due
 
   asks : (sources : List (List ℕ)) (name : List ℕ) → slice_get (source_names d) (length sources) ≡ Some name → Follows c (bytes ∷ sources) (Asks name)
-  asks sources name is = of_first sources (Asks name) (inr (d, (lawful, subst (λ o. OfSources c d sources o (Asks name)) (sym is) refl)))
+  asks sources name is = of_first sources (Asks name) (inr (d, (lawful, subst (λ o. OfSources c d (take (length (source_names d)) sources) (drop (length (source_names d)) sources) o (Asks name)) (sym is) refl)))
 
   file_at : (done : List Read) (k : ℕ) (r : Read) → AllByRecursion (λ (x : Read). IsFile (e.told x.name) x.bytes) done → slice_get done k ≡ Some r → IsFile (e.told r.name) r.bytes
   file_at [] k r all is = absurd (let none : None ≡ Some r = is in cc)
@@ -85,6 +85,33 @@ module _ (e : Ends) (c : Command) (bytes : List ℕ) (d : DescRow) (kind : reads
 
   pub none_left : (done : List Read) → names_of done ++ [] ≡ source_names d → slice_get (source_names d) (length (contents done)) ≡ None
   none_left done names = subst (λ ns. slice_get ns (length (contents done)) ≡ None) names (past_all done)
+
+-- ---- one file more
+
+get_front : (rs : List Read) (x : Read) (k : ℕ) (r : Read) → slice_get (rs ++ x ∷ []) k ≡ Some r
+    → ((slice_get rs k ≡ Some r) × (take k (rs ++ x ∷ []) ≡ take k rs)) ⊎ ((x ≡ r) × (take k (rs ++ x ∷ []) ≡ rs))
+get_front [] x zero r is = inr (some_read x r is, refl)
+get_front [] x (suc k) r is = absurd (let none : None ≡ Some r = is in cc)
+get_front (y ∷ ys) x zero r is = inl (is, refl)
+get_front (y ∷ ys) x (suc k) r is = elim (get_front ys x k r is) [
+  | inl there ↦ inl (there.0, ap (λ zs. y ∷ zs) there.1)
+  | inr last ↦ inr (last.0, ap (λ zs. y ∷ zs) last.1)
+]
+
+-- a file that was due after others, and was given whole
+pub one_more_due : (e : Ends) (c : Command) (rs : List Read) (x : Read) → WereDue e c rs → Follows c (contents rs) (Asks x.name) → IsFile (e.told x.name) x.bytes
+    → WereDue e c (rs ++ x ∷ [])
+one_more_due e c rs x due asked file k r is = elim (get_front rs x k r is) [
+  | inl there ↦
+      let was : WasDue e c rs k r = due k r there.0 in
+      record { asked = subst (λ fs. Follows c (contents fs) (Asks r.name)) (sym there.1) was.asked; file = was.file }
+  | inr last ↦
+      let next : Follows c (contents rs) (Asks r.name) = subst (λ (y : Read). Follows c (contents rs) (Asks y.name)) last.0 asked in
+      record {
+        asked = subst (λ fs. Follows c (contents fs) (Asks r.name)) (sym last.1) next;
+        file = subst (λ (y : Read). IsFile (e.told y.name) y.bytes) last.0 file;
+      }
+]
 
 -- ---- what a folder tells, before and after a read
 

@@ -1,5 +1,5 @@
 -- From what was read and written to the answer of the call.
-use Rattle.std.proofs.Common.{◌≡◌, ℕ, true, false, List, ◌++◌, Option, Some, None, Result, Ok, Err, IfOk, MatchResult, refl, sym, subst, inl, inr}
+use Rattle.std.proofs.Common.{◌≡◌, ℕ, true, false, List, [], ◌∷◌, ◌++◌, Option, Some, None, Result, Ok, Err, IfOk, MatchResult, refl, sym, subst, inl, inr}
 use Rattle.def_port.specs.Bytes.{Rose}
 use Rattle.def_program.specs.declared.Status.{Status}
 use Rattle.def_program.specs.declared.Status.TheVariants as status
@@ -10,6 +10,7 @@ use Rattle.def_program.specs.Turns.{Turn, Follows}
 use Rattle.def_program.specs.Turns as turn
 use Rattle.def_program.specs.Answers.{Answers, Cause, TurnCause, Whole, Read, contents, read_calls, calls_to, WereDue, AllRead, LastRead}
 use Rattle.ct_refusals.specs.Closing.{Closes, Silent}
+use Rattle.ct_refusals.specs.Ended.{EndsBy, SettlesIn}
 use Rattle.ct_refusals.specs.Settled.{IsLast, Settles}
 
 -- ---- statuses
@@ -31,8 +32,8 @@ speaks status.Script last = elim last [ ]
 speaks status.WriteFault last = elim last [ ]
 speaks status.NoMemory last = elim last [ ]
 speaks status.Name last = λ e w. w
-speaks status.Denied last = elim last [ ]
-speaks status.Policy last = elim last [ ]
+speaks status.Denied last = λ e w. w
+speaks status.Policy last = λ e w. w
 
 caused : (e : Ends) (s : Status) (text : List ℕ) → IsLast s → TurnCause e s text → Cause e s text
 caused e status.Done text last c = c
@@ -47,8 +48,8 @@ caused e status.Script text last c = elim last [ ]
 caused e status.WriteFault text last c = elim last [ ]
 caused e status.NoMemory text last c = elim last [ ]
 caused e status.Name text last c = c
-caused e status.Denied text last c = elim last [ ]
-caused e status.Policy text last c = elim last [ ]
+caused e status.Denied text last c = c
+caused e status.Policy text last c = c
 
 closed : (e : Ends) (s : Status) (text : List ℕ) (result : Status) → Speaks s → Cause e s text →
     Closes e.bytes e.bytes_after e.write_faults e.write_faults_after text s result → Answers e result
@@ -115,3 +116,26 @@ pub built : {A B : Type 0} (bytes_of : A → List ℕ) (text : Result A B) (Due 
 built bytes_of (Ok t) Due s line old new faults now result last due is closes =
     ends_with Due s line old new faults now result last due (subst (λ l. Closes old new faults now l s result) is closes)
 built bytes_of (Err e) Due s line old new faults now result last due is silent = inr silent
+
+-- ---- ends after more files
+
+pub at_once : (Due : List (List ℕ) → Turn → Type 0) (e : Ends) (result : Status) → e.calls_after ≡ e.calls → e.read_faults_after ≡ e.read_faults
+    → SettlesIn (Due []) e result → EndsBy Due e result
+at_once Due e result calls same settles = inl (record { calls = calls; same = same; settles = settles })
+
+pub ends_by : (Due Other : List (List ℕ) → Turn → Type 0) (e : Ends) (result : Status) → ((more : List (List ℕ)) (t : Turn) → Due more t → Other more t)
+    → EndsBy Due e result → EndsBy Other e result
+ends_by Due Other e result then (inl x) = inl (record {
+  calls = x.calls;
+  same = x.same;
+  settles = due_by (Due []) (Other []) e.bytes e.bytes_after e.write_faults e.write_faults_after result (then []) x.settles;
+})
+ends_by Due Other e result then (inr (inl x)) = inr (inl (record {
+  name = x.name;
+  asked = then [] (turn.Asks x.name) x.asked;
+  bytes = x.bytes;
+  given = x.given;
+  settles = due_by (Due (x.bytes ∷ [])) (Other (x.bytes ∷ [])) e.bytes e.bytes_after e.write_faults e.write_faults_after result (then (x.bytes ∷ [])) x.settles;
+}))
+ends_by Due Other e result then (inr (inr x)) =
+    inr (inr (record { name = x.name; asked = then [] (turn.Asks x.name) x.asked; stop = x.stop; why = x.why; refused = x.refused }))

@@ -1,3 +1,4 @@
 pub mod Closing
 pub mod Settled
 pub mod Stopped
+pub mod Ended

@@ -20,8 +20,8 @@ IsLast status.Script = ⊥
 IsLast status.WriteFault = ⊥
 IsLast status.NoMemory = ⊥
 IsLast status.Name = Unit {0}
-IsLast status.Denied = ⊥
-IsLast status.Policy = ⊥
+IsLast status.Denied = Unit {0}
+IsLast status.Policy = Unit {0}
 
 -- the call ends with a turn that is due, and its text was written or a write failed
 pub record Settled (Due : Turn → Type 0) (old new : Option (List ℕ)) (faults now : ℕ)

@@ -3,7 +3,7 @@ use Rattle.std.proofs.Common.{◌≡◌, ℕ, List, refl, subst}
 use Rattle.def_port.specs.Told.{Told, Call}
 use Rattle.def_program.specs.Commands.{file_of}
 use Rattle.ct_words.specs.declared.Task.{Task}
-use Rattle.ct_words.specs.declared.Task.TheVariants.{Audit, Image, Run, RunImage, Why, Upgrade}
+use Rattle.ct_words.specs.declared.Task.TheVariants.{Audit, Image, Run, RunImage, Why, Upgrade, Check}
 use Rattle.ct_words.specs.Forms.{command_for}
 use Rattle.ct_reading.specs.declared.files.Stop.{Stop}
 use Rattle.ct_reading.specs.Whole.{WasGiven, NotGiven}
@@ -15,6 +15,7 @@ file_is name (Run limit) = refl
 file_is name (RunImage limit) = refl
 file_is name (Why owner compartment) = refl
 file_is name Upgrade = refl
+file_is name (Check policy) = refl
 
 pub given_by : (name : List ℕ) (task : Task) (told : List ℕ → Told) (before after : List Call) (faults now : ℕ) (bytes : List ℕ)
     → WasGiven name (told name) before after faults now bytes

@@ -1,5 +1,6 @@
 -- Turns that are due, by what was found.
-use Rattle.std.proofs.Common.{◌≡◌, ℕ, List, true, false, Option, Some, None, Result, Ok, Err, refl, sym, ap, subst, inl, inr}
+use Rattle.std.proofs.Common.{◌≡◌, ◌==◌, ℕ, List, [], ◌∷◌, length, arith, true, false, Option, Some, None, Result, Ok, Err, refl, sym, ap, subst, inl, inr}
+use Rattle.std.proofs.lemmas.Bool.{eqb-true}
 use Rattle.ct_entry.specs.declared.rows.Owner.{Owner}
 use Rattle.def_image.specs.Parts.{PartsRow}
 use Rattle.def_image.specs.Accepted.{IsImage}
@@ -11,8 +12,13 @@ use Rattle.def_link.specs.declared.LinkFault.TheVariants as link
 use Rattle.def_program.specs.declared.Status.{Status}
 use Rattle.def_program.specs.declared.Status.TheVariants as status
 use Rattle.def_program.specs.Commands.{Command}
-use Rattle.def_program.specs.Lines.{link_status, name_line}
-use Rattle.def_program.specs.Turns.{Turn, Ends, OfImage, OfParts, OfLinked, OfDescription, Looked}
+use Rattle.def_policy.specs.declared.PolicyFault.{PolicyFault}
+use Rattle.def_policy.specs.declared.PolicyFault.TheVariants as policy
+use Rattle.def_policy.specs.Denials.{AllDenied}
+use Rattle.def_policy.specs.Rulings.{Ruling}
+use Rattle.def_policy.specs.Texts.{IsCause, Reads}
+use Rattle.def_program.specs.Lines.{allow_line, link_status, name_line}
+use Rattle.def_program.specs.Turns.{Turn, Ends, OfImage, OfParts, OfLinked, OfDescription, OfText, Looked}
 use Rattle.ct_description.specs.declared.DescFault.{DescFault}
 use Rattle.ct_description.specs.declared.DescFault.TheVariants as description
 use Rattle.ct_description.specs.Answers.{Refused}
@@ -24,7 +30,7 @@ use Rattle.ct_refusals.specs.Closing.{Closes}
 use Rattle.ct_refusals.specs.Settled.{IsLast, Settles}
 use Rattle.ct_refusals.proofs.Endings.{ends_with}
 use Rattle.ct_why.specs.Found.{IsFound}
-use Rattle.ct_top.specs.Done.{IsDone, Faulty, Flawed, Unlinked, wants_memory}
+use Rattle.ct_top.specs.Done.{IsDone, Faulty, Flawed, Judges, Unlinked, Unruly, wants_memory}
 
 -- ---- done
 
@@ -64,15 +70,15 @@ pub description_fault : (c : Command) (bytes : List ℕ) (sources : List (List �
 description_fault c bytes sources (description.At number part index item) t refused due = inl (fault number (place part index item), (refused, due))
 description_fault c bytes sources description.NoMemory t refused due = elim due [ ]
 
-pub image_fault : (c : Command) (bytes : List ℕ) (e : ImageFault) (t : Turn) → Refuses bytes e → Flawed e t → OfImage c bytes t
-image_fault c bytes (image.At number place) t refused due = inl (record { number = number; place = place; fault = refused; due = due })
-image_fault c bytes image.NoMemory t refused due = elim due [ ]
+pub image_fault : (c : Command) (bytes : List ℕ) (more : List (List ℕ)) (e : ImageFault) (t : Turn) → Refuses bytes e → Flawed e t → OfImage c bytes more t
+image_fault c bytes more (image.At number place) t refused due = inl (record { number = number; place = place; fault = refused; due = due })
+image_fault c bytes more image.NoMemory t refused due = elim due [ ]
 
-pub image_parts : (c : Command) (bytes : List ℕ) (p : PartsRow) (t : Turn) → IsImage bytes p → OfParts c p t → OfImage c bytes t
-image_parts c bytes p t is due = inr (p, (is, due))
+pub image_parts : (c : Command) (bytes : List ℕ) (p : PartsRow) (more : List (List ℕ)) (t : Turn) → IsImage bytes p → OfParts c p more t → OfImage c bytes more t
+image_parts c bytes p more t is due = inr (p, (is, due))
 
-pub linked_parts : (c : Command) (d : DescRow) (r : Result PartsRow LinkFault) (p : PartsRow) (t : Turn) → r ≡ Ok p → OfParts c p t → OfLinked c d r t
-linked_parts c d r p t is due = subst (λ (x : Result PartsRow LinkFault). OfLinked c d x t) (sym is) due
+pub linked_parts : (c : Command) (d : DescRow) (r : Result PartsRow LinkFault) (p : PartsRow) (more : List (List ℕ)) (t : Turn) → r ≡ Ok p → OfParts c p more t → OfLinked c d r more t
+linked_parts c d r p more t is due = subst (λ (x : Result PartsRow LinkFault). OfLinked c d x more t) (sym is) due
 
 link_is : (r : Result PartsRow LinkFault) (e : LinkFault) → object.Refuses r e → wants_memory e ≡ false → r ≡ Err e
 link_is r (link.Asm owner number line) refused some = refused
@@ -82,9 +88,9 @@ link_is r (link.Import owner line) refused some = refused
 link_is r (link.Initial owner) refused some = refused
 link_is r link.NoMemory refused some = absurd (let clash : true ≡ false = some in cc)
 
-pub link_fault : (c : Command) (d : DescRow) (r : Result PartsRow LinkFault) (e : LinkFault) (t : Turn) → object.Refuses r e → Unlinked d e t → OfLinked c d r t
-link_fault c d r e t refused due =
-    subst (λ (x : Result PartsRow LinkFault). OfLinked c d x t) (sym (link_is r e refused due.1)) due.0
+pub link_fault : (c : Command) (d : DescRow) (r : Result PartsRow LinkFault) (e : LinkFault) (more : List (List ℕ)) (t : Turn) → object.Refuses r e → Unlinked d e t → OfLinked c d r more t
+link_fault c d r e more t refused due =
+    subst (λ (x : Result PartsRow LinkFault). OfLinked c d x more t) (sym (link_is r e refused due.1)) due.0
 
 pub link_last : (e : LinkFault) → wants_memory e ≡ false → IsLast (link_status e)
 link_last (link.Asm owner number line) some = tt
@@ -93,3 +99,22 @@ link_last (link.NoRoom needed has) some = tt
 link_last (link.Import owner line) some = tt
 link_last (link.Initial owner) some = tt
 link_last link.NoMemory some = absurd (let clash : true ≡ false = some in cc)
+
+-- ---- policies
+
+pub text_fault : (p : PartsRow) (text : List ℕ) (e : PolicyFault) (t : Turn) → IsCause p text e → Unruly e t → OfText p text t
+text_fault p text (policy.At number line) t fault due = inl (record { number = number; line = line; fault = fault; due = due })
+text_fault p text policy.NoMemory t fault due = elim due [ ]
+
+pub text_judged : (p : PartsRow) (text : List ℕ) (rulings : List Ruling) (lines : List ℕ) (t : Turn) → Reads p text rulings → AllDenied p 1 rulings lines → Judges lines t → OfText p text t
+text_judged p text rulings lines t reads denied due = inr (record { rulings = rulings; reads = reads; text = lines; denied = denied; due = due })
+
+pub allowed : (lines : List ℕ) (old new : Option (List ℕ)) (faults now : ℕ) (result : Status)
+    → (length lines == 0) ≡ true → Closes old new faults now allow_line status.Done result → Settles (Judges lines) old new faults now result
+allowed [] old new faults now result none closes = ends_with (Judges []) status.Done allow_line old new faults now result tt refl closes
+allowed (c ∷ cs) old new faults now result none closes = absurd (let empty : length (c ∷ cs) ≡ 0 = eqb-true (length (c ∷ cs)) 0 none in omega (arith, empty))
+
+pub denied : (lines : List ℕ) (old new : Option (List ℕ)) (faults now : ℕ) (result : Status)
+    → (length lines == 0) ≡ false → Closes old new faults now lines status.Denied result → Settles (Judges lines) old new faults now result
+denied [] old new faults now result some closes = absurd (let clash : true ≡ false = some in cc)
+denied (c ∷ cs) old new faults now result some closes = ends_with (Judges (c ∷ cs)) status.Denied (c ∷ cs) old new faults now result tt refl closes

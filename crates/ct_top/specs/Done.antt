@@ -3,8 +3,10 @@ use Rattle.std.specs.Prelude.{◌≡◌, ℕ, Bool, true, false, List, Option, �
 use Rattle.def_program.specs.declared.Status.{Status}
 use Rattle.def_program.specs.declared.Status.TheVariants.{Done}
 use Rattle.def_program.specs.declared.Status.TheVariants as status
-use Rattle.def_program.specs.Lines.{description_line, image_line, link_status, link_text}
-use Rattle.def_program.specs.Turns.{Turn, Ends}
+use Rattle.def_policy.specs.declared.PolicyFault.{PolicyFault}
+use Rattle.def_policy.specs.declared.PolicyFault.TheVariants as policy
+use Rattle.def_program.specs.Lines.{description_line, image_line, link_status, link_text, policy_line}
+use Rattle.def_program.specs.Turns.{Turn, Ends, verdict}
 use Rattle.def_description.specs.Rows.{DescRow}
 use Rattle.def_description.specs.Walk.{place}
 use Rattle.def_description.specs.WellFormed.{fault}
@@ -41,3 +43,12 @@ wants_memory _ = false
 -- the turn that refuses a description and sources that don't link
 abbrev pub Unlinked : DescRow → LinkFault → Turn → Type 0
 Unlinked d e t = (t ≡ Ends (link_status e) (link_text d e)) × (wants_memory e ≡ false)
+
+-- the turn that refuses a text that is no policy
+abbrev pub Unruly : PolicyFault → Turn → Type 0
+Unruly (policy.At number line) t = t ≡ Ends status.Policy (policy_line number line)
+Unruly policy.NoMemory t = ⊥
+
+-- the turn of the lines that deny a policy
+abbrev pub Judges : List ℕ → Turn → Type 0
+Judges lines t = t ≡ verdict lines

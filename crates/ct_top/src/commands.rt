@@ -1,26 +1,30 @@
 //! What each command writes of an image.
 
-ghost use Rattle.std.specs.Prelude.{◌≡◌, ◌≤◌, ℕ, List, IfOk, option_map, string_bytes};
+ghost use Rattle.std.specs.Prelude.{◌≡◌, ◌≤◌, [], ℕ, List, IfOk, option_map, string_bytes};
 ghost use Rattle.def_boot.specs.Boot.{booted_machine};
 ghost use Rattle.def_image.specs.Parts.{upgraded};
 ghost use Rattle.def_image.specs.Spelling.{image_bytes};
 ghost use Rattle.def_lines.specs.Report.{report_line};
 ghost use Rattle.def_profile.specs.declared.limits.TheConstants.{MOST_STEPS};
 ghost use Rattle.def_program.specs.declared.Status.TheVariants as status;
+ghost use Rattle.def_program.specs.Ends.{ends};
 ghost use Rattle.def_program.specs.Paths.{compartment_named, owner_named};
 ghost use Rattle.def_program.specs.Runs.{run_text};
-ghost use Rattle.def_program.specs.Turns.{Looked, OfParts};
+ghost use Rattle.def_program.specs.Turns.{Looked, OfParts, OfPolicy};
+ghost use Rattle.ct_refusals.specs.Ended.{EndsBy};
 ghost use Rattle.ct_refusals.specs.Settled.{Settles};
 ghost use Rattle.ct_words.specs.Forms.{IsShort, command_for};
 ghost use Rattle.ct_why.specs.Found.{IsFound};
 ghost use Rattle.ct_top.specs.Done.{IsDone};
 
+use crate::policies::judge;
 use ct_graph::Graph;
 use ct_image::Image;
 use ct_machine::Machine;
 use ct_mem::Plain;
-use ct_port::{NoMemory, Sink};
-use ct_refusals::{close, refuse_name};
+use ct_port::{Folder, NoMemory, Sink};
+use ct_reading::read_file;
+use ct_refusals::{close, refuse_file, refuse_name};
 use ct_running::write_run;
 use ct_words::Task;
 use def_program::Status;
@@ -139,12 +143,38 @@ fn why<S: Sink>(
     }
 }
 
+/// Reads a policy and judges an image by it.
+fn check<F: Folder, S: Sink>(
+    alloc: Global,
+    policy: &str,
+    image: &Image,
+    folder: &mut F,
+    sink: &mut S,
+) -> Status
+    ensures { EndsBy (OfPolicy policy.now image.now)
+        (ends F.file F.calls F.faults S.bytes S.faults [] folder.old folder.new sink.old sink.new)
+        result }
+{
+    let text = match read_file(alloc, policy, folder) {
+        Ok(text) => text,
+        Err(stop) => return refuse_file(stop, sink),
+    };
+    judge(alloc, image, text.as_slice(), sink)
+}
+
 /// What is to be done with an image.
-pub fn finish<S: Sink>(alloc: Global, task: Task, image: &Image, sink: &mut S) -> Status
+pub fn finish<F: Folder, S: Sink>(
+    alloc: Global,
+    task: Task,
+    image: &Image,
+    folder: &mut F,
+    sink: &mut S,
+) -> Status
     requires { IsShort task }
     ensures { (name : List ℕ)
-        → Settles (OfParts (command_for name task.entry) image.now)
-        (S.bytes sink.old) (S.bytes sink.new) (S.faults sink.old) (S.faults sink.new) result }
+        → EndsBy (OfParts (command_for name task.entry) image.now)
+        (ends F.file F.calls F.faults S.bytes S.faults [] folder.old folder.new sink.old sink.new)
+        result }
 {
     match task {
         Task::Audit => audit(alloc, image, sink),
@@ -153,5 +183,6 @@ pub fn finish<S: Sink>(alloc: Global, task: Task, image: &Image, sink: &mut S) -
         Task::RunImage { limit } => run(alloc, image, limit, sink),
         Task::Why { owner, compartment } => why(alloc, image, owner, compartment, sink),
         Task::Upgrade => upgrade(alloc, image, sink),
+        Task::Check { policy } => check(alloc, policy, image, folder, sink),
     }
 }

@@ -1,6 +1,6 @@
 //! A command, from its form to the status: what is read, and what follows of it.
 
-ghost use Rattle.std.specs.Prelude.{◌≡◌, ◌<◌, ◌^◌, ℕ, List, length, Some};
+ghost use Rattle.std.specs.Prelude.{◌≡◌, ◌<◌, ◌^◌, [], ℕ, List, length, Some};
 ghost use Rattle.def_link.specs.Linked.{linked};
 ghost use Rattle.def_program.specs.declared.Status.TheVariants as status;
 ghost use Rattle.def_program.specs.Answers.{Answers};
@@ -9,6 +9,7 @@ ghost use Rattle.def_program.specs.Ends.{ends};
 ghost use Rattle.def_program.specs.Lines.{link_text, link_status};
 ghost use Rattle.def_program.specs.Turns.{OfImage, OfLinked};
 ghost use Rattle.ct_objects.specs.Objects.{IsLinkable};
+ghost use Rattle.ct_refusals.specs.Ended.{EndsBy};
 ghost use Rattle.ct_refusals.specs.Settled.{Settles};
 ghost use Rattle.ct_words.specs.Forms.{IsShort, command_for, command_of};
 ghost use Rattle.ct_top.specs.Done as done;
@@ -93,36 +94,44 @@ fn refuse_link<S: Sink>(alloc: Global, desc: &Desc, fault: LinkFault, sink: &mut
 }
 
 /// What follows after an image's bytes.
-fn of_image<S: Sink>(alloc: Global, task: Task, bytes: &[u8], sink: &mut S) -> Status
+fn of_image<F: Folder, S: Sink>(
+    alloc: Global,
+    task: Task,
+    bytes: &[u8],
+    folder: &mut F,
+    sink: &mut S,
+) -> Status
     requires short { IsShort task }
     requires small { length bytes.now < 2 ^ 32 }
     ensures { (name : List ℕ)
-        → Settles (OfImage (command_for name task.entry) bytes.now)
-        (S.bytes sink.old) (S.bytes sink.new) (S.faults sink.old) (S.faults sink.new) result }
+        → EndsBy (OfImage (command_for name task.entry) bytes.now)
+        (ends F.file F.calls F.faults S.bytes S.faults [] folder.old folder.new sink.old sink.new)
+        result }
 {
     match ct_image::accept(alloc, bytes) {
-        Ok(image) => finish(alloc, task, &image, sink),
+        Ok(image) => finish(alloc, task, &image, folder, sink),
         Err(fault) => refuse_image(alloc, fault, sink),
     }
 }
 
 /// What follows after a description and all of its sources.
-fn of_sources<S: Sink>(
+fn of_sources<F: Folder, S: Sink>(
     alloc: Global,
     task: Task,
     desc: &Desc,
     sources: &Sources,
+    folder: &mut F,
     sink: &mut S,
 ) -> Status
     requires short { IsShort task }
     requires linkable { IsLinkable desc.now sources.now }
     ensures { (name : List ℕ)
-        → Settles
-        (OfLinked (command_for name task.entry) desc.now (linked desc.now sources.now))
-        (S.bytes sink.old) (S.bytes sink.new) (S.faults sink.old) (S.faults sink.new) result }
+        → EndsBy (OfLinked (command_for name task.entry) desc.now (linked desc.now sources.now))
+        (ends F.file F.calls F.faults S.bytes S.faults [] folder.old folder.new sink.old sink.new)
+        result }
 {
     match link(alloc, desc, sources) {
-        Ok(image) => finish(alloc, task, &image, sink),
+        Ok(image) => finish(alloc, task, &image, folder, sink),
         Err(fault) => refuse_link(alloc, desc, fault, sink),
     }
 }
@@ -144,7 +153,7 @@ pub fn perform<F: Folder, S: Sink>(
         Err(stop) => return refuse_file(stop, sink),
     };
     if form.task.reads_image() {
-        return of_image(alloc, form.task, bytes.as_slice(), sink);
+        return of_image(alloc, form.task, bytes.as_slice(), folder, sink);
     }
     let desc = match ct_description::read(alloc, bytes.as_slice()) {
         Ok(desc) => desc,
@@ -154,5 +163,5 @@ pub fn perform<F: Folder, S: Sink>(
         Ok(texts) => texts,
         Err(stop) => return refuse_file(stop, sink),
     };
-    of_sources(alloc, form.task, &desc, &Sources { texts }, sink)
+    of_sources(alloc, form.task, &desc, &Sources { texts }, folder, sink)
 }

@@ -5,6 +5,7 @@
 
 mod commands;
 mod dialogue;
+mod policies;
 
 ghost use Rattle.std.specs.Prelude.{◌≡◌, ℕ, List, Some, map, string_bytes};
 ghost use Rattle.def_image.specs.Parts.{PartsRow};
@@ -32,7 +33,9 @@ use std::alloc::Global;
 /// - `why DESC OWNER COMPARTMENT` writes how a compartment or a library of the description reaches a
 ///   compartment;
 /// - `upgrade IMAGE` writes the image in the file IMAGE in the last version of the format, with its sweep
-///   rate.
+///   rate;
+/// - `check DESC POLICY` judges the report of the description by the policy in the file POLICY: it writes
+///   `allow`, or a line for each entry and each path that breaks a rule.
 ///
 /// The clauses:
 ///
@@ -40,8 +43,7 @@ use std::alloc::Global;
 ///   `WriteFault` a beginning of it, or under `NoMemory` nothing. Each file that was read was due then,
 ///   and no read but the last failed. No memory is taken after the first write.
 /// - `complete`: where no fault is counted, a command on told files that stand for an image is done, or
-///   wants memory; but names that stand for nothing, and a run of more threads than are run, are
-///   refused.
+///   wants memory; but names that stand for nothing are refused, and a policy may be denied.
 /// - `misuse`: words that aren't a form are `Usage`, and never want memory.
 /// - `licensed`: each deed, and each span with interrupts off, of the run that the words ask for is
 ///   licensed by the entries of the image that the files stand for, whatever the code bytes are. That

@@ -5,7 +5,7 @@ use Rattle.def_program.specs.Commands as command
 use Rattle.def_program.specs.Commands.{Command}
 use Rattle.ct_words.specs.declared.Form.{Form}
 use Rattle.ct_words.specs.declared.Task.{Task}
-use Rattle.ct_words.specs.declared.Task.TheVariants.{Audit, Image, Run, RunImage, Why, Upgrade}
+use Rattle.ct_words.specs.declared.Task.TheVariants.{Audit, Image, Run, RunImage, Why, Upgrade, Check}
 
 abbrev pub command_for : List ℕ → Task → Command
 command_for name Audit = command.Audit name
@@ -14,6 +14,7 @@ command_for name (Run limit) = command.Run name limit
 command_for name (RunImage limit) = command.RunImage name limit
 command_for name (Why owner compartment) = command.Why name owner.now compartment.now
 command_for name Upgrade = command.Upgrade name
+command_for name (Check policy) = command.Check name policy.now
 
 abbrev pub command_of : Form → Command
 command_of f = command_for f.name.now f.task

@@ -31,6 +31,10 @@ pub enum Task<'a> {
     },
     /// An image is written in the last version of the format.
     Upgrade,
+    /// A description's report is judged by the policy in the file of this name.
+    Check {
+        policy: &'a str,
+    },
 }
 
 impl<'a> Task<'a> {
@@ -100,7 +104,7 @@ pub fn form_of<'a>(words: &'a [String]) -> Option<Form<'a>>
 {
     match words {
         [word, name] => of_one(word.as_str(), name.as_str()),
-        [word, name, limit] => of_two(word.as_str(), name.as_str(), limit.as_str()),
+        [word, name, last] => of_two(word.as_str(), name.as_str(), last.as_str()),
         [word, name, owner, compartment] => of_three(
             word.as_str(),
             name.as_str(),
@@ -131,16 +135,20 @@ fn of_one<'a>(word: &str, name: &'a str) -> Option<Form<'a>>
     None
 }
 
-/// `run DESC LIMIT`, `runimage IMAGE LIMIT`.
-fn of_two<'a>(word: &str, name: &'a str, limit: &str) -> Option<Form<'a>>
+/// `run DESC LIMIT`, `runimage IMAGE LIMIT`, `check DESC POLICY`.
+fn of_two<'a>(word: &str, name: &'a str, last: &'a str) -> Option<Form<'a>>
     ensures short { IfSome result (λ f. IsShort f.task) }
-    ensures command { option_map command_of result ≡ spec.of_two word.now name.now limit.now }
+    ensures command { option_map command_of result ≡ spec.of_two word.now name.now last.now }
 {
     if word == "run" {
-        return run_of(name, limit);
+        return run_of(name, last);
     }
     if word == "runimage" {
-        return run_image_of(name, limit);
+        return run_image_of(name, last);
+    }
+    if word == "check" {
+        let task = Task::Check { policy: last };
+        return Some(Form { name, task });
     }
     None
 }

@@ -9,6 +9,7 @@ use Rattle.ct_entry.specs.declared.rows.Owner.{Owner}
 use Rattle.ct_entry.specs.Listed.{Listed}
 use Rattle.def_reach.specs.Roots.{gate_for, is_disabled}
 use Rattle.def_graph.specs.Reach.{Reached, same_owner}
+pub use Rattle.def_lines.specs.Edges.{is_call, is_shared}
 use Rattle.def_policy.specs.declared.Subject.{Subject}
 use Rattle.def_policy.specs.declared.Subject.TheVariants.{Device, Shared, Service, Call, Disabled, Data, Total, Quota, Apart}
 use Rattle.def_policy.specs.Rulings.{Ruling}
@@ -19,17 +20,9 @@ abbrev pub is_device : Kind → Bool
 is_device kind.Device = true
 is_device _ = false
 
-abbrev pub is_shared : Kind → Bool
-is_shared kind.Shared = true
-is_shared _ = false
-
 abbrev pub is_service : Kind → Bool
 is_service kind.Service = true
 is_service _ = false
-
-abbrev pub is_call : Kind → Bool
-is_call kind.Call = true
-is_call _ = false
 
 abbrev pub is_quota : Kind → Bool
 is_quota kind.Quota = true
@@ -60,17 +53,19 @@ is_held (Call n) x g = is_call x.kind && (x.of == n)
 is_held Disabled x g = is_export x.kind && is_disabled g.posture
 is_held _ x g = false
 
+abbrev pub breaks_by : Subject → List Owner → ℕ → ℕ → Entry → Gate → Bool
+breaks_by (Data n) owners number sum x g =
+    (number == n) && (is_export x.kind && g.capabilities)
+breaks_by (Total n) owners number sum x g = is_quota x.kind && nat_lt n sum
+breaks_by (Quota o n) owners number sum x g =
+    (is_quota x.kind && same_owner x.owner o) && nat_lt n sum
+breaks_by (Apart o b) owners number sum x g = false
+breaks_by s owners number sum x g = is_held s x g && not (is_listed owners x.owner)
+
 -- Whether the entry of this number breaks a rule; `sum` is what a rule on quotas counts of the entries
 -- up to this one.
 abbrev pub breaks : Ruling → ℕ → ℕ → Entry → Gate → Bool
-breaks r number sum x g = breaks_by r.subject
-  where
-    breaks_by : Subject → Bool
-    breaks_by (Data n) = (number == n) && (is_export x.kind && g.capabilities)
-    breaks_by (Total n) = is_quota x.kind && nat_lt n sum
-    breaks_by (Quota o n) = (is_quota x.kind && same_owner x.owner o) && nat_lt n sum
-    breaks_by (Apart o b) = false
-    breaks_by s = is_held s x g && not (is_listed r.owners x.owner)
+breaks r number sum x g = breaks_by r.subject r.owners number sum x g
 
 -- ---- all entries
 

@@ -1,5 +1,5 @@
 -- What a call of the program reads, writes and answers.
-use Rattle.std.specs.Prelude.{◌≡◌, ℕ, ◌+◌, ◌≤◌, ◌⊎◌, List, [], ◌∷◌, ◌++◌, map, take, true, false, Some, None, slice_get, Option}
+use Rattle.std.specs.Prelude.{◌≡◌, ℕ, List, [], ◌∷◌, ◌++◌, map, take, true, false, Some, None, slice_get}
 use Rattle.def_port.specs.Bytes.{Rose, Appends, AppendsPart}
 use Rattle.def_port.specs.Told.{Call}
 use Rattle.def_program.specs.Ends.{Ends, IsFile, Exceeds}
@@ -86,8 +86,8 @@ pub record TurnCause (e : Ends) (s : Status) (text : List ℕ) : Type 0 where
   pub read : AllRead e command reads
   pub due : Follows command (contents reads) (turn.Ends s text)
 
--- No text is due with a failed write or with want of memory: their answers stand below. Scripts and
--- policies aren't read yet, so that their statuses can't come.
+-- No text is due with a failed write or with want of memory: their answers stand below. Scripts aren't
+-- read yet, so that their status can't come.
 abbrev pub Cause : Ends → Status → List ℕ → Type 0
 Cause e status.Done text = TurnCause e status.Done text
 Cause e status.Usage text = UsageCause e text
@@ -101,8 +101,8 @@ Cause e status.Script text = ⊥
 Cause e status.WriteFault text = ⊥
 Cause e status.NoMemory text = ⊥
 Cause e status.Name text = TurnCause e status.Name text
-Cause e status.Denied text = ⊥
-Cause e status.Policy text = ⊥
+Cause e status.Denied text = TurnCause e status.Denied text
+Cause e status.Policy text = TurnCause e status.Policy text
 
 -- ---- answers
 

@@ -11,6 +11,7 @@ pub data Command : Type 0 where
   RunImage : List ℕ → ℕ → Command
   Why : List ℕ → List ℕ → List ℕ → Command
   Upgrade : List ℕ → Command
+  Check : List ℕ → List ℕ → Command
 
 -- ---- a limit: decimal digits without sign or leading zero, of 1 to 4,000,000,000
 
@@ -38,12 +39,12 @@ of_one word name =
     else if bytes_eq word (codes "image") then Some (Image name)
     else if bytes_eq word (codes "upgrade") then Some (Upgrade name) else None
 
--- `run DESC LIMIT`, `runimage IMAGE LIMIT`
+-- `run DESC LIMIT`, `runimage IMAGE LIMIT`, `check DESC POLICY`
 abbrev pub of_two : List ℕ → List ℕ → List ℕ → Option Command
-of_two word name limit =
-    if bytes_eq word (codes "run") then option_map (Run name) (limit_of limit)
-    else if bytes_eq word (codes "runimage") then option_map (RunImage name) (limit_of limit)
-    else None
+of_two word name last =
+    if bytes_eq word (codes "run") then option_map (Run name) (limit_of last)
+    else if bytes_eq word (codes "runimage") then option_map (RunImage name) (limit_of last)
+    else if bytes_eq word (codes "check") then Some (Check name last) else None
 
 -- `why DESC OWNER COMPARTMENT`
 abbrev pub of_three : List ℕ → List ℕ → List ℕ → List ℕ → Option Command
@@ -66,6 +67,7 @@ file_of (Run name limit) = name
 file_of (RunImage name limit) = name
 file_of (Why name owner compartment) = name
 file_of (Upgrade name) = name
+file_of (Check name policy) = name
 
 -- whether that file is an image; else it is a description
 abbrev pub reads_image : Command → Bool

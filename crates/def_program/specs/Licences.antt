@@ -10,7 +10,7 @@ use Rattle.def_boot.specs.Gates.{entries_of}
 use Rattle.def_description.specs.Rows.{DescRow}
 use Rattle.def_description.specs.WellFormed.{WellFormed}
 use Rattle.def_link.specs.Linked.{linked}
-use Rattle.def_program.specs.Commands.{Command, Audit, Image, Run, RunImage, Why, reads_image}
+use Rattle.def_program.specs.Commands.{Command, Run, RunImage, reads_image}
 use Rattle.def_program.specs.Runs.{events_until}
 use Rattle.def_program.specs.Turns.{source_names}
 

@@ -8,13 +8,9 @@ use Rattle.def_description.specs.declared.faults.PartWord.TheVariants as part
 use Rattle.def_description.specs.Rows.{CompartmentRow, LibraryRow, DescRow}
 use Rattle.def_link.specs.declared.LinkFault.{LinkFault}
 use Rattle.def_link.specs.declared.LinkFault.TheVariants as fault
+pub use Rattle.def_policy.specs.Rules.{ended}
 use Rattle.def_program.specs.declared.Status.{Status}
 use Rattle.def_program.specs.declared.Status.TheVariants as status
-
--- words with a space before each, and a line feed after the last
-abbrev pub ended : List (List ℕ) → List ℕ
-ended [] = 10 ∷ []
-ended (w ∷ ws) = 32 ∷ w ++ ended ws
 
 abbrev pub refused : List ℕ → List (List ℕ) → List ℕ
 refused word words = codes "refused " ++ word ++ ended words
@@ -100,3 +96,14 @@ image_line number place =
 
 abbrev pub name_line : List ℕ
 name_line = refused (codes "11") (codes "name" ∷ [])
+
+-- ---- policies
+
+-- the fault's number, and the line that is at fault, counted from 1
+abbrev pub policy_line : ℕ → ℕ → List ℕ
+policy_line number line =
+    refused (codes "13") (codes "policy" ∷ numbered (codes "P") number ∷ decimal line ∷ [])
+
+-- no rule is broken
+abbrev pub allow_line : List ℕ
+allow_line = codes "allow" ++ 10 ∷ []

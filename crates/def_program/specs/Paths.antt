@@ -1,40 +1,12 @@
 -- What `why` writes: how an owner reaches a compartment, by the names of both.
-use Rattle.std.specs.Prelude.{ℕ, ◌≡◌, ◌+◌, ◌⊎◌, List, [], ◌∷◌, ◌++◌, Bool, Option, Some, None, option_map, bytes_eq, codes, map, if◌then◌else◌}
+use Rattle.std.specs.Prelude.{ℕ, ◌≡◌, ◌⊎◌, List, [], ◌∷◌, ◌++◌, codes, map}
 use Rattle.ct_entry.specs.declared.rows.Owner.{Owner}
-use Rattle.ct_entry.specs.declared.rows.Owner.TheVariants.{Compartment, Library}
 use Rattle.def_graph.specs.Reach.{Reached}
 use Rattle.def_graph.specs.Route.{IsPath}
-use Rattle.def_image.specs.Parts.{CodeRow, CompartmentRow, PartsRow}
-use Rattle.def_image.specs.Members.{compartment, library}
+use Rattle.def_image.specs.Parts.{PartsRow}
 use Rattle.def_boot.specs.Gates.{entries_of}
+pub use Rattle.def_policy.specs.Names.{index_from, compartment_named, library_named, or_library, owner_named, name_of}
 use Rattle.def_program.specs.Lines.{ended}
-
--- ---- names
-
--- the index, counted from n, of the first of these names that is the one asked for
-abbrev pub index_from : ℕ → List ℕ → List (List ℕ) → Option ℕ
-index_from n name [] = None
-index_from n name (x ∷ xs) = if bytes_eq name x then Some n else index_from (n + 1) name xs
-
-abbrev pub compartment_named : PartsRow → List ℕ → Option ℕ
-compartment_named p name =
-    index_from 0 name (map (λ (c : CompartmentRow). c.code.name) p.compartments)
-
-abbrev pub library_named : PartsRow → List ℕ → Option ℕ
-library_named p name = index_from 0 name (map (λ (l : CodeRow). l.name) p.libraries)
-
--- a compartment, or else a library
-abbrev pub or_library : Option ℕ → Option ℕ → Option Owner
-or_library (Some c) l = Some (Compartment c)
-or_library None l = option_map (λ n. Library n) l
-
-abbrev pub owner_named : PartsRow → List ℕ → Option Owner
-owner_named p name = or_library (compartment_named p name) (library_named p name)
-
-abbrev pub name_of : PartsRow → Owner → List ℕ
-name_of p (Compartment c) = (compartment p c).code.name
-name_of p (Library l) = (library p l).name
-name_of p _ = []
 
 -- ---- lines
 

@@ -1,5 +1,5 @@
 -- The dialogue: what is due after the files that were read so far.
-use Rattle.std.specs.Prelude.{ℕ, ◌≡◌, ◌⊎◌, List, [], ◌∷◌, ◌++◌, length, Bool, true, false, Option, Some, None, Result, Ok, Err, map, slice_get}
+use Rattle.std.specs.Prelude.{ℕ, ◌≡◌, ◌⊎◌, List, [], ◌∷◌, ◌++◌, length, take, drop, Bool, true, false, Option, Some, None, Result, Ok, Err, map, slice_get}
 use Rattle.ct_entry.specs.declared.rows.Owner.{Owner}
 use Rattle.def_image.specs.Parts.{PartsRow, upgraded}
 use Rattle.def_image.specs.Accepted.{IsImage, FaultAt}
@@ -10,10 +10,13 @@ use Rattle.def_description.specs.WellFormed.{WellFormed, IsFaulty}
 use Rattle.def_link.specs.declared.LinkFault.{LinkFault}
 use Rattle.def_link.specs.Linked.{linked}
 use Rattle.def_lines.specs.Report.{report_line}
+use Rattle.def_policy.specs.Denials.{AllDenied}
+use Rattle.def_policy.specs.Rulings.{Ruling}
+use Rattle.def_policy.specs.Texts.{IsFault, Reads}
 use Rattle.def_program.specs.declared.Status.{Status}
 use Rattle.def_program.specs.declared.Status.TheVariants as status
-use Rattle.def_program.specs.Commands.{Command, Audit, Image, Run, RunImage, Why, Upgrade, file_of, reads_image}
-use Rattle.def_program.specs.Lines.{description_line, link_status, link_text, image_line, name_line}
+use Rattle.def_program.specs.Commands.{Command, Audit, Image, Run, RunImage, Why, Upgrade, Check, file_of, reads_image}
+use Rattle.def_program.specs.Lines.{description_line, link_status, link_text, image_line, name_line, policy_line, allow_line}
 use Rattle.def_program.specs.Runs.{run_text}
 use Rattle.def_program.specs.Paths.{IsWhyLine, owner_named, compartment_named}
 
@@ -48,34 +51,67 @@ Looked p (Some owner) (Some c) turn =
 Looked p (Some owner) None turn = turn ≡ Ends status.Name name_line
 Looked p None c turn = turn ≡ Ends status.Name name_line
 
-abbrev pub OfParts : Command → PartsRow → Turn → Type 0
-OfParts (Audit name) p turn = turn ≡ Ends status.Done (report_line p)
-OfParts (Image name) p turn = turn ≡ Ends status.Done (image_bytes p)
-OfParts (Run name limit) p turn = turn ≡ Ends status.Done (run_text p limit)
-OfParts (RunImage name limit) p turn = turn ≡ Ends status.Done (run_text p limit)
-OfParts (Why name owner compartment) p turn =
+-- a fault of a policy's text: its number and line
+pub record IsUnruly (p : PartsRow) (bytes : List ℕ) (turn : Turn) : Type 0 where
+  pub number : ℕ
+  pub line : ℕ
+  pub fault : IsFault p bytes number line
+  pub due : turn ≡ Ends status.Policy (policy_line number line)
+
+-- what denies a policy; where nothing does, it is allowed
+abbrev pub verdict : List ℕ → Turn
+verdict [] = Ends status.Done allow_line
+verdict (c ∷ cs) = Ends status.Denied (c ∷ cs)
+
+-- the rules of a policy's text, and the lines that deny them
+pub record IsJudged (p : PartsRow) (bytes : List ℕ) (turn : Turn) : Type 0 where
+  pub rulings : List Ruling
+  pub reads : Reads p bytes rulings
+  pub text : List ℕ
+  pub denied : AllDenied p 1 rulings text
+  pub due : turn ≡ verdict text
+
+-- of a policy's text
+abbrev pub OfText : PartsRow → List ℕ → Turn → Type 0
+OfText p bytes turn = IsUnruly p bytes turn ⊎ IsJudged p bytes turn
+
+-- the policy is due; or it was read, and nothing else is
+abbrev pub OfPolicy : List ℕ → PartsRow → List (List ℕ) → Turn → Type 0
+OfPolicy policy p [] turn = turn ≡ Asks policy
+OfPolicy policy p (bytes ∷ more) turn = OfText p bytes turn
+
+-- of parts, and of the files that were read after those that stand for them
+abbrev pub OfParts : Command → PartsRow → List (List ℕ) → Turn → Type 0
+OfParts (Audit name) p more turn = turn ≡ Ends status.Done (report_line p)
+OfParts (Image name) p more turn = turn ≡ Ends status.Done (image_bytes p)
+OfParts (Run name limit) p more turn = turn ≡ Ends status.Done (run_text p limit)
+OfParts (RunImage name limit) p more turn = turn ≡ Ends status.Done (run_text p limit)
+OfParts (Why name owner compartment) p more turn =
     Looked p (owner_named p owner) (compartment_named p compartment) turn
-OfParts (Upgrade name) p turn = turn ≡ Ends status.Done (image_bytes (upgraded p))
+OfParts (Upgrade name) p more turn = turn ≡ Ends status.Done (image_bytes (upgraded p))
+OfParts (Check name policy) p more turn = OfPolicy policy p more turn
 
 -- ---- descriptions
 
-abbrev pub OfLinked : Command → DescRow → Result PartsRow LinkFault → Turn → Type 0
-OfLinked c d (Err e) turn = turn ≡ Ends (link_status e) (link_text d e)
-OfLinked c d (Ok p) turn = OfParts c p turn
+abbrev pub OfLinked : Command → DescRow → Result PartsRow LinkFault → List (List ℕ) → Turn → Type 0
+OfLinked c d (Err e) more turn = turn ≡ Ends (link_status e) (link_text d e)
+OfLinked c d (Ok p) more turn = OfParts c p more turn
 
 -- the next source, or what all of them are linked to
-abbrev pub OfSources : Command → DescRow → List (List ℕ) → Option (List ℕ) → Turn → Type 0
-OfSources c d sources (Some name) turn = turn ≡ Asks name
-OfSources c d sources None turn = OfLinked c d (linked d sources) turn
+abbrev pub OfSources : Command → DescRow → List (List ℕ) → List (List ℕ) → Option (List ℕ) → Turn → Type 0
+OfSources c d sources more (Some name) turn = turn ≡ Asks name
+OfSources c d sources more None turn = OfLinked c d (linked d sources) more turn
 
+-- of the files after a description: its sources, and those after them
 abbrev pub OfRows : Command → DescRow → List (List ℕ) → Turn → Type 0
-OfRows c d sources turn =
-    OfSources c d sources (slice_get (source_names d) (length sources)) turn
+OfRows c d files turn =
+    OfSources c d (take (length (source_names d)) files) (drop (length (source_names d)) files)
+    (slice_get (source_names d) (length files)) turn
 
 abbrev pub OfDescription : Command → List ℕ → List (List ℕ) → Turn → Type 0
-OfDescription c bytes sources turn =
+OfDescription c bytes files turn =
     ((f : Fault) × (IsFaulty bytes f × (turn ≡ Ends status.Description (description_line f))))
-    ⊎ ((d : DescRow) × (WellFormed bytes d × OfRows c d sources turn))
+    ⊎ ((d : DescRow) × (WellFormed bytes d × OfRows c d files turn))
 
 -- ---- images
 
@@ -86,18 +122,18 @@ pub record IsFlawed (bytes : List ℕ) (turn : Turn) : Type 0 where
   pub fault : FaultAt bytes number place
   pub due : turn ≡ Ends status.Image (image_line number place)
 
-abbrev pub OfImage : Command → List ℕ → Turn → Type 0
-OfImage c bytes turn =
+abbrev pub OfImage : Command → List ℕ → List (List ℕ) → Turn → Type 0
+OfImage c bytes files turn =
     IsFlawed bytes turn
-    ⊎ ((p : PartsRow) × (IsImage bytes p × OfParts c p turn))
+    ⊎ ((p : PartsRow) × (IsImage bytes p × OfParts c p files turn))
 
 -- ---- turns
 
 abbrev pub OfFirst : Bool → Command → List ℕ → List (List ℕ) → Turn → Type 0
-OfFirst true c bytes sources turn = OfImage c bytes turn
-OfFirst false c bytes sources turn = OfDescription c bytes sources turn
+OfFirst true c bytes files turn = OfImage c bytes files turn
+OfFirst false c bytes files turn = OfDescription c bytes files turn
 
 -- what follows after these files, in the order in which they were read
 abbrev pub Follows : Command → List (List ℕ) → Turn → Type 0
 Follows c [] turn = turn ≡ Asks (file_of c)
-Follows c (bytes ∷ sources) turn = OfFirst (reads_image c) c bytes sources turn
+Follows c (bytes ∷ files) turn = OfFirst (reads_image c) c bytes files turn

@@ -1,8 +1,8 @@
 //! What the program does over descriptions and images, from both ends: words and files in, bytes and
 //! status out. It is written as a dialogue: after the files that were read so far, either a file is
 //! due, or a text and a status. The commands are `audit`, `image`, `run` and `runimage` without a
-//! script, `why` and `upgrade`. The definitions stand in specs/; nothing here computes but the statuses'
-//! numbers.
+//! script, `why`, `upgrade` and `check`. The definitions stand in specs/; nothing here computes but the
+//! statuses' numbers.
 #![tactic(auto)]
 
 ghost use Rattle.std.specs.Prelude.{◌≡◌};

@@ -3,7 +3,7 @@ use Rattle.std.proofs.Common.{ℕ, Bool, true, false, List, [], ◌∷◌}
 use Rattle.def_boot.specs.Boot.{booted_machine, image_of}
 use Rattle.def_image.specs.Accepted.{IsFaultless}
 use Rattle.def_image.specs.Parts.{PartsRow}
-use Rattle.def_program.specs.Commands.{Command, Audit, Image, Run, RunImage, Why, Upgrade, reads_image}
+use Rattle.def_program.specs.Commands.{Command, Audit, Image, Run, RunImage, Why, Upgrade, Check, reads_image}
 use Rattle.def_program.specs.Licences.{TellsLicensed, IsLicensedCommand, FirstStandsFor, StandFor}
 use Rattle.def_program.specs.Runs.{events_until}
 use Rattle.law_accepted.proofs.Running.{licensed}
@@ -29,6 +29,7 @@ command_licensed (Run name limit) p f = tells p limit f
 command_licensed (RunImage name limit) p f = tells p limit f
 command_licensed (Why name owner compartment) p f = tt
 command_licensed (Upgrade name) p f = tt
+command_licensed (Check name policy) p f = tt
 
 pub is_licensed : (c : Command) (files : List (List ℕ)) (p : PartsRow) → StandFor c files p → IsLicensedCommand c p
 is_licensed c files p s = command_licensed c p (stands_faultless c files p s)

@@ -1,5 +1,5 @@
 -- A command has a turn after any files.
-use Rattle.std.proofs.Common.{ℕ, ◌≡◌, ◌≢◌, ◌^◌, ◌<◌, inl, inr, Bool, true, false, List, [], ◌∷◌, length, Option, Some, None, Result, Ok, Err, slice_get, refl}
+use Rattle.std.proofs.Common.{ℕ, ◌≡◌, ◌≢◌, inl, inr, Bool, true, false, List, [], ◌∷◌, length, take, drop, Option, Some, None, Result, Ok, Err, slice_get, refl}
 use Rattle.ct_entry.specs.declared.rows.Owner.{Owner}
 use Rattle.ct_entry.specs.declared.rows.Owner.TheVariants.{Trusted, Compartment, Library}
 use Rattle.def_image.specs.Accepted.{IsFaultless}
@@ -12,27 +12,24 @@ use Rattle.def_link.specs.declared.LinkFault.{LinkFault}
 use Rattle.def_link.specs.Linked.{linked}
 use Rattle.def_lines.specs.Report.{report_line}
 use Rattle.def_program.specs.declared.Status.TheVariants as status
-use Rattle.def_program.specs.Commands.{Command, Audit, Image, Run, RunImage, Why, Upgrade, file_of, reads_image}
-use Rattle.def_program.specs.Lines.{description_line, link_status, link_text, image_line, name_line}
+use Rattle.def_program.specs.Commands.{Command, Audit, Image, Run, RunImage, Why, Upgrade, Check, file_of, reads_image}
+use Rattle.def_program.specs.Lines.{description_line, link_status, link_text, image_line, name_line, policy_line}
 use Rattle.def_program.specs.Paths.{IsWhyLine, none_line, path_line, or_library, compartment_named, library_named}
 use Rattle.def_program.specs.Runs.{run_text}
-use Rattle.def_program.specs.Turns.{Turn, Asks, Ends, Looked, OfParts, OfLinked, OfSources, OfDescription, OfImage, OfFirst, source_names}
+use Rattle.def_program.specs.Turns.{Turn, Asks, Ends, Looked, verdict, OfPolicy, OfParts, OfLinked, OfSources, OfDescription, OfImage, OfFirst, source_names}
 use Rattle.law_description.proofs.Judging.{one}
-use Rattle.law_image.proofs.Sounds.{sound}
 use Rattle.law_link_limits.proofs.Whole.{faultless}
 use Rattle.law_wellformed.proofs.Lawfuls.{bytes_lawful}
 use Rattle.law_paths.specs.There.{LeadsOrNot}
 use Rattle.law_paths.proofs.There.{there}
-use Rattle.ct_entries.proofs.Few.{few_rows}
-use Rattle.ct_entries.proofs.Standing.{stands}
+use Rattle.ct_policy.proofs.Untrusted.{untrusted}
+use Rattle.law_policy.specs.Denied.{IsTold}
+use Rattle.law_policy.proofs.Denials.{denials_there, few}
+use Rattle.law_policy.proofs.There.{policy_or_fault}
 use Rattle.law_dialogue.specs.Following.{IsContent, AreContents, HasTurn}
 use Rattle.law_dialogue.proofs.Images.{image_or_flaw}
 
 -- ---- of parts
-
-few : (p : PartsRow) → IsFaultless p → length (entries_of p).rows < 2 ^ 32
-unfolding entries_of
-few p f = few_rows p (stands p (sound p f))
 
 abbrev HasLine : PartsRow → Owner → ℕ → Type 0
 HasLine p o c = (text : List ℕ) × IsWhyLine p o c text
@@ -60,32 +57,47 @@ looked p f None None c = (Ends status.Name name_line, refl)
 looked p f (Some o) l None = (Ends status.Name name_line, refl)
 looked p f None (Some l) None = (Ends status.Name name_line, refl)
 
-abbrev HasParts : Command → PartsRow → Type 0
-HasParts c p = (turn : Turn) × OfParts c p turn
+abbrev HasPolicy : List ℕ → PartsRow → List (List ℕ) → Type 0
+HasPolicy policy p files = (turn : Turn) × OfPolicy policy p files turn
 
-of_parts : (c : Command) (p : PartsRow) → IsFaultless p → HasParts c p
-of_parts (Audit name) p f = (Ends status.Done (report_line p), refl)
-of_parts (Image name) p f = (Ends status.Done (image_bytes p), refl)
-of_parts (Run name limit) p f = (Ends status.Done (run_text p limit), refl)
-of_parts (RunImage name limit) p f = (Ends status.Done (run_text p limit), refl)
-of_parts (Why name owner compartment) p f = looked p f (compartment_named p owner) (library_named p owner) (compartment_named p compartment)
-of_parts (Upgrade name) p f = (Ends status.Done (image_bytes (upgraded p)), refl)
+by_text : (policy : List ℕ) (p : PartsRow) (bytes : List ℕ) (more : List (List ℕ)) → IsFaultless p → IsTold p bytes → HasPolicy policy p (bytes ∷ more)
+by_text policy p bytes more f (inl r) =
+    let lines = denials_there p f 1 r.rulings (untrusted p bytes r.rulings r.reads) in
+    (verdict lines.text, inr (record { rulings = r.rulings; reads = r.reads; text = lines.text; denied = lines.is; due = refl }))
+by_text policy p bytes more f (inr x) =
+    (Ends status.Policy (policy_line x.number x.line), inl (record { number = x.number; line = x.line; fault = x.fault; due = refl }))
+
+of_policy : (policy : List ℕ) (p : PartsRow) → IsFaultless p → (files : List (List ℕ)) → HasPolicy policy p files
+of_policy policy p f [] = (Asks policy, refl)
+of_policy policy p f (bytes ∷ more) = by_text policy p bytes more f (policy_or_fault p bytes)
+
+abbrev HasParts : Command → PartsRow → List (List ℕ) → Type 0
+HasParts c p files = (turn : Turn) × OfParts c p files turn
+
+of_parts : (c : Command) (p : PartsRow) → IsFaultless p → (files : List (List ℕ)) → HasParts c p files
+of_parts (Audit name) p f files = (Ends status.Done (report_line p), refl)
+of_parts (Image name) p f files = (Ends status.Done (image_bytes p), refl)
+of_parts (Run name limit) p f files = (Ends status.Done (run_text p limit), refl)
+of_parts (RunImage name limit) p f files = (Ends status.Done (run_text p limit), refl)
+of_parts (Why name owner compartment) p f files = looked p f (compartment_named p owner) (library_named p owner) (compartment_named p compartment)
+of_parts (Upgrade name) p f files = (Ends status.Done (image_bytes (upgraded p)), refl)
+of_parts (Check name policy) p f files = of_policy policy p f files
 
 -- ---- of descriptions
 
-abbrev HasLinked : Command → DescRow → Result PartsRow LinkFault → Type 0
-HasLinked c d r = (turn : Turn) × OfLinked c d r turn
+abbrev HasLinked : Command → DescRow → Result PartsRow LinkFault → List (List ℕ) → Type 0
+HasLinked c d r more = (turn : Turn) × OfLinked c d r more turn
 
-of_linked : (c : Command) (bytes : List ℕ) (d : DescRow) (sources : List (List ℕ)) → WellFormed bytes d → (r : Result PartsRow LinkFault) → linked d sources ≡ r → HasLinked c d r
-of_linked c bytes d sources w (Err e) is = (Ends (link_status e) (link_text d e), refl)
-of_linked c bytes d sources w (Ok p) is = of_parts c p (faultless d sources p (record { lawful = bytes_lawful bytes d w; linked = is }))
+of_linked : (c : Command) (bytes : List ℕ) (d : DescRow) (sources more : List (List ℕ)) → WellFormed bytes d → (r : Result PartsRow LinkFault) → linked d sources ≡ r → HasLinked c d r more
+of_linked c bytes d sources more w (Err e) is = (Ends (link_status e) (link_text d e), refl)
+of_linked c bytes d sources more w (Ok p) is = of_parts c p (faultless d sources p (record { lawful = bytes_lawful bytes d w; linked = is })) more
 
-abbrev HasSources : Command → DescRow → List (List ℕ) → Option (List ℕ) → Type 0
-HasSources c d sources o = (turn : Turn) × OfSources c d sources o turn
+abbrev HasSources : Command → DescRow → List (List ℕ) → List (List ℕ) → Option (List ℕ) → Type 0
+HasSources c d sources more o = (turn : Turn) × OfSources c d sources more o turn
 
-of_sources : (c : Command) (bytes : List ℕ) (d : DescRow) (sources : List (List ℕ)) → WellFormed bytes d → (o : Option (List ℕ)) → HasSources c d sources o
-of_sources c bytes d sources w (Some name) = (Asks name, refl)
-of_sources c bytes d sources w None = of_linked c bytes d sources w (linked d sources) refl
+of_sources : (c : Command) (bytes : List ℕ) (d : DescRow) (sources more : List (List ℕ)) → WellFormed bytes d → (o : Option (List ℕ)) → HasSources c d sources more o
+of_sources c bytes d sources more w (Some name) = (Asks name, refl)
+of_sources c bytes d sources more w None = of_linked c bytes d sources more w (linked d sources) refl
 
 abbrev HasDescription : Command → List ℕ → List (List ℕ) → Type 0
 HasDescription c bytes sources = (turn : Turn) × OfDescription c bytes sources turn
@@ -93,19 +105,19 @@ HasDescription c bytes sources = (turn : Turn) × OfDescription c bytes sources 
 of_description : (c : Command) (bytes : List ℕ) (sources : List (List ℕ)) → HasDescription c bytes sources
 of_description c bytes sources = elim (one bytes) [
   | inl d ↦
-      let next = of_sources c bytes d.0 sources d.1 (slice_get (source_names d.0) (length sources)) in
+      let next = of_sources c bytes d.0 (take (length (source_names d.0)) sources) (drop (length (source_names d.0)) sources) d.1 (slice_get (source_names d.0) (length sources)) in
       (next.0, inr (d.0, (d.1, next.1)))
   | inr f ↦ (Ends status.Description (description_line f.0), inl (f.0, (f.1, refl)))
 ]
 
 -- ---- of images
 
-abbrev HasImage : Command → List ℕ → Type 0
-HasImage c bytes = (turn : Turn) × OfImage c bytes turn
+abbrev HasImage : Command → List ℕ → List (List ℕ) → Type 0
+HasImage c bytes files = (turn : Turn) × OfImage c bytes files turn
 
-of_image : (c : Command) (bytes : List ℕ) → IsContent bytes → HasImage c bytes
-of_image c bytes content = elim (image_or_flaw bytes content) [
-  | inl t ↦ let next = of_parts c t.parts t.image.0 in (next.0, inr (t.parts, (t.image, next.1)))
+of_image : (c : Command) (bytes : List ℕ) (files : List (List ℕ)) → IsContent bytes → HasImage c bytes files
+of_image c bytes files content = elim (image_or_flaw bytes content) [
+  | inl t ↦ let next = of_parts c t.parts t.image.0 files in (next.0, inr (t.parts, (t.image, next.1)))
   | inr f ↦
       (Ends status.Image (image_line f.number f.place), inl (record { number = f.number; place = f.place; fault = f.fault; due = refl }))
 ]
@@ -116,7 +128,7 @@ abbrev HasFirst : Bool → Command → List ℕ → List (List ℕ) → Type 0
 HasFirst image c bytes sources = (turn : Turn) × OfFirst image c bytes sources turn
 
 of_first : (image : Bool) (c : Command) (bytes : List ℕ) (sources : List (List ℕ)) → IsContent bytes → HasFirst image c bytes sources
-of_first true c bytes sources content = of_image c bytes content
+of_first true c bytes sources content = of_image c bytes sources content
 of_first false c bytes sources content = of_description c bytes sources
 
 pub follows : (c : Command) (files : List (List ℕ)) → AreContents files → HasTurn c files

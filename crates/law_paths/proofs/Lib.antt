@@ -1,3 +1,4 @@
 pub mod Searching
 pub mod Falling
 pub mod There
+pub mod Once

@@ -1,7 +1,7 @@
 -- What is left of the answers.
-use Rattle.std.proofs.Common.{◌≡◌, ℕ, zero, suc, ◌+◌, ◌-◌, ◌^◌, ◌<◌, ◌≤◌, min, Bool, true, false, List, [], ◌∷◌, ◌++◌, Option, Some, None, Result, Ok, Err, length, take, slice_get, refl, sym, ap, ◌∙◌, subst, inl, inr, arith, length-take}
+use Rattle.std.proofs.Common.{◌≡◌, ℕ, zero, suc, ◌+◌, ◌-◌, ◌^◌, ◌<◌, ◌≤◌, ◌⊎◌, min, Bool, true, false, List, [], ◌∷◌, ◌++◌, Option, Some, None, Result, Ok, Err, length, take, drop, slice_get, refl, sym, ap, ◌∙◌, subst, inl, inr, arith, length-take}
 use Rattle.std.proofs.lemmas.List.{map-append, take_all}
-use Rattle.std.proofs.lemmas.Option.{slice_get_past, slice_get_cases, slice_get_within}
+use Rattle.std.proofs.lemmas.Option.{slice_get_cases, slice_get_within}
 use Rattle.ct_entry.specs.declared.rows.Owner.{Owner}
 use Rattle.def_port.specs.Bytes.{Rose}
 use Rattle.def_port.specs.Told.{Told, File}
@@ -11,18 +11,19 @@ use Rattle.def_link.specs.declared.LinkFault.{LinkFault}
 use Rattle.def_link.specs.Linked.{linked}
 use Rattle.def_program.specs.declared.Status.{Status}
 use Rattle.def_program.specs.declared.Status.TheVariants as status
-use Rattle.def_program.specs.Commands.{Command, Audit, Image, Run, RunImage, Why, Upgrade, form_of, file_of, reads_image}
+use Rattle.def_program.specs.Commands.{Command, Audit, Image, Run, RunImage, Why, Upgrade, Check, form_of, file_of, reads_image}
 use Rattle.def_program.specs.Ends as ends
 use Rattle.def_program.specs.Ends.{Holds, IsLarge, most}
 use Rattle.def_program.specs.Licences.{LinksTo}
-use Rattle.def_program.specs.Lines.{image_line}
+use Rattle.def_program.specs.Lines.{policy_line, allow_line}
 use Rattle.def_program.specs.Paths.{owner_named, compartment_named}
-use Rattle.def_program.specs.Turns.{Turn, Asks, Ends, Looked, OfParts, OfLinked, OfSources, OfRows, OfDescription, OfImage, OfFirst, Follows, source_names}
+use Rattle.def_program.specs.Turns.{Turn, Asks, Ends, Looked, OfText, verdict, OfParts, OfLinked, OfSources, OfRows, OfDescription, OfImage, OfFirst, Follows, source_names}
 use Rattle.def_program.specs.Answers.{Read, contents, WereDue, TurnCause, LastRead, Answers}
 use Rattle.law_description.proofs.Judging.{not_both, same_rows}
 use Rattle.law_image.proofs.Backs.{one_reading}
 use Rattle.law_image.proofs.Faults.{no_fault as image_has_none}
-use Rattle.law_program.specs.Completing.{NoFault, IsTold, AreTold, Stand, IsAsked, looked_status, status_of, Completes, RefusesMisuse, IsSteady}
+use Rattle.law_policy.proofs.Texts as texts
+use Rattle.law_program.specs.Completing.{NoFault, IsTold, AreTold, Stand, IsRuled, AlsoStands, IsAsked, looked_status, Finishes, Completes, RefusesMisuse, IsSteady}
 
 -- ---- lists by index
 
@@ -39,11 +40,33 @@ told_at e (n ∷ ns) [] k name t is = absurd t
 told_at e (n ∷ ns) (b ∷ bs) zero name t is = let same : n ≡ name = (let here : Some n ≡ Some name = is in cc) in (b, (refl, subst (λ x. IsTold e x b) same t.0))
 told_at e (n ∷ ns) (b ∷ bs) (suc k) name t is = told_at e ns bs k name t.1 is
 
-as_many : (e : ends.Ends) (names all : List (List ℕ)) → AreTold e names all → length names ≡ length all
-as_many e [] [] t = refl
-as_many e [] (b ∷ bs) t = absurd t
-as_many e (n ∷ ns) [] t = absurd t
-as_many e (n ∷ ns) (b ∷ bs) t = ap suc (as_many e ns bs t.1)
+-- of each name of two lists of names
+told_both : (e : ends.Ends) (names all more files : List (List ℕ)) → AreTold e names all → AreTold e more files → AreTold e (names ++ more) (all ++ files)
+told_both e [] [] more files t u = u
+told_both e [] (b ∷ bs) more files t u = absurd t
+told_both e (n ∷ ns) [] more files t u = absurd t
+told_both e (n ∷ ns) (b ∷ bs) more files t u = (t.0, told_both e ns bs more files t.1 u)
+
+-- the first of two lists, cut out of the front of both
+take_own : {A : Type 0} (xs ys : List A) (j : ℕ) → length xs ≤ j → take (length xs) (take j (xs ++ ys)) ≡ xs
+take_own [] ys j long = refl
+take_own (x ∷ xs) ys zero long = absurd (omega (arith, long))
+take_own (x ∷ xs) ys (suc j) long = ap (λ zs. x ∷ zs) (take_own xs ys j (omega (arith, long)))
+
+drop_own : {A : Type 0} (xs ys : List A) (j k : ℕ) → j ≡ length xs + k → drop (length xs) (take j (xs ++ ys)) ≡ take k ys
+drop_own [] ys j k is = ap (λ n. take n ys) (let same : j ≡ k = omega (arith, is) in same)
+drop_own (x ∷ xs) ys zero k is = absurd (omega (arith, is))
+drop_own (x ∷ xs) ys (suc j) k is = drop_own xs ys j k (omega (arith, is))
+
+get_own : {A : Type 0} (xs ys : List A) (j : ℕ) (x : A) → slice_get xs j ≡ Some x → slice_get (xs ++ ys) j ≡ Some x
+get_own [] ys j x is = absurd (let clash : None ≡ Some x = is in cc)
+get_own (z ∷ zs) ys zero x is = is
+get_own (z ∷ zs) ys (suc j) x is = get_own zs ys j x is
+
+get_later : {A : Type 0} (xs ys : List A) (j k : ℕ) → j ≡ length xs + k → slice_get (xs ++ ys) j ≡ slice_get ys k
+get_later [] ys j k is = ap (slice_get ys) (let same : j ≡ k = omega (arith, is) in same)
+get_later (x ∷ xs) ys zero k is = absurd (omega (arith, is))
+get_later (x ∷ xs) ys (suc j) k is = get_later xs ys j k (omega (arith, is))
 
 -- ---- one file
 
@@ -62,27 +85,75 @@ looked_ends p (Some o) (Some c) s text h = let same : Ends s text ≡ Ends statu
 looked_ends p (Some o) None s text h = let same = h in cc
 looked_ends p None c s text h = let same = h in cc
 
-parts_end : (c : Command) (p : PartsRow) (s : Status) (text : List ℕ) → OfParts c p (Ends s text) → s ≡ status_of c p
-parts_end (Audit name) p s text h = let same = h in cc
-parts_end (Image name) p s text h = let same = h in cc
-parts_end (Run name limit) p s text h = let same = h in cc
-parts_end (RunImage name limit) p s text h = let same = h in cc
-parts_end (Why name owner compartment) p s text h = looked_ends p (owner_named p owner) (compartment_named p compartment) s text h
-parts_end (Upgrade name) p s text h = let same = h in cc
-
--- no file is due of parts
+-- no file is due of names
 looked_asks : (p : PartsRow) (o : Option Owner) (c : Option ℕ) (name : List ℕ) → Looked p o c (Asks name) → ⊥
 looked_asks p (Some o) (Some c) name h = absurd (let clash : Asks name ≡ Ends status.Done h.0 = h.1.1 in cc)
 looked_asks p (Some o) None name h = absurd (let clash = h in cc)
 looked_asks p None c name h = absurd (let clash = h in cc)
 
-parts_ask : (c : Command) (p : PartsRow) (name : List ℕ) → OfParts c p (Asks name) → ⊥
-parts_ask (Audit file) p name h = absurd (let clash = h in cc)
-parts_ask (Image file) p name h = absurd (let clash = h in cc)
-parts_ask (Run file limit) p name h = absurd (let clash = h in cc)
-parts_ask (RunImage file limit) p name h = absurd (let clash = h in cc)
-parts_ask (Why file owner compartment) p name h = looked_asks p (owner_named p owner) (compartment_named p compartment) name h
-parts_ask (Upgrade file) p name h = absurd (let clash = h in cc)
+-- nor of a policy
+verdict_asks : (lines name : List ℕ) → Asks name ≡ verdict lines → ⊥
+verdict_asks [] name is = absurd (let clash : Asks name ≡ Ends status.Done allow_line = is in cc)
+verdict_asks (c ∷ cs) name is = absurd (let clash : Asks name ≡ Ends status.Denied (c ∷ cs) = is in cc)
+
+policy_asks : (p : PartsRow) (bytes name : List ℕ) → OfText p bytes (Asks name) → ⊥
+policy_asks p bytes name (inl u) = absurd (let clash : Asks name ≡ Ends status.Policy (policy_line u.number u.line) = u.due in cc)
+policy_asks p bytes name (inr j) = verdict_asks j.text name j.due
+
+abbrev IsVerdict : Status → Type 0
+IsVerdict s = (s ≡ status.Done) ⊎ (s ≡ status.Denied)
+
+verdict_ends : (lines : List ℕ) (s : Status) (text : List ℕ) → Ends s text ≡ verdict lines → IsVerdict s
+verdict_ends [] s text is = inl (let same : Ends s text ≡ Ends status.Done allow_line = is in cc)
+verdict_ends (c ∷ cs) s text is = inr (let same : Ends s text ≡ Ends status.Denied (c ∷ cs) = is in cc)
+
+policy_ends : (e : ends.Ends) (p : PartsRow) (policy : List ℕ) (r : IsRuled e p policy) (s : Status) (text : List ℕ)
+    → OfText p r.bytes (Ends s text) → IsVerdict s
+policy_ends e p policy r s text (inl u) = absurd (texts.not_both p r.bytes u.number u.line r.rulings u.fault r.reads)
+policy_ends e p policy r s text (inr j) = verdict_ends j.text s text j.due
+
+-- ---- the files that are due after those that stand for parts
+
+-- these names are due one after the other, and then a status comes
+pub record PartsPlan (e : ends.Ends) (c : Command) (p : PartsRow) (names all : List (List ℕ)) : Type 0 where
+  pub told : AreTold e names all
+  pub next : (k : ℕ) (name : List ℕ) → OfParts c p (take k all) (Asks name) → slice_get names k ≡ Some name
+  pub last : (k : ℕ) (s : Status) (text : List ℕ) → OfParts c p (take k all) (Ends s text) → Finishes c p s
+
+record PartsPlanned (e : ends.Ends) (c : Command) (p : PartsRow) : Type 0 where
+  names : List (List ℕ)
+  all : List (List ℕ)
+  plan : PartsPlan e c p names all
+
+-- none are due
+no_more : (e : ends.Ends) (c : Command) (p : PartsRow) → ((k : ℕ) (name : List ℕ) → OfParts c p (take k []) (Asks name) → ⊥)
+    → ((k : ℕ) (s : Status) (text : List ℕ) → OfParts c p (take k []) (Ends s text) → Finishes c p s) → PartsPlanned e c p
+no_more e c p asks last = record { names = []; all = []; plan = record { told = tt; next = λ k name h. absurd (asks k name h); last = last } }
+
+module _ (e : ends.Ends) (name policy : List ℕ) (p : PartsRow) (r : IsRuled e p policy) where
+  check_next : (k : ℕ) (file : List ℕ) → OfParts (Check name policy) p (take k (r.bytes ∷ [])) (Asks file) → slice_get (policy ∷ []) k ≡ Some file
+  check_next zero file h = let same : Asks file ≡ Asks policy = h in cc
+  check_next (suc k) file h = absurd (policy_asks p r.bytes file h)
+
+  check_last : (k : ℕ) (s : Status) (text : List ℕ) → OfParts (Check name policy) p (take k (r.bytes ∷ [])) (Ends s text) → Finishes (Check name policy) p s
+  check_last zero s text h = absurd (let clash : Ends s text ≡ Asks policy = h in cc)
+  check_last (suc k) s text h = policy_ends e p policy r s text h
+
+parts_planned : (e : ends.Ends) (c : Command) (p : PartsRow) → AlsoStands e c p → PartsPlanned e c p
+parts_planned e (Audit file) p also = no_more e (Audit file) p (λ k name h. absurd (let clash = h in cc)) (λ k s text h. let same = h in cc)
+parts_planned e (Image file) p also = no_more e (Image file) p (λ k name h. absurd (let clash = h in cc)) (λ k s text h. let same = h in cc)
+parts_planned e (Run file limit) p also = no_more e (Run file limit) p (λ k name h. absurd (let clash = h in cc)) (λ k s text h. let same = h in cc)
+parts_planned e (RunImage file limit) p also = no_more e (RunImage file limit) p (λ k name h. absurd (let clash = h in cc)) (λ k s text h. let same = h in cc)
+parts_planned e (Why file owner compartment) p also =
+    no_more e (Why file owner compartment) p
+    (λ k name h. looked_asks p (owner_named p owner) (compartment_named p compartment) name h)
+    (λ k s text h. looked_ends p (owner_named p owner) (compartment_named p compartment) s text h)
+parts_planned e (Upgrade file) p also = no_more e (Upgrade file) p (λ k name h. absurd (let clash = h in cc)) (λ k s text h. let same = h in cc)
+parts_planned e (Check file policy) p also = record {
+  names = policy ∷ [];
+  all = also.bytes ∷ [];
+  plan = record { told = (also.told, tt); next = check_next e file policy p also; last = check_last e file policy p also };
+}
 
 -- ---- what is due after files that stand for parts
 
@@ -90,7 +161,7 @@ parts_ask (Upgrade file) p name h = absurd (let clash = h in cc)
 pub record Plan (e : ends.Ends) (c : Command) (p : PartsRow) (names all : List (List ℕ)) : Type 0 where
   pub told : AreTold e names all
   pub next : (k : ℕ) (name : List ℕ) → k ≤ length all → Follows c (take k all) (Asks name) → slice_get names k ≡ Some name
-  pub last : (k : ℕ) (s : Status) (text : List ℕ) → k ≤ length all → Follows c (take k all) (Ends s text) → OfParts c p (Ends s text)
+  pub last : (k : ℕ) (s : Status) (text : List ℕ) → k ≤ length all → Follows c (take k all) (Ends s text) → Finishes c p s
 
 -- each of the files that were read is the one in its place
 prefix_is : (e : ends.Ends) (c : Command) (p : PartsRow) (names all : List (List ℕ)) → Plan e c p names all → (rs : List Read) → WereDue e c rs
@@ -122,98 +193,110 @@ read_so_far e c p names all plan rs due =
 
 -- ---- descriptions
 
-module _ (e : ends.Ends) (c : Command) (bytes : List ℕ) (sources : List (List ℕ)) (p : PartsRow) (l : LinksTo bytes sources p) where
-  linked_ends : (r : Result PartsRow LinkFault) (turn : Turn) → r ≡ Ok p → OfLinked c l.description r turn → OfParts c p turn
-  linked_ends (Err f) turn is h = absurd (let clash : Err f ≡ Ok p = is in cc)
-  linked_ends (Ok q) turn is h = let same : q ≡ p = (let here : Ok q ≡ Ok p = is in cc) in subst (λ x. OfParts c x turn) same h
+module _ (e : ends.Ends) (c : Command) (bytes : List ℕ) (sources : List (List ℕ)) (p : PartsRow) (l : LinksTo bytes sources p)
+    (names all : List (List ℕ)) (plan : PartsPlan e c p names all) where
+  linked_ends : (r : Result PartsRow LinkFault) (more : List (List ℕ)) (turn : Turn) → r ≡ Ok p → OfLinked c l.description r more turn → OfParts c p more turn
+  linked_ends (Err f) more turn is h = absurd (let clash : Err f ≡ Ok p = is in cc)
+  linked_ends (Ok q) more turn is h = let same : q ≡ p = (let here : Ok q ≡ Ok p = is in cc) in subst (λ x. OfParts c x more turn) same h
 
-  of_rows : (some : List (List ℕ)) (turn : Turn) → OfDescription c bytes some turn → OfRows c l.description some turn
-  of_rows some turn (inl f) = absurd (not_both bytes l.description f.0 l.well f.1.0)
-  of_rows some turn (inr d) = subst (λ x. OfRows c x some turn) (same_rows bytes d.0 l.description d.1.0 l.well) d.1.1
-
-  -- with all sources, the parts tell
-  source_ends : (o : Option (List ℕ)) (turn : Turn) → o ≡ None → OfSources c l.description sources o turn → OfParts c p turn
-  source_ends (Some name) turn is h = absurd (let clash : Some name ≡ None = is in cc)
-  source_ends None turn is h = linked_ends (linked l.description sources) turn l.links h
-
-  all_end : (turn : Turn) → OfRows c l.description sources turn → OfParts c p turn
-  all_end turn h = source_ends (slice_get (source_names l.description) (length sources)) turn (slice_get_past (source_names l.description) (length sources) (let size = l.whole in omega (arith, size))) h
+  of_rows : (files : List (List ℕ)) (turn : Turn) → OfDescription c bytes files turn → OfRows c l.description files turn
+  of_rows files turn (inl f) = absurd (not_both bytes l.description f.0 l.well f.1.0)
+  of_rows files turn (inr d) = subst (λ x. OfRows c x files turn) (same_rows bytes d.0 l.description d.1.0 l.well) d.1.1
 
   -- with fewer sources, the next is due
-  source_asks : (some : List (List ℕ)) (o : Option (List ℕ)) (x name : List ℕ) → o ≡ Some x → OfSources c l.description some o (Asks name) → o ≡ Some name
-  source_asks some None x name is h = absurd (let clash : None ≡ Some x = is in cc)
-  source_asks some (Some y) x name is h = let same : Asks name ≡ Asks y = h in cc
+  source_asks : (some more : List (List ℕ)) (o : Option (List ℕ)) (x name : List ℕ) → o ≡ Some x → OfSources c l.description some more o (Asks name) → o ≡ Some name
+  source_asks some more None x name is h = absurd (let clash : None ≡ Some x = is in cc)
+  source_asks some more (Some y) x name is h = let same : Asks name ≡ Asks y = h in cc
 
-  source_stops : (some : List (List ℕ)) (o : Option (List ℕ)) (x : List ℕ) (s : Status) (text : List ℕ) → o ≡ Some x → OfSources c l.description some o (Ends s text) → ⊥
-  source_stops some None x s text is h = absurd (let clash : None ≡ Some x = is in cc)
-  source_stops some (Some y) x s text is h = absurd (let clash : Ends s text ≡ Asks y = h in cc)
+  source_stops : (some more : List (List ℕ)) (o : Option (List ℕ)) (x : List ℕ) (s : Status) (text : List ℕ) → o ≡ Some x → OfSources c l.description some more o (Ends s text) → ⊥
+  source_stops some more None x s text is h = absurd (let clash : None ≡ Some x = is in cc)
+  source_stops some more (Some y) x s text is h = absurd (let clash : Ends s text ≡ Asks y = h in cc)
 
-  -- after j sources, of which there are no more than all
-  there : (j : ℕ) (turn : Turn) → reads_image c ≡ false → OfFirst (reads_image c) c bytes (take j sources) turn → OfRows c l.description (take j sources) turn
-  there j turn description h = of_rows (take j sources) turn (subst (λ b. OfFirst b c bytes (take j sources) turn) description h)
+  -- with all of them, the parts tell
+  source_ends : (some more : List (List ℕ)) (o : Option (List ℕ)) (turn : Turn) → o ≡ None → some ≡ sources → OfSources c l.description some more o turn → OfParts c p more turn
+  source_ends some more (Some name) turn is same h = absurd (let clash : Some name ≡ None = is in cc)
+  source_ends some more None turn is same h =
+      linked_ends (linked l.description sources) more turn l.links (subst (λ xs. OfLinked c l.description (linked l.description xs) more turn) same h)
 
-  size_is : (j : ℕ) → j ≤ length sources → length (take j sources) ≡ j
-  size_is j few = let size = length-take j sources in omega (arith, size, few)
+  -- after j files, of which there are no more than all
+  there : (j : ℕ) (turn : Turn) → reads_image c ≡ false → OfFirst (reads_image c) c bytes (take j (sources ++ all)) turn → OfRows c l.description (take j (sources ++ all)) turn
+  there j turn description h = of_rows (take j (sources ++ all)) turn (subst (λ b. OfFirst b c bytes (take j (sources ++ all)) turn) description h)
 
-  at_last : (j : ℕ) (turn : Turn) → length (source_names l.description) ≤ j → OfRows c l.description (take j sources) turn → OfParts c p turn
-  at_last j turn many h =
-      let size = l.whole in
-      let all : take j sources ≡ sources = take_all j sources (omega (arith, many, size)) in
-      all_end turn (subst (λ some. OfRows c l.description some turn) all h)
+  -- the same, by how many they are
+  at_file : (j : ℕ) (turn : Turn) → j ≤ length (sources ++ all) → OfRows c l.description (take j (sources ++ all)) turn
+      → OfSources c l.description (take (length (source_names l.description)) (take j (sources ++ all))) (drop (length (source_names l.description)) (take j (sources ++ all))) (slice_get (source_names l.description) j) turn
+  at_file j turn few h =
+      let size : length (take j (sources ++ all)) ≡ j = (let taken = length-take j (sources ++ all) in omega (arith, taken, few)) in
+      subst (λ n. OfSources c l.description (take (length (source_names l.description)) (take j (sources ++ all))) (drop (length (source_names l.description)) (take j (sources ++ all))) (slice_get (source_names l.description) n) turn) size h
 
-  next_source : (j : ℕ) (name : List ℕ) → j ≤ length sources → OfRows c l.description (take j sources) (Asks name) → slice_get (source_names l.description) j ≡ Some name
-  next_source j name few h =
-      let here : OfSources c l.description (take j sources) (slice_get (source_names l.description) j) (Asks name) = subst (λ n. OfSources c l.description (take j sources) (slice_get (source_names l.description) n) (Asks name)) (size_is j few) h in
+  at_last : (j k : ℕ) (turn : Turn) → j ≡ length sources + k → slice_get (source_names l.description) j ≡ None
+      → OfSources c l.description (take (length (source_names l.description)) (take j (sources ++ all))) (drop (length (source_names l.description)) (take j (sources ++ all))) (slice_get (source_names l.description) j) turn
+      → OfParts c p (take k all) turn
+  at_last j k turn is none h =
+      let own : take (length (source_names l.description)) (take j (sources ++ all)) ≡ sources = ap (λ n. take n (take j (sources ++ all))) (sym l.whole) ∙ take_own sources all j (omega (arith, is)) in
+      let rest : drop (length (source_names l.description)) (take j (sources ++ all)) ≡ take k all = ap (λ n. drop n (take j (sources ++ all))) (sym l.whole) ∙ drop_own sources all j k is in
+      subst (λ more. OfParts c p more turn) rest
+      (source_ends (take (length (source_names l.description)) (take j (sources ++ all))) (drop (length (source_names l.description)) (take j (sources ++ all))) (slice_get (source_names l.description) j) turn none own h)
+
+  past : (j : ℕ) → length (source_names l.description) ≤ j → j ≡ length sources + (j - length sources)
+  past j many = let size = l.whole in omega (arith, size, many)
+
+  next_file : (j : ℕ) (name : List ℕ) → j ≤ length (sources ++ all) → OfRows c l.description (take j (sources ++ all)) (Asks name) → slice_get (source_names l.description ++ names) j ≡ Some name
+  next_file j name few h =
+      let here = at_file j (Asks name) few h in
       elim (slice_get_cases (source_names l.description) j).1 [
-        | inl x ↦ source_asks (take j sources) (slice_get (source_names l.description) j) x.0 name x.2 here
-        | inr past ↦ absurd (parts_ask c p name (at_last j (Asks name) past.0 h))
+        | inl x ↦ get_own (source_names l.description) names j name (source_asks _ _ (slice_get (source_names l.description) j) x.0 name x.2 here)
+        | inr none ↦
+            let is : j ≡ length sources + (j - length sources) = past j none.0 in
+            let later : j ≡ length (source_names l.description) + (j - length sources) = (let size = l.whole in omega (arith, size, is)) in
+            get_later (source_names l.description) names j (j - length sources) later
+            ∙ plan.next (j - length sources) name (at_last j (j - length sources) (Asks name) is none.1 here)
       ]
 
-  last_source : (j : ℕ) (s : Status) (text : List ℕ) → j ≤ length sources → OfRows c l.description (take j sources) (Ends s text) → OfParts c p (Ends s text)
-  last_source j s text few h =
-      let here : OfSources c l.description (take j sources) (slice_get (source_names l.description) j) (Ends s text) = subst (λ n. OfSources c l.description (take j sources) (slice_get (source_names l.description) n) (Ends s text)) (size_is j few) h in
+  last_file : (j : ℕ) (s : Status) (text : List ℕ) → j ≤ length (sources ++ all) → OfRows c l.description (take j (sources ++ all)) (Ends s text) → Finishes c p s
+  last_file j s text few h =
+      let here = at_file j (Ends s text) few h in
       elim (slice_get_cases (source_names l.description) j).1 [
-        | inl x ↦ absurd (source_stops (take j sources) (slice_get (source_names l.description) j) x.0 s text x.2 here)
-        | inr past ↦ at_last j (Ends s text) past.0 h
+        | inl x ↦ absurd (source_stops _ _ (slice_get (source_names l.description) j) x.0 s text x.2 here)
+        | inr none ↦ plan.last (j - length sources) s text (at_last j (j - length sources) (Ends s text) (past j none.0) none.1 here)
       ]
 
-  by_description : reads_image c ≡ false → IsTold e (file_of c) bytes → AreTold e (source_names l.description) sources → Plan e c p (file_of c ∷ source_names l.description) (bytes ∷ sources)
-  by_description description first rest = record { told = (first, rest); next = next; last = last }
+  by_description : reads_image c ≡ false → IsTold e (file_of c) bytes → AreTold e (source_names l.description) sources
+      → Plan e c p (file_of c ∷ (source_names l.description ++ names)) (bytes ∷ (sources ++ all))
+  by_description description first rest = record { told = (first, told_both e (source_names l.description) sources names all rest plan.told); next = next; last = last }
     where
-      next : (k : ℕ) (name : List ℕ) → k ≤ length (bytes ∷ sources) → Follows c (take k (bytes ∷ sources)) (Asks name) → slice_get (file_of c ∷ source_names l.description) k ≡ Some name
+      next : (k : ℕ) (name : List ℕ) → k ≤ length (bytes ∷ (sources ++ all)) → Follows c (take k (bytes ∷ (sources ++ all))) (Asks name)
+          → slice_get (file_of c ∷ (source_names l.description ++ names)) k ≡ Some name
       next zero name few h = let same : Asks name ≡ Asks (file_of c) = h in cc
-      next (suc j) name few h = next_source j name (omega (arith, few)) (there j (Asks name) description h)
+      next (suc j) name few h = next_file j name (omega (arith, few)) (there j (Asks name) description h)
 
-      last : (k : ℕ) (s : Status) (text : List ℕ) → k ≤ length (bytes ∷ sources) → Follows c (take k (bytes ∷ sources)) (Ends s text) → OfParts c p (Ends s text)
+      last : (k : ℕ) (s : Status) (text : List ℕ) → k ≤ length (bytes ∷ (sources ++ all)) → Follows c (take k (bytes ∷ (sources ++ all))) (Ends s text) → Finishes c p s
       last zero s text few h = absurd (let clash : Ends s text ≡ Asks (file_of c) = h in cc)
-      last (suc j) s text few h = last_source j s text (omega (arith, few)) (there j (Ends s text) description h)
+      last (suc j) s text few h = last_file j s text (omega (arith, few)) (there j (Ends s text) description h)
 
 -- ---- images
 
-module _ (e : ends.Ends) (c : Command) (bytes : List ℕ) (p : PartsRow) (i : IsImage bytes p) where
-  image_asks : (name : List ℕ) → OfImage c bytes (Asks name) → ⊥
-  image_asks name (inl f) = absurd (let clash : Asks name ≡ Ends status.Image (image_line f.number f.place) = f.due in cc)
-  image_asks name (inr q) = parts_ask c q.0 name q.1.1
-
-  image_ends : (turn : Turn) → OfImage c bytes turn → OfParts c p turn
-  image_ends turn (inl f) = absurd (image_has_none bytes p f.number f.place i f.fault)
-  image_ends turn (inr q) =
+module _ (e : ends.Ends) (c : Command) (bytes : List ℕ) (p : PartsRow) (i : IsImage bytes p)
+    (names all : List (List ℕ)) (plan : PartsPlan e c p names all) where
+  image_parts : (files : List (List ℕ)) (turn : Turn) → OfImage c bytes files turn → OfParts c p files turn
+  image_parts files turn (inl f) = absurd (image_has_none bytes p f.number f.place i f.fault)
+  image_parts files turn (inr q) =
       let same : q.0 ≡ p = one_reading q.0 p q.1.0.0.spellable i.0.spellable (sym q.1.0.1 ∙ i.1) in
-      subst (λ x. OfParts c x turn) same q.1.1
+      subst (λ x. OfParts c x files turn) same q.1.1
 
-  by_image : reads_image c ≡ true → IsTold e (file_of c) bytes → Plan e c p (file_of c ∷ []) (bytes ∷ [])
-  by_image image first = record { told = (first, tt); next = next; last = last }
+  by_image : reads_image c ≡ true → IsTold e (file_of c) bytes → Plan e c p (file_of c ∷ names) (bytes ∷ all)
+  by_image image first = record { told = (first, plan.told); next = next; last = last }
     where
-      there : (j : ℕ) (turn : Turn) → OfFirst (reads_image c) c bytes (take j []) turn → OfImage c bytes turn
-      there j turn h = subst (λ b. OfFirst b c bytes (take j []) turn) image h
+      there : (j : ℕ) (turn : Turn) → OfFirst (reads_image c) c bytes (take j all) turn → OfParts c p (take j all) turn
+      there j turn h = image_parts (take j all) turn (subst (λ b. OfFirst b c bytes (take j all) turn) image h)
 
-      next : (k : ℕ) (name : List ℕ) → k ≤ length (bytes ∷ []) → Follows c (take k (bytes ∷ [])) (Asks name) → slice_get (file_of c ∷ []) k ≡ Some name
+      next : (k : ℕ) (name : List ℕ) → k ≤ length (bytes ∷ all) → Follows c (take k (bytes ∷ all)) (Asks name) → slice_get (file_of c ∷ names) k ≡ Some name
       next zero name few h = let same : Asks name ≡ Asks (file_of c) = h in cc
-      next (suc j) name few h = absurd (image_asks name (there j (Asks name) h))
+      next (suc j) name few h = plan.next j name (there j (Asks name) h)
 
-      last : (k : ℕ) (s : Status) (text : List ℕ) → k ≤ length (bytes ∷ []) → Follows c (take k (bytes ∷ [])) (Ends s text) → OfParts c p (Ends s text)
+      last : (k : ℕ) (s : Status) (text : List ℕ) → k ≤ length (bytes ∷ all) → Follows c (take k (bytes ∷ all)) (Ends s text) → Finishes c p s
       last zero s text few h = absurd (let clash : Ends s text ≡ Asks (file_of c) = h in cc)
-      last (suc j) s text few h = image_ends (Ends s text) (there j (Ends s text) h)
+      last (suc j) s text few h = plan.last j s text (there j (Ends s text) h)
 
 -- ---- what is asked has a plan
 
@@ -223,25 +306,29 @@ record Planned (e : ends.Ends) (c : Command) (p : PartsRow) : Type 0 where
   plan : Plan e c p names all
 
 planned_by : (e : ends.Ends) (c : Command) (image : Bool) (bytes : List ℕ) (sources : List (List ℕ)) (p : PartsRow)
-    → reads_image c ≡ image → IsTold e (file_of c) bytes → Stand e image bytes sources p → Planned e c p
-planned_by e c true bytes sources p is first stand = record { names = file_of c ∷ []; all = bytes ∷ []; plan = by_image e c bytes p stand is first }
-planned_by e c false bytes sources p is first stand =
-    record { names = file_of c ∷ source_names stand.0.description; all = bytes ∷ sources; plan = by_description e c bytes sources p stand.0 is first stand.1 }
+    → reads_image c ≡ image → IsTold e (file_of c) bytes → Stand e image bytes sources p → PartsPlanned e c p → Planned e c p
+planned_by e c true bytes sources p is first stand more =
+    record { names = file_of c ∷ more.names; all = bytes ∷ more.all; plan = by_image e c bytes p stand more.names more.all more.plan is first }
+planned_by e c false bytes sources p is first stand more = record {
+  names = file_of c ∷ (source_names stand.0.description ++ more.names);
+  all = bytes ∷ (sources ++ more.all);
+  plan = by_description e c bytes sources p stand.0 more.names more.all more.plan is first stand.1;
+}
 
 planned : (e : ends.Ends) (p : PartsRow) → (a : IsAsked e p) → Planned e a.command p
-planned e p a = planned_by e a.command (reads_image a.command) a.bytes a.sources p refl a.first a.stand
+planned e p a = planned_by e a.command (reads_image a.command) a.bytes a.sources p refl a.first a.stand (parts_planned e a.command p a.also)
 
 same_command : (e : ends.Ends) (a b : Command) → form_of e.words ≡ Some a → form_of e.words ≡ Some b → a ≡ b
 same_command e a b p q = let same : Some a ≡ Some b = sym p ∙ q in cc
 
-turn_status : (e : ends.Ends) (p : PartsRow) (a : IsAsked e p) (s : Status) (text : List ℕ) → TurnCause e s text → s ≡ status_of a.command p
+turn_status : (e : ends.Ends) (p : PartsRow) (a : IsAsked e p) (s : Status) (text : List ℕ) → TurnCause e s text → Finishes a.command p s
 turn_status e p a s text t =
     let x = planned e p a in
     let same : t.command ≡ a.command = same_command e t.command a.command t.form a.form in
     let due : WereDue e a.command t.reads = subst (λ c. WereDue e c t.reads) same t.read.due in
     let so = read_so_far e a.command p x.names x.all x.plan t.reads due in
     let ends_so : Follows a.command (contents t.reads) (Ends s text) = subst (λ c. Follows c (contents t.reads) (Ends s text)) same t.due in
-    parts_end a.command p s text (x.plan.last (length t.reads) s text so.1 (subst (λ fs. Follows a.command fs (Ends s text)) so.0 ends_so))
+    x.plan.last (length t.reads) s text so.1 (subst (λ fs. Follows a.command fs (Ends s text)) so.0 ends_so)
 
 not_large : (e : ends.Ends) (p : PartsRow) (a : IsAsked e p) (c : Command) (rs : List Read) (name : List ℕ) → form_of e.words ≡ Some c → LastRead e c rs name → IsLarge (e.told name) → ⊥
 not_large e p a c rs name form last large =
@@ -270,8 +357,8 @@ completes e status.Script w p a none = absurd w.cause
 completes e status.WriteFault w p a none = absurd (none.writes w.rose)
 completes e status.NoMemory w p a none = inr refl
 completes e status.Name w p a none = inl (turn_status e p a status.Name w.text w.cause)
-completes e status.Denied w p a none = absurd w.cause
-completes e status.Policy w p a none = absurd w.cause
+completes e status.Denied w p a none = inl (turn_status e p a status.Denied w.text w.cause)
+completes e status.Policy w p a none = inl (turn_status e p a status.Policy w.text w.cause)
 
 -- ---- the statuses that are left
 
@@ -312,5 +399,5 @@ misuse e status.Script a none = absurd a.cause
 misuse e status.WriteFault a none = inr refl
 misuse e status.NoMemory a none = absurd (not_both_forms e a.command none a.form)
 misuse e status.Name a none = absurd (not_both_forms e a.cause.command none a.cause.form)
-misuse e status.Denied a none = absurd a.cause
-misuse e status.Policy a none = absurd a.cause
+misuse e status.Denied a none = absurd (not_both_forms e a.cause.command none a.cause.form)
+misuse e status.Policy a none = absurd (not_both_forms e a.cause.command none a.cause.form)

@@ -1,5 +1,6 @@
 -- What is due on the samples' rows.
-use Rattle.std.proofs.Common.{ℕ, ◌≡◌, List, length, Some, None, Result, slice_get, codes, refl, sym, subst}
+use Rattle.std.proofs.Common.{ℕ, ◌≡◌, ◌∙◌, List, length, take, drop, Some, None, Result, slice_get, codes, refl, sym, ap, subst, arith}
+use Rattle.std.proofs.lemmas.List.{take_all}
 use Rattle.def_image.specs.Parts.{PartsRow}
 use Rattle.def_description.specs.Rows.{DescRow}
 use Rattle.def_description.specs.Tables.{kind_of, posture_of, library_posture_of, passes_of, service_of}
@@ -11,10 +12,12 @@ use Rattle.law_linked.specs.Samples.{tiny_rows, tiny_in, filed}
 
 -- where no further source is due, what is linked tells
 pub of_rows : (c : Command) (d : DescRow) (sources : List (List ℕ)) (turn : Turn) (r : Result PartsRow LinkFault)
-    → slice_get (source_names d) (length sources) ≡ None → linked d sources ≡ r → OfLinked c d r turn
-    → OfRows c d sources turn
-of_rows c d sources turn r none is due =
-    subst (λ o. OfSources c d sources o turn) (sym none) (subst (λ z. OfLinked c d z turn) (sym is) due)
+    → slice_get (source_names d) (length sources) ≡ None → length sources ≡ length (source_names d) → linked d sources ≡ r
+    → OfLinked c d r (drop (length (source_names d)) sources) turn → OfRows c d sources turn
+of_rows c d sources turn r none size is due =
+    let own : take (length (source_names d)) sources ≡ sources = take_all (length (source_names d)) sources (omega (arith, size)) in
+    subst (λ o. OfSources c d (take (length (source_names d)) sources) (drop (length (source_names d)) sources) o turn) (sym none)
+    (subst (λ z. OfLinked c d z (drop (length (source_names d)) sources) turn) (sym (ap (linked d) own ∙ is)) due)
 
 pub no_file : slice_get (source_names tiny_rows) 0 ≡ None
 unfolding kind_of posture_of library_posture_of passes_of service_of
@@ -31,3 +34,17 @@ one_file = refl
 pub no_other : slice_get (source_names filed) 1 ≡ None
 unfolding kind_of posture_of library_posture_of passes_of service_of
 no_other = refl
+
+-- ---- how many files there are
+
+pub no_files : 0 ≡ length (source_names tiny_rows)
+unfolding kind_of posture_of library_posture_of passes_of service_of
+no_files = refl
+
+pub no_files_in : 0 ≡ length (source_names (tiny_in 640))
+unfolding kind_of posture_of library_posture_of passes_of service_of
+no_files_in = refl
+
+pub one : 1 ≡ length (source_names filed)
+unfolding kind_of posture_of library_posture_of passes_of service_of
+one = refl

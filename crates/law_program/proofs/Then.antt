@@ -1,5 +1,5 @@
 -- What is written of a description's image runs to the same text.
-use Rattle.std.proofs.Common.{ℕ, ◌≡◌, inl, inr, List, [], ◌∷◌, length, Option, Some, None, Result, Ok, Err, slice_get, refl, subst}
+use Rattle.std.proofs.Common.{ℕ, ◌≡◌, inl, inr, List, [], ◌∷◌, length, take, drop, Option, Some, None, Result, Ok, Err, slice_get, refl, subst}
 use Rattle.def_image.specs.Parts.{PartsRow}
 use Rattle.def_image.specs.Spelling.{image_bytes}
 use Rattle.def_description.specs.Rows.{DescRow}
@@ -16,13 +16,17 @@ use Rattle.law_description.proofs.Judging.{same_rows}
 use Rattle.law_wellformed.proofs.Lawfuls.{bytes_lawful}
 use Rattle.law_link_limits.proofs.Whole.{faultless}
 
+-- as many files as the rows name
+abbrev own : DescRow → List (List ℕ) → List (List ℕ)
+own rows sources = take (length (source_names rows)) sources
+
 -- a command's text on a description: its rows, what they are linked to, and what is said of that
 pub record IsTold (c : Command) (bytes : List ℕ) (sources : List (List ℕ)) (text : List ℕ) : Type 0 where
   pub rows : DescRow
   pub parts : PartsRow
   pub lawful : WellFormed bytes rows
-  pub linked : linked rows sources ≡ Ok parts
-  pub due : OfParts c parts (Ends status.Done text)
+  pub linked : linked rows (own rows sources) ≡ Ok parts
+  pub due : OfParts c parts (drop (length (source_names rows)) sources) (Ends status.Done text)
 
 no_fault_is_done : (e : LinkFault) → link_status e ≡ status.Done → ⊥
 no_fault_is_done (fault.Asm owner number line) h = absurd (let clash : status.Assembly ≡ status.Done = h in cc)
@@ -34,17 +38,17 @@ no_fault_is_done fault.NoMemory h = absurd (let clash : status.NoMemory ≡ stat
 
 module _ (c : Command) (bytes : List ℕ) (sources : List (List ℕ)) (text : List ℕ) (d : DescRow)
     (w : WellFormed bytes d) where
-  by_linked : (r : Result PartsRow LinkFault) → linked d sources ≡ r → OfLinked c d r (Ends status.Done text)
-      → IsTold c bytes sources text
+  by_linked : (r : Result PartsRow LinkFault) → linked d (own d sources) ≡ r
+      → OfLinked c d r (drop (length (source_names d)) sources) (Ends status.Done text) → IsTold c bytes sources text
   by_linked (Err e) is h =
       let same : Ends status.Done text ≡ Ends (link_status e) (link_text d e) = h in
       let done : link_status e ≡ status.Done = cc in
       absurd (no_fault_is_done e done)
   by_linked (Ok p) is h = record { rows = d; parts = p; lawful = w; linked = is; due = h }
 
-  by_sources : (o : Option (List ℕ)) → OfSources c d sources o (Ends status.Done text) → IsTold c bytes sources text
+  by_sources : (o : Option (List ℕ)) → OfSources c d (own d sources) (drop (length (source_names d)) sources) o (Ends status.Done text) → IsTold c bytes sources text
   by_sources (Some name) h = absurd (let clash : Ends status.Done text ≡ Asks name = h in cc)
-  by_sources None h = by_linked (linked d sources) refl h
+  by_sources None h = by_linked (linked d (own d sources)) refl h
 
 told : (c : Command) (bytes : List ℕ) (sources : List (List ℕ)) (text : List ℕ)
     → OfDescription c bytes sources (Ends status.Done text) → IsTold c bytes sources text
@@ -58,7 +62,7 @@ same_parts : (c k : Command) (bytes : List ℕ) (sources : List (List ℕ)) (a b
     → (x : IsTold c bytes sources a) (y : IsTold k bytes sources b) → y.parts ≡ x.parts
 same_parts c k bytes sources a b x y =
     let rows : y.rows ≡ x.rows = same_rows bytes y.rows x.rows y.lawful x.lawful in
-    let second : linked x.rows sources ≡ Ok y.parts = subst (λ d. linked d sources ≡ Ok y.parts) rows y.linked in
+    let second : linked x.rows (own x.rows sources) ≡ Ok y.parts = subst (λ d. linked d (own d sources) ≡ Ok y.parts) rows y.linked in
     let first = x.linked in
     cc
 
@@ -69,7 +73,7 @@ pub runs_alike : (name other bytes written text : List ℕ) (sources : List (Lis
 runs_alike name other bytes written text sources limit first second =
     let x = told (Image name) bytes sources written first in
     let y = told (Run name limit) bytes sources text second in
-    let sound = faultless x.rows sources x.parts (record { lawful = bytes_lawful bytes x.rows x.lawful; linked = x.linked }) in
+    let sound = faultless x.rows (own x.rows sources) x.parts (record { lawful = bytes_lawful bytes x.rows x.lawful; linked = x.linked }) in
     let due : Ends status.Done written ≡ Ends status.Done (image_bytes x.parts) = x.due in
     let spelled : written ≡ image_bytes x.parts = cc in
     let runs = subst (λ p. Ends status.Done text ≡ Ends status.Done (run_text p limit))

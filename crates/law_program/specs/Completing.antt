@@ -6,7 +6,9 @@ use Rattle.def_port.specs.Bytes.{Rose}
 use Rattle.def_port.specs.Told.{File}
 use Rattle.def_image.specs.Accepted.{IsImage}
 use Rattle.def_image.specs.Parts.{PartsRow}
-use Rattle.def_program.specs.Commands.{Command, Audit, Image, Run, RunImage, Why, Upgrade, form_of, file_of, reads_image}
+use Rattle.def_policy.specs.Rulings.{Ruling}
+use Rattle.def_policy.specs.Texts.{Reads}
+use Rattle.def_program.specs.Commands.{Command, Audit, Image, Run, RunImage, Why, Upgrade, Check, form_of, file_of, reads_image}
 use Rattle.def_program.specs.Ends.{Ends, most}
 use Rattle.def_program.specs.Licences.{LinksTo}
 use Rattle.def_program.specs.Paths.{owner_named, compartment_named}
@@ -39,6 +41,18 @@ Stand e true bytes sources p = IsImage bytes p
 Stand e false bytes sources p =
     (l : LinksTo bytes sources p) × AreTold e (source_names l.description) sources
 
+-- the folder tells a policy of these parts
+pub record IsRuled (e : Ends) (p : PartsRow) (name : List ℕ) : Type 0 where
+  pub bytes : List ℕ
+  pub told : IsTold e name bytes
+  pub rulings : List Ruling
+  pub reads : Reads p bytes rulings
+
+-- of `check` the folder tells the policy too
+abbrev pub AlsoStands : Ends → Command → PartsRow → Type 0
+AlsoStands e (Check name policy) p = IsRuled e p policy
+AlsoStands e _ p = Unit {0}
+
 -- the words are a form, and the folder tells its files, which stand for these parts
 pub record IsAsked (e : Ends) (p : PartsRow) : Type 0 where
   pub command : Command
@@ -47,6 +61,7 @@ pub record IsAsked (e : Ends) (p : PartsRow) : Type 0 where
   pub sources : List (List ℕ)
   pub first : IsTold e (file_of command) bytes
   pub stand : Stand e (reads_image command) bytes sources p
+  pub also : AlsoStands e command p
 
 -- ---- how it ends
 
@@ -55,21 +70,22 @@ looked_status (Some owner) (Some c) = status.Done
 looked_status (Some owner) None = status.Name
 looked_status None c = status.Name
 
--- Done; but of names that stand for nothing Name
-abbrev pub status_of : Command → PartsRow → Status
-status_of (Audit name) p = status.Done
-status_of (Image name) p = status.Done
-status_of (Run name limit) p = status.Done
-status_of (RunImage name limit) p = status.Done
-status_of (Why name owner compartment) p =
-    looked_status (owner_named p owner) (compartment_named p compartment)
-status_of (Upgrade name) p = status.Done
+-- Done; but of names that stand for nothing Name, and of a policy Done or Denied
+abbrev pub Finishes : Command → PartsRow → Status → Type 0
+Finishes (Audit name) p s = s ≡ status.Done
+Finishes (Image name) p s = s ≡ status.Done
+Finishes (Run name limit) p s = s ≡ status.Done
+Finishes (RunImage name limit) p s = s ≡ status.Done
+Finishes (Why name owner compartment) p s =
+    s ≡ looked_status (owner_named p owner) (compartment_named p compartment)
+Finishes (Upgrade name) p s = s ≡ status.Done
+Finishes (Check name policy) p s = (s ≡ status.Done) ⊎ (s ≡ status.Denied)
 
 -- where no fault is counted, what is asked of files that stand for parts ends so, or wants memory
 abbrev pub Completes : Ends → Status → Type 0
 Completes e s =
     (p : PartsRow) (a : IsAsked e p) → NoFault e
-    → (s ≡ status_of a.command p) ⊎ (s ≡ status.NoMemory)
+    → Finishes a.command p s ⊎ (s ≡ status.NoMemory)
 
 -- words that aren't a form are a usage fault, unless its line could not be written
 abbrev pub RefusesMisuse : Ends → Status → Type 0

@@ -5,8 +5,8 @@ ghost use Rattle.ct_entry.specs.declared.rows.Owner.TheVariants.{Compartment, Li
 ghost use Rattle.def_description.specs.declared.faults.PartWord.TheVariants as part;
 ghost use Rattle.def_link.specs.declared.LinkFault.TheVariants as fault;
 ghost use Rattle.def_step.specs.declared.Event.TheVariants.{Step, Sweep, Tick};
-ghost use Rattle.def_program.specs.Commands.{form_of, Audit, Image, Run, RunImage, Why, Upgrade};
-ghost use Rattle.def_program.specs.Lines.{usage_line, read_line, large_line, description_line, link_text, image_line, name_line};
+ghost use Rattle.def_program.specs.Commands.{form_of, Audit, Image, Run, RunImage, Why, Upgrade, Check};
+ghost use Rattle.def_program.specs.Lines.{usage_line, read_line, large_line, description_line, link_text, image_line, name_line, policy_line, allow_line};
 ghost use Rattle.def_program.specs.Runs.{round};
 ghost use Rattle.law_description.specs.Samples.{at};
 ghost use Rattle.law_linked.specs.Samples.{lent};
@@ -24,6 +24,8 @@ pub fn forms_of_words()
         ≡ Some (Why (codes "a.json") (codes "hex") (codes "app")) }
     ensures upgrade { form_of (codes "upgrade" ∷ codes "a.img" ∷ [])
         ≡ Some (Upgrade (codes "a.img")) }
+    ensures check { form_of (codes "check" ∷ codes "a.json" ∷ codes "a.policy" ∷ [])
+        ≡ Some (Check (codes "a.json") (codes "a.policy")) }
     ensures no_steps { form_of (codes "run" ∷ codes "a.json" ∷ codes "0" ∷ []) ≡ None }
     ensures leading { form_of (codes "run" ∷ codes "a.json" ∷ codes "01" ∷ []) ≡ None }
     ensures past { form_of (codes "runimage" ∷ codes "a.img" ∷ codes "4000000001" ∷ []) ≡ None }
@@ -57,6 +59,8 @@ pub fn refusal_lines()
         ≡ codes "refused 6 link L4 hex 0" ++ 10 ∷ [] }
     ensures cut { image_line 2 411 ≡ codes "refused 7 image I2 411" ++ 10 ∷ [] }
     ensures name { name_line ≡ codes "refused 11 name" ++ 10 ∷ [] }
+    ensures policy { policy_line 2 17 ≡ codes "refused 13 policy P2 17" ++ 10 ∷ [] }
+    ensures allow { allow_line ≡ codes "allow" ++ 10 ∷ [] }
 {}
 
 /// The events of a step: a tick after each quantum, from the second step on, and a slice of a sweep.

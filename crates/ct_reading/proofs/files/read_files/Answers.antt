@@ -8,13 +8,19 @@ pub returns-in-Err : goal.returns-in-Err
 returns-in-Err g c =
     let l = c.loop-name in
     let next = next_of (λ (n : Bor (List ℕ)). n.now) c.args.names.now l.name-index _ _ refl c.loop-name-test.true in
-    record { answer = next_stops _ _ _ _ _ _ _ _ _ _ _ _ _ _ l.invariant next c.in-Err.ensures.answer }
+    record {
+      answer = next_stops _ _ _ _ _ _ _ _ _ _ _ _ _ _ l.invariant next c.in-Err.ensures.answer;
+      same = λ n. c.in-Err.ensures.same n ∙ l.invariant.kept n;
+    }
 
 pub returns-in-Err-push : goal.returns-in-Err-push
 returns-in-Err-push g c =
     let l = c.loop-name in
     let next = next_of (λ (n : Bor (List ℕ)). n.now) c.args.names.now l.name-index _ _ refl c.loop-name-test.true in
-    record { answer = wants_after _ _ _ _ _ _ _ _ _ _ _ _ _ _ l.invariant next c.in-Ok.ensures.answer }
+    record {
+      answer = wants_after _ _ _ _ _ _ _ _ _ _ _ _ _ _ l.invariant next c.in-Ok.ensures.answer;
+      same = λ n. c.in-Ok.ensures.same n ∙ l.invariant.kept n;
+    }
 
 pub loop-name-preserved : goal.loop-name-preserved
 loop-name-preserved g c =

@@ -1,22 +1,25 @@
 use Rattle.std.proofs.Common.{refl}
-use Rattle.ct_refusals.proofs.Endings.{due_by}
+use Rattle.ct_refusals.proofs.Endings.{at_once, due_by}
 use Rattle.ct_top.proofs.Turning.{is_done}
 use Rattle.ct_top.proofs.commands.finish.Goals as goal
 
 pub returns-in-Audit : goal.returns-in-Audit
-returns-in-Audit g c = λ name. rw c.in-Audit.is (is_done _ _ _ _ _ _ _ refl c.audit.ensures)
+returns-in-Audit g c = λ name. rw c.in-Audit.is (at_once _ _ _ refl refl (is_done _ _ _ _ _ _ _ refl c.audit.ensures))
 
 pub returns-in-Image : goal.returns-in-Image
-returns-in-Image g c = λ name. rw c.in-Image.is (is_done _ _ _ _ _ _ _ refl c.write_image.ensures)
+returns-in-Image g c = λ name. rw c.in-Image.is (at_once _ _ _ refl refl (is_done _ _ _ _ _ _ _ refl c.write_image.ensures))
 
 pub returns-in-Run : goal.returns-in-Run
-returns-in-Run g c = λ name. rw c.in-Run.is (is_done _ _ _ _ _ _ _ refl c.run.ensures)
+returns-in-Run g c = λ name. rw c.in-Run.is (at_once _ _ _ refl refl (is_done _ _ _ _ _ _ _ refl c.run.ensures))
 
 pub returns-in-RunImage : goal.returns-in-RunImage
-returns-in-RunImage g c = λ name. rw c.in-RunImage.is (is_done _ _ _ _ _ _ _ refl c.run-in-RunImage.ensures)
+returns-in-RunImage g c = λ name. rw c.in-RunImage.is (at_once _ _ _ refl refl (is_done _ _ _ _ _ _ _ refl c.run-in-RunImage.ensures))
 
 pub returns-in-Why : goal.returns-in-Why
-returns-in-Why g c = λ name. rw c.in-Why.is (due_by _ _ _ _ _ _ _ (λ t due. due) c.why.ensures)
+returns-in-Why g c = λ name. rw c.in-Why.is (at_once _ _ _ refl refl (due_by _ _ _ _ _ _ _ (λ t due. due) c.why.ensures))
 
 pub returns-in-Upgrade : goal.returns-in-Upgrade
-returns-in-Upgrade g c = λ name. rw c.in-Upgrade.is (is_done _ _ _ _ _ _ _ refl c.upgrade.ensures)
+returns-in-Upgrade g c = λ name. rw c.in-Upgrade.is (at_once _ _ _ refl refl (is_done _ _ _ _ _ _ _ refl c.upgrade.ensures))
+
+pub returns-in-Check : goal.returns-in-Check
+returns-in-Check g c = λ name. rw c.in-Check.is c.check.ensures

@@ -20,8 +20,9 @@ pub returns-then-reads_image : goal.returns-then-reads_image
 returns-then-reads_image g c = λ words form.
     let kind : reads_image (command_of c.args.form.now) ≡ true = sym (c.reads_image.ensures c.args.form.now.name.now) ∙ c.if-reads_image.true in
     image_done _ (command_of c.args.form.now) c.of_image.result form c.in-Ok.bytes.items
+    (g.F.Folder.file c.read_file.new.folder) _ _
     (given_by c.args.form.now.name.now c.args.form.now.task (g.F.Folder.file c.args.folder.now) _ _ _ _ c.in-Ok.bytes.items c.in-Ok.ensures.answer)
-    kind (rw c.as_slice.ensures.value at (c.of_image.ensures c.args.form.now.name.now))
+    c.in-Ok.ensures.same kind (rw c.as_slice.ensures.value at (c.of_image.ensures c.args.form.now.name.now))
 
 pub returns-in-Err-read : goal.returns-in-Err-read
 returns-in-Err-read g c = λ words form.
@@ -38,12 +39,12 @@ returns-in-Err-read_sources g c = λ words form.
     source_stops _ (command_of c.args.form.now) c.refuse_file-in-Err-read_sources.result form c.in-Ok.bytes.items c.in-Ok-read.desc
     (g.F.Folder.file c.read_file.new.folder) _ _
     (given_by c.args.form.now.name.now c.args.form.now.task (g.F.Folder.file c.args.folder.now) _ _ _ _ c.in-Ok.bytes.items c.in-Ok.ensures.answer)
-    c.in-Ok.ensures.same kind lawful c.in-Err-read_sources.stop c.in-Err-read_sources.ensures c.refuse_file-in-Err-read_sources.ensures
+    c.in-Ok.ensures.same kind lawful c.in-Err-read_sources.stop c.in-Err-read_sources.ensures.answer c.refuse_file-in-Err-read_sources.ensures
 
 pub of_sources-requires-clause-linkable : goal.of_sources-requires-clause-linkable
 of_sources-requires-clause-linkable g c =
     let lawful : WellFormed c.in-Ok.bytes.items c.in-Ok-read.desc = rw c.as_slice-2.ensures.value at c.in-Ok-read.ensures in
-    linkable c.in-Ok.bytes.items c.in-Ok-read.desc _ _ _ _ _ _ lawful c.in-Ok-read_sources.ensures
+    linkable c.in-Ok.bytes.items c.in-Ok-read.desc _ _ _ _ _ _ lawful c.in-Ok-read_sources.ensures.answer
 
 pub returns : goal.returns
 returns g c = λ words form.
@@ -52,4 +53,5 @@ returns g c = λ words form.
     linked_done _ (command_of c.args.form.now) c.of_sources.result form c.in-Ok.bytes.items c.in-Ok-read.desc
     (g.F.Folder.file c.read_file.new.folder) _ _
     (given_by c.args.form.now.name.now c.args.form.now.task (g.F.Folder.file c.args.folder.now) _ _ _ _ c.in-Ok.bytes.items c.in-Ok.ensures.answer)
-    c.in-Ok.ensures.same kind lawful _ c.in-Ok-read_sources.ensures (c.of_sources.ensures c.args.form.now.name.now)
+    c.in-Ok.ensures.same kind lawful _ (g.F.Folder.file c.read_sources.new.folder) _ _ c.in-Ok-read_sources.ensures.answer
+    (λ n. c.in-Ok-read_sources.ensures.same n ∙ c.in-Ok.ensures.same n) (c.of_sources.ensures c.args.form.now.name.now)

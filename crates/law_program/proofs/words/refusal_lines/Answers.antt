@@ -37,3 +37,7 @@ returns-clause-initial c = refl
 pub returns-clause-cut : goal.returns-clause-cut
 unfolding digits
 returns-clause-cut c = refl
+
+pub returns-clause-policy : goal.returns-clause-policy
+unfolding digits
+returns-clause-policy c = refl

@@ -1,0 +1,157 @@
+//! The lines that deny a policy.
+
+ghost use Rattle.std.specs.Prelude.{ℕ, ◌≡◌, ◌≢◌, codes, ◌+◌, ◌<◌, ◌≤◌, ◌^◌, ◌++◌, [], ◌∷◌, IfOk, OnOk, length, map, string_bytes, decimal};
+ghost use Rattle.ct_entry.specs.declared.rows.Owner.TheVariants.{Trusted};
+ghost use Rattle.def_boot.specs.Gates.{entries_of};
+ghost use Rattle.def_policy.specs.Breaking.{breaking};
+ghost use Rattle.def_policy.specs.Denials.{Denies, Reaching, entry_line, entry_lines, path_line};
+ghost use Rattle.def_policy.specs.Names as name;
+ghost use Rattle.def_policy.specs.Rules.{ended};
+ghost use Rattle.ct_policy.specs.Gates.{AreGates};
+ghost use Rattle.ct_policy.specs.Kept.{Adds, IsUntrusted};
+
+use crate::breaking::{breaks, counted};
+use crate::rulings::Ruling;
+use ct_entry::{Comp, Entries, Gate, Owner};
+use ct_graph::Graph;
+use ct_parts::Parts;
+use def_policy::Subject;
+use def_refusals::NoMemory;
+use itoa::Buffer;
+use std::alloc::{AllocError, Global};
+
+/// Begins the line that denies a rule.
+fn add_denied(text: &mut String, line: u32) -> Result<(), AllocError>
+    ensures { OnOk result
+        (string_bytes text.new ≡ string_bytes text.old ++ (codes "denied " ++ decimal line)) }
+{
+    let mut buffer = Buffer::new();
+    text.push_str("denied ")?;
+    text.push_str(buffer.format(line))
+}
+
+/// The line of an entry that breaks a rule.
+fn add_entry(text: &mut String, line: u32, entry: u32) -> Result<(), AllocError>
+    ensures { OnOk result
+        (string_bytes text.new ≡ string_bytes text.old ++ entry_line line entry) }
+{
+    let mut buffer = Buffer::new();
+    add_denied(text, line)?;
+    text.push(' ')?;
+    text.push_str(buffer.format(entry))?;
+    text.push('\n')
+}
+
+/// The lines of all entries that break a rule; `gates` has the gate of each entry.
+#[tactic(auto, using(crate::proofs::Judged::begins, crate::proofs::Judged::breaks_here, crate::proofs::Judged::holds_here, crate::proofs::Judged::ends))]
+fn add_entries(
+    text: &mut String,
+    line: u32,
+    ruling: &Ruling,
+    entries: &Entries,
+    gates: &[Gate],
+) -> Result<(), AllocError>
+    requires few { length entries.now.rows < 2 ^ 32 }
+    requires gates { AreGates entries.now.gates (length entries.now.rows) gates.now }
+    ensures { OnOk result
+        (string_bytes text.new ≡ string_bytes text.old
+        ++ entry_lines line (breaking entries.now ruling.now)) }
+{
+    let mut sum: u64 = 0;
+    for index in 0..entries.rows.len() {
+        let entry = entries.rows[index];
+        sum += counted(ruling.subject, entry);
+        let number = index as u32 + 1;
+        if breaks(ruling, number, sum, entry, gates[index]) {
+            add_entry(text, line, number)?;
+        }
+    }
+    Ok(())
+}
+
+/// An owner's name; nothing for one that the image doesn't have.
+fn name_of(parts: &Parts, owner: Owner) -> &str
+    ensures { result.now ≡ name.name_of parts.now owner }
+{
+    match owner {
+        Owner::Compartment(index) => match parts.compartments.get(index as usize) {
+            Some(compartment) => compartment.code.name.as_str(),
+            None => "",
+        },
+        Owner::Library(index) => match parts.libraries.get(index as usize) {
+            Some(library) => library.name.as_str(),
+            None => "",
+        },
+        _ => "",
+    }
+}
+
+/// The names of owners, each after a space, and the end of the line.
+fn add_names(text: &mut String, parts: &Parts, owners: &[Owner]) -> Result<(), AllocError>
+    ensures { OnOk result
+        (string_bytes text.new ≡ string_bytes text.old
+        ++ ended (map (name.name_of parts.now) owners.now)) }
+{
+    for owner in owners {
+        text.push(' ')?;
+        text.push_str(name_of(parts, *owner))?;
+    }
+    text.push('\n')
+}
+
+/// The line of a path.
+fn add_path(text: &mut String, line: u32, parts: &Parts, owners: &[Owner]) -> Result<(), AllocError>
+    ensures { OnOk result
+        (string_bytes text.new ≡ string_bytes text.old ++ path_line parts.now line owners.now) }
+{
+    add_denied(text, line)?;
+    text.push_str(" path")?;
+    add_names(text, parts, owners)
+}
+
+/// The line of an owner that reaches a compartment from which it is to be apart.
+fn add_reach(
+    alloc: Global,
+    text: &mut String,
+    line: u32,
+    parts: &Parts,
+    graph: &Graph,
+    from: Owner,
+    to: u32,
+) -> Result<(), NoMemory>
+    requires graph { graph.now ≡ entries_of parts.now }
+    requires untrusted { from ≢ Trusted }
+    ensures { OnOk result
+        (Adds (Reaching parts.now line from to) (string_bytes text.old) (string_bytes text.new)) }
+{
+    match graph.path(alloc, from, Comp(to))? {
+        Some(path) => Ok(add_path(text, line, parts, path.owners.as_slice())?),
+        None => Ok(()),
+    }
+}
+
+/// What denies a rule.
+pub(crate) fn add_ruling(
+    alloc: Global,
+    text: &mut String,
+    line: u32,
+    ruling: &Ruling,
+    parts: &Parts,
+    entries: &Entries,
+    gates: &[Gate],
+    graph: &Graph,
+) -> Result<(), NoMemory>
+    requires entries { entries.now ≡ entries_of parts.now }
+    requires few { length entries.now.rows < 2 ^ 32 }
+    requires gates { AreGates entries.now.gates (length entries.now.rows) gates.now }
+    requires graph { graph.now ≡ entries_of parts.now }
+    requires untrusted { IsUntrusted ruling.now.subject }
+    ensures { OnOk result
+        (Adds (Denies parts.now line ruling.now ruling.now.subject)
+        (string_bytes text.old) (string_bytes text.new)) }
+{
+    match ruling.subject {
+        Subject::Apart(from, to) => add_reach(alloc, text, line, parts, graph, from, to),
+        _ => Ok(add_entries(text, line, ruling, entries, gates)?),
+    }
+}

@@ -1,0 +1,81 @@
+//! Owners and kinds of entries.
+
+ghost use Rattle.std.specs.Prelude.{◌≡◌};
+ghost use Rattle.def_graph.specs.Reach.{same_owner};
+ghost use Rattle.def_policy.specs.Breaking as spec;
+
+use ct_entry::{Kind, Owner};
+
+/// Whether two owners are the same.
+pub(crate) fn same(a: Owner, b: Owner) -> bool
+    ensures { result ≡ same_owner a b }
+{
+    match (a, b) {
+        (Owner::Trusted, Owner::Trusted) => true,
+        (Owner::Compartment(x), Owner::Compartment(y)) => x == y,
+        (Owner::Library(x), Owner::Library(y)) => x == y,
+        (Owner::Thread(x), Owner::Thread(y)) => x == y,
+        _ => false,
+    }
+}
+
+/// Whether an owner is one of these.
+pub(crate) fn is_listed(owners: &[Owner], owner: Owner) -> bool
+    ensures { result ≡ spec.is_listed owners.now owner }
+{
+    owners.iter().any(|x| same(*x, owner))
+}
+
+pub(crate) fn is_device(kind: Kind) -> bool
+    ensures { result ≡ spec.is_device kind }
+{
+    match kind {
+        Kind::Device => true,
+        _ => false,
+    }
+}
+
+pub(crate) fn is_shared(kind: Kind) -> bool
+    ensures { result ≡ spec.is_shared kind }
+{
+    match kind {
+        Kind::Shared => true,
+        _ => false,
+    }
+}
+
+pub(crate) fn is_service(kind: Kind) -> bool
+    ensures { result ≡ spec.is_service kind }
+{
+    match kind {
+        Kind::Service => true,
+        _ => false,
+    }
+}
+
+pub(crate) fn is_call(kind: Kind) -> bool
+    ensures { result ≡ spec.is_call kind }
+{
+    match kind {
+        Kind::Call => true,
+        _ => false,
+    }
+}
+
+pub(crate) fn is_quota(kind: Kind) -> bool
+    ensures { result ≡ spec.is_quota kind }
+{
+    match kind {
+        Kind::Quota => true,
+        _ => false,
+    }
+}
+
+pub(crate) fn is_export(kind: Kind) -> bool
+    ensures { result ≡ spec.is_export kind }
+{
+    match kind {
+        Kind::Export => true,
+        _ => false,
+    }
+}
