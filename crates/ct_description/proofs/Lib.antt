@@ -1,4 +1,5 @@
 pub mod Once
 pub mod Owners
+pub mod Places
 pub mod Sets
 pub mod Steps

@@ -1,5 +1,5 @@
 -- The least fault, found in three steps.
-use Rattle.std.proofs.Common.{◌≡◌, List, Option, Some, None, refl}
+use Rattle.std.proofs.Common.{◌≡◌, Option, Some, None, refl}
 use Rattle.std.specs.Option.{option_or}
 use Rattle.serde_json.specs.Data.{Data}
 use Rattle.def_description.specs.declared.faults.Place.{Place}
@@ -9,7 +9,6 @@ use Rattle.def_description.specs.Names.{is_well_named, no_names, first_twice}
 use Rattle.def_description.specs.Limits.{keeps_limits}
 use Rattle.def_description.specs.Reading.{rows_of}
 use Rattle.def_description.specs.References.{refers_at, rights_fit_at, is_served_at}
-use Rattle.def_description.specs.Addresses.{address_fault}
 use Rattle.def_description.specs.Walk.{spots_of}
 use Rattle.def_description.specs.WellFormed.{first_failing, first_fault, fault_of, fault_or}
 use Rattle.ct_description.specs.Judged.{place_faults, name_faults, value_faults, row_faults}

@@ -12,17 +12,30 @@ use Rattle.def_description.specs.Limits.{keeps_limits}
 use Rattle.def_description.specs.References.{refers_at, rights_fit_at, is_served_at}
 use Rattle.def_description.specs.Addresses.{address_fault}
 use Rattle.def_description.specs.WellFormed.{first_failing, fault_or}
+use Rattle.ct_description.specs.declared.firsts.Firsts.{Firsts}
 use Rattle.ct_description.specs.declared.rules.Rule.{Rule}
 use Rattle.ct_description.specs.declared.rules.Rule.TheVariants as rule
 
 -- the test that each rule makes at a place
 abbrev pub test_of : Rule → Spot → Bool
-test_of rule.Kinds = has_kinds
-test_of rule.Members = has_only
-test_of rule.Names = is_well_named
-test_of rule.Limits = keeps_limits
 test_of rule.Rights = rights_fit_at
 test_of rule.Services = is_served_at
+
+-- the least fault of the places that were judged and of those that follow, by the rules from one on
+abbrev pub after_limits : Firsts → List Spot → Option Fault
+after_limits f ss = fault_or 6 (option_or f.limits (first_failing keeps_limits ss)) None
+
+abbrev pub after_twice : Firsts → List Spot → Option Fault
+after_twice f ss = fault_or 5 (option_or f.twice (first_twice f.spaces ss)) (after_limits f ss)
+
+abbrev pub after_names : Firsts → List Spot → Option Fault
+after_names f ss = fault_or 4 (option_or f.names (first_failing is_well_named ss)) (after_twice f ss)
+
+abbrev pub after_members : Firsts → List Spot → Option Fault
+after_members f ss = fault_or 3 (option_or f.members (first_failing has_only ss)) (after_names f ss)
+
+abbrev pub after_kinds : Firsts → List Spot → Option Fault
+after_kinds f ss = fault_or 2 (option_or f.kinds (first_failing has_kinds ss)) (after_members f ss)
 
 unfoldable pub place_faults : List Spot → Option Fault
 place_faults ss =

@@ -2,50 +2,20 @@
 
 ghost use Rattle.std.specs.Prelude.{◌≡◌, map, IfOk, MatchResult};
 ghost use Rattle.serde_json.specs.View.{view};
-ghost use Rattle.def_description.specs.WellFormed as spec;
 ghost use Rattle.ct_value.specs.Seen.{seen};
 ghost use Rattle.ct_description.specs.Answers.{Good, Faulty};
-ghost use Rattle.ct_description.specs.Judged.{place_faults, name_faults, row_faults, value_faults};
+ghost use Rattle.ct_description.specs.Judged.{name_faults, row_faults, value_faults};
 
-use crate::DescFault;
 use crate::addresses::address_fault;
+use crate::firsts::place_fault;
 use crate::references::Named;
 use crate::rules::Rule;
-use crate::spaces::first_twice;
+use crate::{DescFault, fault};
 use ct_rows::{Desc, rows_of};
 use ct_value::{Spot, spots_of};
-use def_description::{Fault, Place};
+use def_description::Fault;
 use serde_json::Value;
 use std::alloc::{AllocError, Global};
-
-fn fault(number: u32, place: Place) -> Option<Fault>
-    ensures { result ≡ Some (spec.fault number place) }
-{
-    Some(Fault { number, place })
-}
-
-/// F2 to F6, which need what stands at the places alone.
-#[tactic(auto, unfolding(crate::specs::Judged::place_faults))]
-fn place_fault(alloc: Global, spots: &[Spot]) -> Result<Option<Fault>, AllocError>
-    ensures { IfOk result (λ f. f ≡ place_faults (map seen spots.now)) }
-{
-    if let Some(place) = Rule::Kinds.first_failing(spots) {
-        return Ok(fault(2, place));
-    }
-    if let Some(place) = Rule::Members.first_failing(spots) {
-        return Ok(fault(3, place));
-    }
-    if let Some(place) = Rule::Names.first_failing(spots) {
-        return Ok(fault(4, place));
-    }
-    if let Some(place) = first_twice(alloc, spots)? {
-        return Ok(fault(5, place));
-    }
-    match Rule::Limits.first_failing(spots) {
-        Some(place) => Ok(fault(6, place)),
-        None => Ok(None),
-    }
-}
 
 /// F7 to F9, which need what may be named too.
 #[tactic(auto, unfolding(crate::specs::Judged::name_faults))]

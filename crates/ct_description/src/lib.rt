@@ -2,12 +2,13 @@
 //! are a well-formed description, and otherwise the least fault that holds anywhere, at its first
 //! place (docs/use/description.md; definitions in def_description).
 //!
-//! JSON is read by `serde_json`. The places of the value are walked once for each fault: members,
-//! limits and tables are judged in ct_value, rows are read in ct_rows, and names, references and
-//! addresses are judged here.
+//! JSON is read by `serde_json`. The places of the value are walked once for F2 to F6, all of which are
+//! judged at a place before the next, and once for each of F7 to F9: members, limits and tables are
+//! judged in ct_value, rows are read in ct_rows, and names, references and addresses are judged here.
 #![tactic(auto)]
 
 mod addresses;
+mod firsts;
 mod judge;
 mod names;
 mod naming;
@@ -17,12 +18,13 @@ mod spaces;
 #[cfg(test)]
 mod tests;
 
-ghost use Rattle.std.specs.Prelude.{MatchResult};
+ghost use Rattle.std.specs.Prelude.{◌≡◌, Some, MatchResult};
+ghost use Rattle.def_description.specs.WellFormed as spec;
 ghost use Rattle.def_description.specs.WellFormed.{WellFormed};
 ghost use Rattle.ct_description.specs.Answers.{Refused, Unread};
 
 use ct_rows::Desc;
-use def_description::PartWord;
+use def_description::{Fault, PartWord, Place};
 use serde_json::Value;
 use std::alloc::{AllocError, Global};
 use thiserror::Error;
@@ -52,6 +54,12 @@ impl From<AllocError> for DescFault {
     fn from(_: AllocError) -> DescFault {
         DescFault::NoMemory
     }
+}
+
+fn fault(number: u32, place: Place) -> Option<Fault>
+    ensures { result ≡ Some (spec.fault number place) }
+{
+    Some(Fault { number, place })
 }
 
 fn text_fault(e: serde_json::Error) -> DescFault

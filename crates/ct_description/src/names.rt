@@ -10,15 +10,15 @@ use std::marker::Model;
 /// Names, each once, which are looked up in constant time.
 #[derive(Debug, Drop)]
 pub struct Names {
-    set: IndexSet<Vec<u8>>,
+    set: IndexSet<String>,
 }
 
 impl Model for Names {
-    ghost use Rattle.std.specs.Prelude.{List, map, ℕ};
+    ghost use Rattle.std.specs.Prelude.{List, map, string_bytes, ℕ};
 
     ghost Value = { List (List ℕ) };
 
-    ghost view = { λ n. map (λ k. k.items) n.set.keys };
+    ghost view = { λ n. map string_bytes n.set.keys };
 }
 
 impl Names {
@@ -33,7 +33,7 @@ impl Names {
 
     /// A name is there.
     #[tactic(auto, using(crate::proofs::Sets::any_name))]
-    pub fn has(&self, name: &[u8]) -> bool
+    pub fn has(&self, name: &str) -> bool
         ensures { result ≡ among name.now self.now }
     {
         self.set.contains(name)
@@ -41,11 +41,11 @@ impl Names {
 
     /// Adds a name, and says whether it was there. An error is want of memory.
     #[tactic(auto, using(crate::proofs::Sets::any_name, crate::proofs::Sets::names_added))]
-    pub fn add(&mut self, alloc: Global, name: &[u8]) -> Result<bool, AllocError>
+    pub fn add(&mut self, alloc: Global, name: &str) -> Result<bool, AllocError>
         ensures twice { IfOk result (λ b. b ≡ among name.now self.old) }
         ensures added { OnOk result (self.new ≡ with_name self.old name.now) }
     {
-        let key = Vec::from_slice(alloc, name)?;
+        let key = String::from_str(alloc, name)?;
         let (_, fresh) = self.set.insert_full(key)?;
         Ok(!fresh)
     }

@@ -1,33 +1,38 @@
-//! F4: a name that isn't of the form.
+//! The name of a place, and F4: a name that isn't of the form.
 
-ghost use Rattle.std.specs.Prelude.{◌≡◌};
+ghost use Rattle.std.specs.Prelude.{◌≡◌, true, if◌then◌else◌, string_bytes, IfOk};
+ghost use Rattle.std.specs.Cow.{cow_str_bytes};
 ghost use Rattle.serde_json.specs.View.{view};
 ghost use Rattle.def_names.specs.Names as name;
-ghost use Rattle.def_description.specs.Members as member;
 ghost use Rattle.def_description.specs.Names as spec;
-ghost use Rattle.ct_value.specs.Seen.{seen};
 
 use ct_names::is_name;
-use ct_value::Spot;
-use ct_value::members::text_or;
+use ct_value::members::{number_in, text_or};
 use def_description::PartWord;
 use serde_json::Value;
+use std::alloc::{AllocError, Global};
+use std::borrow::CowStr;
 
-fn has_name(value: &Value, key: &str) -> bool
-    ensures { result ≡ name.is_name (member.text_or key.now (view value.now)) }
+/// The name of a key's slot.
+fn key_name(alloc: Global, n: u64) -> Result<String, AllocError>
+    ensures { IfOk result (λ s. string_bytes s ≡ spec.key_name n) }
 {
-    is_name(text_or(value, key).as_bytes())
+    format!(in alloc; "key{n}")
 }
 
-/// F4 doesn't hold at a place: its name is of the form. A key's name is made from its number, and
-/// RAM has none.
-pub fn is_well_named(spot: &Spot) -> bool
-    ensures { result ≡ spec.is_well_named (seen spot.now) }
+/// The name of what stands at a place: RAM has none, and a key's is made from its number.
+pub fn name_at<'a>(
+    alloc: Global,
+    part: PartWord,
+    value: &'a Value,
+) -> Result<CowStr<'a, Global>, AllocError>
+    ensures { IfOk result (λ n. cow_str_bytes n ≡ spec.named part (view value.now)) }
 {
-    match spot.place.part {
-        PartWord::Ram | PartWord::Key => true,
-        PartWord::Firmware => has_name(spot.value, "firmware"),
-        PartWord::Import | PartWord::Limport => has_name(spot.value, "as"),
+    match part {
+        PartWord::Ram => Ok(CowStr::Borrowed("")),
+        PartWord::Key => Ok(CowStr::Owned(key_name(alloc, number_in(value))?)),
+        PartWord::Firmware => Ok(CowStr::Borrowed(text_or(value, "firmware"))),
+        PartWord::Import | PartWord::Limport => Ok(CowStr::Borrowed(text_or(value, "as"))),
         PartWord::Device
         | PartWord::Shared
         | PartWord::Sealed
@@ -36,6 +41,16 @@ pub fn is_well_named(spot: &Spot) -> bool
         | PartWord::Export
         | PartWord::Library
         | PartWord::Lexport
-        | PartWord::Thread => has_name(spot.value, "name"),
+        | PartWord::Thread => Ok(CowStr::Borrowed(text_or(value, "name"))),
+    }
+}
+
+/// F4 doesn't hold of a part with that name. RAM has no name, and a key's own is always of the form.
+pub fn is_well_named(part: PartWord, text: &str) -> bool
+    ensures { result ≡ (if spec.has_own_name part then name.is_name text.now else true) }
+{
+    match part {
+        PartWord::Ram | PartWord::Key => true,
+        _ => is_name(text.as_bytes()),
     }
 }

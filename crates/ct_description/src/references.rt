@@ -1,6 +1,6 @@
 //! F7: a reference to nothing. What may be named is collected once, each kind of name in a set.
 
-ghost use Rattle.std.specs.Prelude.{◌≡◌, [], ◌++◌, codes, map, IfOk, OnOk};
+ghost use Rattle.std.specs.Prelude.{◌≡◌, [], ◌++◌, codes, map, string_bytes, IfOk, OnOk};
 ghost use Rattle.std.specs.List.{flat_map};
 ghost use Rattle.serde_json.specs.View.{view};
 ghost use Rattle.def_names.specs.Names.{with_names};
@@ -24,25 +24,25 @@ fn names_of(alloc: Global, values: &[Value]) -> Result<Names, AllocError>
 {
     let mut names = Names::new(alloc);
     for value in values {
-        names.add(alloc, text_or(value, "name").as_bytes())?;
+        names.add(alloc, text_or(value, "name"))?;
     }
     Ok(names)
 }
 
 /// `owner.export`.
-fn export_name(alloc: Global, owner: &[u8], name: &[u8]) -> Result<Vec<u8>, AllocError>
-    ensures { IfOk result (λ v. v.items ≡ spec.export_name owner.now name.now) }
+fn export_name(alloc: Global, owner: &str, name: &str) -> Result<String, AllocError>
+    ensures { IfOk result (λ s. string_bytes s ≡ spec.export_name owner.now name.now) }
 {
-    let mut text = Vec::from_slice(alloc, owner)?;
-    text.push(b'.')?;
-    text.extend_from_slice(name)?;
+    let mut text = String::from_str(alloc, owner)?;
+    text.push_str(".")?;
+    text.push_str(name)?;
     Ok(text)
 }
 
 fn add_exports(
     names: &mut Names,
     alloc: Global,
-    owner: &[u8],
+    owner: &str,
     exports: &[Value],
 ) -> Result<(), AllocError>
     ensures { OnOk result (names.new ≡ with_names names.old
@@ -50,8 +50,8 @@ fn add_exports(
         (map (member.text_or (codes "name")) (map view exports.now)))) }
 {
     for export in exports {
-        let name = export_name(alloc, owner, text_or(export, "name").as_bytes())?;
-        names.add(alloc, name.as_slice())?;
+        let name = export_name(alloc, owner, text_or(export, "name"))?;
+        names.add(alloc, name.as_str())?;
     }
     Ok(())
 }
@@ -63,8 +63,8 @@ fn exports_of(alloc: Global, owners: &[Value]) -> Result<Names, AllocError>
 {
     let mut names = Names::new(alloc);
     for owner in owners {
-        let name = text_or(owner, "name").as_bytes();
-        add_exports(&mut names, alloc, name, list_at(owner, "exports"))?;
+        let exports = list_at(owner, "exports");
+        add_exports(&mut names, alloc, text_or(owner, "name"), exports)?;
     }
     Ok(names)
 }
@@ -106,12 +106,12 @@ impl<'a> Named<'a> {
         ensures { result ≡ spec.resolves (view self.now.value.now) form name.now }
     {
         match form {
-            Form::Device => self.devices.has(name.as_bytes()),
-            Form::Shared => self.shared.has(name.as_bytes()),
-            Form::Sealed => self.sealed.has(name.as_bytes()),
-            Form::Call => self.calls.has(name.as_bytes()),
+            Form::Device => self.devices.has(name),
+            Form::Shared => self.shared.has(name),
+            Form::Sealed => self.sealed.has(name),
+            Form::Call => self.calls.has(name),
             Form::Service => true,
-            Form::Library => self.libraries.has(name.as_bytes()),
+            Form::Library => self.libraries.has(name),
         }
     }
 

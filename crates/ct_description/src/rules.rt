@@ -1,4 +1,4 @@
-//! The rules that need what stands at a place alone, and the walk over all places.
+//! F8 and F9: rights and services that aren't listed.
 
 ghost use Rattle.std.specs.Prelude.{◌≡◌, map};
 ghost use Rattle.def_names.specs.Names.{among};
@@ -6,11 +6,10 @@ ghost use Rattle.def_description.specs.References as spec;
 ghost use Rattle.def_description.specs.WellFormed.{first_failing as first_of};
 ghost use Rattle.ct_value.specs.Seen.{seen};
 
-use crate::naming::is_well_named;
 use ct_rows::target_at;
+use ct_value::Spot;
 use ct_value::members::text_or;
 use ct_value::tables::service_of;
-use ct_value::{Spot, has_kinds, has_only, keeps_limits};
 use def_description::tables::{DEVICE_RIGHTS, SHARED_RIGHTS};
 use def_description::{Form, PartWord, Place};
 use def_image::taken::SERVICES_TAKEN;
@@ -18,14 +17,6 @@ use def_image::taken::SERVICES_TAKEN;
 /// A rule that is judged at each place by what stands there.
 #[derive(Clone, Copy, Debug, PartialEq, Eq, Drop)]
 pub enum Rule {
-    /// F2: each member that must be there is, and each is of its kind.
-    Kinds,
-    /// F3: there is no member that isn't listed.
-    Members,
-    /// F4: names are of the form.
-    Names,
-    /// F6: numbers and lengths keep their limits.
-    Limits,
     /// F8: rights are listed for their kind.
     Rights,
     /// F9: services are listed.
@@ -104,10 +95,6 @@ impl Rule {
         ensures { result ≡ test_of self (seen spot.now) }
     {
         match self {
-            Rule::Kinds => has_kinds(spot),
-            Rule::Members => has_only(spot),
-            Rule::Names => is_well_named(spot),
-            Rule::Limits => keeps_limits(spot),
             Rule::Rights => rights_fit_at(spot),
             Rule::Services => is_served_at(spot),
         }

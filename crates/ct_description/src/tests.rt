@@ -504,6 +504,52 @@ const ADDRESSES: [(&str, &str, Line); 5] = [
     ),
 ];
 
+/// Several faults at once: the least number, where it comes first.
+const SEVERAL: [(u32, &str, &str, Line); 7] = [
+    (
+        2,
+        r#""kind":"uart""#,
+        r#""kind":"disk","size":16"#,
+        (PartWord::Device, 0, 0),
+    ),
+    (
+        2,
+        r#""limit":96}],"keys":[13]"#,
+        r#""limit":2147483648}],"keys":[16,"13","14"]"#,
+        (PartWord::Key, 0, 1),
+    ),
+    (
+        3,
+        r#""frames":2"#,
+        r#""frames":97,"base":0"#,
+        (PartWord::Thread, 0, 0),
+    ),
+    (
+        4,
+        r#""firmware":"f""#,
+        r#""firmware":"F","quantum":0"#,
+        (PartWord::Firmware, 0, 0),
+    ),
+    (
+        4,
+        r#""limit":96}],"keys":[13],"exports":[{"name":"main""#,
+        r#""limit":2147483648}],"keys":[13,13],"exports":[{"name":"Main""#,
+        (PartWord::Export, 0, 0),
+    ),
+    (
+        5,
+        r#""base":268435456}"#,
+        r#""base":268435456},{"name":"uart0","kind":"uart","base":4294967296}"#,
+        (PartWord::Device, 1, 0),
+    ),
+    (
+        7,
+        r#""rights":"W""#,
+        r#""rights":"C"},{"as":"two","service":"switch"},{"as":"three","call":"app""#,
+        (PartWord::Import, 0, 2),
+    ),
+];
+
 /// Texts of the whole description, each with what may stand in its place.
 const LAWFUL: [(&str, &str); 16] = [
     (r#""firmware":"f""#, r#""firmware":"f""#),
@@ -557,6 +603,14 @@ fn what_is_refused(rt: HostRuntime) {
             let answer = altered(rt.alloc(), WHOLE, from, to);
             assert_eq!(rt; answer, Some((number, *line)), "{from} {to}");
         }
+    }
+}
+
+#[test]
+fn least_of_several(rt: HostRuntime) {
+    for (number, from, to, line) in &SEVERAL {
+        let answer = altered(rt.alloc(), WHOLE, from, to);
+        assert_eq!(rt; answer, Some((*number, *line)), "{from} {to}");
     }
 }
 

@@ -8,7 +8,7 @@ use Rattle.ct_description.proofs.references.exports_of.Goals as goal
 
 pub loop-owner-preserved : goal.loop-owner-preserved
 loop-owner-preserved c =
-    let added : c.add_exports.new.names ≡ with_names c.loop-owner.names (exports_in (view c.owner-item.result)) = cc (c.in_ok-add_exports.ensures, c.as_bytes-name.ensures.value, c.text_or.ensures, c.list_at.ensures) in
+    let added : c.add_exports.new.names ≡ with_names c.loop-owner.names (exports_in (view c.owner-item.result)) = cc (c.in_ok-add_exports.ensures, c.text_or.ensures, c.list_at-exports.ensures) in
     ap (λ ns. with_names ns (flat_map exports_in (map view (drop (c.loop-owner.owner-index + 1) c.args.owners.now)))) added
     ∙ sym (one_owner c.loop-owner.names c.args.owners.now c.loop-owner.owner-index c.owner-item.result c.loop-owner-test.true c.owner-item.is)
     ∙ c.loop-owner.invariant
