@@ -17,6 +17,9 @@ use def_profile::traps::ILLEGAL_INSTRUCTION;
 use def_step::Next;
 
 /// What stands at the running thread's program counter is fetched and carried out, on the thread, RAM and the devices.
+///
+/// Where that is a native routine, the return or another, or where a check fails, of which the first is told, nothing
+/// changes.
 pub fn execute<M: Memory + Drop>(
     engine: &mut Engine<M>,
     t: u32,

@@ -97,8 +97,8 @@ impl<M: Memory + Drop> Machine<M> {
     }
 
     /// Whatever events come next, one after another: calls are clean, each access goes through a capability
-    /// whose owner reaches the actor, and each deed and each span with interrupts off is licensed by the
-    /// image's entries. A law, told of the machine as it is now: nothing is done. docs/claims/theorems.md.
+    /// whose root's owner reaches the actor, and each deed and each span with interrupts off is licensed by
+    /// the image's entries. A law, told of the machine as it is now: nothing is done. docs/claims/theorems.md.
     pub fn whatever_comes(&self)
         ensures calls { (es : List events.Event)
             → EachEvent (CleanEvent self.now.board) self.now.board self.now.state es }
