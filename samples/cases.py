@@ -35,22 +35,28 @@ def case(name, words, data, wanted):
             file.write(content if isinstance(content, bytes) else content.encode())
 
 
+def stored_file(name, text):
+    """A file of this text, which the kit hands to the program too."""
+    path = os.path.join(OUT, "..", os.path.basename(OUT) + "-" + name)
+    with open(path, "w", newline="") as file:
+        file.write(text)
+    print(f"{name}={os.path.abspath(path)}")
+    return name
+
+
 def source(name, text):
     """A source of these lines as code, and the option by which the kit hands it to the program."""
-    path = os.path.join(OUT, "..", os.path.basename(OUT) + "-" + name)
-    with open(path, "w") as file:
-        file.write("".join(line + "\n" for line in text))
-    print(f"{name}={os.path.abspath(path)}")
     SOURCES[name] = text
-    return {"file": name}
+    return {"file": stored_file(name, "".join(line + "\n" for line in text))}
 
 
 def lines(*all_lines):
     return "".join(line + "\n" for line in all_lines)
 
 
-def ended(kind, steps, ticks=0, calls=0, devices=0, traps=0):
-    return f"end {kind} steps {steps} ticks {ticks} calls {calls} devices {devices} allocations 0 frees 0 traps {traps}"
+def ended(kind, steps, ticks=0, calls=0, devices=0, allocations=0, frees=0, traps=0):
+    return (f"end {kind} steps {steps} ticks {ticks} calls {calls} devices {devices} "
+            f"allocations {allocations} frees {frees} traps {traps}")
 
 
 def image(firmware):
@@ -61,16 +67,23 @@ def report(firmware):
     return reports.report(image(firmware))[0]
 
 
-def modelled(data, limit):
-    """The lines of a run of an image by the plain machine."""
+def modelled(data, limit, script=""):
+    """The lines of a run of an image by the plain machine, by the text of a lawful script."""
     read = images.read(data)
-    return Machine(read).run(limit, read.quantum)
+    names = [field.rstrip(b"\0").decode() for _, field, _, _ in read.devices]
+    rows = [row.split(" ") for row in script.splitlines()]
+    return Machine(read).run(limit, read.quantum, [(int(step), names.index(name), int(byte)) for step, name, byte in rows])
+
+
+def run_alone(name, firmware, limit, *wanted):
+    """A run that the plain machine can't do: it has no heap."""
+    case(name, ["run", "{}", str(limit)], json.dumps(firmware), lines(report(firmware), *wanted))
 
 
 def run(name, firmware, limit, *wanted):
     found = modelled(image(firmware), limit)
     assert found == list(wanted), "\n".join([name, "found:", *found, "wanted:", *wanted])
-    case(name, ["run", "{}", str(limit)], json.dumps(firmware), lines(report(firmware), *wanted))
+    run_alone(name, firmware, limit, *wanted)
 
 
 # The samples' runs, which samples/try.sh compares with the program's.
@@ -120,14 +133,14 @@ def thread(entry, name="t", priority=1, stack=256, frames=2):
     return {"name": name, "entry": entry, "priority": priority, "stack": stack, "frames": frames}
 
 
-def row(name, compartments, threads, limit, *wanted, **members):
+def row(name, compartments, threads, limit, *wanted, runs=run, **members):
     """A run of a firmware of this name, with a serial port, whose code stands in lines."""
     whole = dict({"firmware": name, "ram": {"base": 0x80000000, "size": 16384}, "devices": DEVICES,
                   "compartments": compartments, "threads": threads}, **members)
     for owner in compartments + whole.get("libraries", []):
         if "lines" in owner["code"]:
             owner["code"] = source(f"{name}_{owner['name']}.s", owner["code"]["lines"])
-    run(name, whole, limit, *wanted)
+    runs(name, whole, limit, *wanted)
 
 
 # ---- lines of a run
@@ -147,3 +160,11 @@ def trap(step, thread, actor, cause, code=0, register=0):
 
 def off(step, thread, actor, target):
     return f"{step} off t{thread} c{actor} e{target}"
+
+
+def allocated(step, thread, actor, entry, number, base, length, live):
+    return f"{step} allocate t{thread} c{actor} e{entry} n{number} {base:08x} {length} {live}"
+
+
+def freed(step, thread, actor, entry, number, base, length, live):
+    return f"{step} free t{thread} c{actor} e{entry} n{number} {base:08x} {length} {live}"

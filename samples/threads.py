@@ -213,5 +213,5 @@ for routine in ("wait", "wake"):
 
 # ---- routines that the machine doesn't have yet
 
-for routine in ("allocate", "free", "remaining", "token_key", "token_new", "token_open", "token_free"):
+for routine in ("token_key", "token_new", "token_open", "token_free"):
     refused("not_yet", routine, (4, 2), *served(routine))

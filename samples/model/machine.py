@@ -676,13 +676,17 @@ class Machine:
             return "idle"
         return None
 
-    def run(self, limit, quantum):
+    def run(self, limit, quantum, script=()):
+        """The lines of a run: `script` is rows of a step, a device's number and the byte that comes to it."""
         out, k = [], 0
         while True:
             end = self.ended() or ("limit" if k == limit else None)
             if end:
                 break
             k += 1
+            for step, device, byte in script:
+                if step == k:
+                    self.input(device, byte)
             if k > 1 and (k - 1) % quantum == 0:
                 self.tick()
             out += [f"{k} {line}" for line in self.step()]

@@ -2,7 +2,7 @@
 use Rattle.std.proofs.Common.{ℕ, zero, suc, ◌≡◌, ◌+◌, ◌*◌, ◌<◌, ◌≤◌, inl, inr, true, false, List, [], ◌∷◌, ◌++◌, length, map, take, drop, Option, None, refl, sym, ap, ◌∙◌, arith, subst}
 use Rattle.std.proofs.Math.ListN.{get_or}
 use Rattle.std.proofs.lemmas.Bool.{cases_eq}
-use Rattle.law_lists.proofs.Tests.{bool_tells}
+use Rattle.law_lists.proofs.Tests.{bool_tells, lt_tells}
 use Rattle.def_words.specs.declared.Cap.{Cap}
 use Rattle.def_memory.specs.declared.Granule.{Granule}
 use Rattle.def_memory.specs.Granules.{plain, granule_at, blank}
@@ -19,7 +19,7 @@ use Rattle.ct_areas.proofs.Places.{area_inside}
 use Rattle.ct_engine.specs.declared.rows.Region.{Region}
 use Rattle.ct_engine.specs.declared.starting.Fresh.{Fresh}
 use Rattle.ct_engine.specs.Seen.{hides, threads_of, seen_by}
-use Rattle.ct_engine.specs.Kept.{IsPlain, IsKept, AreasFrom, StackLies}
+use Rattle.ct_engine.specs.Kept.{IsPlain, IsKept, ArePlain, AreasFrom, StackLies}
 use Rattle.ct_engine.specs.Starts.{IsFresh, AreFresh, first_of, started}
 use Rattle.ct_engine.proofs.Lists.{Same, ends, within, outside, areas_same, threads_same}
 use Rattle.ct_engine.proofs.Whole.{hidden_is}
@@ -55,17 +55,29 @@ threads_last : (gs : List Granule) (n : ℕ) (ts : List row.Thread) (t : row.Thr
 threads_last gs n [] t = refl
 threads_last gs n (u ∷ us) t = ap (λ xs. thread_of gs false u ∷ xs) (threads_last gs (n + 1) us t)
 
-areas_last : (ram : ℕ) (gs : List Granule) (n from to : ℕ) (ts : List row.Thread) (t : row.Thread) → AreasFrom ram gs None n from to ts
-    → to ≤ t.area.trusted → t.area.ram ≡ ram → IsKept gs false t → AreasFrom ram gs None n from (t.area.trusted + t.area.trusted_length) (ts ++ t ∷ [])
-areas_last ram gs n from to [] t h above base kept = (omega (arith, h, above), base, kept, omega arith)
-areas_last ram gs n from to (u ∷ us) t h above base kept =
-    (h.0, h.1, h.2, areas_last ram gs (n + 1) (u.area.trusted + u.area.trusted_length) to us t h.3 above base kept)
+plain_zero : (c : Cap) → c ≡ plain 0 → IsPlain c
+plain_zero c e = rw e refl
 
-areas_more : (ram : ℕ) (gs : List Granule) (run : Option ℕ) (n from to more : ℕ) (ts : List row.Thread) → to ≤ more
+no_plain : (ram : ℕ) (gs : List Granule) (from : ℕ) → ArePlain ram gs from from
+no_plain ram gs from = λ k lo hi. absurd (omega (arith, lo, hi))
+
+plain_both : (ram : ℕ) (gs : List Granule) (from mid to : ℕ) → ArePlain ram gs from mid → ArePlain ram gs mid to → ArePlain ram gs from to
+plain_both ram gs from mid to first second = λ k lo hi. elim (lt_tells (ram + 8 * k) mid) [ inl a ↦ first k lo a.1 | inr a ↦ second k a.1 hi ]
+
+areas_last : (ram : ℕ) (gs : List Granule) (n from to : ℕ) (ts : List row.Thread) (t : row.Thread) → AreasFrom ram gs None n from to ts
+    → to ≤ t.area.trusted → t.area.ram ≡ ram → IsKept gs false t → ArePlain ram gs to t.area.trusted
+    → AreasFrom ram gs None n from (t.area.trusted + t.area.trusted_length) (ts ++ t ∷ [])
+areas_last ram gs n from to [] t h above base kept between =
+    let low = h.0 in
+    (omega (arith, low, above), base, kept, (omega arith, no_plain ram gs (t.area.trusted + t.area.trusted_length)), plain_both ram gs from to t.area.trusted h.1 between)
+areas_last ram gs n from to (u ∷ us) t h above base kept between =
+    (h.0, h.1, h.2, areas_last ram gs (n + 1) (u.area.trusted + u.area.trusted_length) to us t h.3 above base kept between, h.4)
+
+areas_more : (ram : ℕ) (gs : List Granule) (run : Option ℕ) (n from to more : ℕ) (ts : List row.Thread) → to ≤ more → ArePlain ram gs to more
     → AreasFrom ram gs run n from to ts → AreasFrom ram gs run n from more ts
-areas_more ram gs run n from to more [] le h = omega (arith, h, le)
-areas_more ram gs run n from to more (t ∷ ts) le h =
-    (h.0, h.1, h.2, areas_more ram gs run (n + 1) (t.area.trusted + t.area.trusted_length) to more ts le h.3)
+areas_more ram gs run n from to more [] le past h = (let low = h.0 in omega (arith, low, le), plain_both ram gs from to more h.1 past)
+areas_more ram gs run n from to more (t ∷ ts) le past h =
+    (h.0, h.1, h.2, areas_more ram gs run (n + 1) (t.area.trusted + t.area.trusted_length) to more ts le past h.3, h.4)
 
 fresh_ends : (ram size from to : ℕ) (fs : List Fresh) → AreFresh ram size from to fs → from ≤ to
 fresh_ends ram size from to [] h = h
@@ -104,7 +116,7 @@ begun_first g gs fs fresh clear = record {
   veil = refl;
   threads = refl;
   places = refl;
-  areas = omega arith;
+  areas = (omega arith, no_plain g.ram gs g.trusted);
   clear = λ k lo hi. clear k (hidden_is g k lo hi);
   rest = fresh;
 }
@@ -141,8 +153,11 @@ begun_next g was gs hs ts t done todo f b touches kept place same =
     threads_same g.ram gs hs None None 0 g.trusted (end_of g.trusted done) ts b.areas before (λ u lo. refl) in
     let areas : AreasFrom g.ram hs None 0 g.trusted (end_of g.trusted done) ts =
     areas_same g.ram gs hs None None 0 g.trusted (end_of g.trusted done) ts b.areas touches.size before (λ u lo. refl) in
+    let between : ArePlain g.ram hs (end_of g.trusted done) f.area.trusted =
+    λ m lo hi. plain_zero (held hs m) (outside (8 * length was) f.area gs hs m has touches (inl (omega (arith, hi, base))) ∙ b.clear m lo (omega (arith, hi, high))) in
     let last : AreasFrom g.ram hs None 0 g.trusted (t.area.trusted + t.area.trusted_length) (ts ++ t ∷ []) =
-    areas_last g.ram hs 0 g.trusted (end_of g.trusted done) ts t areas (rw place low) (rw place base) kept in
+    areas_last g.ram hs 0 g.trusted (end_of g.trusted done) ts t areas (rw place low) (rw place base) kept
+    (subst (λ (a : Area). ArePlain g.ram hs (end_of g.trusted done) a.trusted) (sym place) between) in
     let to : t.area.trusted + t.area.trusted_length ≡ end_of g.trusted (done ++ f ∷ []) = ap (λ (a : Area). a.trusted + a.trusted_length) place ∙ sym end in
     record {
       size = touches.size ∙ b.size;
@@ -215,7 +230,7 @@ pub begun_areas : (g : Region) (was gs : List Granule) (ts : List row.Thread) (f
     → AreasFrom g.ram gs None 0 g.trusted g.end ts
 begun_areas g was gs ts fs i b le =
     let all = begun_all g was gs ts fs i b le in
-    areas_more g.ram gs None 0 g.trusted (end_of g.trusted fs) g.end ts all.rest all.areas
+    areas_more g.ram gs None 0 g.trusted (end_of g.trusted fs) g.end ts all.rest (λ k lo hi. plain_zero (held gs k) (all.clear k lo hi)) all.areas
 
 clear_veil : (g : Region) (gs : List Granule) → ((k : ℕ) → hides g k ≡ true → held gs k ≡ plain 0) → veiled (hides g) gs ≡ gs
 clear_veil g gs clear =

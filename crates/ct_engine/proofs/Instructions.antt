@@ -69,12 +69,12 @@ result_stays h i x y p m k open_ is hidden = by_checks (first_failed (access_che
 
 -- ---- a load or a store, whole
 
-moved_stays : (h : ℕ → Bool) (i : Instr) (x y : Cap) (p : Space) (hs : List Granule) (k : Bank) (r : Result MovedRow Trap) → SeesAccess h p.ram i x y → IsMoved i x y p hs k r
+pub moved_stays : (h : ℕ → Bool) (i : Instr) (x y : Cap) (p : Space) (hs : List Granule) (k : Bank) (r : Result MovedRow Trap) → SeesAccess h p.ram i x y → IsMoved i x y p hs k r
     → (n : ℕ) → h n ≡ true → held hs n ≡ held p.granules n
 moved_stays h i x y p hs k (Ok m) open_ c n hidden = result_stays h i x y p (record { value = m.value; act = m.device; granules = hs; bank = k }) n open_ c hidden
 moved_stays h i x y p hs k (Err w) open_ c n hidden = ap (λ (gs : List Granule). held gs n) c.1
 
-moved_seen : (h : ℕ → Bool) (i : Instr) (x y : Cap) (p : Space) (hs : List Granule) (k : Bank) (r : Result MovedRow Trap) → SeesAccess h p.ram i x y → IsMoved i x y p hs k r
+pub moved_seen : (h : ℕ → Bool) (i : Instr) (x y : Cap) (p : Space) (hs : List Granule) (k : Bank) (r : Result MovedRow Trap) → SeesAccess h p.ram i x y → IsMoved i x y p hs k r
     → IsMoved i x y (veil_space h p) (veiled h hs) k r
 moved_seen h i x y p hs k (Ok m) open_ c = access_same h i x y p open_ ∙ ap (λ r. veil_result h r) c
 moved_seen h i x y p hs k (Err w) open_ c = (access_same h i x y p open_ ∙ ap (λ r. veil_result h r) c.0, ap (λ gs. veiled h gs) c.1, c.2)

@@ -13,3 +13,8 @@ pub mod Turning
 pub mod Entering
 pub mod Leaving
 pub mod AsWritten
+pub mod Behind
+pub mod Sweeps
+pub mod Sliced
+pub mod Sifting
+pub mod Flushing

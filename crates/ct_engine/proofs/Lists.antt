@@ -11,7 +11,7 @@ use Rattle.ct_areas.specs.declared.thread.Thread as row
 use Rattle.ct_areas.specs.Threads.{HasArea, area_begin, area_end, frames_most, thread_of}
 use Rattle.ct_areas.proofs.Same.{thread_same}
 use Rattle.ct_engine.specs.Seen.{threads_of}
-use Rattle.ct_engine.specs.Kept.{IsKept, AreasFrom}
+use Rattle.ct_engine.specs.Kept.{IsKept, ArePlain, AreasFrom}
 
 -- ---- granules as addresses
 
@@ -50,7 +50,7 @@ abbrev pub SameRuns : Option ℕ → Option ℕ → ℕ → Type 0
 SameRuns run now n = (u : ℕ) → n ≤ u → is_number now u ≡ is_number run u
 
 pub ends : (ram : ℕ) (gs : List Granule) (run : Option ℕ) (n from to : ℕ) (ts : List row.Thread) → AreasFrom ram gs run n from to ts → from ≤ to
-ends ram gs run n from to [] h = h
+ends ram gs run n from to [] h = h.0
 ends ram gs run n from to (t ∷ ts) h =
     let low = h.0 in
     let rest = ends ram gs run (n + 1) (t.area.trusted + t.area.trusted_length) to ts h.3 in
@@ -75,9 +75,14 @@ kept_same gs hs runs t size same k = record {
   clean = λ m lo hi. elim (k.clean m lo hi) [ inl s ↦ inl s | inr p ↦ inr (rw (same m lo hi) p) ];
 }
 
+-- plain words stay
+pub plain_same : (ram : ℕ) (gs hs : List Granule) (from to low high : ℕ) → Same ram gs hs low high → low ≤ from → to ≤ high → ArePlain ram gs from to → ArePlain ram hs from to
+plain_same ram gs hs from to low high same above below plain = λ m lo hi. rw (same m (omega (arith, lo, above)) (omega (arith, hi, below))) (plain m lo hi)
+
 pub areas_same : (ram : ℕ) (gs hs : List Granule) (run now : Option ℕ) (n from to : ℕ) (ts : List row.Thread) → AreasFrom ram gs run n from to ts
     → length hs ≡ length gs → Same ram gs hs from to → SameRuns run now n → AreasFrom ram hs now n from to ts
-areas_same ram gs hs run now n from to [] h size same runs = h
+areas_same ram gs hs run now n from to [] h size same runs =
+    (h.0, plain_same ram gs hs from to from to same (omega arith) (omega arith) h.1)
 areas_same ram gs hs run now n from to (t ∷ ts) h size same runs =
     let low = h.0 in
     let high = ends ram gs run (n + 1) (t.area.trusted + t.area.trusted_length) to ts h.3 in
@@ -85,7 +90,7 @@ areas_same ram gs hs run now n from to (t ∷ ts) h size same runs =
     let mine : IsKept hs (is_number now n) t = rw (runs n (omega arith)) kept in
     let rest = areas_same ram gs hs run now (n + 1) (t.area.trusted + t.area.trusted_length) to ts h.3 size
     (λ m lo hi. same m (omega (arith, lo, low)) hi) (λ u lo. runs u (omega (arith, lo))) in
-    (low, h.1, mine, rest)
+    (low, h.1, mine, rest, plain_same ram gs hs from t.area.trusted from to same (omega arith) (omega (arith, high)) h.4)
 
 pub threads_same : (ram : ℕ) (gs hs : List Granule) (run now : Option ℕ) (n from to : ℕ) (ts : List row.Thread) → AreasFrom ram gs run n from to ts
     → Same ram gs hs from to → SameRuns run now n → threads_of hs now n ts ≡ threads_of gs run n ts
@@ -148,8 +153,10 @@ areas_put ram gs hs run now n zero from to (r ∷ rs) d q h lt touches runs is k
     let mine : IsKept hs (is_number now n) q = rw here at kept in
     let rest = areas_same ram gs hs run now (n + 1) (r.area.trusted + r.area.trusted_length) to rs h.3 touches.size
     (after_same ram gs hs (is_number run n) to r h.1 h.2 touches) (λ u lo. runs u (λ e. omega (arith, lo, e))) in
-    subst (λ (a : Area). (from ≤ a.trusted) × (a.ram ≡ ram) × IsKept hs (is_number now n) q × AreasFrom ram hs now (n + 1) (a.trusted + a.trusted_length) to rs)
-    (sym is) (h.0, h.1, mine, rest)
+    let base = h.1 in
+    let before : ArePlain ram hs from r.area.trusted = λ m lo hi. rw (outside (8 * length gs) r.area gs hs m h.2.area touches (inl (omega (arith, hi, base)))) (h.4 m lo hi) in
+    subst (λ (a : Area). (from ≤ a.trusted) × (a.ram ≡ ram) × IsKept hs (is_number now n) q × AreasFrom ram hs now (n + 1) (a.trusted + a.trusted_length) to rs × ArePlain ram hs from a.trusted)
+    (sym is) (h.0, h.1, mine, rest, before)
 areas_put ram gs hs run now n (suc t) from to (r ∷ rs) d q h lt touches runs is kept =
     let next : n + suc t ≡ n + 1 + t = omega arith in
     let few : t < length rs = omega (arith, lt) in
@@ -159,7 +166,9 @@ areas_put ram gs hs run now n (suc t) from to (r ∷ rs) d q h lt touches runs i
     let was : IsKept hs (is_number run n) r = kept_same gs hs (is_number run n) r touches.size
     (own_same ram gs hs (is_number run n) from (r.area.trusted + r.area.trusted_length) r h.0 h.1 h.2 (omega arith) same) h.2 in
     let first : IsKept hs (is_number now n) r = rw (runs n (λ e. omega (arith, e))) was in
-    (h.0, h.1, first, areas_put ram gs hs run now (n + 1) t (r.area.trusted + r.area.trusted_length) to rs d q h.3 few touches (rw next at runs) is (rw next at kept))
+    let before : ArePlain ram hs from r.area.trusted =
+    plain_same ram gs hs from r.area.trusted from (r.area.trusted + r.area.trusted_length) same (omega arith) (omega arith) h.4 in
+    (h.0, h.1, first, areas_put ram gs hs run now (n + 1) t (r.area.trusted + r.area.trusted_length) to rs d q h.3 few touches (rw next at runs) is (rw next at kept), before)
 
 pub threads_put : (ram : ℕ) (gs hs : List Granule) (run now : Option ℕ) (n t from to : ℕ) (ts : List row.Thread) (d q : row.Thread) (x : Thread)
     → AreasFrom ram gs run n from to ts → t < length ts → Touches (area_begin (get_or ts t d).area) (area_end (get_or ts t d).area) gs hs

@@ -107,7 +107,7 @@ ready_is gs rows t r holds runs is top =
 
 -- ---- one is zeroed
 
-hidden_place : (g : Region) (k : ℕ) → hides g k ≡ true → (g.trusted ≤ g.ram + 8 * k) × (g.ram + 8 * k < g.end)
+pub hidden_place : (g : Region) (k : ℕ) → hides g k ≡ true → (g.trusted ≤ g.ram + 8 * k) × (g.ram + 8 * k < g.end)
 hidden_place g k hidden = (
   leb-true g.trusted (g.ram + 8 * k) (both_left (nat_le g.trusted (g.ram + 8 * k)) (nat_lt (g.ram + 8 * k) g.end) hidden),
   below (g.ram + 8 * k) g.end (both_right (nat_le g.trusted (g.ram + 8 * k)) (nat_lt (g.ram + 8 * k) g.end) hidden),

@@ -36,12 +36,19 @@ pub record IsKept (gs : List Granule) (runs : Bool) (t : row.Thread) : Type 0 wh
   pub clean : (k : ℕ) → area_begin t.area ≤ k → k < area_end t.area
       → IsSaved runs t k ⊎ IsPlain (held gs k)
 
--- Areas stand one after another from one address up to another, of RAM from `ram` on; the first thread has number n.
+-- from one address up to another, of RAM from `ram` on, a plain word stands in each granule
+abbrev pub ArePlain : ℕ → List Granule → ℕ → ℕ → Type 0
+ArePlain ram gs from to =
+    (k : ℕ) → from ≤ ram + 8 * k → ram + 8 * k < to → IsPlain (held gs k)
+
+-- Areas stand one after another from one address up to another, of RAM from `ram` on, and plain words between them; the
+-- first thread has number n.
 abbrev pub AreasFrom : ℕ → List Granule → Option ℕ → ℕ → ℕ → ℕ → List row.Thread → Type 0
-AreasFrom ram gs running n from to [] = from ≤ to
+AreasFrom ram gs running n from to [] = (from ≤ to) × ArePlain ram gs from to
 AreasFrom ram gs running n from to (t ∷ ts) =
     (from ≤ t.area.trusted) × (t.area.ram ≡ ram) × IsKept gs (is_number running n) t
     × AreasFrom ram gs running (n + 1) (t.area.trusted + t.area.trusted_length) to ts
+    × ArePlain ram gs from t.area.trusted
 
 -- a stack lies in RAM of so many bytes, in multiples of 16, and doesn't meet the region
 pub record StackLies (g : Region) (size : ℕ) (a : Area) : Type 0 where

@@ -4,3 +4,5 @@ pub mod Starts
 pub mod Steps
 pub mod Calls
 pub mod Written
+pub mod Heaps
+pub mod Sweeps

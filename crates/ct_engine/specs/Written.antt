@@ -1,8 +1,9 @@
 -- A state of the machine, and what is seen of an engine that holds the same.
-use Rattle.std.specs.Prelude.{ℕ, ◌≡◌, Option, slice_set}
-use Rattle.def_machine.specs.Image.{Image, root, stack_base, frames_most}
-use Rattle.def_machine.specs.State.{State, Thread}
+use Rattle.std.specs.Prelude.{ℕ, ◌≡◌, ◌<◌, List, length, Option, Some, slice_set}
+use Rattle.def_machine.specs.Image.{Image, root, stack_base, frames_most, area_of}
+use Rattle.def_machine.specs.State.{State, Thread, Status}
 use Rattle.def_machine.specs.State as state
+use Rattle.def_machine.specs.Threads.{with_statuses}
 use Rattle.def_machine.specs.Frames as machine
 use Rattle.def_reach.specs.Roots.{compartment_of}
 use Rattle.ct_areas.specs.Threads as areas
@@ -30,3 +31,22 @@ abbrev pub callee_thread : Image → State → ℕ → ℕ → ℕ → Thread
 callee_thread i m t export high =
     machine.entered i (state.thread m t) (compartment_of (root i export).owner) export high
     (machine.given i (state.thread m t) t (compartment_of (root i export).owner) export high)
+
+-- ---- a slice of a sweep
+
+-- the state where this is seen of RAM and of threads, which have these statuses
+abbrev pub state_with : State → Seen → List Status → State
+state_with m s statuses = record m {
+  granules = s.granules;
+  threads = with_statuses s.threads statuses;
+  running = s.running;
+}
+
+abbrev pub with_front : State → ℕ → State
+with_front m front = record m { front = Some front }
+
+-- RAM begins where the image has it, and so do the threads' areas, one for each thread
+pub record HasAreas (i : Image) (s : Seen) : Type 0 where
+  pub ram : s.region.ram ≡ i.ram
+  pub count : length s.areas ≡ length s.threads
+  pub begins : (t : ℕ) → t < length s.areas → (area_at s t).trusted ≡ area_of i t

@@ -44,8 +44,8 @@ use std::marker::Model;
 /// it; one without frames has ended. Offsets count bytes from RAM's begin. No method takes memory.
 #[derive(Drop)]
 pub struct Engine<M: Memory + Drop> {
-    mem: M,
-    rows: Rows,
+    pub(crate) mem: M,
+    pub(crate) rows: Rows,
 }
 
 impl<M: Memory + Drop> Model for Engine<M> {
@@ -287,7 +287,8 @@ impl<M: Memory + Drop> Engine<M> {
         calls::end_with(&mut self.rows, &mut self.mem, t, e, 0xFFFF_FFFF)
     }
 
-    /// What stands at an address, where nothing is hidden: an instruction, the return, or nothing that is carried out.
+    /// What stands at an address, where nothing is hidden: an instruction, the return, another native routine by its
+    /// number, or nothing that is carried out.
     pub fn next(&self, at: u32) -> Next
         requires even { self.now.region.ram % 16 ≡ 0 }
         requires seen { IsSeen (hides self.now.region) self.now.region.ram at }

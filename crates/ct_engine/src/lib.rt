@@ -11,6 +11,7 @@ mod calls;
 mod engine;
 mod fetching;
 mod frames;
+mod heaps;
 mod rows;
 mod starting;
 mod steps;
@@ -23,7 +24,7 @@ pub use def_refusals::NoMemory;
 pub use engine::Engine;
 pub use rows::{Region, region_hidden};
 pub use starting::Fresh;
-pub use written::{calls_written, ends_written};
+pub use written::{calls_written, ends_written, sweeps_written};
 
 #[cfg(test)]
 mod tests;

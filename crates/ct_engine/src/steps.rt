@@ -1,17 +1,21 @@
 //! What the running thread holds, and how it goes on.
 
-ghost use Rattle.std.specs.Prelude.{◌≡◌, ◌<◌, Some, List, length, slice_index_or};
+ghost use Rattle.std.specs.Prelude.{◌≡◌, ◌<◌, Some, List, length, map, slice_index_or};
 ghost use Rattle.def_memory.specs.declared.Granule.{Granule};
 ghost use Rattle.def_memory.specs.Granules.{plain};
+ghost use Rattle.def_machine.specs.Memory.{filtered_in};
 ghost use Rattle.def_machine.specs.Registers.{written};
 ghost use Rattle.def_machine.specs.State.{register};
 ghost use Rattle.def_step.specs.Instructions.{actor_of};
+ghost use Rattle.ct_engine.specs.Heaps.{sifted};
 ghost use Rattle.ct_engine.specs.Kept.{Holds};
 ghost use Rattle.ct_engine.specs.Seen.{seen, thread, went, row_gone};
 
 use crate::rows::Rows;
 use ct_areas::Thread;
 use ct_cap::{Live, Posture};
+use ct_loadstore::filter;
+use ct_mem::Memory;
 
 /// A register gets a value, which register 0 drops.
 fn write(registers: &mut [Live; 16], number: u32, value: Live)
@@ -94,4 +98,33 @@ pub(crate) fn actor(rows: &Rows, t: u32) -> u32
         → 0 < length (thread (seen gs rows.now) t).frames }
 {
     rows.list[t as usize].actor
+}
+
+/// Each register passes the load filter.
+fn sift_registers<M: Memory>(registers: &mut [Live; 16], mem: &M, ram: u32)
+    ensures { registers.new ≡ map (filtered_in ram (M.granules mem.now)) registers.old }
+{
+    for number in 0..16usize {
+        registers[number] = filter(mem, ram, registers[number]);
+    }
+}
+
+/// A row whose registers have passed the load filter.
+fn sift_row<M: Memory>(t: &mut Thread, mem: &M)
+    ensures { t.new ≡ record t.old {
+      regs = map (filtered_in t.old.area.ram (M.granules mem.now)) t.old.regs;
+    } }
+{
+    sift_registers(&mut t.regs, mem, t.area.ram);
+}
+
+/// The registers of the running thread pass the load filter.
+pub(crate) fn sift<M: Memory>(rows: &mut Rows, mem: &M, t: u32)
+    requires holds { Holds (M.granules mem.now) rows.old }
+    requires runs { rows.old.running ≡ Some t }
+    ensures holds { Holds (M.granules mem.now) rows.new }
+    ensures seen { seen (M.granules mem.now) rows.new
+        ≡ sifted (seen (M.granules mem.now) rows.old) t }
+{
+    sift_row(&mut rows.list[t as usize], mem);
 }

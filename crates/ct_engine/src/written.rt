@@ -1,14 +1,16 @@
-//! That calls and frames' ends over what is seen are the machine's written ones.
+//! That calls, frames' ends and slices of a sweep over what is seen are the machine's written ones.
 
 ghost use Rattle.std.specs.Prelude.{ℕ, ◌≡◌, List, [], ◌∷◌, None};
 ghost use Rattle.def_memory.specs.Granules.{plain};
 ghost use Rattle.def_machine.specs.Image.{Image, stack_base, frames_most};
-ghost use Rattle.def_machine.specs.State.{State, Frame, nobody, thread};
+ghost use Rattle.def_machine.specs.State.{State, Frame, Status, nobody, thread};
+ghost use Rattle.def_machine.specs.Heap.{with_slice};
 ghost use Rattle.def_machine.specs.Frames.{answer, left_by};
 ghost use Rattle.def_step.specs.Switch.{Enters, switch_of, frame_top};
 ghost use Rattle.ct_engine.specs.Seen.{Seen};
 ghost use Rattle.ct_engine.specs.Calls.{HeadStands, switch_at, after_call, returned, ended_with};
-ghost use Rattle.ct_engine.specs.Written.{Shows, written, callee_thread};
+ghost use Rattle.ct_engine.specs.Sweeps.{sliced};
+ghost use Rattle.ct_engine.specs.Written.{Shows, written, callee_thread, HasAreas, state_with, with_front};
 
 /// Where a state of the machine holds what is seen, a call comes to what the written switch comes to. Where it enters an
 /// export, the head of whose table is as boot made it, it leaves what the written one leaves.
@@ -40,4 +42,13 @@ pub fn ends_written()
         → Shows i m s t → (thread m t).frames ≡ f ∷ []
         → (returned s i.entries t ≡ written i m s t f.top nobody None)
         × (ended_with s t v ≡ written i m s t f.top nobody None) }
+{}
+
+/// A slice of a sweep leaves of a state that holds what is seen, whatever the statuses of its threads, what the slice over
+/// what is seen leaves of that.
+pub fn sweeps_written()
+    ensures { (i : Image) (m : State) (s : Seen) (statuses : List Status) (low high : ℕ)
+        → HasAreas i s
+        → with_slice i (state_with m s statuses) low high
+        ≡ with_front (state_with m (sliced s low high) statuses) high }
 {}

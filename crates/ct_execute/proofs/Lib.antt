@@ -1,3 +1,4 @@
 pub mod Ends
 pub mod Executed
 pub mod Opens
+pub mod Reaching

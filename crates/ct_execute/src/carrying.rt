@@ -8,6 +8,7 @@ ghost use Rattle.def_step.specs.declared.Class.TheVariants as kinds;
 ghost use Rattle.def_step.specs.Devices.{Bank};
 ghost use Rattle.def_step.specs.Operands.{class_of};
 ghost use Rattle.ct_engine.specs.Seen.{thread, went};
+ghost use Rattle.ct_heaped.specs.Seen.{with_threads};
 ghost use Rattle.ct_engine.specs.Steps.{space_in, IsHeapPlaced};
 ghost use Rattle.ct_execute.specs.Deciding.{decide_by, decide_instruction, Decided, Stays};
 ghost use Rattle.ct_execute.specs.Opening.{IsOpen};
@@ -18,10 +19,10 @@ use ct_alu::alu;
 use ct_bus::Bus;
 use ct_cap::{Live, Trap, add_address};
 use ct_capstep::capstep;
-use ct_engine::Engine;
 use ct_entry::Entries;
 use ct_exports::called;
 use ct_flow::flow;
+use ct_heaped::Engine;
 use ct_mem::Memory;
 use def_instr::Instr;
 use def_profile::traps::{BREAKPOINT, ENVIRONMENT_CALL, PCC_REGISTER, SYSTEM_REGISTER_CODE};
@@ -29,10 +30,12 @@ use def_step::Class;
 
 /// Execution goes on after the instruction, and a register gets a value.
 fn advance<M: Memory + Drop>(engine: &mut Engine<M>, t: u32, to: u32, value: Live)
-    requires runs { engine.old.running ≡ Some t }
+    requires runs { engine.old.threads.running ≡ Some t }
     requires to { to < 16 }
-    ensures { engine.new ≡ went engine.old t (raised (thread engine.old t).pcc 4)
-        (thread engine.old t).posture to value }
+    ensures { engine.new
+        ≡ with_threads engine.old
+        (went engine.old.threads t (raised (thread engine.old.threads t).pcc 4)
+        (thread engine.old.threads t).posture to value) }
 {
     let pcc = add_address(engine.pcc(t), 4);
     let posture = engine.posture(t);
@@ -46,15 +49,16 @@ fn carry_jump<M: Memory + Drop>(
     engine: &mut Engine<M>,
     t: u32,
 ) -> Ran
-    requires runs { engine.old.running ≡ Some t }
+    requires runs { engine.old.threads.running ≡ Some t }
     requires ranged { InRange instruction }
     requires class { class_of instruction ≡ kinds.Jump }
     requires jump { is_jump instruction ≡ true }
     ensures is { (k : Bank) (time : ℕ) → Decided
-        (decide_instruction entries.now (thread engine.old t) (space_in engine.old k time)
-        instruction)
-        t engine.old k engine.new k result }
-    ensures stays { Stays engine.old engine.new }
+        (decide_instruction entries.now (thread engine.old.threads t)
+        (space_in engine.old.threads k time) instruction)
+        t engine.old.threads k engine.new.threads k result }
+    ensures kept { engine.new ≡ with_threads engine.old engine.new.threads }
+    ensures stays { Stays engine.old.threads engine.new.threads }
 {
     let operands = operands_of(instruction);
     let x = engine.register(t, operands.first);
@@ -85,16 +89,19 @@ fn carry_access<M: Memory + Drop>(
     heap: u32,
     time: u64,
 ) -> Ran
-    requires runs { engine.old.running ≡ Some t }
+    requires runs { engine.old.threads.running ≡ Some t }
     requires opened { IsOpen engine.old t }
-    requires heap { IsHeapPlaced engine.old.region.ram heap (length engine.old.granules) }
+    requires heap { IsHeapPlaced engine.old.threads.region.ram heap
+        (length engine.old.threads.granules) }
     requires ranged { InRange instruction }
     requires class { class_of instruction ≡ kinds.Access }
     requires access { is_access instruction ≡ true }
     ensures is { (named : ℕ) → Decided
-        (decide_by named (thread engine.old t) (space_in engine.old bus.old time) instruction)
-        t engine.old bus.old engine.new bus.new result }
-    ensures stays { Stays engine.old engine.new }
+        (decide_by named (thread engine.old.threads t)
+        (space_in engine.old.threads bus.old time) instruction)
+        t engine.old.threads bus.old engine.new.threads bus.new result }
+    ensures kept { engine.new ≡ with_threads engine.old engine.new.threads }
+    ensures stays { Stays engine.old.threads engine.new.threads }
     ensures bases { bus.new.bases ≡ bus.old.bases }
 {
     let operands = operands_of(instruction);
@@ -124,7 +131,7 @@ fn carry_value<M: Memory + Drop>(
     engine: &mut Engine<M>,
     t: u32,
 ) -> Ran
-    requires runs { engine.old.running ≡ Some t }
+    requires runs { engine.old.threads.running ≡ Some t }
     requires ranged { InRange instruction }
     requires is { class ≡ class_of instruction }
     requires jump { class ≡ kinds.Jump → ⊥ }
@@ -133,9 +140,11 @@ fn carry_value<M: Memory + Drop>(
     requires capability { class ≡ kinds.Capability
         → (is_capability instruction ≡ true) × (is_system instruction ≡ false) }
     ensures is { (named : ℕ) (k : Bank) (time : ℕ) → Decided
-        (decide_by named (thread engine.old t) (space_in engine.old k time) instruction)
-        t engine.old k engine.new k result }
-    ensures stays { Stays engine.old engine.new }
+        (decide_by named (thread engine.old.threads t)
+        (space_in engine.old.threads k time) instruction)
+        t engine.old.threads k engine.new.threads k result }
+    ensures kept { engine.new ≡ with_threads engine.old engine.new.threads }
+    ensures stays { Stays engine.old.threads engine.new.threads }
 {
     let operands = operands_of(instruction);
     let x = engine.register(t, operands.first);
@@ -188,15 +197,17 @@ pub(crate) fn carry_out<M: Memory + Drop>(
     heap: u32,
     time: u64,
 ) -> Ran
-    requires runs { engine.old.running ≡ Some t }
+    requires runs { engine.old.threads.running ≡ Some t }
     requires opened { IsOpen engine.old t }
-    requires heap { IsHeapPlaced engine.old.region.ram heap (length engine.old.granules) }
+    requires heap { IsHeapPlaced engine.old.threads.region.ram heap
+        (length engine.old.threads.granules) }
     requires ranged { InRange instruction }
     ensures is { Decided
-        (decide_instruction entries.now (thread engine.old t)
-        (space_in engine.old bus.old time) instruction)
-        t engine.old bus.old engine.new bus.new result }
-    ensures stays { Stays engine.old engine.new }
+        (decide_instruction entries.now (thread engine.old.threads t)
+        (space_in engine.old.threads bus.old time) instruction)
+        t engine.old.threads bus.old engine.new.threads bus.new result }
+    ensures kept { engine.new ≡ with_threads engine.old engine.new.threads }
+    ensures stays { Stays engine.old.threads engine.new.threads }
     ensures bases { bus.new.bases ≡ bus.old.bases }
 {
     let class = class_of(instruction);

@@ -4,19 +4,23 @@ ghost use Rattle.std.specs.Prelude.{◌≡◌, Some, length};
 ghost use Rattle.ct_engine.specs.Steps.{IsHeapPlaced};
 ghost use Rattle.ct_execute.specs.Deciding.{decision, Decided, IfUnfinished, RanInRange, Stays};
 ghost use Rattle.ct_execute.specs.Opening.{IsOpen};
+ghost use Rattle.ct_heaped.specs.Seen.{with_threads};
 
 use crate::carrying::carry_out;
 use crate::fetching::fetch_trap;
 use crate::ran::Ran;
 use ct_bus::Bus;
 use ct_cap::Trap;
-use ct_engine::Engine;
 use ct_entry::Entries;
+use ct_heaped::Engine;
 use ct_mem::Memory;
 use def_profile::traps::ILLEGAL_INSTRUCTION;
 use def_step::Next;
 
 /// What stands at the running thread's program counter is fetched and carried out, on the thread, RAM and the devices.
+///
+/// Where that is a native routine, the return or another, or where a check fails, of which the first is told, nothing
+/// changes.
 pub fn execute<M: Memory + Drop>(
     engine: &mut Engine<M>,
     t: u32,
@@ -25,14 +29,16 @@ pub fn execute<M: Memory + Drop>(
     heap: u32,
     time: u64,
 ) -> Ran
-    requires runs { engine.old.running ≡ Some t }
+    requires runs { engine.old.threads.running ≡ Some t }
     requires opened { IsOpen engine.old t }
-    requires heap { IsHeapPlaced engine.old.region.ram heap (length engine.old.granules) }
-    ensures is { Decided (decision entries.now engine.old t bus.old time) t engine.old bus.old
-        engine.new bus.new result }
+    requires heap { IsHeapPlaced engine.old.threads.region.ram heap
+        (length engine.old.threads.granules) }
+    ensures is { Decided (decision entries.now engine.old.threads t bus.old time) t
+        engine.old.threads bus.old engine.new.threads bus.new result }
+    ensures kept { engine.new ≡ with_threads engine.old engine.new.threads }
     ensures unfinished { IfUnfinished result ((engine.new ≡ engine.old) × (bus.new ≡ bus.old)) }
     ensures ranged { RanInRange result }
-    ensures stays { Stays engine.old engine.new }
+    ensures stays { Stays engine.old.threads engine.new.threads }
     ensures bases { bus.new.bases ≡ bus.old.bases }
 {
     let pcc = engine.pcc(t);

@@ -6,9 +6,9 @@ ghost use Rattle.def_hidden.specs.Hidden.{Shut};
 ghost use Rattle.def_machine.specs.Image.{Image};
 ghost use Rattle.def_machine.specs.State.{State, thread};
 ghost use Rattle.def_step.specs.Instructions.{Board, executed, space_of};
-ghost use Rattle.ct_engine.specs.Seen.{Seen};
 ghost use Rattle.ct_execute.specs.Deciding.{decide, settle};
 ghost use Rattle.ct_execute.specs.Opening.{IsOpen, Runs};
+ghost use Rattle.ct_heaped.specs.Seen.{Seen};
 
 /// The written step of a thread is the decision over the thread and what is around it, carried out.
 pub fn executed_decided()
@@ -16,7 +16,8 @@ pub fn executed_decided()
         ≡ settle b s t (decide b.image.entries (thread s t) (space_of b s)) }
 {}
 
-/// Where the state is confined and its image shut, the thread that runs is open to an engine whose region is the image's.
+/// Where the state is confined and its image shut, the thread that runs is open in an engine that shows it: whose
+/// region and heap are the image's, and whose objects are the state's.
 pub fn running_opened()
     ensures { (i : Image) (s : State) (v : Seen) (t : ℕ)
         → Shut i → Confined i s → Runs i s v t → IsOpen v t }

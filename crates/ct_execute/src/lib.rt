@@ -1,8 +1,9 @@
 //! One instruction of an engine's running thread: fetched, checked and carried out, on the thread, RAM and the devices.
 //!
-//! `execute` equals the written step's decision, by its three cases: the thread goes on, comes to the native return, or
-//! traps. The last two leave all as it is: what ends a frame is done by the caller. docs/use/machine.md tells the same
-//! in prose.
+//! `execute` equals the written step's decision, by its four cases: the thread goes on, comes to the native return or
+//! to another native routine, or traps. But where it goes on all is left as it is: what ends a frame, and the routine,
+//! is done by the caller. The heap's objects and its sweep stay as they are. docs/use/machine.md tells the same in
+//! prose.
 #![tactic(auto)]
 
 mod carrying;

@@ -119,6 +119,13 @@ impl Heap {
         account.limit.saturating_sub(account.charged)
     }
 
+    /// How many objects were allocated.
+    pub fn made(&self) -> u32
+        ensures { result ≡ self.now.next - 1 }
+    {
+        self.next.saturating_sub(1)
+    }
+
     /// Whether an object is quarantined, painted or not.
     pub fn quarantined(&self) -> bool
         ensures { (gs : List Granule) → Laid self.now gs

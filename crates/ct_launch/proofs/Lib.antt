@@ -1,3 +1,4 @@
 pub mod Standing
 pub mod Placing
 pub mod Starting
+pub mod Few

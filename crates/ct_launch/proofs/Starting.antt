@@ -1,20 +1,23 @@
--- The engine that starts over booted memory.
-use Rattle.std.proofs.Common.{ℕ, ◌≡◌, ◌+◌, ◌-◌, ◌*◌, ◌≤◌, ◌<◌, inl, inr, true, cond, nat_le, nat_lt, List, length, Some, slice_index_or, refl, sym, ap, ◌∙◌, subst, arith}
+-- The engine that starts over booted memory, with its heap.
+use Rattle.std.proofs.Common.{ℕ, suc, ◌≡◌, ◌+◌, ◌-◌, ◌*◌, ◌≤◌, ◌<◌, inl, inr, true, cond, nat_le, nat_lt, List, [], ◌∷◌, length, map, Some, slice_get, slice_index_or, refl, sym, ap, ◌∙◌, subst, arith}
 use Rattle.law_lists.proofs.Tests.{both_left, both_right, eq_tells}
 use Rattle.std.proofs.lemmas.Bool.{leb-true, ltb-true}
 use Rattle.def_memory.specs.declared.Granule.{Granule}
 use Rattle.def_memory.specs.Granules.{plain}
 use Rattle.def_areas.specs.Areas.{held}
 use Rattle.def_machine.specs.Image.{address_of, trusted_end}
+use Rattle.def_machine.specs.Objects.{Each}
 use Rattle.def_machine.specs.State.{Thread}
+use Rattle.def_chunks.specs.Heaps.{HeapRow}
 use Rattle.def_image.specs.Parts.{ThreadRow, PartsRow}
-use Rattle.def_image.specs.Regions.{trusted_region}
+use Rattle.def_image.specs.Regions.{trusted_region, area_size}
 use Rattle.def_image.specs.Sound.{Sound}
 use Rattle.def_boot.specs.Boot.{boot_state, first_thread, image_of}
 use Rattle.def_boot.specs.Contents.{boot_cap, content_at, granules_in, region_at}
 use Rattle.def_boot.specs.Made.{return_sentry}
 use Rattle.law_listed.proofs.Blocks.{present}
-use Rattle.law_laid.proofs.Found.{found}
+use Rattle.law_grants.proofs.Lying.{stack_there}
+use Rattle.law_laid.proofs.Found.{found, none_there}
 use Rattle.law_booted.proofs.Contents.{booted_in}
 use Rattle.law_started.proofs.Granules.{same_granule, granules_end}
 use Rattle.ct_start.proofs.Fits.{stack_end}
@@ -22,9 +25,14 @@ use Rattle.ct_areas.specs.declared.thread.Area.{Area}
 use Rattle.ct_areas.specs.Threads.{outermost}
 use Rattle.ct_engine.specs.declared.rows.Region.{Region}
 use Rattle.ct_engine.specs.declared.starting.Fresh.{Fresh}
-use Rattle.ct_engine.specs.Seen.{Seen, hides, thread, area_at}
-use Rattle.ct_engine.specs.Starts.{AreFresh, MayStart, started}
-use Rattle.ct_launch.specs.Launching.{region_of, areas_begin, areas_end, fresh_of, launched}
+use Rattle.ct_engine.specs.Seen.{hides, thread, area_at}
+use Rattle.ct_engine.specs.Starts.{AreFresh, MayStart}
+use Rattle.ct_engine.specs.Starts as engine
+use Rattle.ct_heap.specs.Effects.{Empty, accounts_for, empty}
+use Rattle.ct_heaped.specs.Kept.{EndsBefore}
+use Rattle.ct_heaped.specs.Seen.{Seen, limits_in}
+use Rattle.ct_heaped.specs.Starts.{MayHold, started}
+use Rattle.ct_launch.specs.Launching.{region_of, areas_begin, areas_end, fresh_from, fresh_of, heap_range, launched, launched_threads}
 use Rattle.ct_launch.specs.Placed.{ArePlaced, AreFirst}
 use Rattle.ct_launch.proofs.Standing.{stacks_lie, laid, threads_are, areas_are_of, areas_count, threads_count, area_is, thread_is}
 use Rattle.ct_launch.proofs.Placing.{stack_lies, ends_are, begins_are, ram_is, first_region, ends_in, ends_in_ram, begin_low, begin_even, are_placed}
@@ -79,19 +87,72 @@ module _ (p : PartsRow) (s : Sound p) where
     clear = clear;
   })
 
-pub started_is : (p : PartsRow) (gs : List Granule) (g : Region) (fs : List Fresh) → gs ≡ (boot_state p).granules → g ≡ region_of (image_of p) → fs ≡ fresh_of p
-    → started gs g fs ≡ launched p
-started_is p gs g fs granules region fresh =
+threads_started : (p : PartsRow) (gs : List Granule) (g : Region) (fs : List Fresh) → gs ≡ (boot_state p).granules → g ≡ region_of (image_of p) → fs ≡ fresh_of p
+    → engine.started gs g fs ≡ launched_threads p
+threads_started p gs g fs granules region fresh =
     rw (granules, region, fresh, threads_are p 0 (areas_begin p) p.threads, areas_are_of p 0 (areas_begin p) p.threads) refl
+
+-- ---- the heap
+
+pub heap_length : (p : PartsRow) → Sound p → p.heap + (p.ram + p.size - p.heap) ≡ p.ram + p.size
+heap_length p s = let inside = s.heap.inside in omega (arith, inside)
+
+limits_are : (limits : List ℕ) → limits_in (accounts_for limits) ≡ limits
+limits_are [] = refl
+limits_are (n ∷ ns) = ap (λ rest. n ∷ rest) (limits_are ns)
+
+-- a stack ends below an address, wherever its thread's area stands
+stacks_end : (p : PartsRow) (h : HeapRow) (n at : ℕ) (xs : List ThreadRow) → ((k : ℕ) (x : ThreadRow) → slice_get xs k ≡ Some x → x.stack + x.stack_length ≤ h.range.base)
+    → Each (EndsBefore h.range) (map (λ (f : Fresh). f.area) (fresh_from p n at xs))
+stacks_end p h n at [] each = tt
+stacks_end p h n at (x ∷ xs) each = (each 0 x refl, stacks_end p h (n + 1) (at + area_size x) xs (λ k y is. each (suc k) y is))
+
+module _ (p : PartsRow) (s : Sound p) where
+  -- no region reaches into the heap
+  heap_zero : (x : ℕ) → p.heap ≤ x → boot_cap p x ≡ plain 0
+  unfolding boot_cap
+  heap_zero x low = ap (λ o. content_at p o x) (none_there p x (λ i r is lies. let end = (s.laid.each i r is).high in let lt = lies.1 in omega (arith, end, lt, low)))
+
+  heap_clear : (k : ℕ) → p.heap ≤ p.ram + 8 * k → p.ram + 8 * k < p.ram + p.size → held (boot_state p).granules k ≡ plain 0
+  heap_clear k low high =
+      let size = s.ram.size in
+      let few : k < granules_in p = omega (arith, high, size) in
+      let here : address_of (image_of p) k ≡ p.ram + 8 * k = ap (λ n. n + 8 * k) (sym (ram_is p)) in
+      ap (λ (g : Granule). g.cap) (same_granule p s k) ∙ booted_in p k few ∙ ap (λ x. boot_cap p x) here ∙ heap_zero (p.ram + 8 * k) low
+
+  holds : (limits : List ℕ) → Empty (empty (heap_range p) limits) → MayHold (boot_state p).granules (region_of (image_of p)) (fresh_of p) (empty (heap_range p) limits)
+  holds limits none =
+      let whole = heap_length p s in
+      let ram = ram_is p in
+      let size = size_is p s in
+      record {
+        empty = none;
+        ram = ram;
+        past = (let last = ends_in p s in let after = s.heap.after in let end = ends_are p in omega (arith, last, after, end));
+        stacks = stacks_end p (empty (heap_range p) limits) 0 (areas_begin p) p.threads (λ k x is. (stack_there p s k x is).high);
+        inside = omega (arith, whole, ram, size);
+        clear = λ k low high. heap_clear k (omega (arith, low, ram)) (omega (arith, high, ram, whole));
+      }
+
+  pub may_hold : (gs : List Granule) (g : Region) (fs : List Fresh) (h : HeapRow) (limits : List ℕ) → gs ≡ (boot_state p).granules → g ≡ region_of (image_of p) → fs ≡ fresh_of p
+      → h ≡ empty (heap_range p) limits → Empty h → MayHold gs g fs h
+  may_hold gs g fs h limits granules region fresh is none =
+      rw (granules, region, fresh, is) (holds limits (subst Empty is none))
+
+  pub started_is : (gs : List Granule) (g : Region) (fs : List Fresh) (h : HeapRow) (limits : List ℕ) → gs ≡ (boot_state p).granules → g ≡ region_of (image_of p) → fs ≡ fresh_of p
+      → h ≡ empty (heap_range p) limits → started gs g fs h ≡ launched p limits
+  started_is gs g fs h limits granules region fresh is =
+      rw (is, threads_started p gs g fs granules region fresh, heap_length p s, limits_are limits) refl
 
 -- ---- what stands then
 
-pub launched_placed : (p : PartsRow) (e : Seen) → Sound p → e ≡ launched p → ArePlaced (image_of p) (8 * length e.granules) e.areas
-launched_placed p e s is = subst (λ (z : Seen). ArePlaced (image_of p) (8 * length z.granules) z.areas) (sym is) (are_placed p s (8 * length (boot_state p).granules) (size_is p s))
+pub launched_placed : (p : PartsRow) (limits : List ℕ) (e : Seen) → Sound p → e ≡ launched p limits → ArePlaced (image_of p) (8 * length e.threads.granules) e.threads.areas
+launched_placed p limits e s is =
+    subst (λ (z : Seen). ArePlaced (image_of p) (8 * length z.threads.granules) z.threads.areas) (sym is) (are_placed p s (8 * length (boot_state p).granules) (size_is p s))
 
 module _ (p : PartsRow) where
-  thread_there : (t : ℕ) → t < length p.threads → (x : ThreadRow) × (thread (launched p) t ≡ first_thread p (0 + t) x)
-      × ((area_at (launched p) t).stack + (area_at (launched p) t).stack_length ≡ x.stack + x.stack_length)
+  thread_there : (t : ℕ) → t < length p.threads → (x : ThreadRow) × (thread (launched_threads p) t ≡ first_thread p (0 + t) x)
+      × ((area_at (launched_threads p) t).stack + (area_at (launched_threads p) t).stack_length ≡ x.stack + x.stack_length)
   thread_there t lt =
       let found = present p.threads t lt in (
         found.0,
@@ -99,10 +160,10 @@ module _ (p : PartsRow) where
         ap (λ (a : Area). a.stack + a.stack_length) (area_is p (areas_begin p) p.threads t found.0 found.1),
       )
 
-  few : (t : ℕ) → t < length (launched p).threads → t < length p.threads
+  few : (t : ℕ) → t < length (launched_threads p).threads → t < length p.threads
   few t lt = subst (λ n. t < n) (threads_count p 0 p.threads) lt
 
-  all_first : AreFirst (launched p)
+  all_first : AreFirst (launched_threads p)
   all_first = record {
     count = threads_count p 0 p.threads ∙ sym (areas_count p (areas_begin p) p.threads);
     one = λ t lt. ap (λ (z : Thread). length z.frames) (thread_there t (few t lt)).1;
@@ -110,5 +171,5 @@ module _ (p : PartsRow) where
         ap (λ (z : Thread). (slice_index_or z.frames 0 (outermost 0 0 0)).top) here.1 ∙ sym here.2;
   }
 
-pub launched_first : (p : PartsRow) (e : Seen) → e ≡ launched p → AreFirst e
-launched_first p e is = subst AreFirst (sym is) (all_first p)
+pub launched_first : (p : PartsRow) (limits : List ℕ) (e : Seen) → e ≡ launched p limits → AreFirst e.threads
+launched_first p limits e is = subst (λ (z : Seen). AreFirst z.threads) (sym is) (all_first p)

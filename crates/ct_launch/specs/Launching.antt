@@ -1,6 +1,6 @@
--- The engine that an image boots: its memory, its threads before their first step, and their
--- areas.
-use Rattle.std.specs.Prelude.{ℕ, ◌+◌, List, [], ◌∷◌, None}
+-- The engine that an image boots: its memory, its threads before their first step with their
+-- areas, and its empty heap.
+use Rattle.std.specs.Prelude.{ℕ, ◌+◌, ◌-◌, List, [], ◌∷◌, None}
 use Rattle.def_profile.specs.declared.layout.TheConstants.{TRUSTED_HEAD}
 use Rattle.def_machine.specs.Image.{Image, trusted_end}
 use Rattle.def_image.specs.Parts.{ThreadRow, PartsRow}
@@ -12,7 +12,10 @@ use Rattle.ct_start.specs.Starts.{start_of}
 use Rattle.ct_areas.specs.declared.thread.Area.{Area}
 use Rattle.ct_engine.specs.declared.rows.Region.{Region}
 use Rattle.ct_engine.specs.declared.starting.Fresh.{Fresh}
-use Rattle.ct_engine.specs.Seen.{Seen}
+use Rattle.ct_engine.specs.Seen as engine
+use Rattle.def_chunks.specs.declared.rows.Range.{Range}
+use Rattle.ct_heap.specs.Effects.{range_of}
+use Rattle.ct_heaped.specs.Seen.{Seen}
 
 -- the trusted region past its first granules
 abbrev pub region_of : Image → Region
@@ -47,13 +50,29 @@ areas_of p = areas_from p (areas_begin p) p.threads
 
 -- ---- the engine
 
-abbrev pub launched : PartsRow → Seen
-launched p = record {
+abbrev pub launched_threads : PartsRow → engine.Seen
+launched_threads p = record {
   granules = (boot_state p).granules;
   threads = first_threads p 0 p.threads;
   running = None;
   region = region_of (image_of p);
   areas = areas_of p;
+}
+
+-- RAM from the heap's begin on
+abbrev pub heap_range : PartsRow → Range
+heap_range p = range_of p.ram p.heap (p.ram + p.size - p.heap)
+
+-- with an empty heap that has these limits
+abbrev pub launched : PartsRow → List ℕ → Seen
+launched p limits = record {
+  threads = launched_threads p;
+  objects = [];
+  next = 1;
+  front = None;
+  heap_base = p.heap;
+  heap_end = p.ram + p.size;
+  limits = limits;
 }
 
 -- ---- what it starts with

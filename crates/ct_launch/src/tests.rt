@@ -1,12 +1,12 @@
 //! An image of two threads, launched over plain memory. Expected values were worked out by hand from
 //! docs/use/image.md and docs/use/machine.md.
 
-ghost use Rattle.std.specs.Prelude.{◌≡◌, IfOk, None};
+ghost use Rattle.std.specs.Prelude.{◌≡◌, IfOk, None, length};
 ghost use Rattle.ct_launch.specs.Placed.{AreFirst};
 
 use crate::launch;
-use ct_engine::Engine;
 use ct_entry::Mode;
+use ct_heaped::{Engine, Object};
 use ct_image::{Image, ImageFault, accept};
 use ct_mem::Plain;
 use ct_parts::{Code, Compartment, Export, Parts, Slot, Thread, written};
@@ -104,17 +104,19 @@ fn accepted(rt: &impl Abort, alloc: Global, parts: &Parts) -> Result<Image, NoMe
     }
 }
 
-/// An image launched into memory of its size.
+/// An image launched into memory of its size, where quota 1 alone may take something: 24 bytes.
 fn launched(alloc: Global, image: &Image) -> Result<Engine<Plain>, NoMemory>
-    ensures none { IfOk result (λ e. e.running ≡ None) }
-    ensures first { IfOk result (λ e. AreFirst e) }
+    ensures none { IfOk result (λ e. e.threads.running ≡ None) }
+    ensures first { IfOk result (λ e. AreFirst e.threads) }
+    ensures quotas { IfOk result (λ e. length e.limits ≡ 7) }
+    ensures next { IfOk result (λ e. e.next ≡ 1) }
 {
     let parts = image.parts();
     let mem = Plain::new(alloc, parts.size)?;
-    launch(alloc, image, mem)
+    launch(alloc, image, mem, &[0, 24, 0, 0, 0, 0, 0])
 }
 
-/// The second thread runs with its own stack, and calls once and no more.
+/// The second thread runs with its own stack.
 #[test]
 fn two_threads_start(rt: HostRuntime) -> Result<(), Fail> {
     let image = accepted(&rt, rt.alloc(), &pair(rt.alloc())?)?;
@@ -122,7 +124,24 @@ fn two_threads_start(rt: HostRuntime) -> Result<(), Fail> {
     assert_eq!(rt; engine.count(), 2);
     engine.pick(1);
     assert_eq!(rt; engine.register(1, 2).address(), 0x8000_0240);
-    assert_eq!(rt; engine.push(1, 0, 4, 0x8000_0200), true);
-    assert_eq!(rt; engine.push(1, 0, 4, 0x8000_01c0), false);
+    Ok(())
+}
+
+/// The heap begins where the image has it: of 24 bytes an object of 16 bytes takes all, past the eight of its head.
+#[test]
+fn one_object_fits(rt: HostRuntime) -> Result<(), Fail> {
+    let image = accepted(&rt, rt.alloc(), &pair(rt.alloc())?)?;
+    let mut engine = launched(rt.alloc(), &image)?;
+    assert_eq!(rt; engine.remaining(1), 24);
+    assert_eq!(rt; engine.remaining(2), 0);
+    assert_eq!(rt;
+        engine.allocate(1, 16),
+        Ok(Object {
+            number: 1,
+            base: 0x8000_0458,
+            length: 16,
+            live: 24,
+        })
+    );
     Ok(())
 }

@@ -3,6 +3,7 @@ use Rattle.std.proofs.Common.{◌≡◌, subst, sym}
 use Rattle.ct_entry.specs.declared.acts.Happened.{Happened}
 use Rattle.def_board.specs.Guarded.{Guarded}
 use Rattle.def_confined.specs.Telling.{IsLicensedEvent}
+use Rattle.def_hidden.specs.Hidden.{Blank}
 use Rattle.def_machine.specs.State.{State}
 use Rattle.def_step.specs.declared.Event.{Event}
 use Rattle.def_step.specs.Instructions.{Board}
@@ -16,7 +17,9 @@ use Rattle.law_booted.proofs.Whole.{partitioned}
 use Rattle.law_started.proofs.Shutting.{shut}
 use Rattle.law_started.proofs.Whole.{keeps}
 use Rattle.law_started.proofs.Settling.{boot_settles}
+use Rattle.law_started.proofs.Blanking.{blank}
 use Rattle.law_settled.proofs.Events.{event_settles}
+use Rattle.law_blank.proofs.Events.{event_blank}
 use Rattle.law_events.proofs.Events.{event_keeps, deed_licensed, span_licensed}
 
 pub at_boot : (p : PartsRow) → Sound p → Guarded (booted_machine p)
@@ -58,3 +61,17 @@ told_by m n e h g same told =
 
 pub booted_by : (p : PartsRow) (m : MachineRow) → Sound p → m ≡ booted_machine p → Guarded m
 booted_by p m s is = subst Guarded (sym is) (at_boot p s)
+
+-- ---- what is hidden is zero
+
+abbrev pub IsBlank : MachineRow → Type 0
+IsBlank m = Blank m.board.image m.state
+
+pub blank_by : (m n : MachineRow) (e : Event) → Guarded m → IsBlank m → n.state ≡ (happens m.board m.state e).0 → n.board ≡ m.board → IsBlank n
+blank_by m n e g hidden state board = whole n.board n.state board state
+  where
+    whole : (b : Board) (s : State) → b ≡ m.board → s ≡ (happens m.board m.state e).0 → Blank b.image s
+    whole b s is_board is_state = rw (is_board, is_state) (event_blank m.board m.state e g.partitioned g.wired g.shut g.keeps hidden)
+
+pub blank_booted : (p : PartsRow) (m : MachineRow) → Sound p → m ≡ booted_machine p → IsBlank m
+blank_booted p m s is = subst IsBlank (sym is) (blank p s)

@@ -1,5 +1,6 @@
 pub mod Calling
 pub mod Carried
+pub mod Granting
 pub mod Guards
 pub mod Keeping
 pub mod Opened
@@ -9,4 +10,5 @@ pub mod Sizes
 pub mod Starts
 pub mod Statuses
 pub mod Stepping
+pub mod Sweeping
 pub mod Taking

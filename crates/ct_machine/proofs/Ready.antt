@@ -20,4 +20,4 @@ pub may_go_on : (m n : MachineRow) → Guarded m → n.board ≡ m.board → n.s
 may_go_on m n g board state = whole n.board n.state board state
   where
     whole : (b : Board) (s : State) → b ≡ m.board → s ≡ scheduled m.board (preempted (one_more_step m.state)) → MayGoOn (record { board = b; state = s })
-    whole b s is_board is_state = rw (is_board, is_state) (record { shut = g.shut; keeps = ready_keeps m.board m.state g.partitioned g.keeps })
+    whole b s is_board is_state = rw (is_board, is_state) (record { shut = g.shut; facts = g.facts; keeps = ready_keeps m.board m.state g.partitioned g.keeps })

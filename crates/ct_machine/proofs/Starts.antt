@@ -1,8 +1,11 @@
 -- A machine put together from booted parts: what contracts see of it, and that it is kept so.
-use Rattle.std.proofs.Common.{ℕ, zero, suc, ◌+◌, ◌*◌, ◌≡◌, ◌∙◌, false, List, [], ◌∷◌, length, replicate, refl, ap, sym, subst, arith}
+use Rattle.std.proofs.Common.{ℕ, zero, suc, ◌+◌, ◌*◌, ◌≡◌, ◌≤◌, ◌<◌, ◌∙◌, true, false, List, [], ◌∷◌, length, map, replicate, slice_get, slice_index_or, refl, ap, sym, subst, arith}
 use Rattle.std.proofs.lemmas.List.{length-map, length-replicate}
 use Rattle.def_profile.specs.declared.layout.TheConstants.{GRANULE}
 use Rattle.ct_entry.specs.Listed.{Listed}
+use Rattle.ct_entry.specs.declared.rows.Entry.{Entry}
+use Rattle.ct_entry.specs.declared.rows.Gate.{Gate}
+use Rattle.def_reach.specs.Roots.{listed_root, root_of, gate_for, is_quota}
 use Rattle.def_machine.specs.Image.{Image}
 use Rattle.def_machine.specs.State.{Thread}
 use Rattle.def_machine.specs.Threads.{with_statuses}
@@ -12,15 +15,18 @@ use Rattle.def_step.specs.Events.{MachineRow}
 use Rattle.def_image.specs.Parts.{ThreadRow, PartsRow}
 use Rattle.def_image.specs.Sound.{Sound}
 use Rattle.def_boot.specs.Gates.{entries_of}
+use Rattle.def_boot.specs.Entries as listed
+use Rattle.ct_launch.proofs.Few.{few_entries}
 use Rattle.def_boot.specs.Boot.{boot_state, booted_machine, first_thread, first_threads, image_of, no_counts}
 use Rattle.def_boot.specs.Contents.{boot_granules, granules_from, granules_in}
-use Rattle.ct_engine.specs.Seen.{Seen}
+use Rattle.ct_heaped.specs.Seen.{Seen}
+use Rattle.ct_heaped.specs.Shared.{HasHeap}
 use Rattle.ct_engine.specs.Steps.{IsHeapPlaced}
 use Rattle.ct_sched.specs.Sched.{SchedRow}
 use Rattle.ct_launch.specs.Launching.{launched}
 use Rattle.ct_launch.specs.Placed.{ArePlaced}
-use Rattle.ct_machine.specs.Parts.{state_by, IsKept, IsCounted}
-use Rattle.ct_machine.specs.Starting.{IsPlan, bank_of, rows_of}
+use Rattle.ct_machine.specs.Parts.{state_by, HasQuotas, IsKept, IsCounted}
+use Rattle.ct_machine.specs.Starting.{IsPlan, bank_of, limits_of, rows_of}
 
 -- ---- what contracts see
 
@@ -34,12 +40,12 @@ row_of i e r k = record {
   state = state_by e r false k.states 0 no_counts;
 }
 
-booted_is : (p : PartsRow) → row_of (image_of p) (launched p) (rows_of p) (bank_of p) ≡ booted_machine p
+booted_is : (p : PartsRow) (limits : List ℕ) → row_of (image_of p) (launched p limits) (rows_of p) (bank_of p) ≡ booted_machine p
 unfolding boot_state
-booted_is p = rw (ready_with p 0 p.threads) refl
+booted_is p limits = rw (ready_with p 0 p.threads) refl
 
-pub started_is : (p : PartsRow) (i : Image) (e : Seen) (r : SchedRow) (k : Bank) → i ≡ image_of p → e ≡ launched p → r ≡ rows_of p → k ≡ bank_of p → row_of i e r k ≡ booted_machine p
-started_is p i e r k image engine rows bank = rw (image, engine, rows, bank) (booted_is p)
+pub started_is : (p : PartsRow) (limits : List ℕ) (i : Image) (e : Seen) (r : SchedRow) (k : Bank) → i ≡ image_of p → e ≡ launched p limits → r ≡ rows_of p → k ≡ bank_of p → row_of i e r k ≡ booted_machine p
+started_is p limits i e r k image engine rows bank = rw (image, engine, rows, bank) (booted_is p limits)
 
 -- ---- what it keeps
 
@@ -87,13 +93,72 @@ heap_of p s = heap_placed p s
 statuses_count : (p : PartsRow) → length (rows_of p).statuses ≡ length p.threads
 statuses_count p = length-replicate (length p.threads) Ready
 
-kept : (p : PartsRow) → Sound p → ArePlaced (image_of p) (8 * length (launched p).granules) (launched p).areas → IsKept (image_of p) (launched p) (rows_of p)
+-- ---- quotas
+
+-- an entry's limit, by its number
+limit_in : (rows : List Entry) (g : Gate) (n : ℕ) → (listed_root (slice_get rows n) g).limit ≡ slice_index_or (map (λ (r : Entry). r.limit) rows) n 0
+limit_in [] g n = refl
+limit_in (r ∷ rows) g zero = refl
+limit_in (r ∷ rows) g (suc n) = limit_in rows g n
+
+limit_of : (e : Listed) (q : ℕ) → (root_of e q).limit ≡ slice_index_or (limits_of e) q 0
+unfolding root_of
+limit_of e zero = refl
+limit_of e (suc n) = limit_in e.rows (gate_for e.gates (suc n)) n
+
+-- what is a quota has an entry
+listed_quota : (rows : List Entry) (g : Gate) (n : ℕ) → is_quota (listed_root (slice_get rows n) g).origin ≡ true → n < length rows
+listed_quota [] g n is = absurd (let clash : false ≡ true = is in cc)
+listed_quota (r ∷ rows) g zero is = omega arith
+listed_quota (r ∷ rows) g (suc n) is = let rest = listed_quota rows g n is in omega (arith, rest)
+
+quota_listed : (e : Listed) (q : ℕ) → is_quota (root_of e q).origin ≡ true → q < length (limits_of e)
+unfolding root_of
+quota_listed e zero is = absurd (let clash : false ≡ true = is in cc)
+quota_listed e (suc n) is =
+    let within = listed_quota e.rows (gate_for e.gates (suc n)) n is in
+    let count = length-map e.rows (λ (r : Entry). r.limit) in
+    omega (arith, within, count)
+
+rows_are : (p : PartsRow) → (entries_of p).rows ≡ listed.rows_of p
+unfolding entries_of
+rows_are p = refl
+
+-- a heap has a quota for each
+pub few_limits : (p : PartsRow) → Sound p → length (limits_of (entries_of p)) ≤ 32767
+few_limits p s =
+    let few = few_entries p s in
+    let rows = ap length (rows_are p) in
+    let count = length-map (entries_of p).rows (λ (r : Entry). r.limit) in
+    omega (arith, few, rows, count)
+
+-- what each may take is told by the entries that the plan keeps
+pub limits_are : (p : PartsRow) (i : Image) (entries : Listed) (xs : List ℕ) → i ≡ image_of p → entries ≡ i.entries → xs ≡ limits_of entries → xs ≡ limits_of (entries_of p)
+unfolding image_of
+limits_are p i entries xs image listed is = is ∙ ap limits_of listed ∙ ap (λ (j : Image). limits_of j.entries) image
+
+heap_has : (p : PartsRow) → HasHeap (image_of p) (launched p (limits_of (entries_of p)))
+unfolding image_of
+heap_has p = record { base = refl; end = refl; limits = limit_of (entries_of p) }
+
+quotas_has : (p : PartsRow) → HasQuotas (image_of p) (launched p (limits_of (entries_of p)))
+unfolding image_of
+quotas_has p = quota_listed (entries_of p)
+
+-- ---- what is kept
+
+abbrev first : PartsRow → Seen
+first p = launched p (limits_of (entries_of p))
+
+kept : (p : PartsRow) → Sound p → ArePlaced (image_of p) (8 * length (first p).threads.granules) (first p).threads.areas → IsKept (image_of p) (first p) (rows_of p)
 kept p s placed =
     let few = s.few.threads in
     let count = statuses_count p in
     record {
       region = refl;
-      heap = rw (boot_length p) (heap_of p s);
+      placed = rw (boot_length p) (heap_of p s);
+      heap = heap_has p;
+      quotas = quotas_has p;
       areas = placed;
       threads = placed.count ∙ frames_count p ∙ sym (threads_count p 0 p.threads);
       priorities = priorities_are p;
@@ -102,17 +167,17 @@ kept p s placed =
       ready = λ t runs. absurd cc;
     }
 
-pub started_kept : (p : PartsRow) (i : Image) (e : Seen) (r : SchedRow) → Sound p → i ≡ image_of p → e ≡ launched p → ArePlaced (image_of p) (8 * length e.granules) e.areas → r ≡ rows_of p
-    → IsKept i e r × IsCounted no_counts 0
+pub started_kept : (p : PartsRow) (i : Image) (e : Seen) (r : SchedRow) → Sound p → i ≡ image_of p → e ≡ launched p (limits_of (entries_of p)) → ArePlaced (image_of p) (8 * length e.threads.granules) e.threads.areas → r ≡ rows_of p
+    → IsKept i e r × IsCounted no_counts 0 e.next
 started_kept p i e r s image engine placed rows = (
   subst (λ (j : Image). IsKept j e r) (sym image)
       (subst (λ (x : SchedRow). IsKept (image_of p) e x) (sym rows)
       (subst (λ (x : Seen). IsKept (image_of p) x (rows_of p)) (sym engine)
-      (kept p s (subst (λ (x : Seen). ArePlaced (image_of p) (8 * length x.granules) x.areas) engine placed)))),
-  record { steps = omega arith; ticks = omega arith; sweeps = omega arith; inputs = omega arith; deeds = omega arith; clock = omega arith },
+      (kept p s (subst (λ (x : Seen). ArePlaced (image_of p) (8 * length x.threads.granules) x.threads.areas) engine placed)))),
+  subst (λ (x : Seen). IsCounted no_counts 0 x.next) (sym engine) (record { steps = omega arith; ticks = omega arith; sweeps = omega arith; inputs = omega arith; deeds = omega arith; clock = omega arith; made = omega arith }),
 )
 
 -- what is kept of a sound image
-pub plan_of : (p value : PartsRow) (entries : Listed) (ram heap : ℕ) → Sound p → value ≡ p → entries ≡ entries_of p → ram ≡ p.ram → heap ≡ p.heap → IsPlan value entries ram heap
+pub plan_of : (p value : PartsRow) (entries : Listed) (ram heap sweep : ℕ) → Sound p → value ≡ p → entries ≡ entries_of p → ram ≡ p.ram → heap ≡ p.heap → sweep ≡ p.sweep → IsPlan value entries ram heap sweep
 unfolding image_of
-plan_of p value entries ram heap s is same begins heaps = rw (is, begins, heaps) (record { sound = s; entries_are = same; ram_is = refl; heap_is = refl })
+plan_of p value entries ram heap sweep s is same begins heaps slices = rw (is, begins, heaps, slices) (record { sound = s; entries_are = same; ram_is = refl; heap_is = refl; sweep_is = refl })

@@ -6,6 +6,8 @@ use Rattle.ct_entry.specs.declared.acts.Deed.{Deed}
 use Rattle.ct_entry.specs.declared.acts.Act.TheVariants.{Call, Trap}
 use Rattle.def_words.specs.declared.Trap as words
 use Rattle.def_confined.specs.Keeps.{Keeps}
+use Rattle.def_confined.specs.Partitioned.{Partitioned}
+use Rattle.def_facts.specs.Facts.{Facts, RootsAway}
 use Rattle.def_hidden.specs.Hidden.{Shut}
 use Rattle.def_machine.specs.Frames as frames
 use Rattle.def_machine.specs.State as state
@@ -24,9 +26,11 @@ use Rattle.ct_execute.specs.declared.ran.Ran.{Ran}
 use Rattle.ct_execute.specs.declared.ran.Ran.TheVariants.{Went, Returned, Native, Trapped}
 use Rattle.ct_execute.specs.Deciding.{IfUnfinished}
 
--- No entry reaches what is hidden, and the state is confined, with what stands beside.
+-- No entry reaches what is hidden, capabilities of boot are what their entries say, and the state is confined, with what
+-- stands beside.
 pub record MayGoOn (m : MachineRow) : Type 0 where
   pub shut : Shut m.board.image
+  pub facts : Facts m.board.image
   pub keeps : Keeps m.board.image m.state
 
 -- Thread t runs, and has a frame.
@@ -40,6 +44,13 @@ pub record MayEnd (m : MachineRow) (t actor : ℕ) : Type 0 where
   pub runs : Runs m t
   pub acts : actor ≡ actor_of (state.thread m.state t).frames
 
+-- What a slice of a sweep asks, so that the sweep may end: no range of an entry meets the heap, and the state is confined,
+-- with what stands beside.
+pub record MaySweep (m : MachineRow) : Type 0 where
+  pub parts : Partitioned m.board.image
+  pub away : RootsAway m.board.image
+  pub keeps : Keeps m.board.image m.state
+
 -- ---- a tick before it interrupts
 
 -- it counts, and time goes on
@@ -48,6 +59,10 @@ clock_on s = record s {
   time = s.time + 1;
   counts = record s.counts { ticks = s.counts.ticks + 1 };
 }
+
+-- a sweep counts before its slice
+abbrev pub one_more_sweep : State → State
+one_more_sweep s = record s { counts = record s.counts { sweeps = s.counts.sweeps + 1 } }
 
 -- each sleep is one tick shorter
 abbrev pub sleepers_on : State → State

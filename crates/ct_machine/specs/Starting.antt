@@ -1,6 +1,7 @@
 -- What a machine keeps before its first event.
-use Rattle.std.specs.Prelude.{ℕ, ◌≡◌, List, length, map, replicate}
+use Rattle.std.specs.Prelude.{ℕ, ◌≡◌, List, ◌∷◌, length, map, replicate}
 use Rattle.ct_entry.specs.Listed.{Listed, DeviceRow}
+use Rattle.ct_entry.specs.declared.rows.Entry.{Entry}
 use Rattle.def_sched.specs.declared.Status.TheVariants.{Ready}
 use Rattle.def_sched.specs.Picks.{first_order}
 use Rattle.def_step.specs.Devices.{Bank, fresh_device}
@@ -30,9 +31,15 @@ rows_of p = record {
   order = first_order (length p.threads);
 }
 
--- what is kept of a sound image: its entries, and where RAM and its heap begin
-pub record IsPlan (p : PartsRow) (entries : Listed) (ram heap : ℕ) : Type 0 where
+-- what each quota may take, by the numbers of the entries; what is no quota takes nothing
+abbrev pub limits_of : Listed → List ℕ
+limits_of e = 0 ∷ map (λ (r : Entry). r.limit) e.rows
+
+-- what is kept of a sound image: its entries, where RAM and its heap begin, and how many granules a slice of a sweep
+-- passes
+pub record IsPlan (p : PartsRow) (entries : Listed) (ram heap sweep : ℕ) : Type 0 where
   pub sound : Sound p
   pub entries_are : entries ≡ (image_of p).entries
   pub ram_is : ram ≡ (image_of p).ram
   pub heap_is : heap ≡ (image_of p).heap_base
+  pub sweep_is : sweep ≡ (image_of p).sweep

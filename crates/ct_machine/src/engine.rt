@@ -8,8 +8,8 @@ ghost use Rattle.def_step.specs.Events.{is_lawful, end_of, totals_of, holder, is
 use crate::plan::Plan;
 use crate::tally::Tally;
 use ct_bus::Bus;
-use ct_engine::Engine as Threads;
 use ct_entry::{End, Owned, Totals};
+use ct_heaped::Engine as Threads;
 use ct_mem::Memory;
 use ct_sched::{Sched, Status};
 use def_profile::limits::MOST_STEPS;
@@ -41,7 +41,7 @@ impl<M: Memory + Drop> Model for Engine<M> {
       state = state_by m.threads m.sched m.pending m.bus.states m.time m.counts;
     } };
 
-    ghost invariant = { λ m. IsKept m.plan m.threads m.sched × IsCounted m.counts m.time };
+    ghost invariant = { λ m. IsKept m.plan m.threads m.sched × IsCounted m.counts m.time m.threads.next };
 }
 
 impl<M: Memory + Drop> Engine<M> {
@@ -83,7 +83,7 @@ impl<M: Memory + Drop> Engine<M> {
             ticks: self.counts.ticks,
             calls: self.counts.calls,
             devices: self.counts.loads + self.counts.stores,
-            allocations: 0,
+            allocations: self.threads.made(),
             frees: self.counts.frees,
             traps: self.counts.traps,
         }

@@ -1,11 +1,12 @@
 //! What an event does to an engine.
 
-ghost use Rattle.std.specs.Prelude.{◌≡◌, ◌<◌, IsTrue};
+ghost use Rattle.std.specs.Prelude.{◌≡◌, ◌≤◌, ◌<◌, IsTrue};
 ghost use Rattle.def_profile.specs.declared.limits.TheConstants.{MOST_STEPS};
 ghost use Rattle.def_board.specs.Guarded.{Guarded};
+ghost use Rattle.def_machine.specs.Heap.{swept};
 ghost use Rattle.def_step.specs.Events.{happens, is_lawful, one_more_step};
 ghost use Rattle.def_step.specs.declared.Event.TheVariants as event;
-ghost use Rattle.ct_machine.specs.Going.{clock_on, sleepers_on};
+ghost use Rattle.ct_machine.specs.Going.{MaySweep, clock_on, sleepers_on, one_more_sweep};
 ghost use Rattle.ct_machine.specs.Parts.{deeds_of};
 
 use crate::engine::Engine;
@@ -20,6 +21,7 @@ impl<M: Memory + Drop> Engine<M> {
         ensures state { self.new.state ≡ one_more_step self.old.state }
         ensures board { self.new.board ≡ self.old.board }
         ensures deeds { deeds_of self.new.state.counts < self.new.state.counts.steps }
+        ensures made { self.new.state.next ≤ self.new.state.counts.steps }
     {
         self.counts.steps += 1;
     }
@@ -72,14 +74,34 @@ impl<M: Memory + Drop> Engine<M> {
         Happened { deed: None, off }
     }
 
-    /// One slice of the revoker. With no object in the heap nothing is quarantined, so no sweep begins.
+    /// A sweep counts.
+    fn count_sweep(&mut self)
+        requires { self.old.state.counts.sweeps < MOST_STEPS }
+        ensures state { self.new.state ≡ one_more_sweep self.old.state }
+        ensures board { self.new.board ≡ self.old.board }
+    {
+        self.counts.sweeps += 1;
+    }
+
+    /// One slice of the revoker over memory, threads and objects.
+    fn slice(&mut self)
+        requires { MaySweep self.old }
+        ensures state { self.new.state ≡ swept self.old.board.image self.old.state }
+        ensures board { self.new.board ≡ self.old.board }
+    {
+        self.threads.sweep(self.plan.sweep());
+    }
+
+    /// One slice of the revoker, as an event.
     fn sweep(&mut self) -> Happened
-        requires { IsTrue (is_lawful self.old.state event.Sweep) }
+        requires guarded { Guarded self.old }
+        requires lawful { IsTrue (is_lawful self.old.state event.Sweep) }
         ensures is { (self.new.state, result) ≡ happens self.old.board self.old.state event.Sweep }
         ensures board { self.new.board ≡ self.old.board }
     {
         let before = self.holder();
-        self.counts.sweeps += 1;
+        self.count_sweep();
+        self.slice();
         let off = self.begun(before);
         Happened { deed: None, off }
     }

@@ -1,28 +1,31 @@
 //! The running thread carries on.
 
-ghost use Rattle.std.specs.Prelude.{◌≡◌, ◌<◌, Some, length, false};
+ghost use Rattle.std.specs.Prelude.{◌≡◌, ◌≤◌, ◌<◌, Some, length, false};
 ghost use Rattle.def_step.specs.Events.{run_on, noted};
 ghost use Rattle.def_step.specs.Instructions.{executed};
 ghost use Rattle.ct_engine.specs.Calls.{TopLies};
 ghost use Rattle.ct_execute.specs.Deciding.{IfUnfinished, RanInRange};
 ghost use Rattle.ct_exports.specs.Exports.{AreSorted};
+ghost use Rattle.ct_heaped.specs.Seen.{with_threads};
 ghost use Rattle.ct_machine.specs.Going.{MayGoOn, Runs, MayEnd, CameTo, IsDone, finished, left_after, goes_after, status_after, deed_by};
 ghost use Rattle.ct_machine.specs.Parts.{deeds_of};
 
 use crate::engine::Engine;
-use ct_engine::Engine as Threads;
 use ct_entry::{Act, Deed, Entries};
 use ct_execute::{Ran, execute};
+use ct_heaped::Engine as Threads;
 use ct_mem::Memory;
 use ct_sched::Sched;
 
 /// Where the running thread returned or trapped, its innermost frame ends. `false` exactly where it
 /// has none left.
 fn leave<M: Memory + Drop>(threads: &mut Threads<M>, t: u32, entries: &Entries, ran: Ran) -> bool
-    requires runs { IfUnfinished ran ((threads.old.running ≡ Some t) × TopLies threads.old t) }
+    requires runs { IfUnfinished ran
+        ((threads.old.threads.running ≡ Some t) × TopLies threads.old.threads t) }
     requires sorted { AreSorted entries.now.gates }
-    ensures result { result ≡ goes_after ran threads.old t }
-    ensures is { threads.new ≡ left_after ran threads.old entries.now t }
+    ensures result { result ≡ goes_after ran threads.old.threads t }
+    ensures is { threads.new
+        ≡ with_threads threads.old (left_after ran threads.old.threads entries.now t) }
 {
     match ran {
         Ran::Went { .. } | Ran::Native { .. } => true,
@@ -91,6 +94,7 @@ impl<M: Memory + Drop> Engine<M> {
     fn run(&mut self, t: u32) -> Ran
         requires may { MayGoOn self.old }
         requires runs { Runs self.old t }
+        requires made { self.old.state.next ≤ self.old.state.counts.steps }
         ensures came { CameTo self.old self.new t result (executed self.old.board self.old.state t) }
         ensures done { IsDone result }
     {
@@ -121,6 +125,7 @@ impl<M: Memory + Drop> Engine<M> {
     pub(crate) fn carry_on(&mut self) -> Option<Deed>
         requires may { MayGoOn self.old }
         requires deeds { deeds_of self.old.state.counts < self.old.state.counts.steps }
+        requires made { self.old.state.next ≤ self.old.state.counts.steps }
         ensures is { (self.new.state, result) ≡ run_on self.old.board self.old.state }
         ensures board { self.new.board ≡ self.old.board }
     {

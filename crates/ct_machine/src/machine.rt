@@ -1,15 +1,19 @@
 //! The machine: an engine whose state is confined.
 
-ghost use Rattle.std.specs.Prelude.{◌≡◌, List, IsTrue, IfOk};
+ghost use Rattle.std.specs.Prelude.{ℕ, ◌≡◌, ◌≤◌, List, IsTrue, IfOk};
 ghost use Rattle.def_board.specs.Guarded.{Guarded};
 ghost use Rattle.def_boot.specs.Boot.{booted_machine};
 ghost use Rattle.def_confined.specs.Telling.{AllLicensed, IsLicensedEvent};
+ghost use Rattle.def_machine.specs.Image.{root};
+ghost use Rattle.def_machine.specs.Objects.{charges};
 ghost use Rattle.def_step.specs.declared.Event as events;
 ghost use Rattle.law_history.specs.Accesses.{UsesReach};
 ghost use Rattle.law_history.specs.Clean.{CleanEvent};
 ghost use Rattle.law_history.specs.Each.{EachEvent};
-ghost use Rattle.def_step.specs.Events.{told, happens, is_lawful, end_of, totals_of};
+ghost use Rattle.law_history.specs.Temporal.{AllocatesFresh, UsesLive};
+ghost use Rattle.def_step.specs.Events.{told, happens, run, is_lawful, end_of, totals_of};
 ghost use Rattle.law_boot_words.specs.Booting.{empty_granules};
+ghost use Rattle.ct_machine.specs.Coming.{SweptBeforeReuse};
 
 use crate::engine::Engine;
 use ct_entry::{End, Happened, Totals};
@@ -23,7 +27,7 @@ use std::marker::Model;
 /// An image that runs, over some memory.
 ///
 /// Contracts see it as its board, which never changes, and its state. Its type keeps the state
-/// *Confined* (docs/claims/confinement.md), whatever the code bytes are.
+/// *Confined* (docs/claims/confinement.md), and what is hidden zero, whatever the code bytes are.
 #[derive(Drop)]
 pub struct Machine<M: Memory + Drop> {
     engine: Engine<M>,
@@ -31,13 +35,14 @@ pub struct Machine<M: Memory + Drop> {
 
 impl<M: Memory + Drop> Model for Machine<M> {
     ghost use Rattle.def_board.specs.Guarded.{Guarded};
+    ghost use Rattle.def_hidden.specs.Hidden.{Blank};
     ghost use Rattle.def_step.specs.Events.{MachineRow};
 
     ghost Value = { MachineRow };
 
     ghost view = { λ m. m.engine };
 
-    ghost invariant = { λ m. Guarded m.engine };
+    ghost invariant = { λ m. Guarded m.engine × Blank m.engine.board.image m.engine.state };
 }
 
 impl<M: Memory + Drop> Machine<M> {
@@ -97,8 +102,11 @@ impl<M: Memory + Drop> Machine<M> {
     }
 
     /// Whatever events come next, one after another: calls are clean, each access goes through a capability
-    /// whose owner reaches the actor, and each deed and each span with interrupts off is licensed by the
-    /// image's entries. A law, told of the machine as it is now: nothing is done. docs/claims/theorems.md.
+    /// whose root's owner reaches the actor, and each deed and each span with interrupts off is licensed by
+    /// the image's entries. No access goes through a capability of a freed object; a new object reads as zero,
+    /// and no other capability that isn't empty covers it; a chunk is handed out again only after a whole
+    /// sweep that began after its free; and no quota is charged with more than its limit. A law, told of the
+    /// machine as it is now: nothing is done. docs/claims/theorems.md.
     pub fn whatever_comes(&self)
         ensures calls { (es : List events.Event)
             → EachEvent (CleanEvent self.now.board) self.now.board self.now.state es }
@@ -106,6 +114,14 @@ impl<M: Memory + Drop> Machine<M> {
             → EachEvent (λ z e. UsesReach self.now.board z) self.now.board self.now.state es }
         ensures licensed { (es : List events.Event) → AllLicensed self.now.board.image.entries
             (told self.now.board self.now.state es) }
+        ensures unused { (es : List events.Event)
+            → EachEvent (λ z e. UsesLive self.now.board z) self.now.board self.now.state es }
+        ensures fresh { (es : List events.Event)
+            → EachEvent (AllocatesFresh self.now.board) self.now.board self.now.state es }
+        ensures swept { SweptBeforeReuse self.now.board self.now.state }
+        ensures quotas { (es : List events.Event) (q : ℕ)
+            → charges q (run self.now.board self.now.state es).objects
+            ≤ (root self.now.board.image q).limit }
     {
         let _engine = &self.engine;
     }

@@ -13,7 +13,8 @@ use def_refusals::NoMemory;
 use std::alloc::Global;
 use std::marker::Model;
 
-/// The entries of an image, and where its RAM and its heap begin. The image itself isn't kept.
+/// The entries of an image, where its RAM and its heap begin, and how many granules a slice of a sweep passes. The
+/// image itself isn't kept.
 ///
 /// Contracts see it as the machine's image.
 #[derive(Drop)]
@@ -21,6 +22,7 @@ pub(crate) struct Plan {
     entries: Entries,
     ram: u32,
     heap: u32,
+    sweep: u32,
     image: Known<Image>,
 }
 
@@ -33,7 +35,7 @@ impl Model for Plan {
 
     ghost view = { λ p. image_of p.image.value };
 
-    ghost invariant = { λ p. IsPlan p.image.value p.entries p.ram p.heap };
+    ghost invariant = { λ p. IsPlan p.image.value p.entries p.ram p.heap p.sweep };
 }
 
 impl Plan {
@@ -48,6 +50,7 @@ impl Plan {
             entries,
             ram: parts.ram,
             heap: parts.heap,
+            sweep: parts.sweep,
             image: Known::of(image),
         })
     }
@@ -73,5 +76,12 @@ impl Plan {
         ensures { result ≡ self.now.heap_base }
     {
         self.heap
+    }
+
+    /// How many granules a slice of a sweep passes.
+    pub(crate) fn sweep(&self) -> u32
+        ensures { result ≡ self.now.sweep }
+    {
+        self.sweep
     }
 }

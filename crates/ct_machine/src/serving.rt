@@ -1,8 +1,9 @@
 //! Native routines of the running thread.
 
-ghost use Rattle.std.specs.Prelude.{◌≡◌};
+ghost use Rattle.std.specs.Prelude.{◌≡◌, ◌≤◌};
 ghost use Rattle.def_step.specs.Instructions.{ran, served};
 ghost use Rattle.def_step.specs.Native.{native};
+ghost use Rattle.def_step.specs.Quotas as quotas;
 ghost use Rattle.def_step.specs.Routines as routine;
 ghost use Rattle.ct_engine.specs.Steps.{IsRoutine};
 ghost use Rattle.ct_machine.specs.Going.{MayGoOn, Runs, CameTo, IsDone, ran_by_service, ran_by_call};
@@ -11,8 +12,8 @@ use crate::engine::Engine;
 use ct_entry::Act;
 use ct_execute::Ran;
 use ct_mem::Memory;
-use ct_services::{Called, pause, sleep, switch, wait, wake};
-use def_profile::native::{SLEEP, SWITCH, WAIT, YIELD};
+use ct_services::{Called, allocate, free, pause, remaining, sleep, switch, wait, wake};
+use def_profile::native::{ALLOCATE, FREE, SLEEP, SWITCH, WAIT, WAKE, YIELD};
 use def_words::Trap;
 
 /// What a service came to: a check that failed, or nothing that is told.
@@ -103,11 +104,49 @@ impl<M: Memory + Drop> Engine<M> {
         ran_by_service(wake(&mut self.threads, &mut self.sched, t, self.plan.ram()))
     }
 
+    /// Allocate.
+    fn allocate(&mut self, t: u32) -> Ran
+        requires may { MayGoOn self.old }
+        requires runs { Runs self.old t }
+        requires made { self.old.state.next ≤ self.old.state.counts.steps }
+        ensures came { CameTo self.old self.new t result
+            (ran self.old.board self.old.state t
+            (quotas.allocate self.old.board.image self.old.state t)) }
+        ensures done { IsDone result }
+    {
+        allocate(&mut self.threads, t)
+    }
+
+    /// Free.
+    fn free(&mut self, t: u32) -> Ran
+        requires may { MayGoOn self.old }
+        requires runs { Runs self.old t }
+        ensures came { CameTo self.old self.new t result
+            (ran self.old.board self.old.state t
+            (quotas.free self.old.board.image self.old.state t)) }
+        ensures done { IsDone result }
+    {
+        free(&mut self.threads, t)
+    }
+
+    /// Remaining.
+    fn remaining(&mut self, t: u32) -> Ran
+        requires may { MayGoOn self.old }
+        requires runs { Runs self.old t }
+        ensures came { CameTo self.old self.new t result
+            (ran self.old.board self.old.state t
+            (quotas.remaining self.old.board.image self.old.state t)) }
+        ensures done { IsDone result }
+    {
+        remaining(&mut self.threads, t)
+    }
+
     /// The native routine of a number, which isn't the return's.
     pub(crate) fn serve(&mut self, t: u32, number: u32) -> Ran
         requires may { MayGoOn self.old }
         requires runs { Runs self.old t }
         requires routine { IsRoutine number }
+        requires made { self.old.state.next ≤ self.old.state.counts.steps }
         ensures came { CameTo self.old self.new t result
             (served self.old.board self.old.state t
             (native self.old.board.image self.old.state t number)) }
@@ -121,9 +160,15 @@ impl<M: Memory + Drop> Engine<M> {
             self.sleep(t)
         } else if number == WAIT {
             self.wait(t)
-        } else {
-            // Only the wake is left.
+        } else if number == WAKE {
             self.wake(t)
+        } else if number == ALLOCATE {
+            self.allocate(t)
+        } else if number == FREE {
+            self.free(t)
+        } else {
+            // Only remaining is left.
+            self.remaining(t)
         }
     }
 }

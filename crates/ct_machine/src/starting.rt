@@ -4,18 +4,21 @@ ghost use Rattle.std.specs.Prelude.{ℕ, ◌≡◌, ◌≤◌, ◌*◌, IfOk, So
 ghost use Rattle.def_profile.specs.declared.limits.TheConstants.{MOST_PRIORITY};
 ghost use Rattle.def_board.specs.Guarded.{Guarded};
 ghost use Rattle.def_boot.specs.Boot.{booted_machine, image_of};
+ghost use Rattle.def_boot.specs.Gates.{entries_of};
+ghost use Rattle.def_hidden.specs.Hidden.{Blank};
 ghost use Rattle.def_image.specs.Parts.{ThreadRow};
 ghost use Rattle.def_image.specs.Sound.{Sound};
 ghost use Rattle.law_boot_words.specs.Booting.{empty_granules};
 ghost use Rattle.ct_launch.specs.Launching.{launched};
 ghost use Rattle.ct_launch.specs.Placed.{ArePlaced};
-ghost use Rattle.ct_machine.specs.Starting.{bank_of, priorities_of, rows_of};
+ghost use Rattle.ct_machine.specs.Starting.{bank_of, limits_of, priorities_of, rows_of};
 
 use crate::engine::Engine;
 use crate::plan::Plan;
 use crate::tally::Tally;
 use ct_bus::Bus;
-use ct_engine::Engine as Threads;
+use ct_entry::Entries;
+use ct_heaped::Engine as Threads;
 use ct_image::Image;
 use ct_launch::launch;
 use ct_mem::Memory;
@@ -54,6 +57,17 @@ fn turns(alloc: Global, parts: &Parts) -> Result<Sched, NoMemory>
     Sched::new(alloc, priorities.as_slice())
 }
 
+/// What each quota may take, by the numbers of the entries; what is no quota takes nothing.
+fn limits(alloc: Global, entries: &Entries) -> Result<Vec<u32>, NoMemory>
+    ensures { IfOk result (λ v. v.items ≡ limits_of entries.now) }
+{
+    let mut all = vec![in alloc; 0u32]?;
+    for row in &entries.rows {
+        all.push(row.limit)?;
+    }
+    Ok(all)
+}
+
 /// An engine of its parts, before its first event.
 fn put_together<M: Memory + Drop>(
     parts: &Parts,
@@ -64,8 +78,9 @@ fn put_together<M: Memory + Drop>(
 ) -> Engine<M>
     requires sound { Sound parts.now }
     requires plan { plan ≡ image_of parts.now }
-    requires threads { threads ≡ launched parts.now }
-    requires placed { ArePlaced (image_of parts.now) (8 * length threads.granules) threads.areas }
+    requires threads { threads ≡ launched parts.now (limits_of (entries_of parts.now)) }
+    requires placed { ArePlaced (image_of parts.now) (8 * length threads.threads.granules)
+        threads.threads.areas }
     requires bus { bus ≡ bank_of parts.now }
     requires sched { sched ≡ rows_of parts.now }
     ensures { result ≡ booted_machine parts.now }
@@ -98,12 +113,14 @@ impl<M: Memory + Drop> Engine<M> {
         requires empty { M.granules mem ≡ empty_granules image.now }
         ensures booted { IfOk result (λ m. m ≡ booted_machine image.now) }
         ensures guarded { IfOk result (λ m. Guarded m) }
+        ensures blank { IfOk result (λ m. Blank m.board.image m.state) }
     {
         let plan = Plan::of(alloc, image)?;
         let parts = image.parts();
         let bus = Bus::new(alloc, &parts.devices)?;
         let sched = turns(alloc, parts)?;
-        let threads = launch(alloc, image, mem)?;
+        let limits = limits(alloc, plan.entries())?;
+        let threads = launch(alloc, image, mem, limits.as_slice())?;
         Ok(put_together(parts, plan, threads, bus, sched))
     }
 }

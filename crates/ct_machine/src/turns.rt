@@ -13,6 +13,7 @@ impl<M: Memory + Drop> Engine<M> {
         ensures state { self.new.state ≡ preempted self.old.state }
         ensures board { self.new.board ≡ self.old.board }
         ensures counts { self.new.state.counts ≡ self.old.state.counts }
+        ensures next { self.new.state.next ≡ self.old.state.next }
     {
         if !self.pending {
             return;
@@ -31,6 +32,7 @@ impl<M: Memory + Drop> Engine<M> {
         ensures state { self.new.state ≡ scheduled self.old.board self.old.state }
         ensures board { self.new.board ≡ self.old.board }
         ensures counts { self.new.state.counts ≡ self.old.state.counts }
+        ensures next { self.new.state.next ≡ self.old.state.next }
     {
         match self.threads.running() {
             Some(_) => {}

@@ -52,7 +52,8 @@ pub fn read(alloc: Global, bytes: &[u8], image: &Image) -> Result<Rules, PolicyF
 /// that breaks it, by the entry's number; or the path of an owner that is to be apart from a compartment
 /// and reaches it. It is empty exactly where the policy holds. `NoMemory`: want of memory.
 ///
-/// Condition: `entries` are the image's, `graph` is their graph, and the rules are of this image.
+/// Condition: `entries` are the image's, and `graph` is their graph. Rules are judged by the indexes and
+/// numbers that their names stood for where they were read, so they are to be of this image.
 #[tactic(auto, using(crate::proofs::Denying::begins, crate::proofs::Denying::next_rule, crate::proofs::Denying::all_denied, crate::proofs::Denying::kept_at))]
 pub fn broken(
     alloc: Global,

@@ -10,9 +10,9 @@ use Rattle.def_link.specs.Linked.{linked}
 use Rattle.def_program.specs.declared.Status.{Status}
 use Rattle.def_program.specs.declared.Status.TheVariants.{ReadFault, TooLarge}
 use Rattle.def_program.specs.Lines.{read_line, large_line}
-use Rattle.def_program.specs.Commands.{Command, form_of, file_of, reads_image}
+use Rattle.def_program.specs.Commands.{Command, form_of, generated_by, file_of, reads_image}
 use Rattle.def_program.specs.Ends.{Ends, Exceeds, IsFile}
-use Rattle.def_program.specs.Turns.{Turn, Asks, Follows, OfFirst, OfImage, OfLinked, OfRows, OfDescription, source_names}
+use Rattle.def_program.specs.Turns.{Turn, Asks, FollowsBy, Follows, OfNumber, OfFirst, OfImage, OfLinked, OfRows, OfDescription, source_names}
 use Rattle.def_program.specs.Answers.{Answers, Read, contents, read_call, read_calls, AllRead, WereDue}
 use Rattle.ct_reading.specs.declared.files.Stop.{Stop}
 use Rattle.ct_reading.specs.declared.files.Stop.TheVariants.{Unread, Large, NoMemory}
@@ -22,7 +22,7 @@ use Rattle.ct_refusals.specs.Ended.{EndsBy, EndsAtOnce, EndsAfter}
 use Rattle.ct_refusals.specs.Settled.{Settles}
 use Rattle.ct_refusals.proofs.Endings.{wanting, settled, unread, too_large, due_by}
 use Rattle.ct_refusals.specs.Stopped.{Refuses}
-use Rattle.ct_refusals.proofs.Due.{first_read, nothing_due, none_due, first_due, sources_due, next_due, none_left, told_before, calls_both, calls_last, of_first, one_more_due}
+use Rattle.ct_refusals.proofs.Due.{first_read, own_follows, nothing_due, none_due, first_due, sources_due, next_due, none_left, told_before, calls_both, calls_last, of_first, one_more_due}
 
 as_many : (done : List Read) → length (names_of done) ≡ length (contents done)
 as_many [] = refl
@@ -39,21 +39,21 @@ drop_front (x ∷ xs) ys = drop_front xs ys
 module _ (e : Ends) (c : Command) (result : Status) (form : form_of e.words ≡ Some c) where
   -- ---- the first file isn't given
 
-  pub first_stops : (stop : Stop) → NotGiven (file_of c) (e.told (file_of c)) e.calls e.calls_after e.read_faults e.read_faults_after stop
+  pub first_stops : generated_by c ≡ None → (stop : Stop) → NotGiven (file_of c) (e.told (file_of c)) e.calls e.calls_after e.read_faults e.read_faults_after stop
       → Refuses stop e.bytes e.bytes_after e.write_faults e.write_faults_after result → Answers e result
-  first_stops (Unread n) why closes =
-      unread e c [] (file_of c) result form (nothing_due e c) why.1.call why.1.rose
+  first_stops none (Unread n) why closes =
+      unread e c [] (file_of c) result form (nothing_due e c none) why.1.call why.1.rose
       (subst (λ x. Closes e.bytes e.bytes_after e.write_faults e.write_faults_after (read_line x) ReadFault result) why.0 closes)
-  first_stops (Large n) why closes =
-      too_large e c [] (file_of c) result form (nothing_due e c) why.1.call why.1.same why.1.large
+  first_stops none (Large n) why closes =
+      too_large e c [] (file_of c) result form (nothing_due e c none) why.1.call why.1.same why.1.large
       (subst (λ x. Closes e.bytes e.bytes_after e.write_faults e.write_faults_after (large_line x) TooLarge result) why.0 closes)
-  first_stops NoMemory why silent =
+  first_stops none NoMemory why silent =
       wanting e c [] result form (none_due e c) (why.call ∙ sym (append-nil e.calls)) why.same silent
 
   -- ---- the first file alone
 
-  alone : (bytes : List ℕ) → WasGiven (file_of c) (e.told (file_of c)) e.calls e.calls_after e.read_faults e.read_faults_after bytes → AllRead e c (first_read c bytes ∷ [])
-  alone bytes w = record { due = first_due e c bytes w.file; calls = w.call; same = w.same }
+  alone : generated_by c ≡ None → (bytes : List ℕ) → WasGiven (file_of c) (e.told (file_of c)) e.calls e.calls_after e.read_faults e.read_faults_after bytes → AllRead e c (first_read c bytes ∷ [])
+  alone none bytes w = record { due = first_due e c none bytes w.file; calls = w.call; same = w.same }
 
   -- ---- the call ends after these files, or after one more
 
@@ -112,34 +112,43 @@ module _ (e : Ends) (c : Command) (result : Status) (form : form_of e.words ≡ 
     ended (inr (inl x)) = after_one x
     ended (inr (inr x)) = without x.name x.stop (next_asked x.name x.asked) x.why x.refused
 
-  pub image_done : (bytes : List ℕ) (here : List ℕ → Told) (mid : List Call) (counted : ℕ)
+  -- ---- no file is due
+
+  pub number_done : (number : ℕ) → generated_by c ≡ Some number → EndsBy (OfNumber c number) (later e.told e.calls e.read_faults) result → Answers e result
+  number_done number is s =
+      ended [] (none_due e c) e.told e.calls e.read_faults (sym (append-nil e.calls)) refl (λ n. refl) (OfNumber c number)
+      (λ more t due. subst (λ o. FollowsBy c o more t) (sym is) due) s
+
+  -- ---- a file
+
+  pub image_done : generated_by c ≡ None → (bytes : List ℕ) (here : List ℕ → Told) (mid : List Call) (counted : ℕ)
       → WasGiven (file_of c) (e.told (file_of c)) e.calls mid e.read_faults counted bytes
       → ((n : List ℕ) → here n ≡ e.told n) → reads_image c ≡ true → EndsBy (OfImage c bytes) (later here mid counted) result → Answers e result
-  image_done bytes here mid counted w kept kind s =
-      ended (first_read c bytes ∷ []) (first_due e c bytes w.file) here mid counted w.call w.same kept (OfImage c bytes)
-      (λ more t due. subst (λ b. OfFirst b c bytes more t) (sym kind) due) s
+  image_done none bytes here mid counted w kept kind s =
+      ended (first_read c bytes ∷ []) (first_due e c none bytes w.file) here mid counted w.call w.same kept (OfImage c bytes)
+      (λ more t due. own_follows c none bytes more t (subst (λ b. OfFirst b c bytes more t) (sym kind) due)) s
 
-  pub description_refused : (bytes : List ℕ) → WasGiven (file_of c) (e.told (file_of c)) e.calls e.calls_after e.read_faults e.read_faults_after bytes
+  pub description_refused : generated_by c ≡ None → (bytes : List ℕ) → WasGiven (file_of c) (e.told (file_of c)) e.calls e.calls_after e.read_faults e.read_faults_after bytes
       → reads_image c ≡ false → Settles (OfDescription c bytes []) e.bytes e.bytes_after e.write_faults e.write_faults_after result → Answers e result
-  description_refused bytes w kind s =
-      settled e c (first_read c bytes ∷ []) result form (alone bytes w)
+  description_refused none bytes w kind s =
+      settled e c (first_read c bytes ∷ []) result form (alone none bytes w)
       (due_by (OfDescription c bytes []) (Follows c (bytes ∷ [])) e.bytes e.bytes_after e.write_faults e.write_faults_after result
-      (λ t due. subst (λ b. OfFirst b c bytes [] t) (sym kind) due) s)
+      (λ t due. own_follows c none bytes [] t (subst (λ b. OfFirst b c bytes [] t) (sym kind) due)) s)
 
   -- ---- sources
 
-  module _ (bytes : List ℕ) (d : DescRow) (here : List ℕ → Told) (mid : List Call) (counted : ℕ)
+  module _ (none : generated_by c ≡ None) (bytes : List ℕ) (d : DescRow) (here : List ℕ → Told) (mid : List Call) (counted : ℕ)
       (w : WasGiven (file_of c) (e.told (file_of c)) e.calls mid e.read_faults counted bytes)
       (kept : (n : List ℕ) → here n ≡ e.told n) (kind : reads_image c ≡ false) (lawful : WellFormed bytes d) where
     pub linked_done : (sources : List (List ℕ)) (there : List ℕ → Told) (end : List Call) (risen : ℕ) → AllGiven here (source_names d) mid end counted risen sources
         → ((n : List ℕ) → there n ≡ e.told n) → EndsBy (OfLinked c d (linked d sources)) (later there end risen) result → Answers e result
     linked_done sources there end risen all same s =
         let files = told_before e.told here all.done kept all.front.files in
-        ended (first_read c bytes ∷ all.done) (sources_due e c bytes d kind lawful w.file all.done [] all.front.whole files)
+        ended (first_read c bytes ∷ all.done) (sources_due e c none bytes d kind lawful w.file all.done [] all.front.whole files)
         there end risen (calls_both e.calls mid end (first_read c bytes) all.done w.call all.front.calls) (all.same ∙ w.same) same
         (OfLinked c d (linked d sources))
-        (λ more t due. of_first e c bytes d kind lawful w.file (contents all.done ++ more) t
-        (inr (d, (lawful, of_linked more t all.done sources all.given (none_left e c bytes d kind lawful w.file all.done all.front.whole) (counted_all all.done all.front.whole) due)))) s
+        (λ more t due. of_first e c none bytes d kind lawful w.file (contents all.done ++ more) t
+        (inr (d, (lawful, of_linked more t all.done sources all.given (none_left e c none bytes d kind lawful w.file all.done all.front.whole) (counted_all all.done all.front.whole) due)))) s
       where
         -- as many files as names
         counted_all : (done : List Read) → names_of done ++ [] ≡ source_names d → length (source_names d) ≡ length (contents done)
@@ -147,7 +156,7 @@ module _ (e : Ends) (c : Command) (result : Status) (form : form_of e.words ≡ 
 
         of_linked : (more : List (List ℕ)) (t : Turn) (done : List Read) (sources : List (List ℕ)) → contents done ≡ sources → slice_get (source_names d) (length (contents done)) ≡ None
             → length (source_names d) ≡ length (contents done) → OfLinked c d (linked d sources) more t → OfRows c d (contents done ++ more) t
-        of_linked more t done sources given none size due =
+        of_linked more t done sources given last size due =
             let own : take (length (source_names d)) (contents done ++ more) ≡ sources = ap (λ n. take n (contents done ++ more)) size ∙ take_front (contents done) more ∙ given in
             let rest : drop (length (source_names d)) (contents done ++ more) ≡ more = ap (λ n. drop n (contents done ++ more)) size ∙ drop_front (contents done) more in
             let past : slice_get (source_names d) (length (contents done ++ more)) ≡ None =
@@ -160,7 +169,7 @@ module _ (e : Ends) (c : Command) (result : Status) (form : form_of e.words ≡ 
     between done left last stop front wants refuses =
         let files = told_before e.told here done kept front.files in
         wanting e c (first_read c bytes ∷ done) result form
-        (sources_due e c bytes d kind lawful w.file done left front.whole files)
+        (sources_due e c none bytes d kind lawful w.file done left front.whole files)
         (calls_both e.calls mid e.calls_after (first_read c bytes) done w.call (wants.wanted.call ∙ front.calls))
         (wants.wanted.same ∙ w.same)
         (subst (λ s. Refuses s e.bytes e.bytes_after e.write_faults e.write_faults_after result) wants.is refuses)
@@ -171,7 +180,7 @@ module _ (e : Ends) (c : Command) (result : Status) (form : form_of e.words ≡ 
     at_next done name rest last (Unread n) front why closes =
         let files = told_before e.told here done kept front.files in
         unread e c (first_read c bytes ∷ done) name result form
-        (next_due e c bytes d kind lawful w.file done name rest front.whole files)
+        (next_due e c none bytes d kind lawful w.file done name rest front.whole files)
         (calls_last e.calls last e.calls_after (first_read c bytes) done (record { name = name; failed = true })
         (calls_both e.calls mid last (first_read c bytes) done w.call front.calls) why.1.call)
         (subst (λ n. Rose n e.read_faults_after) w.same why.1.rose)
@@ -179,7 +188,7 @@ module _ (e : Ends) (c : Command) (result : Status) (form : form_of e.words ≡ 
     at_next done name rest last (Large n) front why closes =
         let files = told_before e.told here done kept front.files in
         too_large e c (first_read c bytes ∷ done) name result form
-        (next_due e c bytes d kind lawful w.file done name rest front.whole files)
+        (next_due e c none bytes d kind lawful w.file done name rest front.whole files)
         (calls_last e.calls last e.calls_after (first_read c bytes) done (record { name = name; failed = false })
         (calls_both e.calls mid last (first_read c bytes) done w.call front.calls) why.1.call)
         (why.1.same ∙ w.same) why.1.large
@@ -187,7 +196,7 @@ module _ (e : Ends) (c : Command) (result : Status) (form : form_of e.words ≡ 
     at_next done name rest last NoMemory front why silent =
         let files = told_before e.told here done kept front.files in
         wanting e c (first_read c bytes ∷ done) result form
-        (sources_due e c bytes d kind lawful w.file done (name ∷ rest) front.whole files)
+        (sources_due e c none bytes d kind lawful w.file done (name ∷ rest) front.whole files)
         (calls_both e.calls mid e.calls_after (first_read c bytes) done w.call (why.call ∙ front.calls))
         (why.same ∙ w.same) silent
 

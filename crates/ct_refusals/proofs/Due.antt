@@ -5,9 +5,9 @@ use Rattle.std.proofs.lemmas.List.{append_assoc}
 use Rattle.def_port.specs.Told.{Told, Call}
 use Rattle.def_description.specs.Rows.{DescRow}
 use Rattle.def_description.specs.WellFormed.{WellFormed}
-use Rattle.def_program.specs.Commands.{Command, file_of, reads_image}
+use Rattle.def_program.specs.Commands.{Command, generated_by, file_of, reads_image}
 use Rattle.def_program.specs.Ends.{Ends, IsFile}
-use Rattle.def_program.specs.Turns.{Turn, Asks, Follows, OfFirst, OfSources, OfDescription, source_names}
+use Rattle.def_program.specs.Turns.{Turn, Asks, FollowsBy, Follows, OfFirst, OfSources, OfDescription, source_names}
 use Rattle.def_program.specs.Answers.{Read, contents, read_call, read_calls, WereDue, WasDue, LastRead}
 use Rattle.ct_reading.specs.Whole.{names_of}
 
@@ -17,7 +17,7 @@ first_read c bytes = record { name = file_of c; bytes = bytes }
 -- ---- lists of names
 
 name_at : (done : List Read) (left : List (List ℕ)) (k : ℕ) (r : Read) → slice_get done k ≡ Some r → slice_get (names_of done ++ left) (length (contents (take k done))) ≡ Some r.name
-name_at [] left k r is = absurd (let none : None ≡ Some r = is in cc)
+name_at [] left k r is = absurd (let clash : None ≡ Some r = is in cc)
 name_at (x ∷ done) left zero r is = ap (λ (o : Option Read). name_in o) is
   where
     name_in : Option Read → Option (List ℕ)
@@ -36,10 +36,17 @@ past_all (x ∷ done) = past_all done
 -- ---- the first file
 
 no_read_due : (e : Ends) (c : Command) → WereDue e c []
-no_read_due e c k r is = absurd (let none : None ≡ Some r = is in cc)
+no_read_due e c k r is = absurd (let clash : None ≡ Some r = is in cc)
 
-pub nothing_due : (e : Ends) (c : Command) → LastRead e c [] (file_of c)
-nothing_due e c = record { due = no_read_due e c; asked = refl }
+-- of a command that reads files its own is due, and then what that file decides
+pub own_due : (c : Command) → generated_by c ≡ None → Follows c [] (Asks (file_of c))
+own_due c none = subst (λ o. FollowsBy c o [] (Asks (file_of c))) (sym none) refl
+
+pub own_follows : (c : Command) → generated_by c ≡ None → (bytes : List ℕ) (files : List (List ℕ)) (t : Turn) → OfFirst (reads_image c) c bytes files t → Follows c (bytes ∷ files) t
+own_follows c none bytes files t due = subst (λ o. FollowsBy c o (bytes ∷ files) t) (sym none) due
+
+pub nothing_due : (e : Ends) (c : Command) → generated_by c ≡ None → LastRead e c [] (file_of c)
+nothing_due e c none = record { due = no_read_due e c; asked = own_due c none }
 
 pub none_due : (e : Ends) (c : Command) → WereDue e c []
 none_due e c = no_read_due e c
@@ -47,30 +54,30 @@ none_due e c = no_read_due e c
 some_read : (x r : Read) → Some x ≡ Some r → x ≡ r
 some_read x r is = cc
 
-pub first_due : (e : Ends) (c : Command) (bytes : List ℕ) → IsFile (e.told (file_of c)) bytes → WereDue e c (first_read c bytes ∷ [])
-first_due e c bytes file zero r is =
-    subst (λ (x : Read). WasDue e c (first_read c bytes ∷ []) zero x) (some_read (first_read c bytes) r is) (record { asked = refl; file = file })
-first_due e c bytes file (suc k) r is = absurd (let none : None ≡ Some r = is in cc)
+pub first_due : (e : Ends) (c : Command) → generated_by c ≡ None → (bytes : List ℕ) → IsFile (e.told (file_of c)) bytes → WereDue e c (first_read c bytes ∷ [])
+first_due e c none bytes file zero r is =
+    subst (λ (x : Read). WasDue e c (first_read c bytes ∷ []) zero x) (some_read (first_read c bytes) r is) (record { asked = own_due c none; file = file })
+first_due e c none bytes file (suc k) r is = absurd (let clash : None ≡ Some r = is in cc)
 
 -- ---- sources
 
-module _ (e : Ends) (c : Command) (bytes : List ℕ) (d : DescRow) (kind : reads_image c ≡ false) (lawful : WellFormed bytes d)
+module _ (e : Ends) (c : Command) (none : generated_by c ≡ None) (bytes : List ℕ) (d : DescRow) (kind : reads_image c ≡ false) (lawful : WellFormed bytes d)
     (file : IsFile (e.told (file_of c)) bytes) where
   pub of_first : (sources : List (List ℕ)) (t : Turn) → OfDescription c bytes sources t → Follows c (bytes ∷ sources) t
-  of_first sources t due = subst (λ b. OfFirst b c bytes sources t) (sym kind) due
+  of_first sources t due = own_follows c none bytes sources t (subst (λ b. OfFirst b c bytes sources t) (sym kind) due)
 
   asks : (sources : List (List ℕ)) (name : List ℕ) → slice_get (source_names d) (length sources) ≡ Some name → Follows c (bytes ∷ sources) (Asks name)
   asks sources name is = of_first sources (Asks name) (inr (d, (lawful, subst (λ o. OfSources c d (take (length (source_names d)) sources) (drop (length (source_names d)) sources) o (Asks name)) (sym is) refl)))
 
   file_at : (done : List Read) (k : ℕ) (r : Read) → AllByRecursion (λ (x : Read). IsFile (e.told x.name) x.bytes) done → slice_get done k ≡ Some r → IsFile (e.told r.name) r.bytes
-  file_at [] k r all is = absurd (let none : None ≡ Some r = is in cc)
+  file_at [] k r all is = absurd (let clash : None ≡ Some r = is in cc)
   file_at (x ∷ done) zero r all is = subst (λ (y : Read). IsFile (e.told y.name) y.bytes) (some_read x r is) all.0
   file_at (x ∷ done) (suc k) r all is = file_at done k r all.1 is
 
   pub sources_due : (done : List Read) (left : List (List ℕ)) → names_of done ++ left ≡ source_names d
       → AllByRecursion (λ (x : Read). IsFile (e.told x.name) x.bytes) done → WereDue e c (first_read c bytes ∷ done)
   sources_due done left names all zero r is =
-      subst (λ (x : Read). WasDue e c (first_read c bytes ∷ done) zero x) (some_read (first_read c bytes) r is) (record { asked = refl; file = file })
+      subst (λ (x : Read). WasDue e c (first_read c bytes ∷ done) zero x) (some_read (first_read c bytes) r is) (record { asked = own_due c none; file = file })
   sources_due done left names all (suc k) r is = record {
     asked = asks (contents (take k done)) r.name (subst (λ ns. slice_get ns (length (contents (take k done))) ≡ Some r.name) names (name_at done left k r is));
     file = file_at done k r all is;
@@ -91,7 +98,7 @@ module _ (e : Ends) (c : Command) (bytes : List ℕ) (d : DescRow) (kind : reads
 get_front : (rs : List Read) (x : Read) (k : ℕ) (r : Read) → slice_get (rs ++ x ∷ []) k ≡ Some r
     → ((slice_get rs k ≡ Some r) × (take k (rs ++ x ∷ []) ≡ take k rs)) ⊎ ((x ≡ r) × (take k (rs ++ x ∷ []) ≡ rs))
 get_front [] x zero r is = inr (some_read x r is, refl)
-get_front [] x (suc k) r is = absurd (let none : None ≡ Some r = is in cc)
+get_front [] x (suc k) r is = absurd (let clash : None ≡ Some r = is in cc)
 get_front (y ∷ ys) x zero r is = inl (is, refl)
 get_front (y ∷ ys) x (suc k) r is = elim (get_front ys x k r is) [
   | inl there ↦ inl (there.0, ap (λ zs. y ∷ zs) there.1)

@@ -15,21 +15,25 @@ SettlesIn Due e result =
     Settles Due e.bytes e.bytes_after e.write_faults e.write_faults_after result
 
 -- no file was read
-pub record EndsAtOnce (Due : List (List ℕ) → Turn → Type 0) (e : Ends) (result : Status) : Type 0 where
+pub record EndsAtOnce (Due : List (List ℕ) → Turn → Type 0) (e : Ends) (result : Status)
+    : Type 0 where
   pub calls : e.calls_after ≡ e.calls
   pub same : e.read_faults_after ≡ e.read_faults
   pub settles : SettlesIn (Due []) e result
 
 -- one file was due, and was given whole
-pub record EndsAfter (Due : List (List ℕ) → Turn → Type 0) (e : Ends) (result : Status) : Type 0 where
+pub record EndsAfter (Due : List (List ℕ) → Turn → Type 0) (e : Ends) (result : Status)
+    : Type 0 where
   pub name : List ℕ
   pub asked : Due [] (turn.Asks name)
   pub bytes : List ℕ
-  pub given : WasGiven name (e.told name) e.calls e.calls_after e.read_faults e.read_faults_after bytes
+  pub given : WasGiven name (e.told name) e.calls e.calls_after e.read_faults e.read_faults_after
+      bytes
   pub settles : SettlesIn (Due (bytes ∷ [])) e result
 
 -- one file was due, and wasn't given
-pub record EndsWithout (Due : List (List ℕ) → Turn → Type 0) (e : Ends) (result : Status) : Type 0 where
+pub record EndsWithout (Due : List (List ℕ) → Turn → Type 0) (e : Ends) (result : Status)
+    : Type 0 where
   pub name : List ℕ
   pub asked : Due [] (turn.Asks name)
   pub stop : Stop

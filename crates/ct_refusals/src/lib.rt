@@ -8,5 +8,5 @@
 mod lines;
 mod writing;
 
-pub use lines::{description_line, image_line, link_line, policy_line};
+pub use lines::{description_line, image_line, link_line, policy_line, script_line};
 pub use writing::{close, close_text, refuse_file, refuse_name, refuse_usage};

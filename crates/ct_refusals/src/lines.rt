@@ -52,6 +52,14 @@ pub fn image_line(alloc: Global, number: u32, place: u32) -> Result<String, Allo
     format!(in alloc; "refused 7 image I{number} {place}\n")
 }
 
+/// The line that refuses a script: the fault's number, and the line that is at fault. An error is want of
+/// memory.
+pub fn script_line(alloc: Global, number: u32, line: u32) -> Result<String, AllocError>
+    ensures { IfOk result (λ s. string_bytes s ≡ spec.script_line number line) }
+{
+    format!(in alloc; "refused 8 script S{number} {line}\n")
+}
+
 /// The line that refuses a policy: the fault's number, and the line that is at fault. An error is want of
 /// memory.
 pub fn policy_line(alloc: Global, number: u32, line: u32) -> Result<String, AllocError>

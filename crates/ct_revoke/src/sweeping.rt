@@ -39,6 +39,24 @@ pub(crate) fn pass<M: Memory>(mem: &mut M, ram: u32, low: u32, high: u32)
     }
 }
 
+/// The granules from one offset to another pass the load filter, one after another: what this takes goes by how many
+/// they are, wherever the next tagged one stands.
+pub(crate) fn walk<M: Memory>(mem: &mut M, ram: u32, low: u32, high: u32)
+    ensures { IsSliced ram low high (M.granules mem.old) (M.granules mem.new) }
+{
+    let end = high.min(mem.size());
+    if end <= low {
+        return;
+    }
+    let mut at = (low + 7) / 8 * 8;
+    while at < end {
+        if mem.load_cap(at).tag {
+            pass_one(mem, ram, at);
+        }
+        at += 8;
+    }
+}
+
 /// The capability of a granule passes the load filter.
 fn pass_one<M: Memory>(mem: &mut M, ram: u32, at: u32)
     requires { IsPlace (8 * length (M.granules mem.old)) at }

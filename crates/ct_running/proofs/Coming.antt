@@ -1,5 +1,5 @@
 -- Events that come one after the other, with their lines.
-use Rattle.std.proofs.Common.{◌≡◌, ℕ, ◌+◌, ◌<◌, ◌≤◌, Bool, true, false, List, [], ◌∷◌, ◌++◌, Option, refl, sym, ap, ◌∙◌, subst, arith}
+use Rattle.std.proofs.Common.{◌≡◌, ℕ, suc, ◌+◌, ◌<◌, ◌≤◌, Bool, true, false, List, [], ◌∷◌, ◌++◌, length, map, Option, refl, sym, ap, ◌∙◌, subst, arith}
 use Rattle.std.proofs.lemmas.Bool.{lt-ltb}
 use Rattle.std.proofs.lemmas.List.{append-nil}
 use Rattle.std.proofs.lemmas.Grind.{flat_map-append}
@@ -14,21 +14,15 @@ use Rattle.def_step.specs.Instructions.{Board}
 use Rattle.def_step.specs.Events.{MachineRow, happens, run, told, is_lawful}
 use Rattle.def_trace.specs.Trace.{trace_line}
 use Rattle.law_counts.specs.Kinds.{Kinds, kinds, all_more}
+use Rattle.law_counts.proofs.Appended.{run_append, told_append}
 use Rattle.law_counts.proofs.Counted.{run_kinds}
-use Rattle.ct_running.specs.Rounds.{Came, ticks_if, lines_of}
+use Rattle.law_counts.proofs.Devices.{run_keeps}
+use Rattle.def_script.specs.declared.Given.{Given}
+use Rattle.def_program.specs.Runs.{input_of}
+use Rattle.ct_running.specs.Rounds.{Came, ticks_if, lines_of, round_of}
 use Rattle.ct_running.proofs.Pieces as pieces
 
 -- ---- lists of events
-
-pub run_append : (b : Board) (s : State) (es fs : List Event) → run b s (es ++ fs) ≡ run b (run b s es) fs
-unfolding run
-run_append b s [] fs = refl
-run_append b s (e ∷ es) fs = run_append b (happens b s e).0 es fs
-
-pub told_append : (b : Board) (s : State) (es fs : List Event) → told b s (es ++ fs) ≡ told b s es ++ told b (run b s es) fs
-unfolding told run
-told_append b s [] fs = refl
-told_append b s (e ∷ es) fs = ap (λ hs. (happens b s e).1 ∷ hs) (told_append b (happens b s e).0 es fs)
 
 lines_append : (m n : MachineRow) (k : ℕ) (es fs : List Event) → n.board ≡ m.board → n.state ≡ run m.board m.state es → lines_of m k (es ++ fs) ≡ lines_of m k es ++ lines_of n k fs
 lines_append m n k es fs board state =
@@ -106,19 +100,45 @@ pub ticked_sweeps : (m n : MachineRow) (due : Bool) (k : ℕ) (before after : Op
 ticked_sweeps m n true k before after f g c = ap (λ (x : Kinds). x.sweeps) (came_kinds m n k (Tick ∷ []) before after f g c)
 ticked_sweeps m n false k before after f g c = ap (λ (x : Kinds). x.sweeps) (came_kinds m n k [] before after f g c)
 
+-- bytes count as inputs alone
+inputs_more : (gs : List Given) (es : List Event) (k : Kinds) → all_more (map input_of gs ++ es) k ≡ all_more es (record k { inputs = k.inputs + length gs })
+inputs_more [] es k = ap (λ n. all_more es (record k { inputs = n })) (let same : k.inputs ≡ k.inputs + 0 = omega arith in same)
+inputs_more (g ∷ gs) es k =
+    inputs_more gs es (record k { inputs = k.inputs + 1 })
+    ∙ ap (λ n. all_more es (record k { inputs = n })) (let same : k.inputs + 1 + length gs ≡ k.inputs + suc (length gs) = omega arith in same)
+
+pub inputs_kinds : (m n : MachineRow) (gs : List Given) (k : ℕ) (before after : Option (List ℕ)) (f g : ℕ) → Came m n k (map input_of gs) before after f g
+    → kinds n.state.counts ≡ record (kinds m.state.counts) { inputs = m.state.counts.inputs + length gs }
+inputs_kinds m n gs k before after f g c =
+    came_kinds m n k (map input_of gs) before after f g c
+    ∙ ap (λ es. all_more es (kinds m.state.counts)) (sym (append-nil (map input_of gs)))
+    ∙ inputs_more gs [] (kinds m.state.counts)
+
+pub came_devices : (m n : MachineRow) (k : ℕ) (es : List Event) (before after : Option (List ℕ)) (f g : ℕ) → Came m n k es before after f g → length n.state.devices ≡ length m.state.devices
+came_devices m n k es before after f g c = ap (λ (s : State). length s.devices) c.state ∙ run_keeps m.board m.state es
+
 -- a whole round
-pub round_steps : (m n : MachineRow) (due : Bool) (k : ℕ) (before after : Option (List ℕ)) (f g : ℕ) → Came m n k (ticks_if due ++ Sweep ∷ Step ∷ []) before after f g → n.state.counts.steps ≡ m.state.counts.steps + 1
-round_steps m n true k before after f g c = ap (λ (x : Kinds). x.steps) (came_kinds m n k (Tick ∷ Sweep ∷ Step ∷ []) before after f g c)
-round_steps m n false k before after f g c = ap (λ (x : Kinds). x.steps) (came_kinds m n k (Sweep ∷ Step ∷ []) before after f g c)
+round_kinds : (m n : MachineRow) (gs : List Given) (due : Bool) (k : ℕ) (before after : Option (List ℕ)) (f g : ℕ) → Came m n k (round_of gs due) before after f g
+    → kinds n.state.counts ≡ all_more (ticks_if due ++ Sweep ∷ Step ∷ []) (record (kinds m.state.counts) { inputs = m.state.counts.inputs + length gs })
+round_kinds m n gs due k before after f g c =
+    came_kinds m n k (round_of gs due) before after f g c ∙ inputs_more gs (ticks_if due ++ Sweep ∷ Step ∷ []) (kinds m.state.counts)
 
-pub round_sweeps : (m n : MachineRow) (due : Bool) (k : ℕ) (before after : Option (List ℕ)) (f g : ℕ) → Came m n k (ticks_if due ++ Sweep ∷ Step ∷ []) before after f g → n.state.counts.sweeps ≡ m.state.counts.sweeps + 1
-round_sweeps m n true k before after f g c = ap (λ (x : Kinds). x.sweeps) (came_kinds m n k (Tick ∷ Sweep ∷ Step ∷ []) before after f g c)
-round_sweeps m n false k before after f g c = ap (λ (x : Kinds). x.sweeps) (came_kinds m n k (Sweep ∷ Step ∷ []) before after f g c)
+pub round_steps : (m n : MachineRow) (gs : List Given) (due : Bool) (k : ℕ) (before after : Option (List ℕ)) (f g : ℕ) → Came m n k (round_of gs due) before after f g → n.state.counts.steps ≡ m.state.counts.steps + 1
+round_steps m n gs true k before after f g c = ap (λ (x : Kinds). x.steps) (round_kinds m n gs true k before after f g c)
+round_steps m n gs false k before after f g c = ap (λ (x : Kinds). x.steps) (round_kinds m n gs false k before after f g c)
 
-pub round_ticks : (m n : MachineRow) (due : Bool) (k : ℕ) (before after : Option (List ℕ)) (f g : ℕ) → Came m n k (ticks_if due ++ Sweep ∷ Step ∷ []) before after f g → n.state.counts.ticks ≤ m.state.counts.ticks + 1
-round_ticks m n true k before after f g c =
-    let same : n.state.counts.ticks ≡ m.state.counts.ticks + 1 = ap (λ (x : Kinds). x.ticks) (came_kinds m n k (Tick ∷ Sweep ∷ Step ∷ []) before after f g c) in
+pub round_sweeps : (m n : MachineRow) (gs : List Given) (due : Bool) (k : ℕ) (before after : Option (List ℕ)) (f g : ℕ) → Came m n k (round_of gs due) before after f g → n.state.counts.sweeps ≡ m.state.counts.sweeps + 1
+round_sweeps m n gs true k before after f g c = ap (λ (x : Kinds). x.sweeps) (round_kinds m n gs true k before after f g c)
+round_sweeps m n gs false k before after f g c = ap (λ (x : Kinds). x.sweeps) (round_kinds m n gs false k before after f g c)
+
+pub round_inputs : (m n : MachineRow) (gs : List Given) (due : Bool) (k : ℕ) (before after : Option (List ℕ)) (f g : ℕ) → Came m n k (round_of gs due) before after f g → n.state.counts.inputs ≡ m.state.counts.inputs + length gs
+round_inputs m n gs true k before after f g c = ap (λ (x : Kinds). x.inputs) (round_kinds m n gs true k before after f g c)
+round_inputs m n gs false k before after f g c = ap (λ (x : Kinds). x.inputs) (round_kinds m n gs false k before after f g c)
+
+pub round_ticks : (m n : MachineRow) (gs : List Given) (due : Bool) (k : ℕ) (before after : Option (List ℕ)) (f g : ℕ) → Came m n k (round_of gs due) before after f g → n.state.counts.ticks ≤ m.state.counts.ticks + 1
+round_ticks m n gs true k before after f g c =
+    let same : n.state.counts.ticks ≡ m.state.counts.ticks + 1 = ap (λ (x : Kinds). x.ticks) (round_kinds m n gs true k before after f g c) in
     omega (arith, same)
-round_ticks m n false k before after f g c =
-    let same : n.state.counts.ticks ≡ m.state.counts.ticks = ap (λ (x : Kinds). x.ticks) (came_kinds m n k (Sweep ∷ Step ∷ []) before after f g c) in
+round_ticks m n gs false k before after f g c =
+    let same : n.state.counts.ticks ≡ m.state.counts.ticks = ap (λ (x : Kinds). x.ticks) (round_kinds m n gs false k before after f g c) in
     omega (arith, same)

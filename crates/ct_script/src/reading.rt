@@ -6,7 +6,7 @@ ghost use Rattle.ct_script.specs.Lines.{AreLines, Going, Takes, IsRefusal, dues_
 
 use crate::fields::first_line;
 use crate::finding::first_from;
-use ct_entry::{Device, DeviceKind, Devices};
+use ct_entry::{Device, DeviceKind};
 use def_script::{Given, ScriptFault};
 use std::alloc::Global;
 use std::marker::Model;
@@ -56,11 +56,11 @@ fn is_named(device: &Device, name: &[u8]) -> bool
 }
 
 /// The device of this name to which bytes come.
-fn find_device(devices: &Devices, name: &[u8]) -> Option<u32>
+fn find_device(devices: &[Device], name: &[u8]) -> Option<u32>
     requires { length devices.now < 2 ^ 32 }
     ensures { result ≡ device_named devices.now name.now }
 {
-    for (index, device) in devices.rows.iter().enumerate() {
+    for (index, device) in devices.iter().enumerate() {
         if is_named(device, name) {
             return Some(index as u32);
         }
@@ -108,7 +108,7 @@ fn keep(lines: &mut Lines, step: u32, given: Given) -> Result<(), ScriptFault>
 /// Keeps the line that begins what is left, and gives what follows it.
 fn take_line<'a>(
     lines: &mut Lines,
-    devices: &Devices,
+    devices: &[Device],
     left: &'a [u8],
 ) -> Result<&'a [u8], ScriptFault>
     requires some { 0 < length left.now }
@@ -143,7 +143,7 @@ fn take_line<'a>(
 pub(crate) fn read_lines(
     alloc: Global,
     bytes: &[u8],
-    devices: &Devices,
+    devices: &[Device],
 ) -> Result<Lines, ScriptFault>
     requires bytes { length bytes.now < 2 ^ 32 }
     requires devices { length devices.now < 2 ^ 32 }

@@ -1,10 +1,10 @@
 //! A script: what is given, in order, each with the step before which it comes.
 
-ghost use Rattle.std.specs.Prelude.{ℕ, ◌≡◌, ◌<◌, ◌^◌, length, MatchResult};
+ghost use Rattle.std.specs.Prelude.{ℕ, ◌≡◌, ◌<◌, ◌^◌, [], length, MatchResult};
 ghost use Rattle.def_script.specs.Script.{Reads, IsCause, given_at};
 
 use crate::reading::{Lines, read_lines};
-use ct_entry::Devices;
+use ct_entry::Device;
 use def_script::{Given, ScriptFault};
 use std::alloc::Global;
 use std::marker::Model;
@@ -29,7 +29,7 @@ impl Model for Script {
 
 /// Reads a script. The answer `At` names the least line that breaks a rule, and on it the least rule;
 /// `NoMemory` wants memory.
-pub fn read(alloc: Global, bytes: &[u8], devices: &Devices) -> Result<Script, ScriptFault>
+pub fn read(alloc: Global, bytes: &[u8], devices: &[Device]) -> Result<Script, ScriptFault>
     requires bytes { length bytes.now < 2 ^ 32 }
     requires devices { length devices.now < 2 ^ 32 }
     ensures { MatchResult result (λ s. Reads devices.now bytes.now s)
@@ -40,6 +40,17 @@ pub fn read(alloc: Global, bytes: &[u8], devices: &Devices) -> Result<Script, Sc
 }
 
 impl Script {
+    /// No bytes at all. It takes no memory.
+    pub fn empty(alloc: Global) -> Script
+        ensures { result ≡ [] }
+    {
+        let lines = Lines {
+            steps: Vec::new(alloc),
+            givens: Vec::new(alloc),
+        };
+        Script { lines }
+    }
+
     /// The bytes that come before a step, in the script's order.
     pub fn at(&self, step: u32) -> &[Given]
         ensures { result.now ≡ given_at self.now step }

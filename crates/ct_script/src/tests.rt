@@ -3,7 +3,7 @@
 ghost use Rattle.std.specs.Prelude.{◌≡◌, length, IfOk};
 
 use crate::{Given, ScriptFault, read};
-use ct_entry::{Device, DeviceKind, Devices};
+use ct_entry::{Device, DeviceKind};
 use std::alloc::{AllocError, Global};
 use std::test::Fail;
 
@@ -17,20 +17,20 @@ fn device(alloc: Global, name: &str, kind: DeviceKind, base: u32) -> Result<Devi
 }
 
 /// A timer, a serial port and a gpio.
-fn devices(alloc: Global) -> Result<Devices, Fail>
-    ensures { IfOk result (λ d. length d ≡ 3) }
+fn devices(alloc: Global) -> Result<Vec<Device>, Fail>
+    ensures { IfOk result (λ d. length d.items ≡ 3) }
 {
     let mut rows = Vec::new(alloc);
     rows.push(device(alloc, "clock", DeviceKind::Timer, 0x1000_0010)?)?;
     rows.push(device(alloc, "uart0", DeviceKind::Uart, 0x1000_0000)?)?;
     rows.push(device(alloc, "pins", DeviceKind::Gpio, 0x1000_0020)?)?;
-    Ok(Devices { rows })
+    Ok(rows)
 }
 
 #[test]
 fn script_input(rt: HostRuntime) -> Result<(), Fail> {
     let devices = devices(rt.alloc())?;
-    let one = read(rt.alloc(), b"2 uart0 65\n", &devices)?;
+    let one = read(rt.alloc(), b"2 uart0 65\n", devices.as_slice())?;
     let given = Given {
         device: 1,
         byte: 65,
@@ -41,7 +41,7 @@ fn script_input(rt: HostRuntime) -> Result<(), Fail> {
     let many = read(
         rt.alloc(),
         b"3 pins 0\n7 uart0 1\n7 pins 255\n4000000000 uart0 9\n",
-        &devices,
+        devices.as_slice(),
     )?;
     assert_eq!(rt;
         many.at(7),
@@ -55,7 +55,7 @@ fn script_input(rt: HostRuntime) -> Result<(), Fail> {
         .as_slice()
     );
     assert_eq!(rt; many.at(4_000_000_000).len(), 1);
-    assert_eq!(rt; read(rt.alloc(), b"", &devices)?.at(1).len(), 0);
+    assert_eq!(rt; read(rt.alloc(), b"", devices.as_slice())?.at(1).len(), 0);
     Ok(())
 }
 
@@ -75,7 +75,7 @@ fn the_first_fault(rt: HostRuntime) -> Result<(), Fail> {
         (b"2 uart0 1\n1 nobody 1\n1\n", 2, 2),
         (b"1 nobody 1\n1\n", 3, 1),
     ] {
-        match read(rt.alloc(), text, &devices) {
+        match read(rt.alloc(), text, devices.as_slice()) {
             Ok(_) => assert!(rt; false),
             Err(fault) => assert_eq!(rt; fault, ScriptFault::At { number, line }),
         }

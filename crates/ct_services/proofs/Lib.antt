@@ -1,3 +1,4 @@
 pub mod Answers
 pub mod Switching
 pub mod Held
+pub mod Granted

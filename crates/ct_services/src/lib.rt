@@ -1,17 +1,20 @@
-//! Native routines of the switcher and the scheduler: what the switch, yield, sleep, wait and wake make of
-//! the running thread and of the scheduler.
+//! Native routines: what the switch, yield, sleep, wait and wake make of the running thread and of the
+//! scheduler, and allocate, free and remaining of it and of the heap.
 //!
-//! Contracts are equations with the written routines of def_step: a check of c1, and of the word that c10
-//! names, that fails is the answer and nothing changes; else the thread goes on where c1 leads with its
-//! result in c10, or rests, or enters a callee. No call takes memory. docs/use/machine.md tells the rules in prose.
+//! Contracts say over what is seen of an engine what the written routines of def_step say over the machine's state: a
+//! check of c1, and of the word that c10 names, that fails is the answer and nothing changes; else the thread goes on
+//! where c1 leads with its result in c10, or rests, or enters a callee. No call takes the host's memory.
+//! docs/use/machine.md tells the rules in prose.
 #![tactic(auto)]
 
 mod answering;
 mod calling;
+mod granting;
 mod resting;
 mod words;
 
 pub use answering::answer;
 pub use calling::switch;
-pub use ct_engine::Called;
+pub use ct_heaped::Called;
+pub use granting::{allocate, free, remaining};
 pub use resting::{pause, sleep, wait, wake};

@@ -13,14 +13,15 @@ ghost use Rattle.def_step.specs.Switch.{return_checks};
 ghost use Rattle.def_step.specs.Routines.{word_checks};
 ghost use Rattle.ct_engine.specs.Seen.{thread};
 ghost use Rattle.ct_execute.specs.Opening.{IsOpen};
+ghost use Rattle.ct_heaped.specs.Seen.{with_threads};
 ghost use Rattle.ct_sched.specs.Sched.{with_statuses};
 ghost use Rattle.ct_services.specs.Served.{answered_in, rested, waited, with_status, either, unless, unless_row, IfPasses, IsWord};
 
 use crate::answering::{answer, code};
 use crate::words::word_trap;
 use ct_cap::{Live, Trap};
-use ct_engine::Engine;
 use ct_exports::return_trap;
+use ct_heaped::Engine;
 use ct_mem::Memory;
 use ct_sched::Sched;
 
@@ -29,10 +30,10 @@ const DIFFERS: u32 = 21;
 
 /// The running thread stops, to be ready after so many ticks.
 fn stop_for<M: Memory + Drop>(engine: &mut Engine<M>, sched: &mut Sched, t: u32, ticks: u32)
-    requires runs { engine.old.running ≡ Some t }
+    requires runs { engine.old.threads.running ≡ Some t }
     requires there { t < length sched.old.statuses }
     requires ready { status_of sched.old.statuses t ≡ Ready }
-    ensures engine { engine.new ≡ rested engine.old t }
+    ensures engine { engine.new ≡ with_threads engine.old (rested engine.old.threads t) }
     ensures sched { sched.new ≡ with_status sched.old t (asleep ticks) }
 {
     answer(engine, t, Live::integer(0));
@@ -48,11 +49,14 @@ fn rest<M: Memory + Drop>(
     t: u32,
     ticks: u32,
 ) -> Option<Trap>
-    requires runs { engine.old.running ≡ Some t }
+    requires runs { engine.old.threads.running ≡ Some t }
     requires there { t < length sched.old.statuses }
     requires ready { status_of sched.old.statuses t ≡ Ready }
-    ensures trap { result ≡ first_failed (return_checks (register (thread engine.old t) 1)) }
-    ensures engine { engine.new ≡ unless result engine.old (rested engine.old t) }
+    ensures trap { result
+        ≡ first_failed (return_checks (register (thread engine.old.threads t) 1)) }
+    ensures engine { engine.new
+        ≡ with_threads engine.old
+        (unless result engine.old.threads (rested engine.old.threads t)) }
     ensures sched { sched.new
         ≡ unless_row result sched.old (with_status sched.old t (asleep ticks)) }
 {
@@ -66,12 +70,13 @@ fn rest<M: Memory + Drop>(
 
 /// The first check that fails of c1, then of c10 as a word of RAM.
 fn first_trap<M: Memory + Drop>(engine: &Engine<M>, t: u32, ram: u32) -> Option<Trap>
-    requires runs { engine.now.running ≡ Some t }
-    ensures is { (i : Image) (s : State) → i.ram ≡ ram → s.granules ≡ engine.now.granules
-        → result ≡ either (first_failed (return_checks (register (thread engine.now t) 1)))
-        (first_failed (word_checks i s (register (thread engine.now t) 10))) }
+    requires runs { engine.now.threads.running ≡ Some t }
+    ensures is { (i : Image) (s : State) → i.ram ≡ ram → s.granules ≡ engine.now.threads.granules
+        → result ≡ either (first_failed (return_checks (register (thread engine.now.threads t) 1)))
+        (first_failed (word_checks i s (register (thread engine.now.threads t) 10))) }
     ensures passes { IfPasses result
-        (IsWord ram (8 * length engine.now.granules) (register (thread engine.now t) 10)) }
+        (IsWord ram (8 * length engine.now.threads.granules)
+        (register (thread engine.now.threads t) 10)) }
 {
     let link = engine.register(t, 1);
     if let Some(trap) = return_trap(link) {
@@ -83,11 +88,14 @@ fn first_trap<M: Memory + Drop>(engine: &Engine<M>, t: u32, ram: u32) -> Option<
 /// Yield: the running thread stops and stays ready. The trap is the check of c1 that fails; then nothing
 /// changes.
 pub fn pause<M: Memory + Drop>(engine: &mut Engine<M>, sched: &mut Sched, t: u32) -> Option<Trap>
-    requires runs { engine.old.running ≡ Some t }
+    requires runs { engine.old.threads.running ≡ Some t }
     requires there { t < length sched.old.statuses }
     requires ready { status_of sched.old.statuses t ≡ Ready }
-    ensures trap { result ≡ first_failed (return_checks (register (thread engine.old t) 1)) }
-    ensures engine { engine.new ≡ unless result engine.old (rested engine.old t) }
+    ensures trap { result
+        ≡ first_failed (return_checks (register (thread engine.old.threads t) 1)) }
+    ensures engine { engine.new
+        ≡ with_threads engine.old
+        (unless result engine.old.threads (rested engine.old.threads t)) }
     ensures sched { sched.new
         ≡ unless_row result sched.old (with_status sched.old t (asleep 0)) }
 {
@@ -97,15 +105,18 @@ pub fn pause<M: Memory + Drop>(engine: &mut Engine<M>, sched: &mut Sched, t: u32
 /// Sleep: the running thread stops for as many ticks as c10's address says. The trap is the check of c1
 /// that fails; then nothing changes.
 pub fn sleep<M: Memory + Drop>(engine: &mut Engine<M>, sched: &mut Sched, t: u32) -> Option<Trap>
-    requires runs { engine.old.running ≡ Some t }
+    requires runs { engine.old.threads.running ≡ Some t }
     requires there { t < length sched.old.statuses }
     requires ready { status_of sched.old.statuses t ≡ Ready }
-    ensures trap { result ≡ first_failed (return_checks (register (thread engine.old t) 1)) }
-    ensures engine { engine.new ≡ unless result engine.old (rested engine.old t) }
+    ensures trap { result
+        ≡ first_failed (return_checks (register (thread engine.old.threads t) 1)) }
+    ensures engine { engine.new
+        ≡ with_threads engine.old
+        (unless result engine.old.threads (rested engine.old.threads t)) }
     ensures sched { sched.new
         ≡ unless_row result sched.old
         (with_status sched.old t
-        (asleep (cap_address (register (thread engine.old t) 10)))) }
+        (asleep (cap_address (register (thread engine.old.threads t) 10)))) }
 {
     let ticks = engine.register(t, 10).address();
     rest(engine, sched, t, ticks)
@@ -114,13 +125,15 @@ pub fn sleep<M: Memory + Drop>(engine: &mut Engine<M>, sched: &mut Sched, t: u32
 /// What the word holds that c10 names.
 #[tactic(auto, using(crate::proofs::Held::word_low, crate::proofs::Held::word_accessed, crate::proofs::Held::word_seen))]
 fn held<M: Memory + Drop>(engine: &Engine<M>, t: u32, ram: u32) -> u32
-    requires runs { engine.now.running ≡ Some t }
+    requires runs { engine.now.threads.running ≡ Some t }
     requires opens { IsOpen engine.now t }
-    requires ram { ram ≡ engine.now.region.ram }
+    requires ram { ram ≡ engine.now.threads.region.ram }
     requires even { ram % 16 ≡ 0 }
-    requires word { IsWord ram (8 * length engine.now.granules) (register (thread engine.now t) 10) }
+    requires word { IsWord ram (8 * length engine.now.threads.granules)
+        (register (thread engine.now.threads t) 10) }
     ensures { result
-        ≡ loaded engine.now.granules (cap_address (register (thread engine.now t) 10) - ram) 4 }
+        ≡ loaded engine.now.threads.granules
+        (cap_address (register (thread engine.now.threads t) 10) - ram) 4 }
 {
     let address = engine.register(t, 10).address();
     engine.load(address - ram, 4)
@@ -135,10 +148,11 @@ fn wait_for<M: Memory + Drop>(
     held: u32,
     wanted: u32,
 )
-    requires runs { engine.old.running ≡ Some t }
+    requires runs { engine.old.threads.running ≡ Some t }
     requires there { t < length sched.old.statuses }
     requires ready { status_of sched.old.statuses t ≡ Ready }
-    ensures engine { engine.new ≡ waited engine.old t held wanted }
+    ensures engine { engine.new
+        ≡ with_threads engine.old (waited engine.old.threads t held wanted) }
     ensures sched { sched.new ≡ with_status sched.old t (awaiting address held wanted) }
 {
     if sched.wait(t, address, held, wanted) {
@@ -160,27 +174,29 @@ pub fn wait<M: Memory + Drop>(
     t: u32,
     ram: u32,
 ) -> Option<Trap>
-    requires runs { engine.old.running ≡ Some t }
+    requires runs { engine.old.threads.running ≡ Some t }
     requires there { t < length sched.old.statuses }
     requires ready { status_of sched.old.statuses t ≡ Ready }
     requires opens { IsOpen engine.old t }
-    requires ram { ram ≡ engine.old.region.ram }
+    requires ram { ram ≡ engine.old.threads.region.ram }
     requires even { ram % 16 ≡ 0 }
-    ensures trap { (i : Image) (s : State) → i.ram ≡ ram → s.granules ≡ engine.old.granules
-        → result ≡ either (first_failed (return_checks (register (thread engine.old t) 1)))
-        (first_failed (word_checks i s (register (thread engine.old t) 10))) }
+    ensures trap { (i : Image) (s : State) → i.ram ≡ ram → s.granules ≡ engine.old.threads.granules
+        → result ≡ either (first_failed (return_checks (register (thread engine.old.threads t) 1)))
+        (first_failed (word_checks i s (register (thread engine.old.threads t) 10))) }
     ensures engine { engine.new
-        ≡ unless result engine.old
-        (waited engine.old t
-        (loaded engine.old.granules
-        (cap_address (register (thread engine.old t) 10) - ram) 4)
-        (cap_address (register (thread engine.old t) 11))) }
+        ≡ with_threads engine.old
+        (unless result engine.old.threads
+        (waited engine.old.threads t
+        (loaded engine.old.threads.granules
+        (cap_address (register (thread engine.old.threads t) 10) - ram) 4)
+        (cap_address (register (thread engine.old.threads t) 11)))) }
     ensures sched { sched.new
         ≡ unless_row result sched.old
         (with_status sched.old t
-        (awaiting (cap_address (register (thread engine.old t) 10))
-        (loaded engine.old.granules (cap_address (register (thread engine.old t) 10) - ram) 4)
-        (cap_address (register (thread engine.old t) 11)))) }
+        (awaiting (cap_address (register (thread engine.old.threads t) 10))
+        (loaded engine.old.threads.granules
+        (cap_address (register (thread engine.old.threads t) 10) - ram) 4)
+        (cap_address (register (thread engine.old.threads t) 11)))) }
 {
     if let Some(trap) = first_trap(engine, t, ram) {
         return Some(trap);
@@ -201,21 +217,22 @@ pub fn wake<M: Memory + Drop>(
     t: u32,
     ram: u32,
 ) -> Option<Trap>
-    requires runs { engine.old.running ≡ Some t }
-    ensures trap { (i : Image) (s : State) → i.ram ≡ ram → s.granules ≡ engine.old.granules
-        → result ≡ either (first_failed (return_checks (register (thread engine.old t) 1)))
-        (first_failed (word_checks i s (register (thread engine.old t) 10))) }
+    requires runs { engine.old.threads.running ≡ Some t }
+    ensures trap { (i : Image) (s : State) → i.ram ≡ ram → s.granules ≡ engine.old.threads.granules
+        → result ≡ either (first_failed (return_checks (register (thread engine.old.threads t) 1)))
+        (first_failed (word_checks i s (register (thread engine.old.threads t) 10))) }
     ensures engine { engine.new
-        ≡ unless result engine.old
-        (answered_in engine.old t
+        ≡ with_threads engine.old
+        (unless result engine.old.threads
+        (answered_in engine.old.threads t
         (integer
-        (woken_count (cap_address (register (thread engine.old t) 10))
-        (cap_address (register (thread engine.old t) 11)) sched.old.statuses))) }
+        (woken_count (cap_address (register (thread engine.old.threads t) 10))
+        (cap_address (register (thread engine.old.threads t) 11)) sched.old.statuses)))) }
     ensures sched { sched.new
         ≡ unless_row result sched.old
         (with_statuses sched.old
-        (woken (cap_address (register (thread engine.old t) 10))
-        (cap_address (register (thread engine.old t) 11)) sched.old.statuses)) }
+        (woken (cap_address (register (thread engine.old.threads t) 10))
+        (cap_address (register (thread engine.old.threads t) 11)) sched.old.statuses)) }
 {
     if let Some(trap) = first_trap(engine, t, ram) {
         return Some(trap);

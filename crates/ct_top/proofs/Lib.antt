@@ -1,4 +1,5 @@
 pub mod Booted
 pub mod Named
+pub mod Generated
 pub mod Linkable
 pub mod Turning

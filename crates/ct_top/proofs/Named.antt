@@ -1,30 +1,31 @@
 -- The file of a form is the one that it names.
-use Rattle.std.proofs.Common.{◌≡◌, ℕ, List, refl, subst}
+use Rattle.std.proofs.Common.{◌≡◌, ℕ, List, Some, None, refl, subst}
 use Rattle.def_port.specs.Told.{Told, Call}
-use Rattle.def_program.specs.Commands.{file_of}
+use Rattle.def_program.specs.Commands.{generated_by, file_of}
 use Rattle.ct_words.specs.declared.Task.{Task}
-use Rattle.ct_words.specs.declared.Task.TheVariants.{Audit, Image, Run, RunImage, Why, Upgrade, Check}
+use Rattle.ct_words.specs.declared.Task.TheVariants.{Audit, Image, Run, RunImage, Why, Upgrade, Check, Demo}
 use Rattle.ct_words.specs.Forms.{command_for}
 use Rattle.ct_reading.specs.declared.files.Stop.{Stop}
 use Rattle.ct_reading.specs.Whole.{WasGiven, NotGiven}
 
-file_is : (name : List ℕ) (task : Task) → name ≡ file_of (command_for name task)
-file_is name Audit = refl
-file_is name Image = refl
-file_is name (Run limit) = refl
-file_is name (RunImage limit) = refl
-file_is name (Why owner compartment) = refl
-file_is name Upgrade = refl
-file_is name (Check policy) = refl
+file_is : (name : List ℕ) (task : Task) → generated_by (command_for name task) ≡ None → name ≡ file_of (command_for name task)
+file_is name Audit none = refl
+file_is name Image none = refl
+file_is name (Run limit script) none = refl
+file_is name (RunImage limit script) none = refl
+file_is name (Why owner compartment) none = refl
+file_is name Upgrade none = refl
+file_is name (Check policy) none = refl
+file_is name (Demo number) none = absurd (let clash : Some number ≡ None = none in cc)
 
-pub given_by : (name : List ℕ) (task : Task) (told : List ℕ → Told) (before after : List Call) (faults now : ℕ) (bytes : List ℕ)
+pub given_by : (name : List ℕ) (task : Task) → generated_by (command_for name task) ≡ None → (told : List ℕ → Told) (before after : List Call) (faults now : ℕ) (bytes : List ℕ)
     → WasGiven name (told name) before after faults now bytes
     → WasGiven (file_of (command_for name task)) (told (file_of (command_for name task))) before after faults now bytes
-given_by name task told before after faults now bytes w =
-    subst (λ (n : List ℕ). WasGiven n (told n) before after faults now bytes) (file_is name task) w
+given_by name task none told before after faults now bytes w =
+    subst (λ (n : List ℕ). WasGiven n (told n) before after faults now bytes) (file_is name task none) w
 
-pub refused_by : (name : List ℕ) (task : Task) (told : List ℕ → Told) (before after : List Call) (faults now : ℕ) (stop : Stop)
+pub refused_by : (name : List ℕ) (task : Task) → generated_by (command_for name task) ≡ None → (told : List ℕ → Told) (before after : List Call) (faults now : ℕ) (stop : Stop)
     → NotGiven name (told name) before after faults now stop
     → NotGiven (file_of (command_for name task)) (told (file_of (command_for name task))) before after faults now stop
-refused_by name task told before after faults now stop w =
-    subst (λ (n : List ℕ). NotGiven n (told n) before after faults now stop) (file_is name task) w
+refused_by name task none told before after faults now stop w =
+    subst (λ (n : List ℕ). NotGiven n (told n) before after faults now stop) (file_is name task none) w

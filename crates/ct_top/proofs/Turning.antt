@@ -17,8 +17,13 @@ use Rattle.def_policy.specs.declared.PolicyFault.TheVariants as policy
 use Rattle.def_policy.specs.Denials.{AllDenied}
 use Rattle.def_policy.specs.Rulings.{Ruling}
 use Rattle.def_policy.specs.Texts.{IsCause, Reads}
+use Rattle.def_script.specs.declared.ScriptFault.{ScriptFault}
+use Rattle.def_script.specs.declared.ScriptFault.TheVariants as scripts
+use Rattle.def_script.specs.Script as script
+use Rattle.def_script.specs.Script.{Due}
+use Rattle.def_program.specs.Runs.{run_text}
 use Rattle.def_program.specs.Lines.{allow_line, link_status, name_line}
-use Rattle.def_program.specs.Turns.{Turn, Ends, OfImage, OfParts, OfLinked, OfDescription, OfText, Looked}
+use Rattle.def_program.specs.Turns.{Turn, Ends, OfImage, OfParts, OfLinked, OfDescription, OfRun, OfScript, OfText, Looked}
 use Rattle.ct_description.specs.declared.DescFault.{DescFault}
 use Rattle.ct_description.specs.declared.DescFault.TheVariants as description
 use Rattle.ct_description.specs.Answers.{Refused}
@@ -30,7 +35,7 @@ use Rattle.ct_refusals.specs.Closing.{Closes}
 use Rattle.ct_refusals.specs.Settled.{IsLast, Settles}
 use Rattle.ct_refusals.proofs.Endings.{ends_with}
 use Rattle.ct_why.specs.Found.{IsFound}
-use Rattle.ct_top.specs.Done.{IsDone, Faulty, Flawed, Judges, Unlinked, Unruly, wants_memory}
+use Rattle.ct_top.specs.Done.{Amiss, IsDone, Faulty, Flawed, Judges, Unlinked, Unruly, wants_memory}
 
 -- ---- done
 
@@ -118,3 +123,19 @@ pub denied : (lines : List ℕ) (old new : Option (List ℕ)) (faults now : ℕ)
     → (length lines == 0) ≡ false → Closes old new faults now lines status.Denied result → Settles (Judges lines) old new faults now result
 denied [] old new faults now result some closes = absurd (let clash : true ≡ false = some in cc)
 denied (c ∷ cs) old new faults now result some closes = ends_with (Judges (c ∷ cs)) status.Denied (c ∷ cs) old new faults now result tt refl closes
+
+-- ---- scripts
+
+pub script_fault : (p : PartsRow) (limit : ℕ) (text : List ℕ) (e : ScriptFault) (t : Turn) → script.IsCause p.devices text e → Amiss e t → OfScript p limit text t
+script_fault p limit text (scripts.At number line) t cause due = inl (record { number = number; line = line; fault = cause; due = due })
+script_fault p limit text scripts.NoMemory t cause due = elim due [ ]
+
+pub script_played : (p : PartsRow) (limit : ℕ) (text : List ℕ) (dues : List Due) (old new : Option (List ℕ)) (faults now : ℕ) (result : Status)
+    → script.Reads p.devices text dues → Closes old new faults now (run_text p dues limit) status.Done result → Settles (OfScript p limit text) old new faults now result
+script_played p limit text dues old new faults now result reads closes =
+    ends_with (OfScript p limit text) status.Done (run_text p dues limit) old new faults now result tt (inr (record { dues = dues; reads = reads; due = refl })) closes
+
+-- a run without a script
+pub played : (p : PartsRow) (limit : ℕ) (old new : Option (List ℕ)) (faults now : ℕ) (result : Status)
+    → Closes old new faults now (run_text p [] limit) status.Done result → Settles (OfRun p limit None []) old new faults now result
+played p limit old new faults now result closes = ends_with (OfRun p limit None []) status.Done (run_text p [] limit) old new faults now result tt refl closes

@@ -4,8 +4,10 @@ use Rattle.def_program.specs.declared.Status.{Status}
 use Rattle.def_program.specs.declared.Status.TheVariants.{Done}
 use Rattle.def_program.specs.declared.Status.TheVariants as status
 use Rattle.def_policy.specs.declared.PolicyFault.{PolicyFault}
+use Rattle.def_script.specs.declared.ScriptFault.{ScriptFault}
+use Rattle.def_script.specs.declared.ScriptFault.TheVariants as script
 use Rattle.def_policy.specs.declared.PolicyFault.TheVariants as policy
-use Rattle.def_program.specs.Lines.{description_line, image_line, link_status, link_text, policy_line}
+use Rattle.def_program.specs.Lines.{description_line, image_line, link_status, link_text, policy_line, script_line}
 use Rattle.def_program.specs.Turns.{Turn, Ends, verdict}
 use Rattle.def_description.specs.Rows.{DescRow}
 use Rattle.def_description.specs.Walk.{place}
@@ -43,6 +45,11 @@ wants_memory _ = false
 -- the turn that refuses a description and sources that don't link
 abbrev pub Unlinked : DescRow → LinkFault → Turn → Type 0
 Unlinked d e t = (t ≡ Ends (link_status e) (link_text d e)) × (wants_memory e ≡ false)
+
+-- the turn that refuses a text that is no script
+abbrev pub Amiss : ScriptFault → Turn → Type 0
+Amiss (script.At number line) t = t ≡ Ends status.Script (script_line number line)
+Amiss script.NoMemory t = ⊥
 
 -- the turn that refuses a text that is no policy
 abbrev pub Unruly : PolicyFault → Turn → Type 0

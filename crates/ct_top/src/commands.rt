@@ -1,15 +1,12 @@
 //! What each command writes of an image.
 
 ghost use Rattle.std.specs.Prelude.{◌≡◌, ◌≤◌, [], ℕ, List, IfOk, option_map, string_bytes};
-ghost use Rattle.def_boot.specs.Boot.{booted_machine};
 ghost use Rattle.def_image.specs.Parts.{upgraded};
 ghost use Rattle.def_image.specs.Spelling.{image_bytes};
 ghost use Rattle.def_lines.specs.Report.{report_line};
-ghost use Rattle.def_profile.specs.declared.limits.TheConstants.{MOST_STEPS};
 ghost use Rattle.def_program.specs.declared.Status.TheVariants as status;
 ghost use Rattle.def_program.specs.Ends.{ends};
 ghost use Rattle.def_program.specs.Paths.{compartment_named, owner_named};
-ghost use Rattle.def_program.specs.Runs.{run_text};
 ghost use Rattle.def_program.specs.Turns.{Looked, OfParts, OfPolicy};
 ghost use Rattle.ct_refusals.specs.Ended.{EndsBy};
 ghost use Rattle.ct_refusals.specs.Settled.{Settles};
@@ -18,20 +15,18 @@ ghost use Rattle.ct_why.specs.Found.{IsFound};
 ghost use Rattle.ct_top.specs.Done.{IsDone};
 
 use crate::policies::judge;
+use crate::runs::{demonstrate, run};
 use ct_graph::Graph;
 use ct_image::Image;
-use ct_machine::Machine;
-use ct_mem::Plain;
 use ct_port::{Folder, NoMemory, Sink};
 use ct_reading::read_file;
 use ct_refusals::{close, refuse_file, refuse_name};
-use ct_running::write_run;
 use ct_words::Task;
 use def_program::Status;
 use std::alloc::Global;
 
 /// The report line of an image.
-fn report_of(alloc: Global, image: &Image) -> Result<String, NoMemory>
+pub(crate) fn report_of(alloc: Global, image: &Image) -> Result<String, NoMemory>
     ensures { IfOk result (λ s. string_bytes s ≡ report_line image.now) }
 {
     let entries = ct_entries::entries(alloc, image)?;
@@ -69,36 +64,6 @@ fn upgrade<S: Sink>(alloc: Global, image: &Image, sink: &mut S) -> Status
     match image.copy(alloc) {
         Ok(copy) => write_image(alloc, &copy.upgraded(), sink),
         Err(_) => Status::NoMemory,
-    }
-}
-
-/// The machine of an image, in its boot state.
-#[tactic(auto, using(crate::proofs::Booted::whole_granules, crate::proofs::Booted::zeros))]
-fn machine_of(alloc: Global, image: &Image) -> Result<Machine<Plain>, NoMemory>
-    ensures { IfOk result (λ m. m ≡ booted_machine image.now) }
-{
-    let mem = Plain::new(alloc, image.parts().size)?;
-    Machine::start(alloc, image, mem)
-}
-
-/// Runs an image, and writes its report line and the lines of the run.
-fn run<S: Sink>(alloc: Global, image: &Image, limit: u32, sink: &mut S) -> Status
-    requires { limit ≤ MOST_STEPS }
-    ensures { IsDone (S.bytes sink.old) (S.bytes sink.new) (S.faults sink.old)
-        (S.faults sink.new) (run_text image.now limit) result }
-{
-    let report = match report_of(alloc, image) {
-        Ok(report) => report,
-        Err(_) => return Status::NoMemory,
-    };
-    let mut machine = match machine_of(alloc, image) {
-        Ok(machine) => machine,
-        Err(_) => return Status::NoMemory,
-    };
-    let quantum = image.parts().quantum;
-    match write_run(report.as_bytes(), &mut machine, quantum, limit, sink) {
-        Ok(()) => Status::Done,
-        Err(_) => Status::WriteFault,
     }
 }
 
@@ -179,10 +144,11 @@ pub fn finish<F: Folder, S: Sink>(
     match task {
         Task::Audit => audit(alloc, image, sink),
         Task::Image => write_image(alloc, image, sink),
-        Task::Run { limit } => run(alloc, image, limit, sink),
-        Task::RunImage { limit } => run(alloc, image, limit, sink),
+        Task::Run { limit, script } => run(alloc, image, limit, script, folder, sink),
+        Task::RunImage { limit, script } => run(alloc, image, limit, script, folder, sink),
         Task::Why { owner, compartment } => why(alloc, image, owner, compartment, sink),
         Task::Upgrade => upgrade(alloc, image, sink),
         Task::Check { policy } => check(alloc, policy, image, folder, sink),
+        Task::Demo { .. } => demonstrate(alloc, image, sink),
     }
 }

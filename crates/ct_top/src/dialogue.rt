@@ -1,13 +1,13 @@
 //! A command, from its form to the status: what is read, and what follows of it.
 
-ghost use Rattle.std.specs.Prelude.{◌≡◌, ◌<◌, ◌^◌, [], ℕ, List, length, Some};
+ghost use Rattle.std.specs.Prelude.{◌≡◌, ◌<◌, ◌^◌, [], ℕ, IfOk, List, length, map, None, Some, string_bytes};
 ghost use Rattle.def_link.specs.Linked.{linked};
 ghost use Rattle.def_program.specs.declared.Status.TheVariants as status;
 ghost use Rattle.def_program.specs.Answers.{Answers};
-ghost use Rattle.def_program.specs.Commands.{form_of};
+ghost use Rattle.def_program.specs.Commands.{form_of, generated_by};
 ghost use Rattle.def_program.specs.Ends.{ends};
 ghost use Rattle.def_program.specs.Lines.{link_text, link_status};
-ghost use Rattle.def_program.specs.Turns.{OfImage, OfLinked};
+ghost use Rattle.def_program.specs.Turns.{OfImage, OfLinked, OfNumber};
 ghost use Rattle.ct_objects.specs.Objects.{IsLinkable};
 ghost use Rattle.ct_refusals.specs.Ended.{EndsBy};
 ghost use Rattle.ct_refusals.specs.Settled.{Settles};
@@ -17,6 +17,7 @@ ghost use Rattle.ct_top.specs.Done.{Faulty, Flawed, Unlinked};
 
 use crate::commands::finish;
 use ct_description::DescFault;
+use ct_gen::generate;
 use ct_image::ImageFault;
 use ct_link::{LinkFault, Sources, link};
 use ct_port::{Folder, Sink};
@@ -26,7 +27,7 @@ use ct_rows::Desc;
 use ct_words::{Form, Task};
 use def_description::{Fault, Place};
 use def_program::Status;
-use std::alloc::Global;
+use std::alloc::{AllocError, Global};
 
 /// Writes the line of bytes that are no description.
 fn refuse_description<S: Sink>(alloc: Global, fault: DescFault, sink: &mut S) -> Status
@@ -136,6 +137,47 @@ fn of_sources<F: Folder, S: Sink>(
     }
 }
 
+/// The bytes of texts.
+fn bytes_of(alloc: Global, texts: &[String]) -> Result<Vec<Vec<u8>>, AllocError>
+    ensures { IfOk result (λ v. map (λ b. b.items) v.items ≡ map string_bytes texts.now) }
+{
+    let mut all = Vec::new(alloc);
+    for text in texts {
+        all.push(Vec::from_slice(alloc, text.as_bytes())?)?;
+    }
+    Ok(all)
+}
+
+/// What follows of a generated firmware. Its description is well-formed, so that only want of memory
+/// refuses it.
+fn of_number<F: Folder, S: Sink>(
+    alloc: Global,
+    task: Task,
+    number: u32,
+    folder: &mut F,
+    sink: &mut S,
+) -> Status
+    requires { IsShort task }
+    ensures { (name : List ℕ)
+        → EndsBy (OfNumber (command_for name task.entry) number)
+        (ends F.file F.calls F.faults S.bytes S.faults [] folder.old folder.new sink.old sink.new)
+        result }
+{
+    let made = match generate(alloc, number) {
+        Ok(made) => made,
+        Err(_) => return Status::NoMemory,
+    };
+    let desc = match ct_description::read(alloc, made.description.as_bytes()) {
+        Ok(desc) => desc,
+        Err(_) => return Status::NoMemory,
+    };
+    let texts = match bytes_of(alloc, made.sources.as_slice()) {
+        Ok(texts) => texts,
+        Err(_) => return Status::NoMemory,
+    };
+    of_sources(alloc, task, &desc, &Sources { texts }, folder, sink)
+}
+
 /// Does what a form says.
 pub fn perform<F: Folder, S: Sink>(
     alloc: Global,
@@ -144,6 +186,20 @@ pub fn perform<F: Folder, S: Sink>(
     sink: &mut S,
 ) -> Status
     requires { IsShort form.now.task }
+    ensures { (words : List (List ℕ)) → form_of words ≡ Some (command_of form.now)
+        → Answers (ends F.file F.calls F.faults S.bytes S.faults
+        words folder.old folder.new sink.old sink.new) result }
+{
+    match form.task.number() {
+        Some(number) => of_number(alloc, form.task, number, folder, sink),
+        None => of_files(alloc, form, folder, sink),
+    }
+}
+
+/// Does what a form says that reads files.
+fn of_files<F: Folder, S: Sink>(alloc: Global, form: &Form, folder: &mut F, sink: &mut S) -> Status
+    requires short { IsShort form.now.task }
+    requires reads { generated_by (command_of form.now) ≡ None }
     ensures { (words : List (List ℕ)) → form_of words ≡ Some (command_of form.now)
         → Answers (ends F.file F.calls F.faults S.bytes S.faults
         words folder.old folder.new sink.old sink.new) result }

@@ -6,6 +6,7 @@
 mod commands;
 mod dialogue;
 mod policies;
+mod runs;
 
 ghost use Rattle.std.specs.Prelude.{◌≡◌, ℕ, List, Some, map, string_bytes};
 ghost use Rattle.def_image.specs.Parts.{PartsRow};
@@ -13,13 +14,15 @@ ghost use Rattle.def_program.specs.Answers.{Answers};
 ghost use Rattle.def_program.specs.Commands.{Command, form_of as form_in};
 ghost use Rattle.def_program.specs.Ends.{ends};
 ghost use Rattle.def_program.specs.Licences.{IsLicensedCommand, StandFor};
-ghost use Rattle.law_program.specs.Completing.{Completes, RefusesMisuse};
+ghost use Rattle.law_commands.specs.Safe.{IsSafeCommand};
+ghost use Rattle.law_program.specs.Completing.{Completes, CompletesDemo, RefusesMisuse};
 
 use ct_port::{Folder, Sink};
 use ct_refusals::refuse_usage;
 use ct_words::form_of;
 pub use def_program::Status;
 use dialogue::perform;
+pub use runs::ready;
 use std::alloc::Global;
 
 /// Runs one command. The words are those after the program's name:
@@ -28,14 +31,17 @@ use std::alloc::Global;
 ///   image;
 /// - `image DESC` writes that image;
 /// - `run DESC LIMIT` runs it for at most LIMIT steps, and writes the report, the lines of what happened
-///   and the summary;
-/// - `runimage IMAGE LIMIT` does the same with the image in the file IMAGE;
+///   and the summary; `run DESC LIMIT SCRIPT` does so with the bytes that the script in the file SCRIPT
+///   gives to devices;
+/// - `runimage IMAGE LIMIT` and `runimage IMAGE LIMIT SCRIPT` do the same with the image in the file IMAGE;
 /// - `why DESC OWNER COMPARTMENT` writes how a compartment or a library of the description reaches a
 ///   compartment;
 /// - `upgrade IMAGE` writes the image in the file IMAGE in the last version of the format, with its sweep
 ///   rate;
 /// - `check DESC POLICY` judges the report of the description by the policy in the file POLICY: it writes
-///   `allow`, or a line for each entry and each path that breaks a rule.
+///   `allow`, or a line for each entry and each path that breaks a rule;
+/// - `demo NUMBER` generates a firmware from the number, links it, runs it for at most 100,000 steps and
+///   writes the summary; it reads no file.
 ///
 /// The clauses:
 ///
@@ -43,11 +49,18 @@ use std::alloc::Global;
 ///   `WriteFault` a beginning of it, or under `NoMemory` nothing. Each file that was read was due then,
 ///   and no read but the last failed. No memory is taken after the first write.
 /// - `complete`: where no fault is counted, a command on told files that stand for an image is done, or
-///   wants memory; but names that stand for nothing are refused, and a policy may be denied.
+///   wants memory; but names that stand for nothing are refused, and a policy may be denied. Of a script
+///   and of a policy the text must be one.
+/// - `demo`: where no fault is counted, `demo` of any number is done, or wants memory.
 /// - `misuse`: words that aren't a form are `Usage`, and never want memory.
 /// - `licensed`: each deed, and each span with interrupts off, of the run that the words ask for is
-///   licensed by the entries of the image that the files stand for, whatever the code bytes are. That
-///   the files are those that were read, and the run the one that was written, is said by `answer`.
+///   licensed by the entries of the image that the files stand for, whatever the code bytes are and
+///   whatever the script says. That the files are those that were read, and the run the one that was
+///   written, is said by `answer`.
+/// - `safe`: of that run: calls are clean and accesses licensed; nothing is loaded, stored, waited for or
+///   woken through a capability of an object after its free; each allocation hands out a fresh object; a
+///   freed chunk is handed out again only after a whole sweep that began after the free; and the live
+///   charges on each quota are at most its limit after every event.
 ///
 /// What files hold and what was written is said of a folder and a sink that tell it. The system's
 /// tell nothing: there the clauses speak of statuses, names and counts alone.
@@ -61,11 +74,16 @@ pub fn capfw<F: Folder, S: Sink>(
         (map string_bytes words.now) folder.old folder.new sink.old sink.new) result }
     ensures complete { Completes (ends F.file F.calls F.faults S.bytes S.faults
         (map string_bytes words.now) folder.old folder.new sink.old sink.new) result }
+    ensures demo { CompletesDemo (ends F.file F.calls F.faults S.bytes S.faults
+        (map string_bytes words.now) folder.old folder.new sink.old sink.new) result }
     ensures misuse { RefusesMisuse (ends F.file F.calls F.faults S.bytes S.faults
         (map string_bytes words.now) folder.old folder.new sink.old sink.new) result }
     ensures licensed { (asked : Command) (files : List (List ℕ)) (p : PartsRow)
         → form_in (map string_bytes words.now) ≡ Some asked → StandFor asked files p
         → IsLicensedCommand asked p }
+    ensures safe { (asked : Command) (files : List (List ℕ)) (p : PartsRow)
+        → form_in (map string_bytes words.now) ≡ Some asked → StandFor asked files p
+        → IsSafeCommand asked p }
 {
     command(alloc, words, folder, sink)
 }

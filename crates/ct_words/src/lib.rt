@@ -5,9 +5,10 @@ ghost use Rattle.std.specs.Prelude.{◌≡◌, ◌≤◌, map, nat_le, option_ma
 ghost use Rattle.std.specs.List.{list_all};
 ghost use Rattle.def_profile.specs.declared.limits.TheConstants.{MOST_STEPS};
 ghost use Rattle.def_program.specs.Commands as spec;
-ghost use Rattle.ct_words.specs.Forms.{command_for, command_of, IsShort};
+ghost use Rattle.ct_words.specs.Forms.{command_for, command_of, script_named, IsShort};
 
 use def_profile::limits::MOST_STEPS;
+use def_program::MOST_NUMBER;
 
 /// What is done with a file that was read.
 #[derive(Clone, Copy, Debug, PartialEq, Eq)]
@@ -16,13 +17,16 @@ pub enum Task<'a> {
     Audit,
     /// The image of a description is written.
     Image,
-    /// A description's image runs for at most so many steps.
+    /// A description's image runs for at most so many steps, by the script in the file of this name
+    /// where there is one.
     Run {
         limit: u32,
+        script: Option<&'a str>,
     },
-    /// An image runs for at most so many steps.
+    /// An image runs so.
     RunImage {
         limit: u32,
+        script: Option<&'a str>,
     },
     /// How an owner of a description reaches a compartment is written.
     Why {
@@ -34,6 +38,10 @@ pub enum Task<'a> {
     /// A description's report is judged by the policy in the file of this name.
     Check {
         policy: &'a str,
+    },
+    /// The firmware that is generated from a number runs, and the summary is written. No file is read.
+    Demo {
+        number: u32,
     },
 }
 
@@ -47,9 +55,19 @@ impl<'a> Task<'a> {
             _ => false,
         }
     }
+
+    /// The number from which the command's firmware is generated. Such a command reads no file.
+    pub fn number(self) -> Option<u32>
+        ensures { (name : List ℕ) → result ≡ spec.generated_by (command_for name self.entry) }
+    {
+        match self {
+            Task::Demo { number } => Some(number),
+            _ => None,
+        }
+    }
 }
 
-/// A command: its first file, and what is done with it.
+/// A command: its first file, if it has one, and what is done with it.
 #[derive(Clone, Copy, Debug)]
 pub struct Form<'a> {
     pub name: &'a str,
@@ -62,17 +80,17 @@ fn are_digits(text: &[u8]) -> bool
     text.iter().all(|c| b'0' <= *c && *c <= b'9')
 }
 
-/// The number that digits spell, where it is at most 4,000,000,000.
-fn value_of(digits: &[u8]) -> Option<u32>
-    ensures small { IfSome result (λ n. n ≤ MOST_STEPS) }
+/// The number that digits spell, where it is at most `most`.
+fn value_of(digits: &[u8], most: u32) -> Option<u32>
+    ensures small { IfSome result (λ n. n ≤ most) }
     ensures value { result
-        ≡ (if nat_le (spec.value_of digits.now) MOST_STEPS then Some (spec.value_of digits.now)
+        ≡ (if nat_le (spec.value_of digits.now) most then Some (spec.value_of digits.now)
         else None) }
 {
     let mut value: u64 = 0;
     for c in digits {
         value = 10 * value + c.saturating_sub(b'0') as u64;
-        if value > MOST_STEPS as u64 {
+        if value > most as u64 {
             return None;
         }
     }
@@ -88,7 +106,23 @@ fn limit_of(text: &[u8]) -> Option<u32>
         [] => None,
         [first, ..] => {
             if are_digits(text) && *first != b'0' {
-                value_of(text)
+                value_of(text, MOST_STEPS)
+            } else {
+                None
+            }
+        }
+    }
+}
+
+/// A number: decimal digits without sign or leading zero, of 0 to 4,294,967,295.
+fn number_of(text: &[u8]) -> Option<u32>
+    ensures { result ≡ spec.number_of text.now }
+{
+    match text {
+        [] => None,
+        [first, ..] => {
+            if are_digits(text) && (*first != b'0' || text.len() == 1) {
+                value_of(text, MOST_NUMBER)
             } else {
                 None
             }
@@ -105,17 +139,30 @@ pub fn form_of<'a>(words: &'a [String]) -> Option<Form<'a>>
     match words {
         [word, name] => of_one(word.as_str(), name.as_str()),
         [word, name, last] => of_two(word.as_str(), name.as_str(), last.as_str()),
-        [word, name, owner, compartment] => of_three(
+        [word, name, second, last] => of_three(
             word.as_str(),
             name.as_str(),
-            owner.as_str(),
-            compartment.as_str(),
+            second.as_str(),
+            last.as_str(),
         ),
         _ => None,
     }
 }
 
-/// `audit DESC`, `image DESC`, `upgrade IMAGE`.
+fn demo_of<'a>(name: &'a str) -> Option<Form<'a>>
+    ensures short { IfSome result (λ f. IsShort f.task) }
+    ensures command { option_map command_of result ≡ option_map spec.Demo (spec.number_of name.now) }
+{
+    match number_of(name.as_bytes()) {
+        Some(number) => Some(Form {
+            name,
+            task: Task::Demo { number },
+        }),
+        None => None,
+    }
+}
+
+/// `audit DESC`, `image DESC`, `upgrade IMAGE`, `demo NUMBER`.
 fn of_one<'a>(word: &str, name: &'a str) -> Option<Form<'a>>
     ensures short { IfSome result (λ f. IsShort f.task) }
     ensures command { option_map command_of result ≡ spec.of_one word.now name.now }
@@ -132,6 +179,9 @@ fn of_one<'a>(word: &str, name: &'a str) -> Option<Form<'a>>
         let task = Task::Upgrade;
         return Some(Form { name, task });
     }
+    if word == "demo" {
+        return demo_of(name);
+    }
     None
 }
 
@@ -141,10 +191,10 @@ fn of_two<'a>(word: &str, name: &'a str, last: &'a str) -> Option<Form<'a>>
     ensures command { option_map command_of result ≡ spec.of_two word.now name.now last.now }
 {
     if word == "run" {
-        return run_of(name, last);
+        return run_of(name, last, None);
     }
     if word == "runimage" {
-        return run_image_of(name, last);
+        return run_image_of(name, last, None);
     }
     if word == "check" {
         let task = Task::Check { policy: last };
@@ -153,42 +203,51 @@ fn of_two<'a>(word: &str, name: &'a str, last: &'a str) -> Option<Form<'a>>
     None
 }
 
-fn run_of<'a>(name: &'a str, limit: &str) -> Option<Form<'a>>
+fn run_of<'a>(name: &'a str, limit: &str, script: Option<&'a str>) -> Option<Form<'a>>
     ensures short { IfSome result (λ f. IsShort f.task) }
     ensures command { option_map command_of result
-        ≡ option_map (spec.Run name.now) (spec.limit_of limit.now) }
+        ≡ spec.run_of name.now limit.now (script_named script.entry) }
 {
     match limit_of(limit.as_bytes()) {
         Some(limit) => Some(Form {
             name,
-            task: Task::Run { limit },
+            task: Task::Run { limit, script },
         }),
         None => None,
     }
 }
 
-fn run_image_of<'a>(name: &'a str, limit: &str) -> Option<Form<'a>>
+fn run_image_of<'a>(name: &'a str, limit: &str, script: Option<&'a str>) -> Option<Form<'a>>
     ensures short { IfSome result (λ f. IsShort f.task) }
     ensures command { option_map command_of result
-        ≡ option_map (spec.RunImage name.now) (spec.limit_of limit.now) }
+        ≡ spec.run_image_of name.now limit.now (script_named script.entry) }
 {
     match limit_of(limit.as_bytes()) {
         Some(limit) => Some(Form {
             name,
-            task: Task::RunImage { limit },
+            task: Task::RunImage { limit, script },
         }),
         None => None,
     }
 }
 
-/// `why DESC OWNER COMPARTMENT`.
-fn of_three<'a>(word: &str, name: &'a str, owner: &'a str, compartment: &'a str) -> Option<Form<'a>>
+/// `run DESC LIMIT SCRIPT`, `runimage IMAGE LIMIT SCRIPT`, `why DESC OWNER COMPARTMENT`.
+fn of_three<'a>(word: &str, name: &'a str, second: &'a str, last: &'a str) -> Option<Form<'a>>
     ensures short { IfSome result (λ f. IsShort f.task) }
     ensures command { option_map command_of result
-        ≡ spec.of_three word.now name.now owner.now compartment.now }
+        ≡ spec.of_three word.now name.now second.now last.now }
 {
+    if word == "run" {
+        return run_of(name, second, Some(last));
+    }
+    if word == "runimage" {
+        return run_image_of(name, second, Some(last));
+    }
     if word == "why" {
-        let task = Task::Why { owner, compartment };
+        let task = Task::Why {
+            owner: second,
+            compartment: last,
+        };
         return Some(Form { name, task });
     }
     None

@@ -86,8 +86,7 @@ pub record TurnCause (e : Ends) (s : Status) (text : List ℕ) : Type 0 where
   pub read : AllRead e command reads
   pub due : Follows command (contents reads) (turn.Ends s text)
 
--- No text is due with a failed write or with want of memory: their answers stand below. Scripts aren't
--- read yet, so that their status can't come.
+-- No text is due with a failed write or with want of memory: their answers stand below.
 abbrev pub Cause : Ends → Status → List ℕ → Type 0
 Cause e status.Done text = TurnCause e status.Done text
 Cause e status.Usage text = UsageCause e text
@@ -97,7 +96,7 @@ Cause e status.Description text = TurnCause e status.Description text
 Cause e status.Assembly text = TurnCause e status.Assembly text
 Cause e status.Link text = TurnCause e status.Link text
 Cause e status.Image text = TurnCause e status.Image text
-Cause e status.Script text = ⊥
+Cause e status.Script text = TurnCause e status.Script text
 Cause e status.WriteFault text = ⊥
 Cause e status.NoMemory text = ⊥
 Cause e status.Name text = TurnCause e status.Name text

@@ -3,6 +3,7 @@ pub mod Ends
 pub mod Commands
 pub mod Lines
 pub mod Runs
+pub mod Scripts
 pub mod Paths
 pub mod Turns
 pub mod Answers

@@ -97,6 +97,13 @@ image_line number place =
 abbrev pub name_line : List ℕ
 name_line = refused (codes "11") (codes "name" ∷ [])
 
+-- ---- scripts
+
+-- the fault's number, and the line that is at fault, counted from 1
+abbrev pub script_line : ℕ → ℕ → List ℕ
+script_line number line =
+    refused (codes "8") (codes "script" ∷ numbered (codes "S") number ∷ decimal line ∷ [])
+
 -- ---- policies
 
 -- the fault's number, and the line that is at fault, counted from 1

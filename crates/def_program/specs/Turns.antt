@@ -7,17 +7,22 @@ use Rattle.def_image.specs.Spelling.{image_bytes}
 use Rattle.def_description.specs.declared.faults.Fault.{Fault}
 use Rattle.def_description.specs.Rows.{CodeRow, CompartmentRow, LibraryRow, DescRow}
 use Rattle.def_description.specs.WellFormed.{WellFormed, IsFaulty}
+use Rattle.def_description.specs.Reading.{rows_of}
+use Rattle.def_gen.specs.Description.{firmware}
+use Rattle.def_gen.specs.Sources as generated
 use Rattle.def_link.specs.declared.LinkFault.{LinkFault}
 use Rattle.def_link.specs.Linked.{linked}
 use Rattle.def_lines.specs.Report.{report_line}
 use Rattle.def_policy.specs.Denials.{AllDenied}
 use Rattle.def_policy.specs.Rulings.{Ruling}
 use Rattle.def_policy.specs.Texts.{IsFault, Reads}
+use Rattle.def_script.specs.Script.{Due}
+use Rattle.def_script.specs.Script as script
 use Rattle.def_program.specs.declared.Status.{Status}
 use Rattle.def_program.specs.declared.Status.TheVariants as status
-use Rattle.def_program.specs.Commands.{Command, Audit, Image, Run, RunImage, Why, Upgrade, Check, file_of, reads_image}
-use Rattle.def_program.specs.Lines.{description_line, link_status, link_text, image_line, name_line, policy_line, allow_line}
-use Rattle.def_program.specs.Runs.{run_text}
+use Rattle.def_program.specs.Commands.{Command, Audit, Image, Run, RunImage, Why, Upgrade, Check, Demo, generated_by, file_of, reads_image}
+use Rattle.def_program.specs.Lines.{description_line, link_status, link_text, image_line, name_line, script_line, policy_line, allow_line}
+use Rattle.def_program.specs.Runs.{demo_text, run_text}
 use Rattle.def_program.specs.Paths.{IsWhyLine, owner_named, compartment_named}
 
 -- the file of this name is due; or the call ends with this status, and this text is due
@@ -80,16 +85,40 @@ abbrev pub OfPolicy : List ℕ → PartsRow → List (List ℕ) → Turn → Typ
 OfPolicy policy p [] turn = turn ≡ Asks policy
 OfPolicy policy p (bytes ∷ more) turn = OfText p bytes turn
 
+-- a fault of a script's text: its number and line
+pub record IsAmiss (p : PartsRow) (bytes : List ℕ) (turn : Turn) : Type 0 where
+  pub number : ℕ
+  pub line : ℕ
+  pub fault : script.IsFault p.devices bytes number line
+  pub due : turn ≡ Ends status.Script (script_line number line)
+
+-- what a script's text says, and the run with it
+pub record IsPlayed (p : PartsRow) (limit : ℕ) (bytes : List ℕ) (turn : Turn) : Type 0 where
+  pub dues : List Due
+  pub reads : script.Reads p.devices bytes dues
+  pub due : turn ≡ Ends status.Done (run_text p dues limit)
+
+-- of a script's text
+abbrev pub OfScript : PartsRow → ℕ → List ℕ → Turn → Type 0
+OfScript p limit bytes turn = IsAmiss p bytes turn ⊎ IsPlayed p limit bytes turn
+
+-- a run without a script; or the script is due; or it was read, and nothing else is
+abbrev pub OfRun : PartsRow → ℕ → Option (List ℕ) → List (List ℕ) → Turn → Type 0
+OfRun p limit None more turn = turn ≡ Ends status.Done (run_text p [] limit)
+OfRun p limit (Some name) [] turn = turn ≡ Asks name
+OfRun p limit (Some name) (bytes ∷ more) turn = OfScript p limit bytes turn
+
 -- of parts, and of the files that were read after those that stand for them
 abbrev pub OfParts : Command → PartsRow → List (List ℕ) → Turn → Type 0
 OfParts (Audit name) p more turn = turn ≡ Ends status.Done (report_line p)
 OfParts (Image name) p more turn = turn ≡ Ends status.Done (image_bytes p)
-OfParts (Run name limit) p more turn = turn ≡ Ends status.Done (run_text p limit)
-OfParts (RunImage name limit) p more turn = turn ≡ Ends status.Done (run_text p limit)
+OfParts (Run name limit script) p more turn = OfRun p limit script more turn
+OfParts (RunImage name limit script) p more turn = OfRun p limit script more turn
 OfParts (Why name owner compartment) p more turn =
     Looked p (owner_named p owner) (compartment_named p compartment) turn
 OfParts (Upgrade name) p more turn = turn ≡ Ends status.Done (image_bytes (upgraded p))
 OfParts (Check name policy) p more turn = OfPolicy policy p more turn
+OfParts (Demo number) p more turn = turn ≡ Ends status.Done (demo_text p)
 
 -- ---- descriptions
 
@@ -98,7 +127,8 @@ OfLinked c d (Err e) more turn = turn ≡ Ends (link_status e) (link_text d e)
 OfLinked c d (Ok p) more turn = OfParts c p more turn
 
 -- the next source, or what all of them are linked to
-abbrev pub OfSources : Command → DescRow → List (List ℕ) → List (List ℕ) → Option (List ℕ) → Turn → Type 0
+abbrev pub OfSources : Command → DescRow → List (List ℕ) → List (List ℕ) → Option (List ℕ) → Turn
+    → Type 0
 OfSources c d sources more (Some name) turn = turn ≡ Asks name
 OfSources c d sources more None turn = OfLinked c d (linked d sources) more turn
 
@@ -133,7 +163,20 @@ abbrev pub OfFirst : Bool → Command → List ℕ → List (List ℕ) → Turn 
 OfFirst true c bytes files turn = OfImage c bytes files turn
 OfFirst false c bytes files turn = OfDescription c bytes files turn
 
+-- of a generated firmware: what its description and sources are linked to tells
+abbrev pub OfNumber : Command → ℕ → List (List ℕ) → Turn → Type 0
+OfNumber c number files turn =
+    OfLinked c (rows_of (firmware number)) (linked (rows_of (firmware number)) (generated.sources number)) files turn
+
+-- of files: first the command's own is due
+abbrev pub OfFiles : Command → List (List ℕ) → Turn → Type 0
+OfFiles c [] turn = turn ≡ Asks (file_of c)
+OfFiles c (bytes ∷ files) turn = OfFirst (reads_image c) c bytes files turn
+
+abbrev pub FollowsBy : Command → Option ℕ → List (List ℕ) → Turn → Type 0
+FollowsBy c None files turn = OfFiles c files turn
+FollowsBy c (Some number) files turn = OfNumber c number files turn
+
 -- what follows after these files, in the order in which they were read
 abbrev pub Follows : Command → List (List ℕ) → Turn → Type 0
-Follows c [] turn = turn ≡ Asks (file_of c)
-Follows c (bytes ∷ files) turn = OfFirst (reads_image c) c bytes files turn
+Follows c files turn = FollowsBy c (generated_by c) files turn

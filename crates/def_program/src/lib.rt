@@ -1,12 +1,17 @@
 //! What the program does over descriptions and images, from both ends: words and files in, bytes and
 //! status out. It is written as a dialogue: after the files that were read so far, either a file is
-//! due, or a text and a status. The commands are `audit`, `image`, `run` and `runimage` without a
-//! script, `why`, `upgrade` and `check`. The definitions stand in specs/; nothing here computes but the
-//! statuses' numbers.
+//! due, or a text and a status. The commands are `audit`, `image`, `run` and `runimage`, each with a
+//! script or without, `why`, `upgrade`, `check` and `demo`. The definitions stand in specs/; nothing here
+//! computes but the statuses' numbers.
 #![tactic(auto)]
 
 ghost use Rattle.std.specs.Prelude.{◌≡◌};
 ghost use Rattle.def_program.specs.Codes.{code_of};
+
+/// The greatest number that a firmware is generated from.
+pub const MOST_NUMBER: u32 = 4_294_967_295;
+/// The steps that `demo` makes at most.
+pub const DEMO_STEPS: u32 = 100_000;
 
 /// How a call of the program ended.
 #[derive(Clone, Copy, Debug, PartialEq, Eq, Drop)]

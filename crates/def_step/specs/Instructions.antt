@@ -233,7 +233,7 @@ abbrev pub ran : Board → State → ℕ → Ran → State × Option Deed
 ran b s t (Traps why) = trapped b s t why
 ran b s t (Leaves after told) = (after, option_map (deed_told s t) told)
 
--- where no routine has the number, nothing is carried out
+-- a number of no routine is no instruction
 abbrev pub served : Board → State → ℕ → Option Ran → State × Option Deed
 served b s t None = trapped b s t (plain_trap ILLEGAL_INSTRUCTION)
 served b s t (Some r) = ran b s t r

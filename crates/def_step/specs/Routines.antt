@@ -80,7 +80,7 @@ switch i s t =
 
 -- ---- 2 and 3, yield and sleep
 
--- the thread stops running with this status
+-- the thread stops running with this status, and with the answer 0
 abbrev pub stops : State → ℕ → Status → Ran
 stops s t status =
     Leaves

@@ -4,11 +4,11 @@
 #![tactic(auto)]
 
 use def_instr::Instr;
-use def_profile::native::WAKE;
+use def_profile::native::REMAINING;
 
 /// The greatest number of a native routine that the machine carries out. Of those after it each is
 /// nothing that is carried out.
-pub const LAST_ROUTINE: u32 = WAKE;
+pub const LAST_ROUTINE: u32 = REMAINING;
 
 /// What happens at the machine, one at a time.
 #[derive(Clone, Copy, Debug, PartialEq, Eq, Drop)]

@@ -41,10 +41,10 @@ pub fn accepted_images_run()
         → AllLicensed (image_of p).entries (told (board_of p) (boot_state p) es) }
 {}
 
-/// Whatever events come from its boot: calls are clean; each access is licensed; nothing is loaded, stored, waited for or woken through
-/// a capability of an object after its free; an allocation hands out a fresh object; a chunk that was freed
-/// is handed out again only after a whole sweep that began after its free; and the live charges on each
-/// quota are at most its limit.
+/// Whatever events come from its boot: calls are clean; each access is licensed; nothing is loaded, stored,
+/// waited for or woken through a capability of an object after its free; an allocation hands out a fresh
+/// object; a chunk that was freed is handed out again only after a whole sweep that began after its free;
+/// and the live charges on each quota are at most its limit.
 pub fn accepted_images_are_safe()
     ensures calls { (bytes : List ℕ) (p : PartsRow) (es : List Event) → IsImage bytes p
         → EachEvent (CleanEvent (board_of p)) (board_of p) (boot_state p) es }

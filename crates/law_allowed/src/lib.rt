@@ -15,12 +15,12 @@ ghost use Rattle.def_step.specs.Events.{told};
 ghost use Rattle.def_step.specs.declared.Event.{Event};
 ghost use Rattle.law_allowed.specs.Accesses.{AllListed};
 
-/// Of parts without a fault, whatever their code is, and rules that nothing denies: after any list of
-/// events from boot, each load and store of a device goes through an import; and where one of the rules
-/// is on the device of that import, its owner is one that the rule lists, and reaches the compartment
-/// that made the access.
+/// Of parts without a fault, whatever their code is, and rules that nothing denies, one of which is on a
+/// device: each load and store that a list of events from boot tells by an import of that device is by
+/// one of an owner that the rule lists, and which reaches the compartment that made the access.
 pub fn allowed_devices_are_held()
-    ensures { (p : PartsRow) (es : List Event) (rulings : List Ruling) (k : ℕ) (r : Ruling) (device : ℕ)
+    ensures { (p : PartsRow) (es : List Event) (rulings : List Ruling) (k : ℕ) (r : Ruling)
+        (device : ℕ)
         → IsFaultless p → AllDenied p 1 rulings []
         → slice_get rulings k ≡ Some r → r.subject ≡ Device device
         → AllListed (entries_of p) r device (told (board_of p) (boot_state p) es) }

@@ -35,7 +35,7 @@ unfolding image_of
 size_in p m confined = let whole : p.ram + p.size ≤ p.ram + 8 * length m.granules = confined.size in omega (arith, whole)
 
 -- a tagged capability of an export's type in c6 is a call import
-import_is : (i : Image) (m : State) (s : Seen) (t : ℕ) → Confined i m → (thread s t).registers ≡ (state.thread m t).registers
+pub import_is : (i : Image) (m : State) (s : Seen) (t : ℕ) → Confined i m → (thread s t).registers ≡ (state.thread m t).registers
     → (register (thread s t) 6).tag ≡ true → cap_seal (register (thread s t) 6) ≡ EXPORT_TYPE
     → (root i (register (thread s t) 6).shadow.root).origin ≡ Listing kind.Call
 import_is i m s t confined registers tagged sealed =

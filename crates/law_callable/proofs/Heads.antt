@@ -1,5 +1,5 @@
 -- The head of an export's table: it isn't hidden, and stands as boot made it.
-use Rattle.std.proofs.Common.{ℕ, ◌≡◌, ◌+◌, ◌-◌, ◌*◌, ◌/◌, ◌≤◌, false, List, length, refl, sym, ap, ◌∙◌, arith, subst}
+use Rattle.std.proofs.Common.{ℕ, ◌≡◌, ◌+◌, ◌-◌, ◌*◌, ◌/◌, ◌%◌, ◌≤◌, ◌<◌, false, List, length, refl, sym, ap, ◌∙◌, arith, subst}
 use Rattle.std.proofs.lemmas.Option.{slice_get_within}
 use Rattle.ct_entry.specs.Listed.{Listed}
 use Rattle.def_words.specs.declared.Cap.{Cap}
@@ -8,6 +8,7 @@ use Rattle.def_areas.specs.Areas.{held}
 use Rattle.def_reach.specs.Roots.{Root, compartment_of}
 use Rattle.def_image.specs.Parts.{PartsRow}
 use Rattle.def_image.specs.Members.{code_number, globals_number}
+use Rattle.def_image.specs.Regions.{table_size, table_length}
 use Rattle.def_image.specs.Sound.{Sound}
 use Rattle.def_boot.specs.Boot.{image_of}
 use Rattle.def_boot.specs.Gates.{entries_of}
@@ -19,6 +20,8 @@ use Rattle.law_listed.proofs.Blocks.{present}
 use Rattle.law_listed.proofs.Standing as standing
 use Rattle.law_boot_words.proofs.Putting.{puts_code, puts_globals}
 use Rattle.law_grants.specs.Fits.{ExportAt}
+use Rattle.law_grants.proofs.Lying.{own_there}
+use Rattle.law_grants.proofs.Making.{length_above}
 use Rattle.law_grants.proofs.Own.{code_stands, globals_stand, code_entry_is, globals_entry_is}
 use Rattle.ct_exports.specs.Exports.{IsCallable, callee_of, table_of}
 use Rattle.ct_engine.specs.declared.rows.Region.{Region}
@@ -87,6 +90,23 @@ module _ (p : PartsRow) (n : ℕ) (s : Sound p) (x : ExportAt p n) where
           code = shown (head_at v (entries_of p) n) ((x.compartment.table - p.ram) / 8) head_is code;
           globals = shown (head_at v (entries_of p) n + 1) ((x.compartment.table + 8 - p.ram) / 8) (ap (λ k. k + 1) head_is ∙ sym second) globals;
         })
+
+    -- both of its granules lie below the heap
+    pub under_heap : v.region.ram + 8 * (head_at v (image_of p).entries n + 1) < p.heap
+    under_heap =
+        let lies = (own_there p s x.index x.compartment x.owner).table in
+        let low = lies.low in
+        let even = lies.even in
+        let high = lies.high in
+        let long = length_above (table_size x.compartment.code) in
+        let base = s.ram.base in
+        let ram = ram_there in
+        let head = head_is in
+        subst (λ (e : Listed). v.region.ram + 8 * (head_at v e n + 1) < p.heap) (sym (entries_are p))
+        (below x.compartment.table (table_length x.compartment) p.ram v.region.ram (head_at v (entries_of p) n) p.heap head ram (omega (arith, even, base)) low (omega (arith, long)) high)
+      where
+        below : (table size ram own head heap : ℕ) → head ≡ (table - ram) / 8 → own ≡ ram → (table - ram) % 8 ≡ 0 → ram ≤ table → 16 ≤ size → table + size ≤ heap → own + 8 * (head + 1) < heap
+        below table size ram own head heap is same even low long high = omega (arith, is, same, even, low, long, high)
 
     -- ---- in a confined state whose RAM it shows
 

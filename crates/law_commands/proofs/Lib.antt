@@ -1,3 +1,4 @@
 pub mod Licences
 pub mod Telling
 pub mod Lawful
+pub mod Safe

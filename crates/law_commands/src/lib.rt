@@ -10,7 +10,10 @@ ghost use Rattle.def_profile.specs.declared.limits.TheConstants.{MOST_STEPS};
 ghost use Rattle.def_program.specs.Commands.{Command};
 ghost use Rattle.def_program.specs.Licences.{IsLicensedCommand, StandFor};
 ghost use Rattle.def_program.specs.Runs.{events_until, last_line, run_lines};
+ghost use Rattle.def_program.specs.Scripts.{IsPlayable};
+ghost use Rattle.def_script.specs.Script.{Due};
 ghost use Rattle.def_step.specs.Events.{AreLawful, MachineRow, run, told};
+ghost use Rattle.law_commands.specs.Safe.{IsSafeCommand};
 ghost use Rattle.law_commands.specs.Telling.{event_lines};
 ghost use Rattle.law_counts.specs.Kinds.{IsUncounted};
 
@@ -21,22 +24,34 @@ pub fn commands_are_licensed()
         → StandFor c files p → IsLicensedCommand c p }
 {}
 
+/// Of the parts that a command's files stand for, whatever bytes these are: the run that the command asks
+/// for is safe. Its calls are clean and its accesses licensed; nothing is loaded, stored, waited for or woken
+/// through a capability of an object after its free; each allocation hands out a fresh object; a freed chunk
+/// is handed out again only after a whole sweep that began after its free; and after every event the live
+/// charges on each quota are at most its limit. So it is whatever the run's script says.
+pub fn commands_are_safe()
+    ensures { (c : Command) (files : List (List ℕ)) (p : PartsRow)
+        → StandFor c files p → IsSafeCommand c p }
+{}
+
 /// The lines of a run are those of what its events did, in their order, each with its step's number,
 /// and the summary of the state that they lead to.
 pub fn runs_are_told()
-    ensures { (m : MachineRow) (quantum limit : ℕ)
-        → run_lines m quantum limit
-        ≡ event_lines 1 (events_until m quantum limit)
-        (told m.board m.state (events_until m quantum limit))
-        ++ last_line (run m.board m.state (events_until m quantum limit)) }
+    ensures { (m : MachineRow) (script : List Due) (quantum limit : ℕ)
+        → run_lines m script quantum limit
+        ≡ event_lines 1 (events_until m script quantum limit)
+        (told m.board m.state (events_until m script quantum limit))
+        ++ last_line (run m.board m.state (events_until m script quantum limit)) }
 {}
 
-/// Each event of a run may come when it comes, where none came before; so from boot.
+/// Each event of a run may come when it comes, where none came before and the script goes to the machine's
+/// devices; so from boot.
 pub fn runs_are_lawful()
-    ensures uncounted { (m : MachineRow) (quantum limit : ℕ)
-        → IsUncounted m.state.counts → limit ≤ MOST_STEPS
-        → AreLawful m.board m.state (events_until m quantum limit) }
-    ensures booted { (p : PartsRow) (limit : ℕ) → limit ≤ MOST_STEPS
+    ensures uncounted { (m : MachineRow) (script : List Due) (quantum limit : ℕ)
+        → IsUncounted m.state.counts → IsPlayable script m.state → limit ≤ MOST_STEPS
+        → AreLawful m.board m.state (events_until m script quantum limit) }
+    ensures booted { (p : PartsRow) (script : List Due) (limit : ℕ)
+        → IsPlayable script (booted_machine p).state → limit ≤ MOST_STEPS
         → AreLawful (booted_machine p).board (booted_machine p).state
-        (events_until (booted_machine p) p.quantum limit) }
+        (events_until (booted_machine p) script p.quantum limit) }
 {}

@@ -25,8 +25,9 @@ abbrev pub all_more : List Event → Kinds → Kinds
 all_more [] k = k
 all_more (e ∷ es) k = all_more es (one_more e k)
 
--- no step, tick or slice of a sweep was counted, as at boot
+-- no event was counted, as at boot
 pub record IsUncounted (c : Counts) : Type 0 where
   pub steps : c.steps ≡ 0
   pub ticks : c.ticks ≡ 0
   pub sweeps : c.sweeps ≡ 0
+  pub inputs : c.inputs ≡ 0

@@ -1,5 +1,5 @@
 -- A command has a turn after any files.
-use Rattle.std.proofs.Common.{ℕ, ◌≡◌, ◌≢◌, inl, inr, Bool, true, false, List, [], ◌∷◌, length, take, drop, Option, Some, None, Result, Ok, Err, slice_get, refl}
+use Rattle.std.proofs.Common.{ℕ, ◌≡◌, ◌≢◌, inl, inr, Bool, true, false, List, [], ◌∷◌, length, take, drop, Option, Some, None, Result, Ok, Err, slice_get, refl, sym, subst}
 use Rattle.ct_entry.specs.declared.rows.Owner.{Owner}
 use Rattle.ct_entry.specs.declared.rows.Owner.TheVariants.{Trusted, Compartment, Library}
 use Rattle.def_image.specs.Accepted.{IsFaultless}
@@ -12,14 +12,19 @@ use Rattle.def_link.specs.declared.LinkFault.{LinkFault}
 use Rattle.def_link.specs.Linked.{linked}
 use Rattle.def_lines.specs.Report.{report_line}
 use Rattle.def_program.specs.declared.Status.TheVariants as status
-use Rattle.def_program.specs.Commands.{Command, Audit, Image, Run, RunImage, Why, Upgrade, Check, file_of, reads_image}
-use Rattle.def_program.specs.Lines.{description_line, link_status, link_text, image_line, name_line, policy_line}
+use Rattle.def_program.specs.Commands.{Command, Audit, Image, Run, RunImage, Why, Upgrade, Check, Demo, generated_by, file_of, reads_image}
+use Rattle.def_program.specs.Lines.{description_line, link_status, link_text, image_line, name_line, script_line, policy_line}
 use Rattle.def_program.specs.Paths.{IsWhyLine, none_line, path_line, or_library, compartment_named, library_named}
-use Rattle.def_program.specs.Runs.{run_text}
-use Rattle.def_program.specs.Turns.{Turn, Asks, Ends, Looked, verdict, OfPolicy, OfParts, OfLinked, OfSources, OfDescription, OfImage, OfFirst, source_names}
+use Rattle.def_program.specs.Runs.{demo_text, run_text}
+use Rattle.def_program.specs.Turns.{Turn, Asks, Ends, Looked, verdict, OfPolicy, OfRun, OfParts, OfLinked, OfSources, OfDescription, OfImage, OfFirst, OfFiles, OfNumber, FollowsBy, source_names}
+use Rattle.def_description.specs.Reading.{rows_of}
+use Rattle.def_gen.specs.Description.{firmware}
+use Rattle.def_gen.specs.Sources as generated
+use Rattle.law_gen.proofs.Faultless as well
+use Rattle.law_gen_links.proofs.Linking as links
 use Rattle.law_description.proofs.Judging.{one}
 use Rattle.law_link_limits.proofs.Whole.{faultless}
-use Rattle.law_wellformed.proofs.Lawfuls.{bytes_lawful}
+use Rattle.law_wellformed.proofs.Lawfuls.{bytes_lawful, value_lawful}
 use Rattle.law_paths.specs.There.{LeadsOrNot}
 use Rattle.law_paths.proofs.There.{there}
 use Rattle.ct_policy.proofs.Untrusted.{untrusted}
@@ -28,6 +33,8 @@ use Rattle.law_policy.proofs.Denials.{denials_there, few}
 use Rattle.law_policy.proofs.There.{policy_or_fault}
 use Rattle.law_dialogue.specs.Following.{IsContent, AreContents, HasTurn}
 use Rattle.law_dialogue.proofs.Images.{image_or_flaw}
+use Rattle.law_dialogue.proofs.Scripts as scripts
+use Rattle.law_dialogue.proofs.Scripts.{script_or_fault}
 
 -- ---- of parts
 
@@ -71,17 +78,30 @@ of_policy : (policy : List ℕ) (p : PartsRow) → IsFaultless p → (files : Li
 of_policy policy p f [] = (Asks policy, refl)
 of_policy policy p f (bytes ∷ more) = by_text policy p bytes more f (policy_or_fault p bytes)
 
+abbrev HasRun : PartsRow → ℕ → Option (List ℕ) → List (List ℕ) → Type 0
+HasRun p limit script files = (turn : Turn) × OfRun p limit script files turn
+
+by_script : (p : PartsRow) (limit : ℕ) (name bytes : List ℕ) (more : List (List ℕ)) → scripts.IsTold p.devices bytes → HasRun p limit (Some name) (bytes ∷ more)
+by_script p limit name bytes more (inl s) = (Ends status.Done (run_text p s.dues limit), inr (record { dues = s.dues; reads = s.reads; due = refl }))
+by_script p limit name bytes more (inr x) = (Ends status.Script (script_line x.number x.line), inl (record { number = x.number; line = x.line; fault = x.fault; due = refl }))
+
+of_run : (p : PartsRow) (limit : ℕ) (script : Option (List ℕ)) (files : List (List ℕ)) → HasRun p limit script files
+of_run p limit None files = (Ends status.Done (run_text p [] limit), refl)
+of_run p limit (Some name) [] = (Asks name, refl)
+of_run p limit (Some name) (bytes ∷ more) = by_script p limit name bytes more (script_or_fault p.devices bytes)
+
 abbrev HasParts : Command → PartsRow → List (List ℕ) → Type 0
 HasParts c p files = (turn : Turn) × OfParts c p files turn
 
 of_parts : (c : Command) (p : PartsRow) → IsFaultless p → (files : List (List ℕ)) → HasParts c p files
 of_parts (Audit name) p f files = (Ends status.Done (report_line p), refl)
 of_parts (Image name) p f files = (Ends status.Done (image_bytes p), refl)
-of_parts (Run name limit) p f files = (Ends status.Done (run_text p limit), refl)
-of_parts (RunImage name limit) p f files = (Ends status.Done (run_text p limit), refl)
+of_parts (Run name limit script) p f files = of_run p limit script files
+of_parts (RunImage name limit script) p f files = of_run p limit script files
 of_parts (Why name owner compartment) p f files = looked p f (compartment_named p owner) (library_named p owner) (compartment_named p compartment)
 of_parts (Upgrade name) p f files = (Ends status.Done (image_bytes (upgraded p)), refl)
 of_parts (Check name policy) p f files = of_policy policy p f files
+of_parts (Demo number) p f files = (Ends status.Done (demo_text p), refl)
 
 -- ---- of descriptions
 
@@ -131,6 +151,34 @@ of_first : (image : Bool) (c : Command) (bytes : List ℕ) (sources : List (List
 of_first true c bytes sources content = of_image c bytes sources content
 of_first false c bytes sources content = of_description c bytes sources
 
+abbrev HasFiles : Command → List (List ℕ) → Type 0
+HasFiles c files = (turn : Turn) × OfFiles c files turn
+
+of_files : (c : Command) (files : List (List ℕ)) → AreContents files → HasFiles c files
+of_files c [] contents = (Asks (file_of c), refl)
+of_files c (bytes ∷ sources) contents = of_first (reads_image c) c bytes sources contents.0
+
+-- ---- of a number
+
+abbrev HasNumber : Command → ℕ → List (List ℕ) → Type 0
+HasNumber c number files = (turn : Turn) × OfNumber c number files turn
+
+of_number : (c : Command) (number : ℕ) (files : List (List ℕ)) → HasNumber c number files
+of_number c number files =
+    let d : DescRow = rows_of (firmware number) in
+    let p : PartsRow = links.parts_of_seed number in
+    let f = faultless d (generated.sources number) p (record { lawful = value_lawful (firmware number) (well.faultless number); linked = links.generated_links number }) in
+    let next = of_parts c p f files in
+    (next.0, subst (λ r. OfLinked c d r files next.0) (sym (links.generated_links number)) next.1)
+
+-- ---- of either
+
+abbrev HasEither : Command → Option ℕ → List (List ℕ) → Type 0
+HasEither c o files = (turn : Turn) × FollowsBy c o files turn
+
+of_either : (c : Command) (o : Option ℕ) (files : List (List ℕ)) → AreContents files → HasEither c o files
+of_either c None files contents = of_files c files contents
+of_either c (Some number) files contents = of_number c number files
+
 pub follows : (c : Command) (files : List (List ℕ)) → AreContents files → HasTurn c files
-follows c [] contents = (Asks (file_of c), refl)
-follows c (bytes ∷ sources) contents = of_first (reads_image c) c bytes sources contents.0
+follows c files contents = of_either c (generated_by c) files contents

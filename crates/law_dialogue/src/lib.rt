@@ -6,8 +6,8 @@ ghost use Rattle.std.specs.Prelude.{ℕ, List};
 ghost use Rattle.def_program.specs.Commands.{Command};
 ghost use Rattle.law_dialogue.specs.Following.{AreContents, HasTurn};
 
-/// After any files, whatever their bytes are, a command has a turn. With `one_turn` of law_program it
-/// has exactly one.
+/// After any files of a size that is taken, whatever their bytes are, a command has a turn. With
+/// `one_turn` of law_program it has exactly one.
 pub fn a_turn_follows()
     ensures { (c : Command) (files : List (List ℕ)) → AreContents files → HasTurn c files }
 {}

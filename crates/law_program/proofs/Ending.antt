@@ -11,19 +11,25 @@ use Rattle.def_link.specs.declared.LinkFault.{LinkFault}
 use Rattle.def_link.specs.Linked.{linked}
 use Rattle.def_program.specs.declared.Status.{Status}
 use Rattle.def_program.specs.declared.Status.TheVariants as status
-use Rattle.def_program.specs.Commands.{Command, Audit, Image, Run, RunImage, Why, Upgrade, Check, form_of, file_of, reads_image}
+use Rattle.def_program.specs.Commands.{Command, Audit, Image, Run, RunImage, Why, Upgrade, Check, Demo, form_of, generated_by, file_of, reads_image}
 use Rattle.def_program.specs.Ends as ends
 use Rattle.def_program.specs.Ends.{Holds, IsLarge, most}
-use Rattle.def_program.specs.Licences.{LinksTo}
-use Rattle.def_program.specs.Lines.{policy_line, allow_line}
+use Rattle.def_program.specs.Licences.{LinksTo, NumberStandsFor}
+use Rattle.def_program.specs.Lines.{script_line, policy_line, allow_line}
+use Rattle.def_program.specs.Runs.{run_text}
 use Rattle.def_program.specs.Paths.{owner_named, compartment_named}
-use Rattle.def_program.specs.Turns.{Turn, Asks, Ends, Looked, OfText, verdict, OfParts, OfLinked, OfSources, OfRows, OfDescription, OfImage, OfFirst, Follows, source_names}
+use Rattle.def_description.specs.Reading.{rows_of}
+use Rattle.def_gen.specs.Description.{firmware}
+use Rattle.def_gen.specs.Sources as generated
+use Rattle.law_gen_links.proofs.Linking as links
+use Rattle.def_program.specs.Turns.{Turn, Asks, Ends, Looked, OfText, verdict, OfScript, OfRun, OfParts, OfLinked, OfSources, OfRows, OfDescription, OfImage, OfFirst, OfFiles, FollowsBy, Follows, source_names}
 use Rattle.def_program.specs.Answers.{Read, contents, WereDue, TurnCause, LastRead, Answers}
 use Rattle.law_description.proofs.Judging.{not_both, same_rows}
 use Rattle.law_image.proofs.Backs.{one_reading}
 use Rattle.law_image.proofs.Faults.{no_fault as image_has_none}
 use Rattle.law_policy.proofs.Texts as texts
-use Rattle.law_program.specs.Completing.{NoFault, IsTold, AreTold, Stand, IsRuled, AlsoStands, IsAsked, looked_status, Finishes, Completes, RefusesMisuse, IsSteady}
+use Rattle.law_script.proofs.Scripts as scripts
+use Rattle.law_program.specs.Completing.{NoFault, IsTold, AreTold, Stand, IsRuled, IsPlanned, IsPlannedIfNamed, AlsoStands, AreGiven, Given, IsAsked, looked_status, Finishes, Completes, CompletesDemo, RefusesMisuse, IsSteady}
 
 -- ---- lists by index
 
@@ -139,11 +145,56 @@ module _ (e : ends.Ends) (name policy : List ℕ) (p : PartsRow) (r : IsRuled e 
   check_last zero s text h = absurd (let clash : Ends s text ≡ Asks policy = h in cc)
   check_last (suc k) s text h = policy_ends e p policy r s text h
 
+script_asks : (p : PartsRow) (limit : ℕ) (bytes file : List ℕ) → OfScript p limit bytes (Asks file) → ⊥
+script_asks p limit bytes file (inl a) = absurd (let clash : Asks file ≡ Ends status.Script (script_line a.number a.line) = a.due in cc)
+script_asks p limit bytes file (inr a) = absurd (let clash : Asks file ≡ Ends status.Done (run_text p a.dues limit) = a.due in cc)
+
+script_ends : (e : ends.Ends) (p : PartsRow) (limit : ℕ) (name : List ℕ) (x : IsPlanned e p name) (s : Status) (text : List ℕ) → OfScript p limit x.bytes (Ends s text) → s ≡ status.Done
+script_ends e p limit name x s text (inl a) = absurd (scripts.no_reading p.devices x.bytes x.dues a.number a.line a.fault x.reads)
+script_ends e p limit name x s text (inr a) = let same : Ends s text ≡ Ends status.Done (run_text p a.dues limit) = a.due in cc
+
+-- of a run, by its script or without one
+record RunPlanned (e : ends.Ends) (p : PartsRow) (limit : ℕ) (script : Option (List ℕ)) : Type 0 where
+  names : List (List ℕ)
+  all : List (List ℕ)
+  told : AreTold e names all
+  next : (k : ℕ) (name : List ℕ) → OfRun p limit script (take k all) (Asks name) → slice_get names k ≡ Some name
+  last : (k : ℕ) (s : Status) (text : List ℕ) → OfRun p limit script (take k all) (Ends s text) → s ≡ status.Done
+
+module _ (e : ends.Ends) (p : PartsRow) (limit : ℕ) (script : List ℕ) (x : IsPlanned e p script) where
+  script_next : (k : ℕ) (file : List ℕ) → OfRun p limit (Some script) (take k (x.bytes ∷ [])) (Asks file) → slice_get (script ∷ []) k ≡ Some file
+  script_next zero file h = let same : Asks file ≡ Asks script = h in cc
+  script_next (suc k) file h = absurd (script_asks p limit x.bytes file h)
+
+  script_last : (k : ℕ) (s : Status) (text : List ℕ) → OfRun p limit (Some script) (take k (x.bytes ∷ [])) (Ends s text) → s ≡ status.Done
+  script_last zero s text h = absurd (let clash : Ends s text ≡ Asks script = h in cc)
+  script_last (suc k) s text h = script_ends e p limit script x s text h
+
+run_planned : (e : ends.Ends) (p : PartsRow) (limit : ℕ) (script : Option (List ℕ)) → IsPlannedIfNamed e p script → RunPlanned e p limit script
+run_planned e p limit None also = record {
+  names = [];
+  all = [];
+  told = tt;
+  next = λ k name h. absurd (let clash : Asks name ≡ Ends status.Done (run_text p [] limit) = h in cc);
+  last = λ k s text h. (let same : Ends s text ≡ Ends status.Done (run_text p [] limit) = h in cc);
+}
+run_planned e p limit (Some script) x = record {
+  names = script ∷ [];
+  all = x.bytes ∷ [];
+  told = (x.told, tt);
+  next = script_next e p limit script x;
+  last = script_last e p limit script x;
+}
+
 parts_planned : (e : ends.Ends) (c : Command) (p : PartsRow) → AlsoStands e c p → PartsPlanned e c p
 parts_planned e (Audit file) p also = no_more e (Audit file) p (λ k name h. absurd (let clash = h in cc)) (λ k s text h. let same = h in cc)
 parts_planned e (Image file) p also = no_more e (Image file) p (λ k name h. absurd (let clash = h in cc)) (λ k s text h. let same = h in cc)
-parts_planned e (Run file limit) p also = no_more e (Run file limit) p (λ k name h. absurd (let clash = h in cc)) (λ k s text h. let same = h in cc)
-parts_planned e (RunImage file limit) p also = no_more e (RunImage file limit) p (λ k name h. absurd (let clash = h in cc)) (λ k s text h. let same = h in cc)
+parts_planned e (Run file limit script) p also =
+    let x = run_planned e p limit script also in
+    record { names = x.names; all = x.all; plan = record { told = x.told; next = x.next; last = x.last } }
+parts_planned e (RunImage file limit script) p also =
+    let x = run_planned e p limit script also in
+    record { names = x.names; all = x.all; plan = record { told = x.told; next = x.next; last = x.last } }
 parts_planned e (Why file owner compartment) p also =
     no_more e (Why file owner compartment) p
     (λ k name h. looked_asks p (owner_named p owner) (compartment_named p compartment) name h)
@@ -154,6 +205,7 @@ parts_planned e (Check file policy) p also = record {
   all = also.bytes ∷ [];
   plan = record { told = (also.told, tt); next = check_next e file policy p also; last = check_last e file policy p also };
 }
+parts_planned e (Demo number) p also = no_more e (Demo number) p (λ k name h. absurd (let clash = h in cc)) (λ k s text h. let same = h in cc)
 
 -- ---- what is due after files that stand for parts
 
@@ -162,6 +214,22 @@ pub record Plan (e : ends.Ends) (c : Command) (p : PartsRow) (names all : List (
   pub told : AreTold e names all
   pub next : (k : ℕ) (name : List ℕ) → k ≤ length all → Follows c (take k all) (Asks name) → slice_get names k ≡ Some name
   pub last : (k : ℕ) (s : Status) (text : List ℕ) → k ≤ length all → Follows c (take k all) (Ends s text) → Finishes c p s
+
+-- the same of a command that reads files
+record FilesPlan (e : ends.Ends) (c : Command) (p : PartsRow) (names all : List (List ℕ)) : Type 0 where
+  told : AreTold e names all
+  next : (k : ℕ) (name : List ℕ) → k ≤ length all → OfFiles c (take k all) (Asks name) → slice_get names k ≡ Some name
+  last : (k : ℕ) (s : Status) (text : List ℕ) → k ≤ length all → OfFiles c (take k all) (Ends s text) → Finishes c p s
+
+from_files : (c : Command) (files : List (List ℕ)) (turn : Turn) → generated_by c ≡ None → Follows c files turn → OfFiles c files turn
+from_files c files turn none h = subst (λ o. FollowsBy c o files turn) none h
+
+read_plan : (e : ends.Ends) (c : Command) (p : PartsRow) (names all : List (List ℕ)) → generated_by c ≡ None → FilesPlan e c p names all → Plan e c p names all
+read_plan e c p names all none plan = record {
+  told = plan.told;
+  next = λ k name few h. plan.next k name few (from_files c (take k all) (Asks name) none h);
+  last = λ k s text few h. plan.last k s text few (from_files c (take k all) (Ends s text) none h);
+}
 
 -- each of the files that were read is the one in its place
 prefix_is : (e : ends.Ends) (c : Command) (p : PartsRow) (names all : List (List ℕ)) → Plan e c p names all → (rs : List Read) → WereDue e c rs
@@ -262,15 +330,15 @@ module _ (e : ends.Ends) (c : Command) (bytes : List ℕ) (sources : List (List 
       ]
 
   by_description : reads_image c ≡ false → IsTold e (file_of c) bytes → AreTold e (source_names l.description) sources
-      → Plan e c p (file_of c ∷ (source_names l.description ++ names)) (bytes ∷ (sources ++ all))
+      → FilesPlan e c p (file_of c ∷ (source_names l.description ++ names)) (bytes ∷ (sources ++ all))
   by_description description first rest = record { told = (first, told_both e (source_names l.description) sources names all rest plan.told); next = next; last = last }
     where
-      next : (k : ℕ) (name : List ℕ) → k ≤ length (bytes ∷ (sources ++ all)) → Follows c (take k (bytes ∷ (sources ++ all))) (Asks name)
+      next : (k : ℕ) (name : List ℕ) → k ≤ length (bytes ∷ (sources ++ all)) → OfFiles c (take k (bytes ∷ (sources ++ all))) (Asks name)
           → slice_get (file_of c ∷ (source_names l.description ++ names)) k ≡ Some name
       next zero name few h = let same : Asks name ≡ Asks (file_of c) = h in cc
       next (suc j) name few h = next_file j name (omega (arith, few)) (there j (Asks name) description h)
 
-      last : (k : ℕ) (s : Status) (text : List ℕ) → k ≤ length (bytes ∷ (sources ++ all)) → Follows c (take k (bytes ∷ (sources ++ all))) (Ends s text) → Finishes c p s
+      last : (k : ℕ) (s : Status) (text : List ℕ) → k ≤ length (bytes ∷ (sources ++ all)) → OfFiles c (take k (bytes ∷ (sources ++ all))) (Ends s text) → Finishes c p s
       last zero s text few h = absurd (let clash : Ends s text ≡ Asks (file_of c) = h in cc)
       last (suc j) s text few h = last_file j s text (omega (arith, few)) (there j (Ends s text) description h)
 
@@ -284,17 +352,17 @@ module _ (e : ends.Ends) (c : Command) (bytes : List ℕ) (p : PartsRow) (i : Is
       let same : q.0 ≡ p = one_reading q.0 p q.1.0.0.spellable i.0.spellable (sym q.1.0.1 ∙ i.1) in
       subst (λ x. OfParts c x files turn) same q.1.1
 
-  by_image : reads_image c ≡ true → IsTold e (file_of c) bytes → Plan e c p (file_of c ∷ names) (bytes ∷ all)
+  by_image : reads_image c ≡ true → IsTold e (file_of c) bytes → FilesPlan e c p (file_of c ∷ names) (bytes ∷ all)
   by_image image first = record { told = (first, plan.told); next = next; last = last }
     where
       there : (j : ℕ) (turn : Turn) → OfFirst (reads_image c) c bytes (take j all) turn → OfParts c p (take j all) turn
       there j turn h = image_parts (take j all) turn (subst (λ b. OfFirst b c bytes (take j all) turn) image h)
 
-      next : (k : ℕ) (name : List ℕ) → k ≤ length (bytes ∷ all) → Follows c (take k (bytes ∷ all)) (Asks name) → slice_get (file_of c ∷ names) k ≡ Some name
+      next : (k : ℕ) (name : List ℕ) → k ≤ length (bytes ∷ all) → OfFiles c (take k (bytes ∷ all)) (Asks name) → slice_get (file_of c ∷ names) k ≡ Some name
       next zero name few h = let same : Asks name ≡ Asks (file_of c) = h in cc
       next (suc j) name few h = plan.next j name (there j (Asks name) h)
 
-      last : (k : ℕ) (s : Status) (text : List ℕ) → k ≤ length (bytes ∷ all) → Follows c (take k (bytes ∷ all)) (Ends s text) → Finishes c p s
+      last : (k : ℕ) (s : Status) (text : List ℕ) → k ≤ length (bytes ∷ all) → OfFiles c (take k (bytes ∷ all)) (Ends s text) → Finishes c p s
       last zero s text few h = absurd (let clash : Ends s text ≡ Asks (file_of c) = h in cc)
       last (suc j) s text few h = plan.last j s text (there j (Ends s text) h)
 
@@ -305,18 +373,51 @@ record Planned (e : ends.Ends) (c : Command) (p : PartsRow) : Type 0 where
   all : List (List ℕ)
   plan : Plan e c p names all
 
-planned_by : (e : ends.Ends) (c : Command) (image : Bool) (bytes : List ℕ) (sources : List (List ℕ)) (p : PartsRow)
+planned_by : (e : ends.Ends) (c : Command) (image : Bool) (bytes : List ℕ) (sources : List (List ℕ)) (p : PartsRow) → generated_by c ≡ None
     → reads_image c ≡ image → IsTold e (file_of c) bytes → Stand e image bytes sources p → PartsPlanned e c p → Planned e c p
-planned_by e c true bytes sources p is first stand more =
-    record { names = file_of c ∷ more.names; all = bytes ∷ more.all; plan = by_image e c bytes p stand more.names more.all more.plan is first }
-planned_by e c false bytes sources p is first stand more = record {
+planned_by e c true bytes sources p none is first stand more = record {
+  names = file_of c ∷ more.names;
+  all = bytes ∷ more.all;
+  plan = read_plan e c p (file_of c ∷ more.names) (bytes ∷ more.all) none (by_image e c bytes p stand more.names more.all more.plan is first);
+}
+planned_by e c false bytes sources p none is first stand more = record {
   names = file_of c ∷ (source_names stand.0.description ++ more.names);
   all = bytes ∷ (sources ++ more.all);
-  plan = by_description e c bytes sources p stand.0 more.names more.all more.plan is first stand.1;
+  plan = read_plan e c p (file_of c ∷ (source_names stand.0.description ++ more.names)) (bytes ∷ (sources ++ more.all)) none
+      (by_description e c bytes sources p stand.0 more.names more.all more.plan is first stand.1);
 }
 
+planned_files : (e : ends.Ends) (c : Command) (p : PartsRow) → generated_by c ≡ None → AreGiven e c p → Planned e c p
+planned_files e c p none g = planned_by e c (reads_image c) g.bytes g.sources p none refl g.first g.stand (parts_planned e c p g.also)
+
+-- of a generated firmware no file is due
+number_parts : (number : ℕ) (p : PartsRow) (files : List (List ℕ)) (turn : Turn) → NumberStandsFor number p → Follows (Demo number) files turn → OfParts (Demo number) p files turn
+number_parts number p files turn is h =
+    subst (λ r. OfLinked (Demo number) (rows_of (firmware number)) r files turn) is h
+
+planned_number : (e : ends.Ends) (number : ℕ) (p : PartsRow) → NumberStandsFor number p → Planned e (Demo number) p
+planned_number e number p is = record {
+  names = [];
+  all = [];
+  plan = record {
+    told = tt;
+    next = λ k name few h. absurd (let clash = number_parts number p (take k []) (Asks name) is h in cc);
+    last = λ k s text few h. (let same = number_parts number p (take k []) (Ends s text) is h in cc);
+  };
+}
+
+planned_for : (e : ends.Ends) (c : Command) (p : PartsRow) → Given e c (generated_by c) p → Planned e c p
+planned_for e (Audit name) p g = planned_files e (Audit name) p refl g
+planned_for e (Image name) p g = planned_files e (Image name) p refl g
+planned_for e (Run name limit script) p g = planned_files e (Run name limit script) p refl g
+planned_for e (RunImage name limit script) p g = planned_files e (RunImage name limit script) p refl g
+planned_for e (Why name owner compartment) p g = planned_files e (Why name owner compartment) p refl g
+planned_for e (Upgrade name) p g = planned_files e (Upgrade name) p refl g
+planned_for e (Check name policy) p g = planned_files e (Check name policy) p refl g
+planned_for e (Demo number) p g = planned_number e number p g
+
 planned : (e : ends.Ends) (p : PartsRow) → (a : IsAsked e p) → Planned e a.command p
-planned e p a = planned_by e a.command (reads_image a.command) a.bytes a.sources p refl a.first a.stand (parts_planned e a.command p a.also)
+planned e p a = planned_for e a.command p a.given
 
 same_command : (e : ends.Ends) (a b : Command) → form_of e.words ≡ Some a → form_of e.words ≡ Some b → a ≡ b
 same_command e a b p q = let same : Some a ≡ Some b = sym p ∙ q in cc
@@ -353,12 +454,16 @@ completes e status.Description w p a none = inl (turn_status e p a status.Descri
 completes e status.Assembly w p a none = inl (turn_status e p a status.Assembly w.text w.cause)
 completes e status.Link w p a none = inl (turn_status e p a status.Link w.text w.cause)
 completes e status.Image w p a none = inl (turn_status e p a status.Image w.text w.cause)
-completes e status.Script w p a none = absurd w.cause
+completes e status.Script w p a none = inl (turn_status e p a status.Script w.text w.cause)
 completes e status.WriteFault w p a none = absurd (none.writes w.rose)
 completes e status.NoMemory w p a none = inr refl
 completes e status.Name w p a none = inl (turn_status e p a status.Name w.text w.cause)
 completes e status.Denied w p a none = inl (turn_status e p a status.Denied w.text w.cause)
 completes e status.Policy w p a none = inl (turn_status e p a status.Policy w.text w.cause)
+
+pub demo_completes : (e : ends.Ends) (s : Status) → Answers e s → CompletesDemo e s
+demo_completes e s w number form none =
+    completes e s w (links.parts_of_seed number) (record { command = Demo number; form = form; given = links.generated_links number }) none
 
 -- ---- the statuses that are left
 
@@ -395,7 +500,7 @@ misuse e status.Description a none = absurd (not_both_forms e a.cause.command no
 misuse e status.Assembly a none = absurd (not_both_forms e a.cause.command none a.cause.form)
 misuse e status.Link a none = absurd (not_both_forms e a.cause.command none a.cause.form)
 misuse e status.Image a none = absurd (not_both_forms e a.cause.command none a.cause.form)
-misuse e status.Script a none = absurd a.cause
+misuse e status.Script a none = absurd (not_both_forms e a.cause.command none a.cause.form)
 misuse e status.WriteFault a none = inr refl
 misuse e status.NoMemory a none = absurd (not_both_forms e a.command none a.form)
 misuse e status.Name a none = absurd (not_both_forms e a.cause.command none a.cause.form)

@@ -7,16 +7,22 @@ use Rattle.def_description.specs.Rows.{DescRow}
 use Rattle.def_link.specs.declared.LinkFault.{LinkFault}
 use Rattle.def_link.specs.Linked.{linked}
 use Rattle.def_program.specs.declared.Status.TheVariants as status
-use Rattle.def_program.specs.Commands.{Command, Audit, Image, Run, RunImage, Why, Upgrade, Check, reads_image}
-use Rattle.def_program.specs.Lines.{description_line, image_line, policy_line}
+use Rattle.def_script.specs.Script.{Due}
+use Rattle.def_program.specs.Commands.{Command, Audit, Image, Run, RunImage, Why, Upgrade, Check, Demo, generated_by, reads_image}
+use Rattle.def_program.specs.Lines.{description_line, image_line, script_line, policy_line}
 use Rattle.def_program.specs.Paths.{IsWhyLine, path_line, owner_named, compartment_named}
-use Rattle.def_program.specs.Turns.{Turn, Ends, Looked, OfText, verdict, OfPolicy, OfParts, OfLinked, OfSources, OfRows, OfDescription, OfImage, OfFirst, Follows, source_names}
+use Rattle.def_description.specs.Reading.{rows_of}
+use Rattle.def_gen.specs.Description.{firmware}
+use Rattle.def_gen.specs.Sources as texts_of
+use Rattle.def_program.specs.Turns.{Turn, Ends, Looked, OfText, verdict, OfPolicy, OfScript, OfRun, OfParts, OfLinked, OfSources, OfRows, OfDescription, OfImage, OfFirst, FollowsBy, OfFiles, Follows, source_names}
 use Rattle.law_description.proofs.Judging.{not_both, same_rows, same_fault}
 use Rattle.law_image.proofs.Backs.{one_reading}
 use Rattle.law_image.proofs.Faults.{no_fault, one_fault}
 use Rattle.law_paths.proofs.Once.{same_path}
 use Rattle.law_policy.proofs.Denials.{same_denials}
 use Rattle.law_policy.proofs.Texts as texts
+use Rattle.law_script.proofs.Scripts as scripts
+use Rattle.def_program.specs.Runs.{run_text}
 
 -- ---- one line
 
@@ -48,14 +54,30 @@ of_check : (policy : List ℕ) (p : PartsRow) (more : List (List ℕ)) (s t : Tu
 of_check policy p [] s t a b = a ∙ sym b
 of_check policy p (bytes ∷ more) s t a b = of_policy p bytes s t a b
 
+of_script : (p : PartsRow) (limit : ℕ) (bytes : List ℕ) (s t : Turn) → OfScript p limit bytes s → OfScript p limit bytes t → s ≡ t
+of_script p limit bytes s t (inl a) (inl b) =
+    let one = scripts.one_fault p.devices bytes a.number a.line b.number b.line a.fault b.fault in
+    a.due ∙ ap (λ n. Ends status.Script (script_line n a.line)) one.0 ∙ ap (λ n. Ends status.Script (script_line b.number n)) one.1 ∙ sym b.due
+of_script p limit bytes s t (inl a) (inr b) = absurd (scripts.no_reading p.devices bytes b.dues a.number a.line a.fault b.reads)
+of_script p limit bytes s t (inr a) (inl b) = absurd (scripts.no_reading p.devices bytes a.dues b.number b.line b.fault a.reads)
+of_script p limit bytes s t (inr a) (inr b) =
+    let dues : a.dues ≡ b.dues = scripts.one_reading p.devices bytes a.dues b.dues a.reads b.reads in
+    a.due ∙ ap (λ (ds : List Due). Ends status.Done (run_text p ds limit)) dues ∙ sym b.due
+
+of_run : (p : PartsRow) (limit : ℕ) (script : Option (List ℕ)) (more : List (List ℕ)) (s t : Turn) → OfRun p limit script more s → OfRun p limit script more t → s ≡ t
+of_run p limit None more s t a b = a ∙ sym b
+of_run p limit (Some name) [] s t a b = a ∙ sym b
+of_run p limit (Some name) (bytes ∷ more) s t a b = of_script p limit bytes s t a b
+
 of_parts : (c : Command) (p : PartsRow) (more : List (List ℕ)) (s t : Turn) → OfParts c p more s → OfParts c p more t → s ≡ t
 of_parts (Audit name) p more s t a b = a ∙ sym b
 of_parts (Image name) p more s t a b = a ∙ sym b
-of_parts (Run name limit) p more s t a b = a ∙ sym b
-of_parts (RunImage name limit) p more s t a b = a ∙ sym b
+of_parts (Run name limit script) p more s t a b = of_run p limit script more s t a b
+of_parts (RunImage name limit script) p more s t a b = of_run p limit script more s t a b
 of_parts (Why name owner compartment) p more s t a b = of_names p (owner_named p owner) (compartment_named p compartment) s t a b
 of_parts (Upgrade name) p more s t a b = a ∙ sym b
 of_parts (Check name policy) p more s t a b = of_check policy p more s t a b
+of_parts (Demo number) p more s t a b = a ∙ sym b
 
 -- ---- of descriptions
 
@@ -93,6 +115,16 @@ of_first : (image : Bool) (c : Command) (bytes : List ℕ) (files : List (List �
 of_first true c bytes files s t a b = of_image c bytes files s t a b
 of_first false c bytes files s t a b = of_description c bytes files s t a b
 
+of_files : (c : Command) (files : List (List ℕ)) (s t : Turn) → OfFiles c files s → OfFiles c files t → s ≡ t
+of_files c [] s t a b = a ∙ sym b
+of_files c (bytes ∷ files) s t a b = of_first (reads_image c) c bytes files s t a b
+
+-- ---- of a number, or of files
+
+by_either : (c : Command) (o : Option ℕ) (files : List (List ℕ)) (s t : Turn) → FollowsBy c o files s → FollowsBy c o files t → s ≡ t
+by_either c None files s t a b = of_files c files s t a b
+by_either c (Some number) files s t a b =
+    of_linked c (rows_of (firmware number)) (linked (rows_of (firmware number)) (texts_of.sources number)) files s t a b
+
 pub once : (c : Command) (files : List (List ℕ)) (s t : Turn) → Follows c files s → Follows c files t → s ≡ t
-once c [] s t a b = a ∙ sym b
-once c (bytes ∷ files) s t a b = of_first (reads_image c) c bytes files s t a b
+once c files s t a b = by_either c (generated_by c) files s t a b

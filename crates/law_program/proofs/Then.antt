@@ -1,5 +1,8 @@
 -- What is written of a description's image runs to the same text.
-use Rattle.std.proofs.Common.{ℕ, ◌≡◌, inl, inr, List, [], ◌∷◌, length, take, drop, Option, Some, None, Result, Ok, Err, slice_get, refl, subst}
+use Rattle.std.proofs.Common.{ℕ, ◌≡◌, ◌≤◌, ◌++◌, ◌∙◌, inl, inr, List, [], ◌∷◌, length, length-append, take, drop, Option, Some, None, Result, Ok, Err, slice_get, refl, sym, ap, subst, arith}
+use Rattle.std.proofs.Math.Seq.{take-append_seam, drop-append_seam}
+use Rattle.std.proofs.lemmas.List.{take_all}
+use Rattle.std.proofs.lemmas.Option.{slice_get_past}
 use Rattle.def_image.specs.Parts.{PartsRow}
 use Rattle.def_image.specs.Spelling.{image_bytes}
 use Rattle.def_description.specs.Rows.{DescRow}
@@ -10,9 +13,9 @@ use Rattle.def_link.specs.Linked.{linked}
 use Rattle.def_program.specs.declared.Status.TheVariants as status
 use Rattle.def_program.specs.Commands.{Command, Image, Run, RunImage}
 use Rattle.def_program.specs.Lines.{description_line, link_status, link_text}
-use Rattle.def_program.specs.Runs.{run_text}
-use Rattle.def_program.specs.Turns.{Asks, Ends, OfParts, OfLinked, OfSources, OfDescription, Follows, source_names}
-use Rattle.law_description.proofs.Judging.{same_rows}
+use Rattle.def_program.specs.Licences.{LinksTo}
+use Rattle.def_program.specs.Turns.{Turn, Asks, Ends, OfParts, OfRun, OfRows, OfLinked, OfSources, OfDescription, Follows, source_names}
+use Rattle.law_description.proofs.Judging.{not_both, same_rows}
 use Rattle.law_wellformed.proofs.Lawfuls.{bytes_lawful}
 use Rattle.law_link_limits.proofs.Whole.{faultless}
 
@@ -57,25 +60,44 @@ told c bytes sources text (inl faulty) =
 told c bytes sources text (inr lawful) =
     by_sources c bytes sources text lawful.0 lawful.1.0 (slice_get (source_names lawful.0) (length sources)) lawful.1.1
 
--- the rows of the same bytes are linked to the same parts
-same_parts : (c k : Command) (bytes : List ℕ) (sources : List (List ℕ)) (a b : List ℕ)
-    → (x : IsTold c bytes sources a) (y : IsTold k bytes sources b) → y.parts ≡ x.parts
-same_parts c k bytes sources a b x y =
-    let rows : y.rows ≡ x.rows = same_rows bytes y.rows x.rows y.lawful x.lawful in
-    let second : linked x.rows (own x.rows sources) ≡ Ok y.parts = subst (λ d. linked d (own d sources) ≡ Ok y.parts) rows y.linked in
-    let first = x.linked in
-    cc
+-- with a script or without one, what is due of a description whose sources link is what is due of its parts
+run_due : (name bytes : List ℕ) (sources more : List (List ℕ)) (p : PartsRow) (limit : ℕ) (script : Option (List ℕ)) (turn : Turn)
+    → LinksTo bytes sources p → OfDescription (Run name limit script) bytes (sources ++ more) turn → OfRun p limit script more turn
+run_due name bytes sources more p limit script turn l (inl faulty) = absurd (not_both bytes l.description faulty.0 l.well faulty.1.0)
+run_due name bytes sources more p limit script turn l (inr d) =
+    let here : OfRows (Run name limit script) l.description (sources ++ more) turn =
+    subst (λ x. OfRows (Run name limit script) x (sources ++ more) turn) (same_rows bytes d.0 l.description d.1.0 l.well) d.1.1 in
+    let long : length (source_names l.description) ≤ length (sources ++ more) = omega (arith, l.whole, length-append sources more) in
+    let none : slice_get (source_names l.description) (length (sources ++ more)) ≡ None = slice_get_past (source_names l.description) (length (sources ++ more)) long in
+    let own_so : take (length (source_names l.description)) (sources ++ more) ≡ sources = ap (λ n. take n (sources ++ more)) (sym l.whole) ∙ take-append_seam sources more in
+    let rest : drop (length (source_names l.description)) (sources ++ more) ≡ more = ap (λ n. drop n (sources ++ more)) (sym l.whole) ∙ drop-append_seam sources more in
+    by_link (linked l.description sources) l.links
+    (subst (λ xs. OfLinked (Run name limit script) l.description (linked l.description xs) more turn) own_so
+    (subst (λ ys. OfLinked (Run name limit script) l.description (linked l.description (take (length (source_names l.description)) (sources ++ more))) ys turn) rest
+    (by_none (slice_get (source_names l.description) (length (sources ++ more))) none here)))
+  where
+    by_none : (o : Option (List ℕ)) → o ≡ None
+        → OfSources (Run name limit script) l.description (take (length (source_names l.description)) (sources ++ more)) (drop (length (source_names l.description)) (sources ++ more)) o turn
+        → OfLinked (Run name limit script) l.description (linked l.description (take (length (source_names l.description)) (sources ++ more))) (drop (length (source_names l.description)) (sources ++ more)) turn
+    by_none (Some x) is h = absurd (let clash : Some x ≡ None = is in cc)
+    by_none None is h = h
 
-pub runs_alike : (name other bytes written text : List ℕ) (sources : List (List ℕ)) (limit : ℕ)
+    by_link : (r : Result PartsRow LinkFault) → r ≡ Ok p → OfLinked (Run name limit script) l.description r more turn → OfRun p limit script more turn
+    by_link (Err e) is h = absurd (let clash : Err e ≡ Ok p = is in cc)
+    by_link (Ok q) is h = let same : q ≡ p = (let here : Ok q ≡ Ok p = is in cc) in subst (λ x. OfRun x limit script more turn) same h
+
+pub runs_alike : (name other bytes written : List ℕ) (sources more : List (List ℕ)) (p : PartsRow) (limit : ℕ) (script : Option (List ℕ)) (turn : Turn)
+    → LinksTo bytes sources p
     → Follows (Image name) (bytes ∷ sources) (Ends status.Done written)
-    → Follows (Run name limit) (bytes ∷ sources) (Ends status.Done text)
-    → Follows (RunImage other limit) (written ∷ []) (Ends status.Done text)
-runs_alike name other bytes written text sources limit first second =
+    → Follows (Run name limit script) (bytes ∷ (sources ++ more)) turn
+    → Follows (RunImage other limit script) (written ∷ more) turn
+runs_alike name other bytes written sources more p limit script turn l first second =
     let x = told (Image name) bytes sources written first in
-    let y = told (Run name limit) bytes sources text second in
+    let rows : x.rows ≡ l.description = same_rows bytes x.rows l.description x.lawful l.well in
+    let all : own l.description sources ≡ sources = ap (λ n. take n sources) (sym l.whole) ∙ take_all (length sources) sources (omega arith) in
+    let there : linked l.description (own l.description sources) ≡ Ok x.parts = subst (λ d. linked d (own d sources) ≡ Ok x.parts) rows x.linked in
+    let same : x.parts ≡ p = (let here : Ok x.parts ≡ Ok p = sym there ∙ ap (linked l.description) all ∙ l.links in cc) in
     let sound = faultless x.rows (own x.rows sources) x.parts (record { lawful = bytes_lawful bytes x.rows x.lawful; linked = x.linked }) in
     let due : Ends status.Done written ≡ Ends status.Done (image_bytes x.parts) = x.due in
     let spelled : written ≡ image_bytes x.parts = cc in
-    let runs = subst (λ p. Ends status.Done text ≡ Ends status.Done (run_text p limit))
-    (same_parts (Image name) (Run name limit) bytes sources written text x y) y.due in
-    inr (x.parts, ((sound, spelled), runs))
+    inr (x.parts, ((sound, spelled), subst (λ q. OfRun q limit script more turn) (sym same) (run_due name bytes sources more p limit script turn l second)))

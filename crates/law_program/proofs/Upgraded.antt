@@ -1,5 +1,5 @@
 -- What is written of an upgraded image runs to the same turn.
-use Rattle.std.proofs.Common.{ℕ, ◌≡◌, ◌++◌, inl, inr, List, [], ◌∷◌, refl, ap, sym, ◌∙◌}
+use Rattle.std.proofs.Common.{ℕ, ◌≡◌, ◌++◌, inl, inr, List, [], ◌∷◌, Option, Some, None, refl, ap, sym, ◌∙◌, subst}
 use Rattle.def_step.specs.Events.{MachineRow}
 use Rattle.def_step.specs.Instructions.{Board}
 use Rattle.def_machine.specs.State.{State}
@@ -11,12 +11,14 @@ use Rattle.def_program.specs.declared.Status.TheVariants as status
 use Rattle.def_program.specs.Commands.{RunImage, Upgrade}
 use Rattle.def_program.specs.Lines.{image_line}
 use Rattle.def_program.specs.Runs.{run_lines, run_text}
-use Rattle.def_program.specs.Turns.{Turn, Ends, Follows}
+use Rattle.def_script.specs.Script.{Due}
+use Rattle.def_program.specs.Turns.{Turn, Ends, OfRun, OfImage, Follows}
 use Rattle.def_lines.specs.Report.{report_line}
 use Rattle.law_upgrade.proofs.Accepted.{stays}
 use Rattle.law_upgrade.proofs.Alike.{alike}
 use Rattle.law_reports.proofs.Alike.{line_alike}
-use Rattle.law_program.proofs.Once.{once}
+use Rattle.law_image.proofs.Backs.{one_reading}
+use Rattle.law_image.proofs.Faults.{no_fault}
 
 -- the parts of an image, of which this was written
 record IsWritten (bytes written : List ℕ) : Type 0 where
@@ -36,19 +38,33 @@ written_so name bytes written (inr found) = record {
 abbrev machine : Board → State → MachineRow
 machine b s = record { board = b; state = s }
 
-text_alike : (p : PartsRow) (limit : ℕ) → run_text (upgraded p) limit ≡ run_text p limit
+text_alike : (p : PartsRow) (dues : List Due) (limit : ℕ) → run_text (upgraded p) dues limit ≡ run_text p dues limit
 unfolding run_text
-text_alike p limit =
-    ap (λ t. t ++ run_lines (booted_machine (upgraded p)) p.quantum limit) (line_alike p)
-    ∙ ap (λ b. report_line p ++ run_lines (machine b (boot_state (upgraded p))) p.quantum limit) (alike p).board
-    ∙ ap (λ s. report_line p ++ run_lines (machine (board_of p) s) p.quantum limit) (alike p).state
+text_alike p dues limit =
+    ap (λ t. t ++ run_lines (booted_machine (upgraded p)) dues p.quantum limit) (line_alike p)
+    ∙ ap (λ b. report_line p ++ run_lines (machine b (boot_state (upgraded p))) dues p.quantum limit) (alike p).board
+    ∙ ap (λ s. report_line p ++ run_lines (machine (board_of p) s) dues p.quantum limit) (alike p).state
 
-pub runs_on : (name other file bytes written : List ℕ) (limit : ℕ) (turn : Turn)
+-- with a script or without one, an image and the upgraded one have the same turn
+run_alike : (p : PartsRow) (limit : ℕ) (script : Option (List ℕ)) (more : List (List ℕ)) (turn : Turn) → OfRun p limit script more turn → OfRun (upgraded p) limit script more turn
+run_alike p limit None more turn h = h ∙ ap (λ t. Ends status.Done t) (sym (text_alike p [] limit))
+run_alike p limit (Some name) [] turn h = h
+run_alike p limit (Some name) (bytes ∷ more) turn (inl a) = inl (record { number = a.number; line = a.line; fault = a.fault; due = a.due })
+run_alike p limit (Some name) (bytes ∷ more) turn (inr a) =
+    inr (record { dues = a.dues; reads = a.reads; due = a.due ∙ ap (λ t. Ends status.Done t) (sym (text_alike p a.dues limit)) })
+
+-- what is due of an image's bytes is what is due of its parts
+of_parts : (other bytes : List ℕ) (more : List (List ℕ)) (p : PartsRow) (limit : ℕ) (script : Option (List ℕ)) (turn : Turn)
+    → IsImage bytes p → OfImage (RunImage other limit script) bytes more turn → OfRun p limit script more turn
+of_parts other bytes more p limit script turn i (inl a) = absurd (no_fault bytes p a.number a.place i a.fault)
+of_parts other bytes more p limit script turn i (inr a) =
+    let same : a.0 ≡ p = one_reading a.0 p a.1.0.0.spellable i.0.spellable (sym a.1.0.1 ∙ i.1) in
+    subst (λ q. OfRun q limit script more turn) same a.1.1
+
+pub runs_on : (name other file bytes written : List ℕ) (more : List (List ℕ)) (limit : ℕ) (script : Option (List ℕ)) (turn : Turn)
     → Follows (Upgrade name) (bytes ∷ []) (Ends status.Done written)
-    → Follows (RunImage other limit) (bytes ∷ []) turn
-    → Follows (RunImage file limit) (written ∷ []) turn
-runs_on name other file bytes written limit turn first second =
+    → Follows (RunImage other limit script) (bytes ∷ more) turn
+    → Follows (RunImage file limit script) (written ∷ more) turn
+runs_on name other file bytes written more limit script turn first second =
     let x : IsWritten bytes written = written_so name bytes written first in
-    let here : Follows (RunImage other limit) (bytes ∷ []) (Ends status.Done (run_text x.parts limit)) = inr (x.parts, (x.image, refl)) in
-    let same : turn ≡ Ends status.Done (run_text x.parts limit) = once (RunImage other limit) (bytes ∷ []) turn (Ends status.Done (run_text x.parts limit)) second here in
-    inr (upgraded x.parts, ((stays x.parts x.image.0, x.spelled), same ∙ ap (λ t. Ends status.Done t) (sym (text_alike x.parts limit))))
+    inr (upgraded x.parts, ((stays x.parts x.image.0, x.spelled), run_alike x.parts limit script more turn (of_parts other bytes more x.parts limit script turn x.image second)))

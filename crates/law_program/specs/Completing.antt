@@ -8,9 +8,11 @@ use Rattle.def_image.specs.Accepted.{IsImage}
 use Rattle.def_image.specs.Parts.{PartsRow}
 use Rattle.def_policy.specs.Rulings.{Ruling}
 use Rattle.def_policy.specs.Texts.{Reads}
-use Rattle.def_program.specs.Commands.{Command, Audit, Image, Run, RunImage, Why, Upgrade, Check, form_of, file_of, reads_image}
+use Rattle.def_script.specs.Script.{Due}
+use Rattle.def_script.specs.Script as script
+use Rattle.def_program.specs.Commands.{Command, Audit, Image, Run, RunImage, Why, Upgrade, Check, Demo, form_of, generated_by, file_of, reads_image}
 use Rattle.def_program.specs.Ends.{Ends, most}
-use Rattle.def_program.specs.Licences.{LinksTo}
+use Rattle.def_program.specs.Licences.{LinksTo, NumberStandsFor}
 use Rattle.def_program.specs.Paths.{owner_named, compartment_named}
 use Rattle.def_program.specs.Turns.{source_names}
 use Rattle.def_program.specs.declared.Status.{Status}
@@ -48,20 +50,42 @@ pub record IsRuled (e : Ends) (p : PartsRow) (name : List ℕ) : Type 0 where
   pub rulings : List Ruling
   pub reads : Reads p bytes rulings
 
--- of `check` the folder tells the policy too
+-- the folder tells a script for these parts
+pub record IsPlanned (e : Ends) (p : PartsRow) (name : List ℕ) : Type 0 where
+  pub bytes : List ℕ
+  pub told : IsTold e name bytes
+  pub dues : List Due
+  pub reads : script.Reads p.devices bytes dues
+
+abbrev pub IsPlannedIfNamed : Ends → PartsRow → Option (List ℕ) → Type 0
+IsPlannedIfNamed e p None = Unit {0}
+IsPlannedIfNamed e p (Some name) = IsPlanned e p name
+
+-- of `check` the folder tells the policy too, and of a run with a script the script
 abbrev pub AlsoStands : Ends → Command → PartsRow → Type 0
+AlsoStands e (Run name limit script) p = IsPlannedIfNamed e p script
+AlsoStands e (RunImage name limit script) p = IsPlannedIfNamed e p script
 AlsoStands e (Check name policy) p = IsRuled e p policy
 AlsoStands e _ p = Unit {0}
 
--- the words are a form, and the folder tells its files, which stand for these parts
+-- the folder tells a command's files, which stand for these parts
+pub record AreGiven (e : Ends) (c : Command) (p : PartsRow) : Type 0 where
+  pub bytes : List ℕ
+  pub sources : List (List ℕ)
+  pub first : IsTold e (file_of c) bytes
+  pub stand : Stand e (reads_image c) bytes sources p
+  pub also : AlsoStands e c p
+
+-- a generated firmware needs no file
+abbrev pub Given : Ends → Command → Option ℕ → PartsRow → Type 0
+Given e c None p = AreGiven e c p
+Given e c (Some number) p = NumberStandsFor number p
+
+-- the words are a form, whose files, or whose number, stand for these parts
 pub record IsAsked (e : Ends) (p : PartsRow) : Type 0 where
   pub command : Command
   pub form : form_of e.words ≡ Some command
-  pub bytes : List ℕ
-  pub sources : List (List ℕ)
-  pub first : IsTold e (file_of command) bytes
-  pub stand : Stand e (reads_image command) bytes sources p
-  pub also : AlsoStands e command p
+  pub given : Given e command (generated_by command) p
 
 -- ---- how it ends
 
@@ -74,18 +98,25 @@ looked_status None c = status.Name
 abbrev pub Finishes : Command → PartsRow → Status → Type 0
 Finishes (Audit name) p s = s ≡ status.Done
 Finishes (Image name) p s = s ≡ status.Done
-Finishes (Run name limit) p s = s ≡ status.Done
-Finishes (RunImage name limit) p s = s ≡ status.Done
+Finishes (Run name limit script) p s = s ≡ status.Done
+Finishes (RunImage name limit script) p s = s ≡ status.Done
 Finishes (Why name owner compartment) p s =
     s ≡ looked_status (owner_named p owner) (compartment_named p compartment)
 Finishes (Upgrade name) p s = s ≡ status.Done
 Finishes (Check name policy) p s = (s ≡ status.Done) ⊎ (s ≡ status.Denied)
+Finishes (Demo number) p s = s ≡ status.Done
 
 -- where no fault is counted, what is asked of files that stand for parts ends so, or wants memory
 abbrev pub Completes : Ends → Status → Type 0
 Completes e s =
     (p : PartsRow) (a : IsAsked e p) → NoFault e
     → Finishes a.command p s ⊎ (s ≡ status.NoMemory)
+
+-- where no fault is counted, `demo` of any number is done, or wants memory
+abbrev pub CompletesDemo : Ends → Status → Type 0
+CompletesDemo e s =
+    (number : ℕ) → form_of e.words ≡ Some (Demo number) → NoFault e
+    → (s ≡ status.Done) ⊎ (s ≡ status.NoMemory)
 
 -- words that aren't a form are a usage fault, unless its line could not be written
 abbrev pub RefusesMisuse : Ends → Status → Type 0

@@ -4,14 +4,19 @@ ghost use Rattle.std.specs.Prelude.{◌≡◌};
 ghost use Rattle.def_program.specs.Answers.{Answers};
 ghost use Rattle.def_program.specs.Ends.{Ends};
 ghost use Rattle.def_program.specs.declared.Status.{Status as StatusRow};
-ghost use Rattle.law_program.specs.Completing.{Completes, IsSteady, NoFault, RefusesMisuse};
+ghost use Rattle.law_program.specs.Completing.{Completes, CompletesDemo, IsSteady, NoFault, RefusesMisuse};
 
 /// Completeness: where no fault is counted, and the words are a form whose files the folder tells and
-/// which stand for parts, the status is Done, or NoMemory. But a run of more threads than the machine
-/// runs is refused by its status, and where `why` is asked of names that stand for nothing the status
-/// is Name.
+/// which stand for parts, a script or a policy among them where one is named, the status is Done, or
+/// NoMemory. But where `why` is asked of names that stand for nothing the status is Name, and a policy
+/// may be Denied.
 pub fn completes()
     ensures { (e : Ends) (s : StatusRow) → Answers e s → Completes e s }
+{}
+
+/// The same of `demo`: every number's firmware stands for parts.
+pub fn demo_completes()
+    ensures { (e : Ends) (s : StatusRow) → Answers e s → CompletesDemo e s }
 {}
 
 /// Where no fault is counted no status of a fault is answered.

@@ -10,7 +10,9 @@ mod samples;
 mod turns;
 mod words;
 
-pub use answers::{answers_no_fault, completes, constant_counts_rise_not, misuse_is_usage};
+pub use answers::{
+    answers_no_fault, completes, constant_counts_rise_not, demo_completes, misuse_is_usage,
+};
 pub use dialogue::{image_then_run, upgrade_then_run};
 pub use samples::samples_are_told;
 pub use turns::one_turn;

@@ -1,3 +1,5 @@
 pub mod Runs
 pub mod Lines
 pub mod Scripts
+pub mod Coming
+pub mod Fits

@@ -53,8 +53,8 @@ const PATH: Due = Line("path hex app\n");
 const MISSING: Due = Line("refused 2 read nosuch.json\n");
 
 /// Files that can't be read: each of a description's, an image, one that isn't there; then reads
-/// that aren't made.
-pub const READS: [Case; 8] = [
+/// that aren't made; then a script, which is read last.
+pub const READS: [Case; 11] = [
     ("audit board.json", MISSING, SOURCES),
     ("image board.json", MISSING, SOURCES),
     ("run board.json 100", MISSING, SOURCES),
@@ -63,10 +63,21 @@ pub const READS: [Case; 8] = [
     ("audit nosuch.json", MISSING, &[Nothing]),
     ("why board.json hex app", PATH, &[Read(5)]),
     ("runimage tiny.image 100", RUN, &[Read(2)]),
+    ("run board.json 100 tiny.script", MISSING, &[Read(5)]),
+    (
+        "run tiny.json 100 tiny.script",
+        RUN,
+        &[Nothing, Read(1), Read(2), Read(3)],
+    ),
+    (
+        "runimage tiny.image 100 tiny.script",
+        RUN,
+        &[Nothing, Read(1), Read(2)],
+    ),
 ];
 
 /// Output that can't be written.
-pub const WRITES: [Case; 10] = [
+pub const WRITES: [Case; 11] = [
     ("audit tiny.json", REPORT, ONE_WRITE),
     (
         "audit tiny.json",
@@ -85,10 +96,11 @@ pub const WRITES: [Case; 10] = [
     ("run tiny.json 100", RUN, PIECES),
     ("runimage tiny.image 100", RUN, THREE_WRITES),
     ("runimage tiny.image 100", RUN, PIECES),
+    ("run tiny.json 100 tiny.script", RUN, THREE_WRITES),
 ];
 
 /// Refusals that can't be written.
-pub const REFUSALS: [Case; 5] = [
+pub const REFUSALS: [Case; 6] = [
     (
         "audit nosuch.json",
         MISSING,
@@ -113,5 +125,10 @@ pub const REFUSALS: [Case; 5] = [
         "why board.json app none",
         Line("refused 11 name\n"),
         &[Nothing, Write(1), Room(15)],
+    ),
+    (
+        "run tiny.json 100 late.script",
+        Line("refused 8 script S2 2\n"),
+        &[Nothing, Write(1), Room(21)],
     ),
 ];

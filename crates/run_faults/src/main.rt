@@ -17,13 +17,15 @@ use std::rt::Files;
 use std::{fs, io};
 
 /// The files that calls read, and what two of them are to write.
-const NAMES: [&str; 8] = [
+const NAMES: [&str; 10] = [
     "tiny.json",
     "tiny.image",
     "board.json",
     "app.s",
     "driver.s",
     "hex.s",
+    "tiny.script",
+    "late.script",
     "tiny.report",
     "tiny.run",
 ];

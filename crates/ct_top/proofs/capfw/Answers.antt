@@ -1,12 +1,19 @@
 use Rattle.law_commands.proofs.Licences.{is_licensed}
-use Rattle.law_program.proofs.Ending.{completes, misuse}
+use Rattle.law_program.proofs.Ending.{completes, demo_completes, misuse}
+use Rattle.law_commands.proofs.Safe.{is_safe}
 use Rattle.ct_top.proofs.capfw.Goals as goal
 
 pub returns-clause-complete : goal.returns-clause-complete
 returns-clause-complete g c = completes _ c.command.result c.command.ensures
+
+pub returns-clause-demo : goal.returns-clause-demo
+returns-clause-demo g c = demo_completes _ c.command.result c.command.ensures
 
 pub returns-clause-misuse : goal.returns-clause-misuse
 returns-clause-misuse g c = misuse _ c.command.result c.command.ensures
 
 pub returns-clause-licensed : goal.returns-clause-licensed
 returns-clause-licensed g c = λ asked files p form stand. is_licensed asked files p stand
+
+pub returns-clause-safe : goal.returns-clause-safe
+returns-clause-safe g c = λ asked files p form stand. is_safe asked files p stand

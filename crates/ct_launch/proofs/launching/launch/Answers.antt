@@ -24,11 +24,11 @@ pub engine_of-requires-clause-told : goal.engine_of-requires-clause-told
 engine_of-requires-clause-told g c = c.boot.ensures.threads ∙ ap (λ p. starts_of p) (sym c.parts-parts.ensures.parts)
 
 pub returns-clause-launched : goal.returns-clause-launched
-returns-clause-launched g c = IfOk-weaker c.engine_of.result _ _ (λ e is. is ∙ ap (λ p. launched p) c.parts-parts.ensures.parts) c.engine_of.ensures
+returns-clause-launched g c = IfOk-weaker c.engine_of.result _ _ (λ e is. is ∙ ap (λ p. launched p c.args.limits.now) c.parts-parts.ensures.parts) c.engine_of.ensures
 
 pub returns-clause-placed : goal.returns-clause-placed
 returns-clause-placed g c =
-    IfOk-weaker c.engine_of.result _ _ (λ e is. launched_placed c.args.image.now e (sound c.args.image.now c.parts-parts.ensures.faultless) (is ∙ ap (λ p. launched p) c.parts-parts.ensures.parts)) c.engine_of.ensures
+    IfOk-weaker c.engine_of.result _ _ (λ e is. launched_placed c.args.image.now c.args.limits.now e (sound c.args.image.now c.parts-parts.ensures.faultless) (is ∙ ap (λ p. launched p c.args.limits.now) c.parts-parts.ensures.parts)) c.engine_of.ensures
 
 pub returns-clause-first : goal.returns-clause-first
-returns-clause-first g c = IfOk-weaker c.engine_of.result _ _ (λ e is. launched_first c.parts-parts.result.now e is) c.engine_of.ensures
+returns-clause-first g c = IfOk-weaker c.engine_of.result _ _ (λ e is. launched_first c.parts-parts.result.now c.args.limits.now e is) c.engine_of.ensures

@@ -5,4 +5,4 @@ pub invariant_of-result : goal.invariant_of-result
 invariant_of-result g c = started_kept c.args.parts.now _ _ _ c.requires.sound c.requires.plan c.requires.threads c.requires.placed c.requires.sched
 
 pub returns : goal.returns
-returns g c = started_is c.args.parts.now _ _ _ _ c.requires.plan c.requires.threads c.requires.sched c.requires.bus
+returns g c = started_is c.args.parts.now _ _ _ _ _ c.requires.plan c.requires.threads c.requires.sched c.requires.bus

@@ -8,14 +8,11 @@ use Rattle.ct_script.proofs.reading.find_device.Goals as goal
 
 pub returns-then-is_named : goal.returns-then-is_named
 returns-then-is_named c =
-    let rows : c.deref-device-items.result.now ≡ c.args.devices.now = c.deref-device-items.ensures.value ∙ c.devices.view_is in
-    let here : get_or c.args.devices.now c.loop-index.index c.device-item.result ≡ c.device-item.result = ap (λ (ds : List DeviceRow). get_or ds c.loop-index.index c.device-item.result) (sym rows) ∙ sym c.device-item.is in
-    let passes : is_named c.args.name.now (get_or c.args.devices.now c.loop-index.index c.device-item.result) ≡ true = ap (is_named c.args.name.now) here ∙ sym c.is_named.ensures ∙ c.if-is_named.true in
-    sym (position_is (is_named c.args.name.now) c.args.devices.now c.loop-index.index c.device-item.result (rw (← rows) c.loop-index-test.true) passes (λ k lt. c.loop-index.invariant k c.device-item.result lt))
+    let here : get_or c.args.devices.now c.loop-index.index c.index-devices-index.result ≡ c.index-devices-index.result = sym c.index-devices-index.is in
+    let passes : is_named c.args.name.now (get_or c.args.devices.now c.loop-index.index c.index-devices-index.result) ≡ true = ap (is_named c.args.name.now) here ∙ sym c.is_named.ensures ∙ c.if-is_named.true in
+    sym (position_is (is_named c.args.name.now) c.args.devices.now c.loop-index.index c.index-devices-index.result c.loop-index-test.true passes (λ k lt. c.loop-index.invariant k c.index-devices-index.result lt))
 
 pub returns : goal.returns
 returns c =
-    let rows : c.deref-device-items.result.now ≡ c.args.devices.now = c.deref-device-items.ensures.value ∙ c.devices.view_is in
     let nobody : DeviceRow = record { name = []; kind = Timer; base = 0 } in
-    let fewer = rw rows at c.loop-index-test.false in
-    sym (position_none (is_named c.args.name.now) c.args.devices.now nobody (λ k lt. c.loop-index.invariant k nobody (omega (arith, fewer, lt))))
+    sym (position_none (is_named c.args.name.now) c.args.devices.now nobody (λ k lt. c.loop-index.invariant k nobody (omega (arith, c.loop-index-test.false, lt))))

@@ -1,10 +1,10 @@
-use Rattle.std.proofs.Common.{inr, [], ◌∷◌, Ok, Err, codes, drop, length, refl, sym, subst, take}
+use Rattle.std.proofs.Common.{inr, [], ◌∷◌, None, Ok, Err, codes, drop, length, refl, sym, subst, take}
 use Rattle.std.specs.Fmt.{digits}
 use Rattle.ct_entry.specs.declared.rows.Owner.TheVariants.{Compartment}
 use Rattle.def_description.specs.Tables.{kind_of, posture_of, library_posture_of, passes_of, service_of}
 use Rattle.def_link.specs.declared.LinkFault.TheVariants as fault
-use Rattle.def_program.specs.Commands.{Audit, Image, Run}
-use Rattle.def_program.specs.Turns.{Asks, OfSources, source_names}
+use Rattle.def_program.specs.Commands.{Audit, Image, Run, file_of}
+use Rattle.def_program.specs.Turns.{Asks, FollowsBy, OfSources, source_names}
 use Rattle.law_images.specs.Tiny.{tiny}
 use Rattle.law_linked.specs.Samples.{tiny_rows, tiny_in, filed, tiny_source, unknown_mnemonic}
 use Rattle.law_program.proofs.Sources.{of_rows, no_file, no_file_in, no_files, no_files_in, one, one_file, no_other}
@@ -20,7 +20,7 @@ returns-clause-image c = λ name bytes w.
 
 pub returns-clause-run : goal.returns-clause-run
 returns-clause-run c = λ name bytes limit w.
-    inr (tiny_rows, (w, of_rows (Run name limit) tiny_rows [] _ (Ok tiny) no_file no_files c.tiny_is_linked.ensures.words refl))
+    inr (tiny_rows, (w, of_rows (Run name limit None) tiny_rows [] _ (Ok tiny) no_file no_files c.tiny_is_linked.ensures.words refl))
 
 pub returns-clause-no_room : goal.returns-clause-no_room
 unfolding digits
@@ -29,11 +29,11 @@ returns-clause-no_room c = λ name bytes w.
 
 pub returns-clause-source : goal.returns-clause-source
 returns-clause-source c = λ name bytes limit w.
-    inr (filed, (w, subst (λ o. OfSources (Run name limit) filed (take (length (source_names filed)) []) (drop (length (source_names filed)) []) o (Asks (codes "app.s"))) (sym one_file) refl))
+    inr (filed, (w, subst (λ o. OfSources (Run name limit None) filed (take (length (source_names filed)) []) (drop (length (source_names filed)) []) o (Asks (codes "app.s"))) (sym one_file) refl))
 
 pub returns-clause-by_source : goal.returns-clause-by_source
 returns-clause-by_source c = λ name bytes limit w.
-    inr (filed, (w, of_rows (Run name limit) filed (tiny_source ∷ []) _ (Ok tiny) no_other one c.tiny_is_linked.ensures.source refl))
+    inr (filed, (w, of_rows (Run name limit None) filed (tiny_source ∷ []) _ (Ok tiny) no_other one c.tiny_is_linked.ensures.source refl))
 
 pub returns-clause-mnemonic : goal.returns-clause-mnemonic
 unfolding digits kind_of posture_of library_posture_of passes_of service_of
@@ -41,7 +41,7 @@ returns-clause-mnemonic c = λ name bytes w.
     inr (filed, (w, of_rows (Audit name) filed (unknown_mnemonic ∷ []) _ (Err (fault.Asm (Compartment 0) 2 2)) no_other one c.link_faults.ensures.mnemonic refl))
 
 pub returns-clause-first : goal.returns-clause-first
-returns-clause-first c = λ k. refl
+returns-clause-first c = λ k none. subst (λ o. FollowsBy k o [] (Asks (file_of k))) (sym none) refl
 
 pub returns-clause-by_image : goal.returns-clause-by_image
 returns-clause-by_image c = λ name bytes limit p i. inr (p, (i, refl))

@@ -38,6 +38,10 @@ pub returns-clause-cut : goal.returns-clause-cut
 unfolding digits
 returns-clause-cut c = refl
 
+pub returns-clause-script : goal.returns-clause-script
+unfolding digits
+returns-clause-script c = refl
+
 pub returns-clause-policy : goal.returns-clause-policy
 unfolding digits
 returns-clause-policy c = refl

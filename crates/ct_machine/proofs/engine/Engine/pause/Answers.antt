@@ -5,7 +5,7 @@ use Rattle.def_step.specs.Instructions.{ran}
 use Rattle.def_step.specs.Routines.{yield}
 use Rattle.ct_machine.specs.Going.{Runs}
 use Rattle.ct_machine.proofs.Resting.{came_rest, kept_rest, runs_there}
-use Rattle.ct_machine.proofs.Keeping.{came_by}
+use Rattle.ct_machine.proofs.Keeping.{came_by, counted_so}
 use Rattle.ct_machine.proofs.engine.Engine.pause.Goals as goal
 
 pub pause-requires-clause-there : goal.pause-requires-clause-there
@@ -19,7 +19,7 @@ invariant_of-self g c =
     let i = c.self.inside in (
       kept_rest i.plan i.threads i.sched i.bus i.pending i.time i.counts c.args.t c.self.invariant.0 (asleep 0) c.pause.result c.pause.new.engine c.pause.new.sched
           c.pause.ensures.engine c.pause.ensures.sched,
-      c.self.invariant.1,
+      counted_so c.self.inside.counts c.self.inside.time c.self.inside.threads c.pause.new.engine _ c.pause.ensures.engine c.self.invariant.1,
     )
 
 pub returns-clause-came : goal.returns-clause-came

@@ -8,7 +8,7 @@ use Rattle.def_step.specs.Routines.{sleep}
 use Rattle.ct_engine.specs.Seen.{thread}
 use Rattle.ct_machine.specs.Going.{Runs}
 use Rattle.ct_machine.proofs.Resting.{came_sleep, kept_rest, runs_there}
-use Rattle.ct_machine.proofs.Keeping.{came_by}
+use Rattle.ct_machine.proofs.Keeping.{came_by, counted_so}
 use Rattle.ct_machine.proofs.engine.Engine.sleep.Goals as goal
 
 pub sleep-requires-clause-there : goal.sleep-requires-clause-there
@@ -20,9 +20,9 @@ sleep-requires-clause-there g c =
 pub invariant_of-self : goal.invariant_of-self
 invariant_of-self g c =
     let i = c.self.inside in (
-      kept_rest i.plan i.threads i.sched i.bus i.pending i.time i.counts c.args.t c.self.invariant.0 (asleep (cap_address (register (thread i.threads c.args.t) 10))) c.sleep.result c.sleep.new.engine c.sleep.new.sched
+      kept_rest i.plan i.threads i.sched i.bus i.pending i.time i.counts c.args.t c.self.invariant.0 (asleep (cap_address (register (thread i.threads.threads c.args.t) 10))) c.sleep.result c.sleep.new.engine c.sleep.new.sched
           c.sleep.ensures.engine c.sleep.ensures.sched,
-      c.self.invariant.1,
+      counted_so c.self.inside.counts c.self.inside.time c.self.inside.threads c.sleep.new.engine _ c.sleep.ensures.engine c.self.invariant.1,
     )
 
 pub returns-clause-came : goal.returns-clause-came

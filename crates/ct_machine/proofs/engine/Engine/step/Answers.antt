@@ -1,4 +1,4 @@
-use Rattle.std.proofs.Common.{ap, sym, subst, ◌<◌, ◌∙◌}
+use Rattle.std.proofs.Common.{ap, sym, subst, ◌<◌, ◌≤◌, ◌∙◌}
 use Rattle.def_machine.specs.State.{State, Counts}
 use Rattle.def_step.specs.Instructions.{Board}
 use Rattle.def_step.specs.Events.{preempted, scheduled}
@@ -21,3 +21,8 @@ carry_on-deed-requires-clause-may g c =
 pub carry_on-deed-requires-clause-deeds : goal.carry_on-deed-requires-clause-deeds
 carry_on-deed-requires-clause-deeds g c =
     subst (λ (n : Counts). deeds_of n < n.steps) (sym (c.schedule.ensures.counts ∙ c.preempt.ensures.counts)) c.count_step.ensures.deeds
+
+pub carry_on-deed-requires-clause-made : goal.carry_on-deed-requires-clause-made
+carry_on-deed-requires-clause-made g c =
+    subst (λ n. n ≤ c.schedule.new.self.state.counts.steps) (sym (c.schedule.ensures.next ∙ c.preempt.ensures.next))
+    (subst (λ (n : Counts). c.count_step.new.self.state.next ≤ n.steps) (sym (c.schedule.ensures.counts ∙ c.preempt.ensures.counts)) c.count_step.ensures.made)

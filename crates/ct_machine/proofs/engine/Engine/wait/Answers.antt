@@ -11,7 +11,7 @@ use Rattle.ct_machine.proofs.Opened.{is_open}
 use Rattle.ct_machine.proofs.Taking.{ram_is}
 use Rattle.ct_machine.proofs.Resting.{came_wait, kept_wait, runs_there, runs_ready}
 use Rattle.ct_machine.specs.Parts.{state_by}
-use Rattle.ct_machine.proofs.Keeping.{came_by}
+use Rattle.ct_machine.proofs.Keeping.{came_by, counted_so}
 use Rattle.ct_machine.proofs.engine.Engine.wait.Goals as goal
 
 pub wait-requires-clause-there : goal.wait-requires-clause-there
@@ -31,18 +31,18 @@ pub wait-requires-clause-ram : goal.wait-requires-clause-ram
 wait-requires-clause-ram g c = c.ram.ensures ∙ sym (ram_is c.self.inside.plan c.self.inside.threads c.self.inside.sched c.self.invariant.0)
 
 pub wait-requires-clause-even : goal.wait-requires-clause-even
-wait-requires-clause-even g c = rw c.ram.ensures c.self.invariant.0.heap.even
+wait-requires-clause-even g c = rw c.ram.ensures c.self.invariant.0.placed.even
 
 pub invariant_of-self : goal.invariant_of-self
 invariant_of-self g c =
     let i = c.self.inside in
     let runs = subst (λ (m : MachineRow). Runs m c.args.t) (sym c.self.view_is) c.requires.runs in (
       kept_wait i.plan i.threads i.sched i.bus i.pending i.time i.counts c.args.t c.self.invariant.0
-          (cap_address (register (thread i.threads c.args.t) 10)) (loaded i.threads.granules (cap_address (register (thread i.threads c.args.t) 10) - c.ram.result) 4)
-          (cap_address (register (thread i.threads c.args.t) 11)) c.wait.result c.wait.new.engine c.wait.new.sched
+          (cap_address (register (thread i.threads.threads c.args.t) 10)) (loaded i.threads.threads.granules (cap_address (register (thread i.threads.threads c.args.t) 10) - c.ram.result) 4)
+          (cap_address (register (thread i.threads.threads c.args.t) 11)) c.wait.result c.wait.new.engine c.wait.new.sched
           (runs_ready i.plan i.threads i.sched i.bus i.pending i.time i.counts c.args.t c.self.invariant.0 runs.runs)
           (runs_there i.plan i.threads i.sched i.bus i.pending i.time i.counts c.args.t c.self.invariant.0 runs.some) c.wait.ensures.engine c.wait.ensures.sched,
-      c.self.invariant.1,
+      counted_so c.self.inside.counts c.self.inside.time c.self.inside.threads c.wait.new.engine _ c.wait.ensures.engine c.self.invariant.1,
     )
 
 pub returns-clause-came : goal.returns-clause-came

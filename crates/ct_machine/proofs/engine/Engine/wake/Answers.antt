@@ -9,17 +9,17 @@ use Rattle.def_step.specs.Routines.{wake}
 use Rattle.ct_engine.specs.Seen.{thread}
 use Rattle.ct_machine.proofs.Resting.{came_wake, kept_wake, woken_many}
 use Rattle.ct_machine.specs.Parts.{state_by}
-use Rattle.ct_machine.proofs.Keeping.{came_by}
+use Rattle.ct_machine.proofs.Keeping.{came_by, counted_so}
 use Rattle.ct_machine.proofs.engine.Engine.wake.Goals as goal
 
 pub invariant_of-self : goal.invariant_of-self
 invariant_of-self g c =
     let i = c.self.inside in (
       kept_wake i.plan i.threads i.sched i.bus i.pending i.time i.counts c.args.t c.self.invariant.0
-          (integer (woken_count (cap_address (register (thread i.threads c.args.t) 10)) (cap_address (register (thread i.threads c.args.t) 11)) i.sched.statuses))
-          (cap_address (register (thread i.threads c.args.t) 10)) (cap_address (register (thread i.threads c.args.t) 11)) c.wake.result c.wake.new.engine c.wake.new.sched
+          (integer (woken_count (cap_address (register (thread i.threads.threads c.args.t) 10)) (cap_address (register (thread i.threads.threads c.args.t) 11)) i.sched.statuses))
+          (cap_address (register (thread i.threads.threads c.args.t) 10)) (cap_address (register (thread i.threads.threads c.args.t) 11)) c.wake.result c.wake.new.engine c.wake.new.sched
           c.wake.ensures.engine c.wake.ensures.sched,
-      c.self.invariant.1,
+      counted_so c.self.inside.counts c.self.inside.time c.self.inside.threads c.wake.new.engine _ c.wake.ensures.engine c.self.invariant.1,
     )
 
 pub returns-clause-came : goal.returns-clause-came

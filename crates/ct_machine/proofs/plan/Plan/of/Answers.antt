@@ -5,5 +5,5 @@ use Rattle.ct_machine.proofs.plan.Plan.of.Goals as goal
 
 pub invariant_of-result : goal.invariant_of-result
 invariant_of-result c =
-    plan_of c.args.image.now c.of.result.value c.in_ok-entries.entries c.parts.inside.ram c.parts.inside.heap (sound c.args.image.now c.parts-parts.ensures.faultless) c.of.ensures
-    c.in_ok-entries.ensures.entries (ap (λ p. p.ram) (c.parts.view_is ∙ c.parts-parts.ensures.parts)) (ap (λ p. p.heap) (c.parts.view_is ∙ c.parts-parts.ensures.parts))
+    plan_of c.args.image.now c.of.result.value c.in_ok-entries.entries c.parts.inside.ram c.parts.inside.heap c.parts.inside.sweep (sound c.args.image.now c.parts-parts.ensures.faultless) c.of.ensures
+    c.in_ok-entries.ensures.entries (ap (λ p. p.ram) (c.parts.view_is ∙ c.parts-parts.ensures.parts)) (ap (λ p. p.heap) (c.parts.view_is ∙ c.parts-parts.ensures.parts)) (ap (λ p. p.sweep) (c.parts.view_is ∙ c.parts-parts.ensures.parts))

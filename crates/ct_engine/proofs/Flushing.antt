@@ -1,0 +1,154 @@
+-- Where none of what is seen is a capability of a painted object, none of memory is: what is hidden is a saved capability
+-- or a plain word.
+use Rattle.std.proofs.Common.{ℕ, zero, suc, ◌≡◌, ◌+◌, ◌-◌, ◌*◌, ◌/◌, ◌%◌, ◌<◌, ◌≤◌, inl, inr, Bool, true, false, List, [], ◌∷◌, length, Option, Some, refl, sym, ap, ◌∙◌, arith, subst}
+use Rattle.std.proofs.Math.ListN.{get_or}
+use Rattle.law_lists.proofs.Tests.{bool_tells, lt_tells, eq_tells}
+use Rattle.def_words.specs.declared.Cap.{Cap}
+use Rattle.def_memory.specs.declared.Granule.{Granule}
+use Rattle.def_memory.specs.Granules.{plain}
+use Rattle.def_machine.specs.State.{Thread, Frame, Object, nobody}
+use Rattle.def_machine.specs.Heap.{is_number}
+use Rattle.def_machine.specs.Objects.{Each}
+use Rattle.def_areas.specs.Areas.{held, held_from, frame_place, frames_from, frames_in, caller_actor, caller_top, caller_handling}
+use Rattle.law_veil.proofs.Granules.{seen_at}
+use Rattle.ct_areas.specs.declared.thread.Area.{Area}
+use Rattle.ct_areas.specs.declared.thread.Thread as row
+use Rattle.ct_areas.specs.Threads.{HasArea, area_begin, area_end, frames_most, living, thread_of}
+use Rattle.ct_areas.proofs.Places.{alive_is, frames_of}
+use Rattle.ct_engine.specs.declared.rows.Rows.{Rows}
+use Rattle.ct_engine.specs.Seen.{Seen, hides, threads_of, seen}
+use Rattle.ct_engine.specs.Kept.{IsPlain, IsSaved, IsKept, AreasFrom, Holds}
+use Rattle.ct_engine.specs.Heaps.{NotStale, FrameClean, ThreadClean, NoneLeft}
+use Rattle.ct_engine.proofs.Whole.{itself}
+use Rattle.ct_engine.proofs.Stacks.{hidden_place}
+
+-- ---- one granule
+
+plain_clean : (objects : List Object) (c : Cap) → IsPlain c → NotStale objects c
+plain_clean objects c p = λ tagged some. absurd (let clash : true ≡ false = sym tagged ∙ ap (λ (x : Cap). x.tag) p in cc)
+
+same_clean : (objects : List Object) (c d : Cap) → c ≡ d → NotStale objects d → NotStale objects c
+same_clean objects c d e clean = subst (λ (x : Cap). NotStale objects x) (sym e) clean
+
+there : (objects : List Object) (gs : List Granule) (k m : ℕ) → k ≡ m → NotStale objects (held gs m) → NotStale objects (held gs k)
+there objects gs k m e clean = same_clean objects (held gs k) (held gs m) (ap (λ n. held gs n) e) clean
+
+-- ---- frames
+
+frame_numbers : (b j k : ℕ) → b + 20 ≤ k → b + 20 + 8 * j ≤ k → k < b + 20 + 8 * j + 8 → (k - (b + 20)) % 8 < 5 → k < b + 20 + 8 * j + 5
+frame_numbers b j k some from to low =
+    let r : k - (b + 20) ≡ k - (b + 20 + 8 * j) + 8 * j = omega (arith, from) in
+    omega (arith, r, from, to, low)
+
+from_clean : (objects : List Object) (gs : List Granule) (a actor top : ℕ) (handling : Bool) (depth : ℕ) → Each (FrameClean objects) (frames_from gs a actor top handling depth)
+    → (k : ℕ) → a + 20 ≤ k → k < frame_place a depth → (k - (a + 20)) % 8 < 5 → NotStale objects (held gs k)
+from_clean objects gs a actor top handling zero each k from to low = absurd (omega (arith, from, to))
+from_clean objects gs a actor top handling (suc j) each k from to low = elim (lt_tells k (frame_place a j)) [
+  | inl x ↦ from_clean objects gs a (caller_actor gs (frame_place a j)) (caller_top gs (frame_place a j)) (caller_handling gs (frame_place a j)) j each.1 k from x.1 low
+  | inr x ↦ (let le = x.1 in
+      let few = frame_numbers a j k from (omega (arith, le)) (omega (arith, to)) low in
+      elim (lt_tells k (frame_place a j + 1)) [
+        | inl b ↦ (let lt = b.1 in there objects gs k (frame_place a j) (omega (arith, le, lt)) each.0.c1)
+        | inr b ↦ (let le1 = b.1 in elim (lt_tells k (frame_place a j + 2)) [
+          | inl c ↦ (let lt = c.1 in there objects gs k (frame_place a j + 1) (omega (arith, le1, lt)) each.0.c2)
+          | inr c ↦ (let le2 = c.1 in elim (lt_tells k (frame_place a j + 3)) [
+            | inl d ↦ (let lt = d.1 in there objects gs k (frame_place a j + 2) (omega (arith, le2, lt)) each.0.c3)
+            | inr d ↦ (let le3 = d.1 in elim (lt_tells k (frame_place a j + 4)) [
+              | inl e ↦ (let lt = e.1 in there objects gs k (frame_place a j + 3) (omega (arith, le3, lt)) each.0.c8)
+              | inr e ↦ (let le4 = e.1 in there objects gs k (frame_place a j + 4) (omega (arith, le4, few)) each.0.c9)
+            ])
+          ])
+        ])
+      ])
+]
+
+frames_clean : (objects : List Object) (gs : List Granule) (a actor top : ℕ) (handling : Bool) (depth : ℕ) → Each (FrameClean objects) (frames_in gs a actor top handling depth)
+    → (k : ℕ) → a + 20 ≤ k → k < frame_place a depth → (k - (a + 20)) % 8 < 5 → NotStale objects (held gs k)
+unfolding frames_in
+frames_clean objects gs a actor top handling depth each = from_clean objects gs a actor top handling depth each
+
+-- ---- registers
+
+held_at : (gs : List Granule) (k n m : ℕ) → m < n → get_or (held_from gs k n) m (plain 0) ≡ held gs (k + m)
+held_at gs k zero m lt = absurd (omega (arith, lt))
+held_at gs k (suc n) zero lt = let here : k + zero ≡ k = omega arith in rw here refl
+held_at gs k (suc n) (suc m) lt = let next : k + suc m ≡ k + 1 + m = omega arith in rw next (held_at gs (k + 1) n m (omega (arith, lt)))
+
+register_clean : (objects : List Object) (gs : List Granule) (t : row.Thread) (m : ℕ) → ThreadClean objects (living gs false t) → m < 15
+    → NotStale objects (held gs (area_begin t.area + 1 + m))
+register_clean objects gs t m clean lt =
+    same_clean objects (held gs (area_begin t.area + 1 + m)) (get_or (held_from gs (area_begin t.area + 1) 15) m (plain 0)) (sym (held_at gs (area_begin t.area + 1) 15 m lt))
+    (clean.registers (suc m))
+
+-- ---- a row
+
+saved_clean : (objects : List Object) (gs : List Granule) (runs : Bool) (t : row.Thread) → Each (FrameClean objects) (thread_of gs runs t).frames
+    → (runs ≡ false → ThreadClean objects (thread_of gs runs t)) → (k : ℕ) → area_begin t.area ≤ k → IsSaved runs t k → NotStale objects (held gs k)
+saved_clean objects gs runs t frames stopped k from (inl s) =
+    let clean : ThreadClean objects (living gs false t) =
+    subst (λ b. ThreadClean objects (living gs b t)) s.0 (subst (λ (u : Thread). ThreadClean objects u) (alive_is gs runs t s.1) (stopped s.0)) in
+    let to = s.2 in
+    elim (eq_tells k (area_begin t.area)) [
+      | inl e ↦ there objects gs k (area_begin t.area) e.1 clean.pcc
+      | inr e ↦ (let other = e.1 in
+          let place : k ≡ area_begin t.area + 1 + (k - (area_begin t.area + 1)) = omega (arith, from, other) in
+          there objects gs k (area_begin t.area + 1 + (k - (area_begin t.area + 1))) place
+          (register_clean objects gs t (k - (area_begin t.area + 1)) clean (omega (arith, from, other, to))))
+    ]
+saved_clean objects gs runs t frames stopped k from (inr f) =
+    frames_clean objects gs (area_begin t.area) t.actor t.top t.handling t.depth (subst (λ (fs : List Frame). Each (FrameClean objects) fs) (frames_of gs runs t) frames) k f.0 f.1 f.2
+
+-- ---- all areas, and what stands between them
+
+begin_numbers : (ram trusted k : ℕ) → ram ≤ trusted → trusted ≤ ram + 8 * k → (trusted - ram) / 8 ≤ k
+begin_numbers ram trusted k low le = omega (arith, low, le)
+
+end_numbers : (ram trusted len most k : ℕ) → ram % 16 ≡ 0 → trusted % 16 ≡ 0 → ram ≤ trusted → len ≡ 160 + 64 * most → ram + 8 * k < trusted + len → k < (trusted + len - ram) / 8
+end_numbers ram trusted len most k r t low is lt = omega (arith, r, t, low, is, lt)
+
+begins_by : (size : ℕ) (a : Area) (k : ℕ) → HasArea size a → a.trusted ≤ a.ram + 8 * k → area_begin a ≤ k
+begins_by size a k has le = begin_numbers a.ram a.trusted k has.low le
+
+ends_by : (size : ℕ) (a : Area) (k : ℕ) → HasArea size a → a.ram + 8 * k < a.trusted + a.trusted_length → k < area_end a
+ends_by size a k has lt = end_numbers a.ram a.trusted a.trusted_length (frames_most a) k has.ram has.even has.low has.whole lt
+
+abbrev Stops : Option ℕ → ℕ → Type 0
+Stops run n = run ≡ Some n → ⊥
+
+not_running : (run : Option ℕ) (n : ℕ) → is_number run n ≡ false → Stops run n
+not_running run n e = λ is. let clash : true ≡ false = sym (ap (λ o. is_number o n) is ∙ itself n) ∙ e in cc
+
+areas_clean : (objects : List Object) (ram : ℕ) (gs : List Granule) (run : Option ℕ) (n from to : ℕ) (ts : List row.Thread) → AreasFrom ram gs run n from to ts
+    → ((t : ℕ) → Each (FrameClean objects) (get_or (threads_of gs run n ts) t nobody).frames)
+    → ((t : ℕ) → Stops run (n + t) → ThreadClean objects (get_or (threads_of gs run n ts) t nobody))
+    → (k : ℕ) → from ≤ ram + 8 * k → ram + 8 * k < to → NotStale objects (held gs k)
+areas_clean objects ram gs run n from to [] areas frames stopped k lo hi = plain_clean objects (held gs k) (areas.1 k lo hi)
+areas_clean objects ram gs run n from to (t ∷ ts) areas frames stopped k lo hi = elim (lt_tells (ram + 8 * k) t.area.trusted) [
+  | inl a ↦ plain_clean objects (held gs k) (areas.4 k lo a.1)
+  | inr a ↦ elim (lt_tells (ram + 8 * k) (t.area.trusted + t.area.trusted_length)) [
+    | inl b ↦ (let base = areas.1 in
+        let here : n + zero ≡ n = omega arith in
+        let kept : IsKept gs (is_number run n) t = areas.2 in
+        let low = a.1 in
+        let high = b.1 in
+        let begins = begins_by (8 * length gs) t.area k kept.area (omega (arith, low, base)) in
+        let ends = ends_by (8 * length gs) t.area k kept.area (omega (arith, high, base)) in
+        elim (kept.clean k begins ends) [
+          | inl s ↦ saved_clean objects gs (is_number run n) t (frames zero) (λ off. stopped zero (rw here (not_running run n off))) k begins s
+          | inr p ↦ plain_clean objects (held gs k) p
+        ])
+    | inr b ↦ areas_clean objects ram gs run (n + 1) (t.area.trusted + t.area.trusted_length) to ts areas.3 (λ u. frames (suc u))
+        (λ u off. stopped (suc u) (let next : n + suc u ≡ n + 1 + u = omega arith in rw next off)) k b.1 hi
+  ]
+]
+
+pub none_stale : (objects : List Object) (gs : List Granule) (rows : Rows) (v : Seen) → seen gs rows ≡ v → Holds gs rows → NoneLeft objects v
+    → (k : ℕ) → NotStale objects (held gs k)
+none_stale objects gs rows v is holds left k =
+    let mine : NoneLeft objects (seen gs rows) = subst (λ (s : Seen). NoneLeft objects s) (sym is) left in
+    elim (bool_tells (hides rows.region k)) [
+      | inl e ↦ (let place = hidden_place rows.region k e in
+          areas_clean objects rows.region.ram gs rows.running 0 rows.region.trusted rows.region.end rows.list.items holds.areas mine.frames
+          (λ t off. mine.stopped t (λ runs. off (let same : 0 + t ≡ t = omega arith in rw same runs))) k place.0 place.1)
+      | inr e ↦ same_clean objects (held gs k) (held (seen gs rows).granules k) (ap (λ (g : Granule). g.cap) (sym (seen_at (hides rows.region) gs k e))) (mine.granules k)
+    ]

@@ -1,0 +1,171 @@
+-- A slice of a sweep over memory, as what is seen of it: behind the veil, and in the threads' areas.
+use Rattle.std.proofs.Common.{ℕ, zero, suc, ◌≡◌, ◌+◌, ◌-◌, ◌*◌, ◌==◌, ◌<◌, ◌≤◌, ◌⊎◌, inl, inr, ◌&&◌, Bool, true, false, nat_le, nat_lt, List, [], ◌∷◌, length, map, Option, refl, sym, ap, ◌∙◌, arith, subst}
+use Rattle.std.proofs.lemmas.List.{ext_get_or}
+use Rattle.law_lists.proofs.Tests.{bool_tells, le_tells, lt_tells}
+use Rattle.def_words.specs.declared.Cap.{Cap}
+use Rattle.def_memory.specs.declared.Granule.{Granule}
+use Rattle.def_memory.specs.Granules.{plain, nothing, granule_at}
+use Rattle.def_machine.specs.State.{Thread, Frame, nobody}
+use Rattle.def_machine.specs.Objects.{Each}
+use Rattle.def_machine.specs.Heap.{is_number}
+use Rattle.def_machine.specs.Memory.{filtered_in}
+use Rattle.def_areas.specs.Areas.{held, held_from, frames_in, frames_from}
+use Rattle.def_veil.specs.Veil.{veiled}
+use Rattle.ct_revoke.specs.Slices.{IsSliced}
+use Rattle.law_heaped.specs.Slices.{passed, kept_granules, kept_frames, kept_registers, KeepsWords}
+use Rattle.law_heaped.proofs.Slices.{kept_same, kept_length, passed_same, slice_veiled}
+use Rattle.law_heaped.proofs.Areas.{held_kept, registers_kept, frames_kept, passed_keeps}
+use Rattle.ct_areas.specs.declared.thread.Thread as row
+use Rattle.ct_areas.specs.Threads.{HasArea, area_begin, living, thread_of}
+use Rattle.ct_areas.proofs.Places.{area_even}
+use Rattle.ct_engine.specs.declared.rows.Rows.{Rows}
+use Rattle.ct_engine.specs.Seen.{Seen, hides, threads_of, seen}
+use Rattle.ct_engine.specs.Kept.{IsPlain, IsKept, AreasFrom, StackLies, Holds}
+use Rattle.ct_engine.specs.Sweeps.{kept_thread, kept_threads, sliced}
+
+-- ---- granule by granule
+
+granule_kept : (f : ℕ → Cap → Cap) (n : ℕ) (gs : List Granule) (k : ℕ) → k < length gs
+    → granule_at (kept_granules f n gs) k ≡ record (granule_at gs k) { cap = f (n + 8 * k) (granule_at gs k).cap }
+granule_kept f n [] k lt = absurd (omega (arith, lt))
+granule_kept f n (g ∷ gs) zero lt = let here : n + 8 * zero ≡ n = omega arith in ap (λ m. let x : Granule = record g { cap = f m g.cap } in x) (sym here)
+granule_kept f n (g ∷ gs) (suc k) lt =
+    let next : n + 8 + 8 * k ≡ n + 8 * suc k = omega arith in
+    granule_kept f (n + 8) gs k (omega (arith, lt)) ∙ ap (λ m. let x : Granule = record (granule_at gs k) { cap = f m (granule_at gs k).cap } in x) next
+
+-- inside the slice it has passed, outside it stays
+passed_by : (ram : ℕ) (gs : List Granule) (low high n : ℕ) (c : Cap) (P : Cap → Type 0) → (low ≤ n → n < high → P (filtered_in ram gs c)) → ((n < low) ⊎ (high ≤ n) → P c) → P (passed ram gs low high n c)
+passed_by ram gs low high n c P yes_case no_case = elim (le_tells low n) [
+  | inl a ↦ elim (lt_tells n high) [
+    | inl b ↦ (let test : (nat_le low n && nat_lt n high) ≡ true = rw (a.0, b.0) refl in rw test (yes_case a.1 b.1))
+    | inr b ↦ (let test : (nat_le low n && nat_lt n high) ≡ false = rw (a.0, b.0) refl in rw test (no_case (inr b.1)))
+  ]
+  | inr a ↦ (let test : (nat_le low n && nat_lt n high) ≡ false = rw a.0 refl in rw test (no_case (inl a.1)))
+]
+
+pub slice_kept : (ram low high : ℕ) (gs hs : List Granule) → IsSliced ram low high gs hs → hs ≡ kept_granules (λ n c. passed ram gs low high n c) 0 gs
+slice_kept ram low high gs hs is =
+    ext_get_or nothing hs (kept_granules (λ n c. passed ram gs low high n c) 0 gs) (is.size ∙ sym (kept_length (λ n c. passed ram gs low high n c) 0 gs))
+    (λ k lt.
+    let size = is.size in
+    let inside : k < length gs = omega (arith, lt, size) in
+    let put : Cap → Granule = λ c. let x : Granule = record (granule_at gs k) { cap = c } in x in
+    passed_by ram gs low high (0 + 8 * k) (granule_at gs k).cap (λ c. granule_at hs k ≡ put c)
+    (λ a b. is.passed k (omega (arith, a), omega (arith, b)))
+    (λ out. is.rest k (elim out [ inl a ↦ inl (omega (arith, a)) | inr b ↦ inr (omega (arith, b)) ]))
+    ∙ sym (granule_kept (λ n c. passed ram gs low high n c) 0 gs k inside))
+
+-- a plain word passes
+plain_passes : (ram : ℕ) (gs : List Granule) (low high n w : ℕ) → passed ram gs low high n (plain w) ≡ plain w
+plain_passes ram gs low high n w = elim (bool_tells (nat_le low n && nat_lt n high)) [ inl e ↦ rw e refl | inr e ↦ rw e refl ]
+
+-- ---- a thread
+
+nobody_kept : (f : ℕ → Cap → Cap) → KeepsWords f → (area : ℕ) (runs : Bool) → nobody ≡ kept_thread f area runs nobody
+nobody_kept f z area true = refl
+nobody_kept f z area false = rw (z.zero_is area) refl
+
+frames_area : (f : ℕ → Cap → Cap) → KeepsWords f → (gs : List Granule) (t : row.Thread) (area : ℕ) → area ≡ 8 * area_begin t.area
+    → frames_in (kept_granules f 0 gs) (area_begin t.area) t.actor t.top t.handling t.depth ≡ kept_frames f area (frames_in gs (area_begin t.area) t.actor t.top t.handling t.depth)
+unfolding frames_in
+frames_area f z gs t area is =
+    frames_kept f z gs (area_begin t.area) t.actor t.top t.handling t.depth
+    ∙ ap (λ m. kept_frames f m (frames_from gs (area_begin t.area) t.actor t.top t.handling t.depth)) (sym is)
+
+registers_area : (f : ℕ → Cap → Cap) → KeepsWords f → (gs : List Granule) (begin area : ℕ) → area ≡ 8 * begin
+    → plain 0 ∷ held_from (kept_granules f 0 gs) (begin + 1) 15 ≡ kept_registers f area (plain 0 ∷ held_from gs (begin + 1) 15)
+registers_area f z gs begin area is =
+    let next : 8 * (begin + 1) ≡ area + 8 = omega (arith, is) in
+    ap (λ cs. plain 0 ∷ cs) (registers_kept f z gs (begin + 1) 15 ∙ ap (λ m. kept_registers f m (held_from gs (begin + 1) 15)) next)
+    ∙ ap (λ c. c ∷ kept_registers f (area + 8) (held_from gs (begin + 1) 15)) (sym (z.zero_is area))
+
+living_kept : (f : ℕ → Cap → Cap) → KeepsWords f → (gs : List Granule) (t : row.Thread) (area : ℕ) → area ≡ 8 * area_begin t.area → (runs : Bool)
+    → living (kept_granules f 0 gs) runs t ≡ kept_thread f area runs (living gs runs t)
+living_kept f z gs t area is true = ap (λ fs. let x : Thread = record (living gs true t) { frames = fs } in x) (frames_area f z gs t area is)
+living_kept f z gs t area is false =
+    let put : Cap → List Cap → List Frame → Thread = λ p rs fs. record (living gs false t) { pcc = p; registers = rs; frames = fs } in
+    let head : held (kept_granules f 0 gs) (area_begin t.area) ≡ f area (held gs (area_begin t.area)) = held_kept f z gs (area_begin t.area) ∙ ap (λ m. f m (held gs (area_begin t.area))) (sym is) in
+    ap (λ p. put p (plain 0 ∷ held_from (kept_granules f 0 gs) (area_begin t.area + 1) 15) (frames_in (kept_granules f 0 gs) (area_begin t.area) t.actor t.top t.handling t.depth)) head
+    ∙ ap (λ rs. put (f area (held gs (area_begin t.area))) rs (frames_in (kept_granules f 0 gs) (area_begin t.area) t.actor t.top t.handling t.depth)) (registers_area f z gs (area_begin t.area) area is)
+    ∙ ap (λ fs. put (f area (held gs (area_begin t.area))) (kept_registers f area (plain 0 ∷ held_from gs (area_begin t.area + 1) 15)) fs) (frames_area f z gs t area is)
+
+thread_kept : (f : ℕ → Cap → Cap) → KeepsWords f → (gs : List Granule) (size : ℕ) (runs : Bool) (t : row.Thread) → HasArea size t.area
+    → thread_of (kept_granules f 0 gs) runs t ≡ kept_thread f (t.area.trusted - t.area.ram) runs (thread_of gs runs t)
+thread_kept f z gs size runs t has = elim (bool_tells (t.depth == 0)) [
+  | inl e ↦ rw e (nobody_kept f z (t.area.trusted - t.area.ram) runs)
+  | inr e ↦ rw e (living_kept f z gs t (t.area.trusted - t.area.ram) (area_even size t.area has) runs)
+]
+
+pub threads_kept : (f : ℕ → Cap → Cap) → KeepsWords f → (ram : ℕ) (gs : List Granule) (run : Option ℕ) (n from to : ℕ) (ts : List row.Thread) → AreasFrom ram gs run n from to ts
+    → threads_of (kept_granules f 0 gs) run n ts ≡ kept_threads f ram run n (map (λ (t : row.Thread). t.area) ts) (threads_of gs run n ts)
+threads_kept f z ram gs run n from to [] h = refl
+threads_kept f z ram gs run n from to (t ∷ ts) h =
+    let first : thread_of (kept_granules f 0 gs) (is_number run n) t ≡ kept_thread f (t.area.trusted - ram) (is_number run n) (thread_of gs (is_number run n) t) =
+    thread_kept f z gs (8 * length gs) (is_number run n) t h.2.area ∙ ap (λ m. kept_thread f (t.area.trusted - m) (is_number run n) (thread_of gs (is_number run n) t)) h.1 in
+    ap (λ x. x ∷ threads_of (kept_granules f 0 gs) run (n + 1) ts) first
+    ∙ ap (λ xs. kept_thread f (t.area.trusted - ram) (is_number run n) (thread_of gs (is_number run n) t) ∷ xs)
+    (threads_kept f z ram gs run (n + 1) (t.area.trusted + t.area.trusted_length) to ts h.3)
+
+-- ---- what is kept
+
+plain_is : (c : Cap) (n : ℕ) → c ≡ plain n → IsPlain c
+plain_is c n e = rw e refl
+
+-- what is kept of a plain word
+abbrev KeepsPlain : (ℕ → Cap → Cap) → Type 0
+KeepsPlain f = (n w : ℕ) → f n (plain w) ≡ plain w
+
+word_kept : (f : ℕ → Cap → Cap) → KeepsWords f → KeepsPlain f → (gs : List Granule) (m : ℕ) → IsPlain (held gs m) → IsPlain (held (kept_granules f 0 gs) m)
+word_kept f z p gs m q = plain_is (held (kept_granules f 0 gs) m) (held gs m).word (held_kept f z gs m ∙ ap (λ c. f (8 * m) c) q ∙ p (8 * m) (held gs m).word)
+
+row_kept : (f : ℕ → Cap → Cap) → KeepsWords f → KeepsPlain f → (gs : List Granule) (runs : Bool) (t : row.Thread) → IsKept gs runs t → IsKept (kept_granules f 0 gs) runs t
+row_kept f z p gs runs t k = record {
+  area = rw (kept_length f 0 gs) k.area;
+  room = k.room;
+  zero = k.zero;
+  alive = k.alive;
+  clean = λ m lo hi. elim (k.clean m lo hi) [ inl s ↦ inl s | inr q ↦ inr (word_kept f z p gs m q) ];
+}
+
+areas_kept : (f : ℕ → Cap → Cap) → KeepsWords f → KeepsPlain f → (ram : ℕ) (gs : List Granule) (run : Option ℕ) (n from to : ℕ) (ts : List row.Thread) → AreasFrom ram gs run n from to ts
+    → AreasFrom ram (kept_granules f 0 gs) run n from to ts
+areas_kept f z p ram gs run n from to [] h = (h.0, λ m lo hi. word_kept f z p gs m (h.1 m lo hi))
+areas_kept f z p ram gs run n from to (t ∷ ts) h = (
+  h.0,
+  h.1,
+  row_kept f z p gs (is_number run n) t h.2,
+  areas_kept f z p ram gs run (n + 1) (t.area.trusted + t.area.trusted_length) to ts h.3,
+  λ m lo hi. word_kept f z p gs m (h.4 m lo hi),
+)
+
+pub slice_holds : (gs hs : List Granule) (rows : Rows) (low high : ℕ) → IsSliced rows.region.ram low high gs hs → Holds gs rows → Holds hs rows
+slice_holds gs hs rows low high is holds =
+    let f : ℕ → Cap → Cap = λ n c. passed rows.region.ram gs low high n c in
+    let kept : Holds (kept_granules f 0 gs) rows = record {
+      areas = areas_kept f (passed_keeps rows.region.ram gs low high) (λ n w. plain_passes rows.region.ram gs low high n w)
+          rows.region.ram gs rows.running 0 rows.region.trusted rows.region.end rows.list.items holds.areas;
+      runs = holds.runs;
+      stacks = subst (λ n. Each (StackLies rows.region (8 * n)) (map (λ (t : row.Thread). t.area) rows.list.items)) (sym (kept_length f 0 gs)) holds.stacks;
+    } in
+    subst (λ xs. Holds xs rows) (sym (slice_kept rows.region.ram low high gs hs is)) kept
+
+-- ---- all that is seen
+
+pub slice_seen : (gs hs : List Granule) (rows : Rows) (low high : ℕ) → IsSliced rows.region.ram low high gs hs → Holds gs rows → seen hs rows ≡ sliced (seen gs rows) low high
+slice_seen gs hs rows low high is holds =
+    let ram : ℕ = rows.region.ram in
+    let shown : List Granule = veiled (hides rows.region) gs in
+    let f : ℕ → Cap → Cap = λ n c. passed ram shown low high n c in
+    let put : List Granule → List Thread → Seen = λ xs ts. record (seen gs rows) { granules = xs; threads = ts } in
+    let memory : hs ≡ kept_granules f 0 gs = slice_kept ram low high gs hs is
+    ∙ sym (kept_same f (λ n c. passed ram gs low high n c) (λ n c. passed_same (hides rows.region) ram gs low high n c) 0 gs) in
+    let granules : veiled (hides rows.region) hs ≡ kept_granules f 0 shown =
+    ap (λ xs. veiled (hides rows.region) xs) (slice_kept ram low high gs hs is) ∙ sym (slice_veiled (hides rows.region) ram gs low high) in
+    let threads : threads_of hs rows.running 0 rows.list.items ≡ kept_threads f ram rows.running 0 (map (λ (t : row.Thread). t.area) rows.list.items) (threads_of gs rows.running 0 rows.list.items) =
+    ap (λ xs. threads_of xs rows.running 0 rows.list.items) memory
+    ∙ threads_kept f (passed_keeps ram shown low high) ram gs rows.running 0 rows.region.trusted rows.region.end rows.list.items holds.areas in
+    ap (λ xs. put xs (threads_of hs rows.running 0 rows.list.items)) granules
+    ∙ ap (λ ts. put (kept_granules f 0 shown) ts) threads
+
+pub slice_is : (gs hs : List Granule) (rows : Rows) (v : Seen) (low high : ℕ) → seen gs rows ≡ v → IsSliced rows.region.ram low high gs hs → Holds gs rows → seen hs rows ≡ sliced v low high
+slice_is gs hs rows v low high is sl holds = subst (λ s. seen hs rows ≡ sliced s low high) is (slice_seen gs hs rows low high sl holds)

@@ -1,0 +1,3 @@
+pub mod Chosen
+pub mod Plain
+pub mod Pieces

@@ -1,0 +1,10 @@
+pub mod Clear
+pub mod Revoker
+pub mod Shown
+pub mod Covered
+pub mod Granted
+pub mod Freeing
+pub mod Turns
+pub mod Moves
+pub mod Calls
+pub mod Begins

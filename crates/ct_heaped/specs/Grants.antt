@@ -1,0 +1,83 @@
+-- An allocation and a free over all that is seen.
+use Rattle.std.specs.Prelude.{ℕ, ◌+◌, ◌-◌, ◌≡◌, true, false, if◌then◌else◌, Option, Some, None, Result, Ok, Err, MatchResult}
+use Rattle.def_profile.specs.declared.layout.TheConstants.{CHUNK_HEAD}
+use Rattle.def_memory.specs.Ranges.{zeroed_from, marked_from}
+use Rattle.def_machine.specs.State as state
+use Rattle.def_machine.specs.Objects.{charges, placed_among, quarantine, has_quarantined}
+use Rattle.def_machine.specs.Heap.{length_for, charge_for}
+use Rattle.def_step.specs.Quotas.{Allocation, Refused, Made}
+use Rattle.ct_engine.specs.Heaps.{sifted}
+use Rattle.ct_engine.specs.Seen as engine
+use Rattle.ct_heap.specs.declared.rows.Object.{Object}
+use Rattle.ct_heap.specs.declared.rows.HeapRefusal.{HeapRefusal}
+use Rattle.ct_heap.specs.declared.rows.HeapRefusal.TheVariants.{Size, Quota, NoGap}
+use Rattle.ct_heap.specs.Lookups.{whole_of}
+use Rattle.ct_heaped.specs.Seen.{Seen, with_threads}
+
+-- ---- allocate
+
+-- a new object of this size at this place, charged to this quota
+abbrev pub new_object : Seen → ℕ → ℕ → ℕ → state.Object
+new_object s quota size base = record {
+  number = s.next;
+  quota = quota;
+  base = base;
+  length = length_for size;
+  charge = charge_for size;
+  live = true;
+  painted = false;
+}
+
+-- it reads as zero, as what is hidden does: memory stays as it is seen
+abbrev pub with_object : Seen → state.Object → Seen
+with_object s r = record s { objects = placed_among r s.objects; next = s.next + 1 }
+
+abbrev pub after_allocation : Seen → ℕ → ℕ → Result Object HeapRefusal → Seen
+after_allocation s quota size (Ok o) = with_object s (new_object s quota size o.base)
+after_allocation s quota size (Err why) = s
+
+-- the written allocation's answer of what was told
+abbrev pub refused_as : Seen → HeapRefusal → Allocation
+refused_as s Size = Refused 4
+refused_as s Quota = Refused 2
+refused_as s NoGap = Refused (if has_quarantined s.objects then 5 else 3)
+
+abbrev pub allocation_told : Seen → ℕ → ℕ → Result Object HeapRefusal → Allocation
+allocation_told s quota size (Ok o) = Made (new_object s quota size o.base)
+allocation_told s quota size (Err why) = refused_as s why
+
+-- an object as the heap tells it, after the call
+pub record IsTold (s : Seen) (o : Object) (r : state.Object) : Type 0 where
+  pub number : o.number ≡ r.number
+  pub base : o.base ≡ r.base
+  pub length : o.length ≡ r.length
+  pub live : o.live ≡ charges r.quota s.objects
+
+-- ---- free
+
+-- the live object of this quota with exactly these bounds
+abbrev pub whole_in : Seen → ℕ → ℕ → ℕ → Option state.Object
+whole_in s quota base top = whole_of quota base top s.objects
+
+-- there was one, which was freed, and it is told so
+pub record WasWhole (s new : Seen) (quota base top : ℕ) (o : Object) : Type 0 where
+  pub object : state.Object
+  pub is : whole_in s quota base top ≡ Some object
+  pub told : IsTold new o object
+
+-- the object is zeroed, its chunk marked, and it is quarantined
+abbrev pub quarantined : Seen → state.Object → Seen
+quarantined s r = record s {
+  threads = engine.with_granules s.threads
+      (marked_from (r.base - CHUNK_HEAD) (r.base + r.length) true s.threads.region.ram
+      (zeroed_from r.base (r.base + r.length) s.threads.region.ram s.threads.granules));
+  objects = quarantine r.number s.objects;
+}
+
+-- and the running thread's registers pass the load filter
+abbrev pub freed : Seen → ℕ → state.Object → Seen
+freed s t r = with_threads (quarantined s r) (sifted (quarantined s r).threads t)
+
+abbrev pub freed_by : Seen → ℕ → Option state.Object → Seen
+freed_by s t None = s
+freed_by s t (Some r) = freed s t r

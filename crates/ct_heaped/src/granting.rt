@@ -1,0 +1,81 @@
+//! Objects are allocated and freed.
+
+ghost use Rattle.std.specs.Prelude.{ℕ, List, ◌≡◌, ◌-◌, ◌≤◌, ◌<◌, Some, None, length, IfOk, MatchResult};
+ghost use Rattle.def_machine.specs.Heap as machine;
+ghost use Rattle.def_machine.specs.Image.{Image, root};
+ghost use Rattle.def_machine.specs.Objects.{charges, has_quarantined};
+ghost use Rattle.def_machine.specs.State as row;
+ghost use Rattle.def_machine.specs.State.{State, Status};
+ghost use Rattle.def_step.specs.Quotas.{allocation};
+ghost use Rattle.ct_heaped.specs.Grants.{new_object, with_object, after_allocation, allocation_told, IsTold, WasWhole, whole_in, freed, freed_by};
+ghost use Rattle.ct_heaped.specs.Seen.{Seen, limit_at};
+ghost use Rattle.ct_heaped.specs.Shared.{HasHeap, SharesObjects, state_with};
+
+use crate::engine::Engine;
+use ct_heap::{HeapRefusal, NotWhole, Object};
+use ct_mem::Memory;
+
+impl<M: Memory + Drop> Engine<M> {
+    /// An object of so many bytes, charged to a quota, at the least lawful place. Memory is seen as before: the
+    /// object reads as zero.
+    ///
+    /// `Size` comes exactly where the size is zero or above the heap's length; else `Quota` exactly where the
+    /// quota's limit would be passed; else `NoGap` exactly where no place is lawful. A refusal changes nothing.
+    pub fn allocate(&mut self, quota: u32, size: u32) -> Result<Object, HeapRefusal>
+        requires quota { quota < length self.old.limits }
+        requires few { self.old.next ≤ 4000000000 }
+        ensures is { self.new ≡ after_allocation self.old quota size result }
+        ensures answer { (i : Image) (m : State) → HasHeap i self.old → SharesObjects m self.old
+            → allocation i m quota size ≡ allocation_told self.old quota size result }
+        ensures told { IfOk result
+            (λ o. IsTold self.new o (new_object self.old quota size o.base)) }
+    {
+        self.threads.allocate(&mut self.heap, quota, size)
+    }
+
+    /// The live object of a quota with exactly these bounds, which are addresses, is freed: it is zeroed and
+    /// quarantined, its chunk is marked, and then the registers of the running thread pass the load filter.
+    /// `NotWhole` comes exactly where there is none; then nothing changes.
+    pub fn free(&mut self, t: u32, quota: u32, base: u32, top: u64) -> Result<Object, NotWhole>
+        requires runs { self.old.threads.running ≡ Some t }
+        requires quota { quota < length self.old.limits }
+        ensures is { self.new ≡ freed_by self.old t (whole_in self.old quota base top) }
+        ensures told { MatchResult result
+            (λ o. WasWhole self.old self.new quota base top o)
+            (λ why. whole_in self.old quota base top ≡ None) }
+    {
+        let object = self.threads.free(&mut self.heap, quota, base, top)?;
+        self.threads.sift(t);
+        Ok(object)
+    }
+
+    /// What a quota may still take, in bytes.
+    pub fn remaining(&self, quota: u32) -> u32
+        requires quota { quota < length self.now.limits }
+        ensures { result ≡ limit_at self.now quota - charges quota self.now.objects }
+    {
+        self.heap.remaining(quota)
+    }
+
+    /// Whether an object is quarantined, painted or not.
+    pub fn quarantined(&self) -> bool
+        ensures { result ≡ has_quarantined self.now.objects }
+    {
+        self.heap.quarantined()
+    }
+}
+
+/// Of a state of the machine that holds what is seen, whatever the statuses of its threads, the written changes of an
+/// allocation and of a free leave what `allocate` and `free` leave of that; and a quota may still take what `remaining`
+/// says.
+pub fn grants_shown()
+    ensures allocates { (m : State) (s : Seen) (statuses : List Status) (r : row.Object)
+        → machine.with_object (state_with m s statuses) r
+        ≡ state_with m (with_object s r) statuses }
+    ensures frees { (i : Image) (m : State) (s : Seen) (statuses : List Status) (t : ℕ)
+        (r : row.Object) → s.threads.region.ram ≡ i.ram
+        → machine.freed i (state_with m s statuses) t r ≡ state_with m (freed s t r) statuses }
+    ensures remains { (i : Image) (m : State) (s : Seen) (quota : ℕ) → HasHeap i s
+        → SharesObjects m s → (root i quota).limit - charges quota m.objects
+        ≡ limit_at s quota - charges quota s.objects }
+{}

@@ -1,0 +1,78 @@
+//! The revoker.
+
+ghost use Rattle.std.specs.Prelude.{ℕ, ◌≡◌, ◌≤◌, ◌*◌, Some, IsSome, List, length, unwrap_or};
+ghost use Rattle.def_machine.specs.Image.{Image};
+ghost use Rattle.def_machine.specs.State.{State, Status};
+ghost use Rattle.def_machine.specs.Heap.{swept};
+ghost use Rattle.ct_engine.specs.Heaps.{NoneLeft};
+ghost use Rattle.ct_engine.specs.Written.{HasAreas};
+ghost use Rattle.ct_heaped.specs.Seen.{Seen};
+ghost use Rattle.ct_heaped.specs.Shared.{state_with};
+ghost use Rattle.ct_heaped.specs.Sweeps.{size_of, began, passed_on, with_slice, slice_end, over, swept_by};
+
+use crate::engine::Engine;
+use ct_mem::Memory;
+
+impl<M: Memory + Drop> Engine<M> {
+    /// Where no sweep runs and an object is quarantined, a sweep begins: every quarantined object is painted.
+    fn begin(&mut self)
+        ensures { self.new ≡ began self.old self.old.front }
+    {
+        if self.front.running() {
+            return;
+        }
+        if self.threads.paint(&mut self.heap) {
+            self.front.begin();
+        }
+    }
+
+    /// The sweep ends: the painted objects leave, of which no capability is left.
+    fn finish(&mut self)
+        requires { NoneLeft self.old.objects self.old.threads }
+        ensures { self.new ≡ over self.old }
+    {
+        self.front.end();
+        self.threads.flush(&mut self.heap);
+    }
+
+    /// Where a sweep runs, it passes `rate` granules, or those that are left, and ends where it has passed all of RAM.
+    fn pass(&mut self, rate: u32)
+        requires left { (front : ℕ) → self.old.front ≡ Some front
+            → size_of self.old ≤ slice_end self.old rate front
+            → NoneLeft self.old.objects
+            (with_slice self.old front (slice_end self.old rate front)).threads }
+        ensures { self.new ≡ passed_on self.old rate self.old.front }
+    {
+        if !self.front.running() {
+            return;
+        }
+        self.threads.slice(&mut self.front, rate);
+        if self.front.finished(self.threads.size()) {
+            self.finish();
+        }
+    }
+
+    /// One slice of the revoker: where no sweep runs and an object is quarantined, one begins; where one runs, it
+    /// passes `rate` granules, or those that are left; where it has passed all of RAM, the objects that were painted
+    /// as it began leave.
+    ///
+    /// Condition: where it ends, no capability of a painted object is left, which a sweep sees to.
+    pub fn sweep(&mut self, rate: u32)
+        requires left { (front : ℕ) → (began self.old self.old.front).front ≡ Some front
+            → size_of self.old ≤ slice_end self.old rate front
+            → NoneLeft (began self.old self.old.front).objects
+            (with_slice (began self.old self.old.front) front
+            (slice_end self.old rate front)).threads }
+        ensures { self.new ≡ swept_by self.old rate }
+    {
+        self.begin();
+        self.pass(rate);
+    }
+}
+
+/// A Sweep event leaves of a state of the machine that holds what is seen, whatever the statuses of its threads, what
+/// `sweep` at the image's rate leaves of that.
+pub fn sweeps_shown()
+    ensures { (i : Image) (m : State) (s : Seen) (statuses : List Status) → HasAreas i s.threads
+        → swept i (state_with m s statuses) ≡ state_with m (swept_by s i.sweep) statuses }
+{}

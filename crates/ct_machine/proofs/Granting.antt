@@ -1,0 +1,238 @@
+-- What the code leaves of a routine of the heap is what the written routine leaves.
+use Rattle.std.proofs.Common.{ℕ, ◌+◌, ◌-◌, ◌==◌, ◌≡◌, ◌≤◌, ◌<◌, Bool, true, false, inr, if◌then◌else◌, map, List, length, Option, Some, None, refl, sym, ap, ◌∙◌, subst, arith}
+use Rattle.std.proofs.Math.ListN.{get_or, set}
+use Rattle.std.proofs.lemmas.List.{length-set}
+use Rattle.std.proofs.lemmas.Bool.{eqb-true, and_parts}
+use Rattle.law_granules.proofs.Lists.{zeroed_length, marked_length}
+use Rattle.ct_entry.specs.declared.acts.Act.{Act}
+use Rattle.ct_entry.specs.declared.acts.Act.TheVariants.{Allocate, Free}
+use Rattle.ct_entry.specs.declared.rows.Kind.TheVariants as kind
+use Rattle.def_profile.specs.declared.layout.TheConstants.{CHUNK_HEAD}
+use Rattle.def_words.specs.declared.Cap.{Cap}
+use Rattle.def_words.specs.declared.Trap.{Trap}
+use Rattle.def_words.specs.Authority.{cap_address}
+use Rattle.def_words.specs.Capability.{integer}
+use Rattle.def_words.specs.Seals.{cap_seal}
+use Rattle.def_memory.specs.declared.Granule.{Granule}
+use Rattle.def_memory.specs.Ranges.{zeroed_from, marked_from}
+use Rattle.def_reach.specs.Roots.{Listing, is_quota}
+use Rattle.def_confined.specs.Capabilities.{Rooted}
+use Rattle.def_confined.specs.Confined.{Confined}
+use Rattle.def_facts.specs.Facts.{Facts}
+use Rattle.def_machine.specs.Image.{Image, root}
+use Rattle.def_machine.specs.State.{State, Thread, Object, Counts, thread, register, nobody}
+use Rattle.def_machine.specs.Objects.{charges, quarantine}
+use Rattle.def_machine.specs.Memory.{filtered_in}
+use Rattle.def_machine.specs.Heap as heap
+use Rattle.def_machine.specs.Threads.{with_statuses}
+use Rattle.def_step.specs.Devices.{Bank}
+use Rattle.def_step.specs.Checks.{first_failed}
+use Rattle.def_step.specs.Switch.{return_checks}
+use Rattle.def_step.specs.Routines as routine
+use Rattle.def_step.specs.Routines.{Leaves, code}
+use Rattle.def_step.specs.Quotas as quotas
+use Rattle.def_step.specs.Quotas.{Allocation, Refused, Made, is_quota_cap, whole_of, allocation}
+use Rattle.def_step.specs.Instructions.{Board, ran, deed}
+use Rattle.def_step.specs.Events.{MachineRow}
+use Rattle.law_jumps.proofs.Moves.{in_rooted}
+use Rattle.ct_sched.specs.Sched.{SchedRow}
+use Rattle.ct_engine.specs.Seen as engine
+use Rattle.ct_engine.specs.Heaps.{sifted}
+use Rattle.ct_execute.specs.declared.ran.Ran.{Ran}
+use Rattle.ct_execute.specs.declared.ran.Ran.TheVariants.{Went}
+use Rattle.ct_heaped.specs.Seen.{Seen, with_threads, limit_at}
+use Rattle.ct_heaped.specs.Grants.{with_object, quarantined, freed}
+use Rattle.ct_services.specs.Granted as granted
+use Rattle.ct_machine.specs.Parts.{state_by, IsKept}
+use Rattle.ct_machine.specs.Going.{CameTo, IsDone}
+use Rattle.ct_machine.proofs.Statuses.{thread_with, set_with}
+use Rattle.ct_machine.proofs.Taking.{ram_is}
+use Rattle.ct_machine.proofs.Keeping.{stays_kept}
+use Rattle.ct_machine.proofs.Resting.{by_trap, checked_once, answers_are, register_alike}
+
+-- what passed the load filter of the memory that the machine has
+sifted_is : (i : Image) (x : Seen) (r : SchedRow) (k : Bank) (pending : Bool) (time : ℕ) (c : Counts) (t : ℕ) → IsKept i x r
+    → state_by (with_threads x (sifted x.threads t)) r pending k.states time c
+    ≡ record (state_by x r pending k.states time c) {
+      threads = set (with_statuses x.threads.threads r.statuses) t (record (get_or (with_statuses x.threads.threads r.statuses) t nobody) {
+        registers = map (filtered_in i.ram x.threads.granules) (get_or (with_statuses x.threads.threads r.statuses) t nobody).registers;
+      });
+    }
+sifted_is i x r k pending time c t kept =
+    let new : Thread → Thread = λ u. record u { registers = map (filtered_in x.threads.region.ram x.threads.granules) u.registers } in
+    let there : with_statuses (set x.threads.threads t (new (get_or x.threads.threads t nobody))) r.statuses ≡ set (with_statuses x.threads.threads r.statuses) t (new (get_or (with_statuses x.threads.threads r.statuses) t nobody)) =
+    set_with x.threads.threads r.statuses t (new (get_or x.threads.threads t nobody)) kept.statuses
+    ∙ ap (λ (u : Thread). set (with_statuses x.threads.threads r.statuses) t (new u)) (sym (thread_with x.threads.threads r.statuses t kept.statuses)) in
+    ap (λ (ts : List Thread). record (state_by x r pending k.states time c) { threads = ts }) there
+    ∙ ap (λ n. record (state_by x r pending k.states time c) {
+      threads = set (with_statuses x.threads.threads r.statuses) t (record (get_or (with_statuses x.threads.threads r.statuses) t nobody) {
+        registers = map (filtered_in n x.threads.granules) (get_or (with_statuses x.threads.threads r.statuses) t nobody).registers;
+      });
+    }) (ram_is i x r kept)
+
+module _ (i : Image) (e : Seen) (r : SchedRow) (k : Bank) (pending : Bool) (time : ℕ) (c : Counts) (t : ℕ) (kept : IsKept i e r) where
+  abbrev board : Board
+  board = record { image = i; bases = k.bases }
+
+  abbrev here : State
+  here = state_by e r pending k.states time c
+
+  abbrev machine : Seen → MachineRow
+  machine x = record { board = board; state = state_by x r pending k.states time c }
+
+  -- what a routine left of the engine and came to, as the written one; so many objects were made at most
+  pub record Serves (most : ℕ) (p : Seen × Ran) (x : routine.Ran) : Type 0 where
+    pub came : CameTo (machine e) (machine p.0) t p.1 (ran board here t x)
+    pub done : IsDone p.1
+    pub stays : IsKept i p.0 r
+    pub made : p.0.next ≤ most
+
+  serves_checked : (most : ℕ) (o : Option Trap) (p : Seen × Ran) (x : routine.Ran) → e.next ≤ most → Serves most p x → Serves most (granted.checked o e p) (by_trap o x)
+  serves_checked most (Some why) p x few h = record { came = record { is = refl; board = refl; counts = refl; unfinished = refl }; done = tt; stays = kept; made = few }
+  serves_checked most None p x few h = h
+
+  serves_if : (most : ℕ) (b : Bool) (p q : Seen × Ran) (x y : routine.Ran) → Serves most p x → Serves most q y → Serves most (if b then p else q) (if b then x else y)
+  serves_if most true p q x y h other = h
+  serves_if most false p q x y h other = other
+
+  abbrev went : Option (ℕ × Act) → Ran
+  went None = Went None 0
+  went (Some told) = Went (Some told.1) told.0
+
+  answered_kept : (x : Seen) (v : Cap) → IsKept i x r → IsKept i (granted.answers x t v) r
+  answered_kept x v held =
+      stays_kept i x (granted.answers x t v) r r.statuses held
+      (record { region = refl; areas = refl; size = refl; threads = length-set x.threads.threads t _; heap_base = refl; heap_end = refl; limits = refl }) refl held.ready
+
+  -- an answer of an engine that has become this, of a machine that has become that
+  serves_as : (most : ℕ) (x : Seen) (s : State) (told : Option (ℕ × Act)) (v : Cap) → IsKept i x r → x.next ≤ most → state_by x r pending k.states time c ≡ s
+      → Serves most (granted.answers x t v, went told) (Leaves (routine.answers s t v) told)
+  serves_as most x s None v held few is = record {
+    came = record {
+      is = ap (λ (z : State). (z, None)) (answers_are i x r k pending time c t held v ∙ ap (λ (z : State). routine.answers z t v) is);
+      board = refl;
+      counts = refl;
+      unfinished = tt;
+    };
+    done = tt;
+    stays = answered_kept x v held;
+    made = few;
+  }
+  serves_as most x s (Some told) v held few is = record {
+    came = record {
+      is = ap (λ (z : State). (z, Some (deed here t told.0 told.1))) (answers_are i x r k pending time c t held v ∙ ap (λ (z : State). routine.answers z t v) is);
+      board = refl;
+      counts = refl;
+      unfinished = tt;
+    };
+    done = tt;
+    stays = answered_kept x v held;
+    made = few;
+  }
+
+  serves_told : (most : ℕ) (v : Cap) → e.next ≤ most → Serves most (granted.tells e t v) (routine.tells here t v)
+  serves_told most v few = serves_as most e here None v kept few refl
+
+  -- -1 where c10 is no quota
+  serves_quota : (most : ℕ) (p : Seen × Ran) (x : routine.Ran) → e.next ≤ most → Serves most p x → Serves most (granted.by_quota e t p) (quotas.by_quota here t x)
+  serves_quota most p x few h =
+      let one = register_alike i e r k pending time c t kept 1 in
+      let ten = register_alike i e r k pending time c t kept 10 in
+      let seen : Cap = register (engine.thread e.threads t) 10 in
+      let after : Cap → routine.Ran = λ z. if is_quota_cap z then x else routine.tells here t (code 1) in
+      let first : Serves most (granted.by_quota e t p) (by_trap (first_failed (return_checks (register (engine.thread e.threads t) 1))) (after seen)) =
+      serves_checked most (first_failed (return_checks (register (engine.thread e.threads t) 1))) (if is_quota_cap seen then p else granted.tells e t (code 1)) (after seen) few
+      (serves_if most (is_quota_cap seen) p (granted.tells e t (code 1)) x (routine.tells here t (code 1)) h (serves_told most (code 1) few)) in
+      let alike : by_trap (first_failed (return_checks (register (engine.thread e.threads t) 1))) (after seen) ≡ quotas.by_quota here t x =
+      ap (λ (z : Cap). by_trap (first_failed (return_checks z)) (after seen)) one
+      ∙ ap (λ (z : Cap). by_trap (first_failed (return_checks (register (thread here t) 1))) (after z)) ten
+      ∙ sym (checked_once (return_checks (register (thread here t) 1)) (after (register (thread here t) 10))) in
+      subst (λ (y : routine.Ran). Serves most (granted.by_quota e t p) y) alike first
+
+  -- c10 is a quota's capability only where its root is a quota of the image
+  pub names_quota : Facts i → Confined i here → granted.NamesQuota e t
+  names_quota facts held is =
+      let ten = register_alike i e r k pending time c t kept 10 in
+      let c10 : Cap = register (thread here t) 10 in
+      let both = and_parts c10.tag (cap_seal c10 == 10) (ap is_quota_cap (sym ten) ∙ is) in
+      let sealed : cap_seal c10 ≡ 10 = eqb-true (cap_seal c10) 10 both.1 in
+      let rooted : Rooted i c10 = in_rooted i here.objects t (thread here t).frames c10 (held.registers t 10) both.0 in
+      let origin : (root i c10.shadow.root).origin ≡ Listing kind.Quota = facts.quotas c10.shadow.root (sym (rooted.boot (inr (inr (inr (inr sealed))))).seal ∙ sealed) in
+      subst (λ (z : Cap). z.shadow.root < length e.limits) (sym ten) (kept.quotas c10.shadow.root (ap is_quota origin))
+
+  quota_alike : granted.quota_in e t ≡ quotas.quota_in here t
+  quota_alike = ap (λ (z : Cap). z.shadow.root) (register_alike i e r k pending time c t kept 10)
+
+  -- ---- allocate
+
+  serves_allocation : (a : Allocation) → Serves (e.next + 1) (granted.allocated e t a) (quotas.allocated here t a)
+  serves_allocation (Refused n) = serves_told (e.next + 1) (code n) (omega arith)
+  serves_allocation (Made o) =
+      serves_as (e.next + 1) (with_object e o) (heap.with_object here o) (Some (o.quota, Allocate o.number o.base o.length (charges o.quota (with_object e o).objects))) (heap.object_cap o)
+      (stays_kept i e (with_object e o) r r.statuses kept (record { region = refl; areas = refl; size = refl; threads = refl; heap_base = refl; heap_end = refl; limits = refl }) refl kept.ready) (omega arith) refl
+
+  pub serves_allocate : (p : Seen × Ran) → p ≡ granted.by_quota e t (granted.allocated e t (allocation i here (granted.quota_in e t) (cap_address (register (engine.thread e.threads t) 11))))
+      → Serves (e.next + 1) p (quotas.allocate i here t)
+  serves_allocate p is =
+      let asked : allocation i here (granted.quota_in e t) (cap_address (register (engine.thread e.threads t) 11)) ≡ allocation i here (quotas.quota_in here t) (cap_address (register (thread here t) 11)) =
+      ap (λ q. allocation i here q (cap_address (register (engine.thread e.threads t) 11))) quota_alike
+      ∙ ap (λ (z : Cap). allocation i here (quotas.quota_in here t) (cap_address z)) (register_alike i e r k pending time c t kept 11) in
+      let a : Allocation = allocation i here (quotas.quota_in here t) (cap_address (register (thread here t) 11)) in
+      subst (λ (q : Seen × Ran). Serves (e.next + 1) q (quotas.allocate i here t)) (sym (is ∙ ap (λ (x : Allocation). granted.by_quota e t (granted.allocated e t x)) asked))
+      (serves_quota (e.next + 1) (granted.allocated e t a) (quotas.allocated here t a) (omega arith) (serves_allocation a))
+
+  -- ---- free
+
+  quarantined_size : (o : Object) → length (quarantined e o).threads.granules ≡ length e.threads.granules
+  quarantined_size o =
+      marked_length (o.base - CHUNK_HEAD) (o.base + o.length) true e.threads.region.ram (zeroed_from o.base (o.base + o.length) e.threads.region.ram e.threads.granules)
+      ∙ zeroed_length o.base (o.base + o.length) e.threads.region.ram e.threads.granules
+
+  quarantined_kept : (o : Object) → IsKept i (quarantined e o) r
+  quarantined_kept o =
+      stays_kept i e (quarantined e o) r r.statuses kept (record { region = refl; areas = refl; size = quarantined_size o; threads = refl; heap_base = refl; heap_end = refl; limits = refl }) refl kept.ready
+
+  freed_kept : (o : Object) → IsKept i (freed e t o) r
+  freed_kept o =
+      stays_kept i e (freed e t o) r r.statuses kept
+      (record { region = refl; areas = refl; size = quarantined_size o; threads = length-set e.threads.threads t _; heap_base = refl; heap_end = refl; limits = refl }) refl kept.ready
+
+  -- the freed object's memory, where RAM begins here
+  abbrev emptied : Object → ℕ → List Granule
+  emptied o n = marked_from (o.base - CHUNK_HEAD) (o.base + o.length) true n (zeroed_from o.base (o.base + o.length) n e.threads.granules)
+
+  abbrev freed_over : Object → ℕ → State
+  freed_over o n = record here {
+    granules = emptied o n;
+    objects = quarantine o.number e.objects;
+    threads = set (with_statuses e.threads.threads r.statuses) t (record (get_or (with_statuses e.threads.threads r.statuses) t nobody) {
+      registers = map (filtered_in i.ram (emptied o n)) (get_or (with_statuses e.threads.threads r.statuses) t nobody).registers;
+    });
+  }
+
+  freed_is : (o : Object) → state_by (freed e t o) r pending k.states time c ≡ quotas.let_go i here t o
+  freed_is o = sifted_is i (quarantined e o) r k pending time c t (quarantined_kept o) ∙ ap (freed_over o) (ram_is i e r kept)
+
+  serves_freed : (o : Option Object) → Serves e.next (granted.freed_as e t o) (quotas.freed_as i here t o)
+  serves_freed None = serves_told e.next (code 6) (omega arith)
+  serves_freed (Some o) =
+      serves_as e.next (freed e t o) (quotas.let_go i here t o) (Some (o.quota, Free o.number o.base o.length (charges o.quota (freed e t o).objects))) (integer 0) (freed_kept o) (omega arith) (freed_is o)
+
+  pub serves_free : (p : Seen × Ran) → p ≡ granted.by_quota e t (granted.freed_as e t (granted.object_in e t)) → Serves e.next p (quotas.free i here t)
+  serves_free p is =
+      let named : granted.object_in e t ≡ whole_of here.objects (quotas.quota_in here t) (register (thread here t) 11) =
+      ap (λ q. whole_of e.objects q (register (engine.thread e.threads t) 11)) quota_alike
+      ∙ ap (λ (z : Cap). whole_of e.objects (quotas.quota_in here t) z) (register_alike i e r k pending time c t kept 11) in
+      let o : Option Object = whole_of here.objects (quotas.quota_in here t) (register (thread here t) 11) in
+      subst (λ (q : Seen × Ran). Serves e.next q (quotas.free i here t)) (sym (is ∙ ap (λ (x : Option Object). granted.by_quota e t (granted.freed_as e t x)) named))
+      (serves_quota e.next (granted.freed_as e t o) (quotas.freed_as i here t o) (omega arith) (serves_freed o))
+
+  -- ---- remaining
+
+  pub serves_remaining : (p : Seen × Ran) → p ≡ granted.by_quota e t (granted.tells e t (integer (granted.left_in e t))) → Serves e.next p (quotas.remaining i here t)
+  serves_remaining p is =
+      let left : ℕ = (root i (quotas.quota_in here t)).limit - charges (quotas.quota_in here t) here.objects in
+      let same : granted.left_in e t ≡ left =
+      ap (λ q. limit_at e q - charges q e.objects) quota_alike ∙ ap (λ n. n - charges (quotas.quota_in here t) e.objects) (sym (kept.heap.limits (quotas.quota_in here t))) in
+      subst (λ (q : Seen × Ran). Serves e.next q (quotas.remaining i here t)) (sym (is ∙ ap (λ n. granted.by_quota e t (granted.tells e t (integer n))) same))
+      (serves_quota e.next (granted.tells e t (integer left)) (routine.tells here t (integer left)) (omega arith) (serves_told e.next (integer left) (omega arith)))

@@ -1,0 +1,214 @@
+-- What a slice of the revoker leaves of the engine is what the written sweep leaves, and what it asks where it ends.
+use Rattle.std.proofs.Common.{ℕ, suc, ◌+◌, ◌*◌, ◌≡◌, ◌≤◌, Bool, true, false, cond, min, nat_le, List, [], ◌∷◌, length, Option, Some, None, refl, sym, ap, ◌∙◌, subst}
+use Rattle.ct_entry.specs.declared.acts.Happened.{Happened}
+use Rattle.ct_entry.specs.declared.acts.Owned.{Owned}
+use Rattle.def_words.specs.declared.Cap.{Cap}
+use Rattle.def_memory.specs.declared.Granule.{Granule}
+use Rattle.def_sched.specs.declared.Status.TheVariants.{Ready}
+use Rattle.def_board.specs.Guarded.{Guarded}
+use Rattle.def_confined.specs.Keeps.{Keeps}
+use Rattle.def_confined.specs.Partitioned.{Partitioned}
+use Rattle.def_facts.specs.Facts.{RootsAway}
+use Rattle.def_machine.specs.Image.{Image}
+use Rattle.def_machine.specs.State.{State, Thread, Frame, Object, Counts, thread}
+use Rattle.def_machine.specs.Objects.{Each, has_quarantined, painted}
+use Rattle.def_machine.specs.Heap as heap
+use Rattle.def_machine.specs.Threads.{Clockwork, with_status}
+use Rattle.def_step.specs.Devices.{Bank}
+use Rattle.def_step.specs.Instructions.{Board}
+use Rattle.def_step.specs.Events.{MachineRow, holder, begun, begun_since, told_of, swept_on}
+use Rattle.law_turns.proofs.Moves.{clock_confined}
+use Rattle.law_sweeps.proofs.Moves.{clock_beside}
+use Rattle.law_swept.specs.Clean.{SavedClean, StoppedClean, IsClean}
+use Rattle.law_swept.proofs.Ending.{ends_clean}
+use Rattle.law_heaped.proofs.Slices.{kept_length}
+use Rattle.ct_areas.specs.declared.thread.Area.{Area}
+use Rattle.ct_sched.specs.Sched.{SchedRow}
+use Rattle.ct_engine.specs.Seen as engine
+use Rattle.ct_engine.specs.Heaps.{FrameClean, NoneLeft}
+use Rattle.ct_engine.specs.Sweeps.{kept_threads, passes}
+use Rattle.ct_engine.specs.Written.{HasAreas}
+use Rattle.ct_engine.proofs.Sliced.{slice_written}
+use Rattle.ct_heaped.specs.Seen.{Seen}
+use Rattle.ct_heaped.specs.Sweeps.{size_of, began, with_slice, unmarked, over, ended, slice_end, passed_on, swept_by}
+use Rattle.ct_heaped.proofs.Shown.{swept_shown}
+use Rattle.ct_machine.specs.Parts.{state_by, IsKept}
+use Rattle.ct_machine.specs.Going.{MaySweep, one_more_sweep}
+use Rattle.ct_machine.proofs.Statuses.{like_with}
+use Rattle.ct_machine.proofs.Taking.{ram_is, frames_with}
+use Rattle.ct_machine.proofs.Keeping.{StaysBeside, stays_kept, still_ready}
+
+-- ---- what a slice changes of an engine
+
+-- places stay, and as many granules and threads; the same thread runs, and no object is made
+pub record SweepStays (e new : Seen) : Type 0 where
+  pub beside : StaysBeside e new
+  pub running : new.threads.running ≡ e.threads.running
+  pub next : new.next ≡ e.next
+
+same_stays : (e : Seen) → SweepStays e e
+same_stays e = record { beside = record { region = refl; areas = refl; size = refl; threads = refl; heap_base = refl; heap_end = refl; limits = refl }; running = refl; next = refl }
+
+both_stay : (e mid new : Seen) → SweepStays e mid → SweepStays mid new → SweepStays e new
+both_stay e mid new a b = record {
+  beside = record {
+    region = b.beside.region ∙ a.beside.region;
+    areas = b.beside.areas ∙ a.beside.areas;
+    size = b.beside.size ∙ a.beside.size;
+    threads = b.beside.threads ∙ a.beside.threads;
+    heap_base = b.beside.heap_base ∙ a.beside.heap_base;
+    heap_end = b.beside.heap_end ∙ a.beside.heap_end;
+    limits = b.beside.limits ∙ a.beside.limits;
+  };
+  running = b.running ∙ a.running;
+  next = b.next ∙ a.next;
+}
+
+begun_stays : (b : Bool) (e x : Seen) → SweepStays e x → SweepStays e (cond b x e)
+begun_stays true e x h = h
+begun_stays false e x h = same_stays e
+
+began_stays : (e : Seen) (o : Option ℕ) → SweepStays e (began e o)
+began_stays e None =
+    begun_stays (has_quarantined e.objects) e (record e { objects = painted e.objects; front = Some 0 })
+    (record { beside = record { region = refl; areas = refl; size = refl; threads = refl; heap_base = refl; heap_end = refl; limits = refl }; running = refl; next = refl })
+began_stays e (Some front) = same_stays e
+
+threads_many : (keep : ℕ → Cap → Cap) (ram : ℕ) (running : Option ℕ) (n : ℕ) (areas : List Area) (ts : List Thread) → length (kept_threads keep ram running n areas ts) ≡ length ts
+threads_many keep ram running n areas [] = refl
+threads_many keep ram running n [] (t ∷ ts) = refl
+threads_many keep ram running n (a ∷ areas) (t ∷ ts) = ap suc (threads_many keep ram running (n + 1) areas ts)
+
+slice_stays : (e : Seen) (low high : ℕ) → SweepStays e (with_slice e low high)
+slice_stays e low high = record {
+  beside = record {
+    region = refl;
+    areas = refl;
+    size = kept_length (passes e.threads low high) 0 e.threads.granules;
+    threads = threads_many (passes e.threads low high) e.threads.region.ram e.threads.running 0 e.threads.areas e.threads.threads;
+    heap_base = refl;
+    heap_end = refl;
+    limits = refl;
+  };
+  running = refl;
+  next = refl;
+}
+
+unmarked_many : (rs : List Object) (x : ℕ) (gs : List Granule) → length (unmarked rs x gs) ≡ length gs
+unmarked_many rs x [] = refl
+unmarked_many rs x (g ∷ gs) = ap suc (unmarked_many rs (x + 8) gs)
+
+over_stays : (e : Seen) → SweepStays e (over e)
+over_stays e = record {
+  beside = record { region = refl; areas = refl; size = unmarked_many e.objects e.threads.region.ram e.threads.granules; threads = refl; heap_base = refl; heap_end = refl; limits = refl };
+  running = refl;
+  next = refl;
+}
+
+ended_stays : (e : Seen) (front : ℕ) → SweepStays e (ended e front)
+ended_stays e front = begun_stays (nat_le (size_of e) front) e (over e) (over_stays e)
+
+passed_stays : (e : Seen) (rate : ℕ) (o : Option ℕ) → SweepStays e (passed_on e rate o)
+passed_stays e rate None = same_stays e
+passed_stays e rate (Some front) =
+    both_stay e (with_slice e front (slice_end e rate front)) (passed_on e rate (Some front)) (slice_stays e front (slice_end e rate front))
+    (ended_stays (with_slice e front (slice_end e rate front)) (slice_end e rate front))
+
+swept_stays : (e : Seen) (rate : ℕ) → SweepStays e (swept_by e rate)
+swept_stays e rate = both_stay e (began e e.front) (swept_by e rate) (began_stays e e.front) (passed_stays (began e e.front) rate (began e e.front).front)
+
+pub swept_kept : (i : Image) (e new : Seen) (r : SchedRow) (rate : ℕ) → IsKept i e r → new ≡ swept_by e rate → IsKept i new r
+swept_kept i e new r rate kept is =
+    let stays = swept_stays e rate in
+    subst (λ (x : Seen). IsKept i x r) (sym is) (stays_kept i e (swept_by e rate) r r.statuses kept stays.beside refl (still_ready e (swept_by e rate) r.statuses kept.ready stays.running))
+
+pub swept_next : (e new : Seen) (rate : ℕ) → new ≡ swept_by e rate → new.next ≡ e.next
+swept_next e new rate is = ap (λ (x : Seen). x.next) is ∙ (swept_stays e rate).next
+
+-- ---- what it asks where it ends
+
+module _ (i : Image) (e : Seen) (r : SchedRow) (k : Bank) (pending : Bool) (time : ℕ) (c : Counts) (kept : IsKept i e r) where
+  abbrev here : State
+  here = state_by e r pending k.states time c
+
+  abbrev state_of : Seen → State
+  state_of x = state_by x r pending k.states time c
+
+  pub areas_are : HasAreas i e.threads
+  areas_are = record { ram = ram_is i e r kept; count = kept.threads; begins = λ t within. (kept.areas.each t within).begin_is }
+
+  begun_as : (b : Bool) → cond b (record here { objects = painted e.objects; front = Some 0 }) here ≡ state_of (cond b (record e { objects = painted e.objects; front = Some 0 }) e)
+  begun_as true = refl
+  begun_as false = refl
+
+  began_as : (o : Option ℕ) → heap.sweep_began here o ≡ state_of (began e o)
+  began_as None = begun_as (has_quarantined e.objects)
+  began_as (Some front) = refl
+
+  begun_threads : (b : Bool) → (cond b (record e { objects = painted e.objects; front = Some 0 }) e).threads ≡ e.threads
+  begun_threads true = refl
+  begun_threads false = refl
+
+  began_threads : (o : Option ℕ) → (began e o).threads ≡ e.threads
+  began_threads None = begun_threads (has_quarantined e.objects)
+  began_threads (Some front) = refl
+
+  sliced_as : (x : Seen) (low high : ℕ) → x.threads ≡ e.threads → heap.with_slice i (state_of x) low high ≡ state_of (with_slice x low high)
+  sliced_as x low high same = slice_written i (state_of x) x.threads r.statuses low high (subst (λ (s : engine.Seen). HasAreas i s) (sym same) areas_are)
+
+  saved_clean : (objects : List Object) (fs : List Frame) → Each (SavedClean objects) fs → Each (FrameClean objects) fs
+  saved_clean objects [] h = tt
+  saved_clean objects (f ∷ fs) h = (record { c1 = h.0.c1; c2 = h.0.c2; c3 = h.0.c3; c8 = h.0.c8; c9 = h.0.c9 }, saved_clean objects fs h.1)
+
+  -- what the state holds nowhere the engine doesn't either
+  none_in : (x : Seen) → IsClean (state_of x) → NoneLeft x.objects x.threads
+  none_in x h = record {
+    granules = h.granules;
+    frames = λ t. saved_clean x.objects (engine.thread x.threads t).frames (subst (λ (fs : List Frame). Each (SavedClean x.objects) fs) (frames_with x.threads.threads r.statuses t) (h.frames t));
+    stopped = λ t other.
+        let clean = h.stopped t other in
+        let alike = like_with x.threads.threads r.statuses t Ready in
+        let same : StoppedClean x.objects (with_status (engine.thread x.threads t) Ready) =
+        subst (λ (u : Thread). StoppedClean x.objects u) alike (record { pcc = clean.pcc; registers = clean.registers }) in
+        record { pcc = same.pcc; registers = same.registers };
+  }
+
+  pub none_left : (rate : ℕ) → rate ≡ i.sweep → Partitioned i → RootsAway i → Keeps i here → (front : ℕ) → (began e e.front).front ≡ Some front → size_of e ≤ slice_end e rate front
+      → NoneLeft (began e e.front).objects (with_slice (began e e.front) front (slice_end e rate front)).threads
+  none_left rate same parts away keeps front runs whole =
+      let there : (heap.sweep_began here here.front).front ≡ Some front = ap (λ (s : State). s.front) (began_as e.front) ∙ runs in
+      let end : slice_end e rate front ≡ heap.slice_end i here front = ap (λ n. min (front + 8 * n) (size_of e)) same in
+      let law = ends_clean i here front parts away keeps there (subst (λ n. size_of e ≤ n) end whole) in
+      let seen = ap (λ (s : State). heap.with_slice i s front (heap.slice_end i here front)) (began_as e.front)
+      ∙ sliced_as (began e e.front) front (heap.slice_end i here front) (began_threads e.front) in
+      subst (λ n. NoneLeft (began e e.front).objects (with_slice (began e e.front) front n).threads) (sym end)
+      (none_in (with_slice (began e e.front) front (heap.slice_end i here front)) (subst IsClean seen law))
+
+  -- what it leaves is what the written sweep leaves
+  pub swept_is : (new : Seen) (rate : ℕ) → rate ≡ i.sweep → new ≡ swept_by e rate → state_of new ≡ heap.swept i here
+  swept_is new rate same is =
+      ap state_of is ∙ ap (λ n. state_of (swept_by e n)) same ∙ sym (swept_shown i here e r.statuses areas_are)
+
+-- ---- the event
+
+-- a state that counts a sweep is kept as it was
+pub counted_keeps : (i : Image) (s new : State) → Keeps i s → new ≡ one_more_sweep s → Keeps i new
+counted_keeps i s new h is =
+    let w : Clockwork = record { pending = s.pending; devices = s.devices; time = s.time; picks = s.picks; counts = record s.counts { sweeps = s.counts.sweeps + 1 } } in
+    subst (λ (x : State). Keeps i x) (sym is) (record { confined = clock_confined i s w h.confined; beside = clock_beside i s w h.beside })
+
+pub may_sweep : (m n : MachineRow) → Guarded m → n.board ≡ m.board → n.state ≡ one_more_sweep m.state → MaySweep n
+may_sweep m n g board state = whole n.board n.state board state
+  where
+    whole : (b : Board) (s : State) → b ≡ m.board → s ≡ one_more_sweep m.state → MaySweep (record { board = b; state = s })
+    whole b s is_board is_state = rw is_board (record { parts = g.partitioned; away = g.facts.away; keeps = counted_keeps m.board.image m.state s g.keeps is_state })
+
+pub swept_as : (b : Board) (s mid new : State) (before : Option (ℕ × ℕ)) (off : Option Owned) → mid ≡ one_more_sweep s → new ≡ heap.swept b.image mid → before ≡ holder s → off ≡ begun_since before new (holder new)
+    → (new, record { deed = None; off = off }) ≡ told_of s (swept_on b s, None)
+swept_as b s mid new before off is after was begins =
+    let there : new ≡ swept_on b s = after ∙ ap (λ (m : State). heap.swept b.image m) is in
+    let begun_is : off ≡ begun s new = begins ∙ ap (λ o. begun_since o new (holder new)) was in
+    ap (λ (o : Option Owned). told_with new o) begun_is ∙ ap (λ (n : State). told_with n (begun s n)) there
+  where
+    told_with : State → Option Owned → State × Happened
+    told_with n o = (n, record { deed = None; off = o })

@@ -1,0 +1,255 @@
+//! Allocate, free and remaining.
+
+ghost use Rattle.std.specs.Prelude.{◌≡◌, ◌≤◌, ◌<◌, Some, None, length, if◌then◌else◌, MatchResult};
+ghost use Rattle.def_words.specs.Authority.{cap_address, cap_base};
+ghost use Rattle.def_profile.specs.declared.rights.TheConstants as rights;
+ghost use Rattle.def_words.specs.Capability.{integer};
+ghost use Rattle.def_words.specs.Derive.{derive, memory_root};
+ghost use Rattle.def_machine.specs.Image.{Image};
+ghost use Rattle.def_machine.specs.State.{State, register};
+ghost use Rattle.def_step.specs.Checks.{first_failed};
+ghost use Rattle.def_step.specs.Quotas.{allocation, is_quota_cap, whole_of};
+ghost use Rattle.def_step.specs.Switch.{return_checks};
+ghost use Rattle.ct_engine.specs.Seen.{thread};
+ghost use Rattle.ct_heaped.specs.Grants.{freed_by};
+ghost use Rattle.ct_heaped.specs.Shared.{HasHeap, SharesObjects};
+ghost use Rattle.ct_services.specs.Granted.{NamesQuota, quota_in, object_in, left_in, named_by, by_quota, allocated, freed_as, tells, refusal_code, WasNamed};
+
+use crate::answering::{answer, code};
+use ct_cap::{Live, Shadow, Trap, derive};
+use ct_entry::Act;
+use ct_execute::Ran;
+use ct_exports::return_trap;
+use ct_heaped::{Engine, HeapRefusal, NotWhole, Object};
+use ct_mem::Memory;
+use def_profile::rights::{HEAP_RIGHTS, MEMORY_ROOT};
+use def_profile::seals::QUOTA_TYPE;
+
+/// What the routines answer, negated, where c10 is no quota.
+const NO_QUOTA: u32 = 1;
+
+/// What an allocation answers, negated, where the quota's limit would be passed.
+const PAST_LIMIT: u32 = 2;
+
+/// What an allocation answers, negated, where no place is lawful and nothing is quarantined.
+const NO_PLACE: u32 = 3;
+
+/// What an allocation answers, negated, where the size is zero or above the heap's length.
+const NO_SIZE: u32 = 4;
+
+/// What an allocation answers, negated, where no place is lawful but something is quarantined.
+const NO_PLACE_YET: u32 = 5;
+
+/// What a free answers, negated, where c11 is no whole live object of the quota.
+const NO_OBJECT: u32 = 6;
+
+/// The quota's entry that a capability names, where it is a quota's.
+fn quota_of(c: Live) -> Option<u32>
+    ensures { result ≡ (if is_quota_cap c then Some c.shadow.root else None) }
+{
+    if c.cap.tag && c.seal == QUOTA_TYPE {
+        return Some(c.cap.shadow.root);
+    }
+    None
+}
+
+/// The quota's entry that c10 names, or none where c10 is no quota. The error is the check of c1 that fails.
+fn quota_named<M: Memory + Drop>(engine: &Engine<M>, t: u32) -> Result<Option<u32>, Trap>
+    requires { engine.now.threads.running ≡ Some t }
+    ensures { result
+        ≡ named_by (first_failed (return_checks (register (thread engine.now.threads t) 1)))
+        (is_quota_cap (register (thread engine.now.threads t) 10)) (quota_in engine.now t) }
+{
+    if let Some(trap) = return_trap(engine.register(t, 1)) {
+        return Err(trap);
+    }
+    Ok(quota_of(engine.register(t, 10)))
+}
+
+/// The capability of an object: its quota's entry is the root, its number the source.
+#[tactic(auto, unfolding(def_words::specs::Derive::memory_root))]
+fn capability(quota: u32, object: Object) -> Live
+    ensures { result
+        ≡ derive memory_root object.base object.length rights.HEAP_RIGHTS object.base 0
+        (record { root = quota; source = object.number }) }
+{
+    derive(
+        MEMORY_ROOT,
+        object.base,
+        object.length,
+        HEAP_RIGHTS,
+        object.base,
+        0,
+        Shadow {
+            root: quota,
+            source: object.number,
+        },
+    )
+}
+
+/// The running thread goes on with an answer, and nothing else happened.
+fn tell<M: Memory + Drop>(engine: &mut Engine<M>, t: u32, value: Live) -> Ran
+    requires { engine.old.threads.running ≡ Some t }
+    ensures { (engine.new, result) ≡ tells engine.old t value }
+{
+    answer(engine, t, value);
+    Ran::Went {
+        act: None,
+        entry: 0,
+    }
+}
+
+/// What an allocation's refusal answers, negated; `waits` tells whether something is quarantined.
+fn refused(why: HeapRefusal, waits: bool) -> u32
+    ensures { result ≡ refusal_code why waits }
+{
+    match why {
+        HeapRefusal::Size => NO_SIZE,
+        HeapRefusal::Quota => PAST_LIMIT,
+        HeapRefusal::NoGap => { if waits { NO_PLACE_YET } else { NO_PLACE } }
+    }
+}
+
+/// An object of as many bytes as c11's address says is charged to a quota.
+fn grant<M: Memory + Drop>(engine: &mut Engine<M>, t: u32, quota: u32) -> Ran
+    requires runs { engine.old.threads.running ≡ Some t }
+    requires quota { quota < length engine.old.limits }
+    requires few { engine.old.next ≤ 4000000000 }
+    ensures { (i : Image) (m : State) → HasHeap i engine.old → SharesObjects m engine.old
+        → (engine.new, result)
+        ≡ allocated engine.old t
+        (allocation i m quota (cap_address (register (thread engine.old.threads t) 11))) }
+{
+    let size = engine.register(t, 11).address();
+    match engine.allocate(quota, size) {
+        Ok(object) => {
+            answer(engine, t, capability(quota, object));
+            Ran::Went {
+                act: Some(Act::Allocate {
+                    number: object.number,
+                    base: object.base,
+                    length: object.length,
+                    live: object.live,
+                }),
+                entry: quota,
+            }
+        }
+        Err(why) => {
+            let waits = engine.quarantined();
+            tell(engine, t, code(refused(why, waits)))
+        }
+    }
+}
+
+/// Allocate: an object of as many bytes as c11's address says, charged to the quota that c10 names, at the least
+/// lawful place. The running thread goes on with its capability.
+///
+/// It goes on with -1 exactly where c10 is no quota; else with -4 where the size is zero or above the heap's length;
+/// else with -2 where the quota's limit would be passed; else, where no place is lawful, with -5 where an object is
+/// quarantined and with -3 where none is. The trap is the check of c1 that fails; then nothing changes.
+pub fn allocate<M: Memory + Drop>(engine: &mut Engine<M>, t: u32) -> Ran
+    requires runs { engine.old.threads.running ≡ Some t }
+    requires quota { NamesQuota engine.old t }
+    requires few { engine.old.next ≤ 4000000000 }
+    ensures { (i : Image) (m : State) → HasHeap i engine.old → SharesObjects m engine.old
+        → (engine.new, result)
+        ≡ by_quota engine.old t
+        (allocated engine.old t
+        (allocation i m (quota_in engine.old t)
+        (cap_address (register (thread engine.old.threads t) 11)))) }
+{
+    match quota_named(engine, t) {
+        Err(trap) => Ran::Trapped { trap },
+        Ok(Some(quota)) => grant(engine, t, quota),
+        Ok(None) => tell(engine, t, code(NO_QUOTA)),
+    }
+}
+
+/// Where a capability begins.
+#[tactic(auto, unfolding(def_words::specs::Authority::cap_bounds))]
+fn base_of(c: Live) -> u32
+    ensures { result ≡ cap_base c }
+{
+    c.bounds.base as u32
+}
+
+/// The live object of a quota that a capability is the whole of, tagged and unsealed, is freed.
+fn give_back<M: Memory + Drop>(
+    engine: &mut Engine<M>,
+    t: u32,
+    quota: u32,
+    c: Live,
+) -> Result<Object, NotWhole>
+    requires runs { engine.old.threads.running ≡ Some t }
+    requires quota { quota < length engine.old.limits }
+    ensures is { engine.new ≡ freed_by engine.old t (whole_of engine.old.objects quota c) }
+    ensures told { MatchResult result
+        (λ o. WasNamed engine.old engine.new quota c o)
+        (λ why. whole_of engine.old.objects quota c ≡ None) }
+{
+    if !c.cap.tag || c.seal != 0 {
+        return Err(NotWhole);
+    }
+    engine.free(t, quota, base_of(c), c.bounds.top)
+}
+
+/// The object that c11 names is freed.
+fn take_back<M: Memory + Drop>(engine: &mut Engine<M>, t: u32, quota: u32) -> Ran
+    requires runs { engine.old.threads.running ≡ Some t }
+    requires quota { quota < length engine.old.limits }
+    requires named { quota ≡ quota_in engine.old t }
+    ensures { (engine.new, result) ≡ freed_as engine.old t (object_in engine.old t) }
+{
+    let c = engine.register(t, 11);
+    match give_back(engine, t, quota, c) {
+        Ok(object) => {
+            answer(engine, t, Live::integer(0));
+            Ran::Went {
+                act: Some(Act::Free {
+                    number: object.number,
+                    base: object.base,
+                    length: object.length,
+                    live: object.live,
+                }),
+                entry: quota,
+            }
+        }
+        Err(NotWhole) => tell(engine, t, code(NO_OBJECT)),
+    }
+}
+
+/// Free: the live object that c11, tagged and unsealed, is the whole capability of, and that is charged to the quota
+/// that c10 names. The running thread's registers pass the load filter, and it goes on with 0.
+///
+/// It goes on with -1 exactly where c10 is no quota; else with -6 where there is no such object. The trap is the check
+/// of c1 that fails; then nothing changes.
+pub fn free<M: Memory + Drop>(engine: &mut Engine<M>, t: u32) -> Ran
+    requires runs { engine.old.threads.running ≡ Some t }
+    requires quota { NamesQuota engine.old t }
+    ensures { (engine.new, result)
+        ≡ by_quota engine.old t (freed_as engine.old t (object_in engine.old t)) }
+{
+    match quota_named(engine, t) {
+        Err(trap) => Ran::Trapped { trap },
+        Ok(Some(quota)) => take_back(engine, t, quota),
+        Ok(None) => tell(engine, t, code(NO_QUOTA)),
+    }
+}
+
+/// Remaining: the running thread goes on with what the quota that c10 names may still take, in bytes, or with -1
+/// exactly where c10 is no quota. The trap is the check of c1 that fails; then nothing changes.
+pub fn remaining<M: Memory + Drop>(engine: &mut Engine<M>, t: u32) -> Ran
+    requires runs { engine.old.threads.running ≡ Some t }
+    requires quota { NamesQuota engine.old t }
+    ensures { (engine.new, result)
+        ≡ by_quota engine.old t (tells engine.old t (integer (left_in engine.old t))) }
+{
+    match quota_named(engine, t) {
+        Err(trap) => Ran::Trapped { trap },
+        Ok(Some(quota)) => {
+            let left = engine.remaining(quota);
+            tell(engine, t, Live::integer(left))
+        }
+        Ok(None) => tell(engine, t, code(NO_QUOTA)),
+    }
+}

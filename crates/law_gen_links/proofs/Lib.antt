@@ -1,0 +1,5 @@
+pub mod Read
+pub mod Built
+pub mod Room
+pub mod Linking
+pub mod Short

@@ -1,0 +1,5 @@
+pub mod Shown
+pub mod Slices
+pub mod Objects
+pub mod Effects
+pub mod Areas

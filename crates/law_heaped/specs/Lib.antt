@@ -1,0 +1,3 @@
+pub mod Heaped
+pub mod Slices
+pub mod Objects

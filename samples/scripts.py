@@ -1,0 +1,108 @@
+#!/usr/bin/env python3
+"""Worked rows of scripts: bytes that come to devices before steps, and texts that are no script.
+
+    scripts.py OUT     writes the cases that cases.py tells of
+
+A load of a port's first register takes the first byte that waits there, 0 where none does, and one of its second tells
+how many wait. A byte comes before its step: a load in that step finds it, and one in the step before doesn't.
+"""
+import json
+
+from cases import case, compartment, ended, image, lines, modelled, report, sample, source, stored_file, thread
+
+TINY = sample("tiny")
+UART = {"name": "uart0", "kind": "uart", "base": 0x10000000}
+TIMER = {"name": "clock", "kind": "timer", "base": 0x10000010}
+PINS = {"name": "pins", "kind": "gpio", "base": 0x10000020}
+
+
+def firmware(name, text, devices, **members):
+    """One compartment with every device, whose code is these lines after the slots of the devices."""
+    row = compartment("app", [{"as": d["name"], "device": d["name"], "rights": "RW"} for d in devices], ["main"], *text)
+    row["code"] = source(f"code_{name}.s", row["code"]["lines"])
+    return dict({"firmware": name, "ram": {"base": 0x80000000, "size": 4096}, "devices": devices, "compartments": [row],
+                 "threads": [thread("app.main")]}, **members)
+
+
+# Entry 1 is the compartment's code, 2 its globals and 3 the switcher's slot; the devices' slots follow.
+def loaded(step, address, value, entry=4):
+    return f"{step} load t0 c0 e{entry} {address:08x} 4 {value:08x}"
+
+
+def run(name, text, devices, limit, script, *wanted, **members):
+    """A run by a script, of the description and of its image."""
+    whole = firmware(name, text, devices, **members)
+    found = modelled(image(whole), limit, script)
+    assert found == list(wanted), "\n".join([name, "found:", *found, "wanted:", *wanted])
+    file = stored_file(name + ".script", script)
+    case(name, ["run", "{}", str(limit), file], json.dumps(whole), lines(report(whole), *wanted))
+    case(name + "_image", ["runimage", "{}", str(limit), file], image(whole), lines(report(whole), *wanted))
+
+
+# ---- bytes and their steps
+
+# Two steps for the slot, and then loads from step 3 on.
+PORT = "main: cimport ct0, uart0"
+
+
+def loads(count):
+    return [PORT, *["clw a0, 0(ct0)"] * count, "cret"]
+
+
+run("input", loads(1), [UART], 100, "2 uart0 65\n", loaded(3, 0x10000000, 65), ended("finished", 5, devices=1))
+run("input_in_the_step", loads(1), [UART], 100, "3 uart0 65\n", loaded(3, 0x10000000, 65),
+    ended("finished", 5, devices=1))
+run("input_too_late", loads(1), [UART], 100, "4 uart0 65\n", loaded(3, 0x10000000, 0),
+    ended("finished", 5, devices=1))
+run("input_past_the_end", loads(1), [UART], 100, "6 uart0 65\n4000000000 uart0 1\n", loaded(3, 0x10000000, 0),
+    ended("finished", 5, devices=1))
+run("input_past_the_limit", loads(2), [UART], 3, "4 uart0 65\n", loaded(3, 0x10000000, 0),
+    ended("limit", 3, devices=1))
+run("no_input", loads(1), [UART], 100, "", loaded(3, 0x10000000, 0), ended("finished", 5, devices=1))
+run("inputs_in_order", loads(4), [UART], 100, "1 uart0 7\n1 uart0 0\n1 uart0 255\n5 uart0 9\n",
+    *[loaded(3 + n, 0x10000000, byte) for n, byte in enumerate((7, 0, 255, 9))], ended("finished", 8, devices=4))
+# A port keeps 64 bytes: of 65 the first is gone, and after one load 63 wait.
+run("port_is_full", [PORT, "clw a0, 4(ct0)", "clw a0, 0(ct0)", "clw a0, 4(ct0)", "cret"], [UART], 100,
+    "".join(f"2 uart0 {n}\n" for n in range(1, 66)), loaded(3, 0x10000004, 64), loaded(4, 0x10000000, 2),
+    loaded(5, 0x10000004, 63), ended("finished", 7, devices=3))
+# A gpio shows its last byte.
+run("two_devices", ["main: cimport ct0, uart0", "cimport ct1, pins", "clw a0, 0(ct0)", "clw a0, 4(ct1)",
+                    "clw a0, 4(ct1)", "cret"], [UART, PINS], 100, "1 pins 3\n1 uart0 5\n6 pins 1\n7 pins 2\n",
+    loaded(5, 0x10000000, 5), loaded(6, 0x10000024, 1, 5), loaded(7, 0x10000024, 2, 5),
+    ended("finished", 9, devices=3))
+# With a tick before every step from the second on bytes still come once.
+run("with_ticks", loads(2), [UART], 100, "2 uart0 1\n3 uart0 2\n", loaded(3, 0x10000000, 1), loaded(4, 0x10000000, 2),
+    ended("finished", 6, ticks=5, devices=2), quantum=1)
+
+
+# ---- texts that are no script
+
+def refused(name, text, wanted, words=("run", "{}", "100"), data=None):
+    file = stored_file(name + ".script", text)
+    whole = firmware(name, loads(1), [UART, TIMER, PINS])
+    case(name, [*words, file], json.dumps(whole) if data is None else data, f"refused {wanted}\n")
+
+
+for name, text, wanted in (
+        ("no_form", "uart0 2 65\n", "S1 1"), ("empty_line", "2 uart0 65\n\n", "S1 2"),
+        ("no_line_feed", "2 uart0 65\n3 uart0 66", "S1 2"), ("two_spaces", "2  uart0 65\n", "S1 1"),
+        ("space_at_the_end", "2 uart0 65 \n", "S1 1"), ("tab", "2\tuart0 65\n", "S1 1"),
+        ("carriage_return", "2 uart0 65\r\n", "S1 1"), ("leading_zero", "02 uart0 65\n", "S1 1"),
+        ("step_0", "0 uart0 65\n", "S1 1"), ("step_too_great", "4000000001 uart0 65\n", "S1 1"),
+        ("byte_256", "2 uart0 256\n", "S1 1"), ("no_byte", "2 uart0\n", "S1 1"),
+        ("steps_fall", "5 uart0 1\n4 uart0 1\n", "S2 2"), ("timer_named", "2 clock 65\n", "S3 1"),
+        ("nobody_named", "2 uart1 65\n", "S3 1"), ("falls_and_nobody", "5 uart0 1\n4 uart1 1\n", "S2 2"),
+        ("no_form_and_falls", "5 uart0 1\n4 uart0 256\n", "S1 2"), ("least_line", "2 uart1 1\n1\n", "S3 1"),
+        ("greatest_step", "4000000000 pins 255\n5 pins 1\n", "S2 2")):
+    refused("script_" + name, text, "8 script " + wanted)
+
+# Of an image too; and what is wrong with the files before it comes first.
+whole = firmware("of_image", loads(1), [UART])
+case("script_of_image", ["runimage", "{}", "100", stored_file("of_image.script", "2 clock 65\n")], image(whole),
+     "refused 8 script S3 1\n")
+case("script_missing", ["run", "{}", "100", "nosuch.script"], json.dumps(whole), "refused 2 read nosuch.script\n")
+case("script_of_nothing", ["run", "{}", "100", "nosuch.script"], "{", "refused 4 description F1 firmware 0 0\n")
+case("script_of_cut_image", ["runimage", "{}", "100", "nosuch.script"], image(whole)[:-1],
+     f"refused 7 image I2 {len(image(whole)) - 1}\n")
+case("script_and_no_limit", ["run", "{}", "0", "nosuch.script"], json.dumps(whole), "refused 1 usage\n")
+case("script_and_more", ["run", "{}", "1", "a.script", "b"], json.dumps(whole), "refused 1 usage\n")
