@@ -5,7 +5,7 @@
 
 writes COUNT cases and runs them through the program by `rt try --cases`, which proves nothing; the kit says of each
 case whether it wrote what the plain machine writes. Two compartments that call one another, a library, a shared word,
-three devices and up to five threads; code is random statements, most of which go on.
+three devices, up to five threads, quotas, and sweeps of several rates; code is random statements, most of which go on.
 """
 import os
 import random
@@ -32,6 +32,7 @@ LOOKS = ["cgetperm", "cgettype", "cgetbase", "cgetlen", "cgettag", "crrl", "cram
 MAKES = ["csetbounds", "csetboundsexact", "cseal", "cunseal", "candperm", "csetaddr", "cincaddr", "csub", "csethigh",
          "ctestsubset", "csetequalexact"]
 SERVICES = ["yield", "sleep", "wait", "wake"]
+HEAP = ["allocate", "free", "remaining"]
 DEVICES = [("uart0", "uart"), ("pins", "gpio"), ("clock", "timer")]
 
 
@@ -68,6 +69,21 @@ class Code:
         value = [f"li a1, {rng.choice([0, 0, 0, 1, 2, -1])}"] if rng.random() < 0.8 else []
         return (word if name != "sleep" else [f"li a0, {rng.randrange(4)}"]) + value + [
             f"cimport ct2, {name}", rng.choice(["cjalr cra, ct2"] * 5 + ["cjr ct2", "cjalr ct0, ct2"])]
+
+    def by_quota(self, name, argument, *after):
+        return ["cimport ca0, q", argument, f"cimport ct2, {name}", "cjalr cra, ct2", *after]
+
+    def allocated(self):
+        """An object is allocated, kept in a place, perhaps used, and perhaps freed."""
+        rng, register = self.rng, f"c{self.register()}"
+        place = rng.choice(["0(cgp)", "32(cgp)", "40(cgp)", "-8(csp)"])
+        size = rng.choice([1, 8, 16, 24, 100, 600, 1000, 5000, self.number()])
+        out = self.by_quota("allocate", f"li a1, {size}", f"csc ca0, {place}")
+        out += rng.choice([[], self.accessed(), self.made(), self.called(), [f"cmove {register}, ca0"],
+                           ["csc ca0, 0(ca0)"]])
+        if rng.random() < 0.7:
+            out += self.by_quota("free", f"clc ca1, {place}")
+        return out + rng.choice([[], self.shown(), self.by_quota("remaining", "nop"), [f"clc {register}, {place}"]])
 
     def accessed(self):
         rng = self.rng
@@ -107,9 +123,9 @@ class Code:
 
     def statement(self):
         rng = self.rng
-        kind = rng.choices([self.shown, self.called, self.served, self.accessed, self.made, self.counted, self.turned,
-                            lambda: [f"cimport c{self.register()}, {rng.choice(self.slots)}"]],
-                           [3, 2, 3, 3, 4, 2, 1, 2])[0]
+        kind = rng.choices([self.shown, self.called, self.served, self.allocated, self.accessed, self.made, self.counted,
+                            self.turned, lambda: [f"cimport c{self.register()}, {rng.choice(self.slots)}"]],
+                           [3, 2, 1, 2, 3, 4, 2, 1, 2])[0]
         return [part for line in kind() for part in line.split("\n")]
 
 
@@ -143,7 +159,7 @@ def firmware(rng, name):
         gates = [f"{which}.{export}" for which, export in
                  [(other, rng.choice(owners[1 - n][2])), (other, owners[1 - n][2][0]), (own, names[0])]]
         imports = [{"as": f"g{k}", "call": gate} for k, gate in enumerate(gates)]
-        imports += [{"as": service, "service": service} for service in SERVICES]
+        imports += [{"as": service, "service": service} for service in SERVICES + HEAP]
         rights = {"uart0": ["W"], "pins": ["R", "W", "RW"], "clock": ["R", "W", "RW"]}
         imports += [{"as": device, "device": device, "rights": rng.choice(rights[device])} for device, _ in DEVICES]
         imports += [{"as": "box", "shared": "box", "rights": rng.choice(["R", "RW", "RWC", "RC", "W"])},
@@ -151,17 +167,17 @@ def firmware(rng, name):
         slots = ["switch", "q", "key13"] + [row["as"] for row in imports]
         code = text_of(rng, slots, [row["as"] for row in imports[:3]], names) + [".data"] + [
             f".word {rng.randrange(2 ** 32)}" for _ in range(rng.randrange(5))]
-        out.append(compartment(own, imports, exports_of(rng, names), *code, globals=rng.choice([0, 16, 40, 64]),
-                               quotas=[{"name": "q", "limit": 64}], keys=[13]))
+        out.append(compartment(own, imports, exports_of(rng, names), *code, globals=64, keys=[13],
+                               quotas=[{"name": "q", "limit": rng.choice([500, 3000, 100000])}]))
     threads = [{"name": f"t{n}", "entry": f"{own}.{rng.choice(names)}", "priority": rng.randrange(3),
                 "stack": rng.choice([256, 256, 512, 1008]), "frames": rng.randrange(1, 6)}
                for n, (own, _, names) in enumerate(rng.choice(owners) for _ in range(rng.randrange(1, 6)))]
     guard = {"name": "guard", "code": {"lines": ["crit: jal ct0, 4", rng.choice(["nop", "addi a0, a0, 1"]), "cret"]},
              "exports": [{"name": "crit", "at": "crit", "posture": rng.choice(["inherit", "enabled", "disabled"])}]}
-    whole = {"firmware": name, "ram": {"base": 0x80000000, "size": 32768}, "quantum": rng.choice([1, 3, 7, 20, 100]),
-             "devices": devices, "shared": [{"name": "box", "size": 16}],
-             "sealed": [{"name": "secret", "type": 13, "bytes": "00"}], "compartments": out, "libraries": [guard],
-             "threads": threads}
+    whole = {"firmware": name, "version": 2, "ram": {"base": 0x80000000, "size": 32768},
+             "quantum": rng.choice([1, 3, 7, 20, 100]), "sweep": rng.choice([1, 7, 64, 500, 4096]), "devices": devices,
+             "shared": [{"name": "box", "size": 16}], "sealed": [{"name": "secret", "type": 13, "bytes": "00"}],
+             "compartments": out, "libraries": [guard], "threads": threads}
     for owner in out + [guard]:
         owner["code"] = source(f"{name}_{owner['name']}.s", owner["code"]["lines"])
     return whole

@@ -14,7 +14,7 @@ import tempfile
 
 HERE = os.path.dirname(os.path.abspath(__file__))
 LOOPS = os.path.join(HERE, "loops")
-NAMES = ["integer", "memory", "capability", "call", "heap", "threads"]
+NAMES = ["integer", "memory", "capability", "call", "heap", "threads", "whole"]
 CHECKED = 20000
 
 
@@ -101,8 +101,8 @@ def counted(name, steps, program, plain, image):
 def modelled(name, steps, plain):
     """The lines of the plain machine, and those of the interpreter on the same image."""
     sys.path.insert(0, os.path.join(HERE, "..", "samples"))
+    from model.heap import HeapMachine
     from model.linker import images, link
-    from heap_machine import HeapMachine
     with open(os.path.join(LOOPS, name + ".json")) as file:
         firmware = json.load(file)
     sources = {}

@@ -1,13 +1,13 @@
 #!/bin/bash
-# How many steps a second the program makes, beside a plain interpreter in Rust (bench/interpreter), on the six loops of
-# bench/loops: integer, memory, capability, call, heap, threads. The table has millions of steps a second of processor
-# time, the best of three runs without what a run of one step takes, and how many times the interpreter is faster. First
-# both must write the same lines of the first 20,000 steps.
+# How many steps a second the program makes, beside a plain interpreter in Rust (bench/interpreter), on the seven loops
+# of bench/loops: integer, memory, capability, call, heap, threads, whole. The table has millions of steps a second of
+# processor time, the best of three runs without what a run of one step takes, and how many times the interpreter is
+# faster. First both must write the same lines of the first 20,000 steps.
 #
 #     loops.sh [STEPS]           steps of each run, 20 million by default
 #     loops.sh --count [STEPS]   instructions a step by valgrind, of the program by function; 200,000 steps by default
-#     loops.sh --model [STEPS]   compares the lines of the interpreter alone, with those of the machine of samples/model
-#                                and the heap; 20,000 steps by default
+#     loops.sh --model [STEPS]   compares the lines of the interpreter alone, with those of the machine of samples/model;
+#                                20,000 steps by default
 #
 # The program is crates/ct_main/out/ct_main, or CAPFW. Build it first: bin/build. The interpreter is built by cargo;
 # where that isn't there, the program alone is measured.

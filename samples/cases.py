@@ -2,7 +2,7 @@
 
 A table is run as TABLE.py OUT: it writes OUT/NAME, OUT/NAME.args and OUT/NAME.stdout for each row, and prints
 SOURCE=FILE for each source. What a row must write was worked out by hand. Images and reports are made by
-model/linker.py and the reference beside run_reports; the plain machine of model/machine.py must write of each run what
+model/linker.py and the reference beside run_reports; the plain machine of model/heap.py must write of each run what
 its row says, so what the program's output is compared with was found twice. samples/try.sh runs the cases.
 """
 import json
@@ -10,8 +10,8 @@ import os
 import sys
 
 sys.dont_write_bytecode = True
+from model.heap import HeapMachine  # noqa: E402
 from model.linker import images, link, reports  # noqa: E402
-from model.machine import Machine  # noqa: E402
 
 HERE = os.path.dirname(os.path.abspath(__file__))
 OUT = sys.argv[1]
@@ -72,18 +72,14 @@ def modelled(data, limit, script=""):
     read = images.read(data)
     names = [field.rstrip(b"\0").decode() for _, field, _, _ in read.devices]
     rows = [row.split(" ") for row in script.splitlines()]
-    return Machine(read).run(limit, read.quantum, [(int(step), names.index(name), int(byte)) for step, name, byte in rows])
-
-
-def run_alone(name, firmware, limit, *wanted):
-    """A run that the plain machine can't do: it has no heap."""
-    case(name, ["run", "{}", str(limit)], json.dumps(firmware), lines(report(firmware), *wanted))
+    inputs = [(int(step), names.index(name), int(byte)) for step, name, byte in rows]
+    return HeapMachine(read).run(limit, read.quantum, inputs)
 
 
 def run(name, firmware, limit, *wanted):
     found = modelled(image(firmware), limit)
     assert found == list(wanted), "\n".join([name, "found:", *found, "wanted:", *wanted])
-    run_alone(name, firmware, limit, *wanted)
+    case(name, ["run", "{}", str(limit)], json.dumps(firmware), lines(report(firmware), *wanted))
 
 
 # The samples' runs, which samples/try.sh compares with the program's.
@@ -97,6 +93,8 @@ for name in sorted(os.listdir(HERE)):
 
 UART = {"as": "uart", "device": "uart0", "rights": "W"}
 DEVICES = [{"name": "uart0", "kind": "uart", "base": 0x10000000}]
+QUOTA = {"quotas": [{"name": "q", "limit": 64}]}
+SMALL = {"base": 0x80000000, "size": 4096}
 
 
 def gate(export):
@@ -118,6 +116,16 @@ def calls(name):
     return [f"cimport ct1, {name}", *served("switch")]
 
 
+def allocates(size):
+    """The lines that allocate an object: seven steps, or eight where the size is above 2,047."""
+    return ["cimport ca0, q", f"li a1, {size}", *served("allocate")]
+
+
+def frees():
+    """The lines that free what is in ca1: six steps."""
+    return ["cimport ca0, q", *served("free")]
+
+
 def export(name, **members):
     return dict({"name": name, "at": name}, **members)
 
@@ -133,14 +141,14 @@ def thread(entry, name="t", priority=1, stack=256, frames=2):
     return {"name": name, "entry": entry, "priority": priority, "stack": stack, "frames": frames}
 
 
-def row(name, compartments, threads, limit, *wanted, runs=run, **members):
+def row(name, compartments, threads, limit, *wanted, **members):
     """A run of a firmware of this name, with a serial port, whose code stands in lines."""
     whole = dict({"firmware": name, "ram": {"base": 0x80000000, "size": 16384}, "devices": DEVICES,
                   "compartments": compartments, "threads": threads}, **members)
     for owner in compartments + whole.get("libraries", []):
         if "lines" in owner["code"]:
             owner["code"] = source(f"{name}_{owner['name']}.s", owner["code"]["lines"])
-    runs(name, whole, limit, *wanted)
+    run(name, whole, limit, *wanted)
 
 
 # ---- lines of a run

@@ -36,6 +36,33 @@ run("divided_by_zero", tiny(SLOT + ["00700513", "020555b3", "00b2a023", "0000806
     "5 store t0 c0 e4 10000000 4 ffffffff", ended("finished", 7, devices=1))
 run("register_16", tiny(["00000813"]), 100, "1 trap t0 c0 2 0 0", ended("finished", 1, traps=1))
 run("endless", tiny(["0000006f"]), 5, ended("limit", 5))
+
+# Jumps: the globals and the stack aren't code, and a number is no capability; the thread's return sentry is taken
+# through c1 alone, without a link and an immediate; the switch's forward sentry takes no immediate, and leads to the
+# switch, which finds no tag in c6; a target is a multiple of 4 when its lowest bit is cleared.
+SWITCH = ["00000297", "ff02b283"]  # auipcc c5, 0; clc c5, -16(c5)
+for name, words, step, told in (
+        ("globals", ["00018067"], 1, "28 17 3"), ("stack", ["000100e7"], 1, "28 17 2"),
+        ("number", ["00020067"], 1, "28 2 4"), ("return_with_a_link", ["000080e7"], 1, "28 3 1"),
+        ("return_with_an_immediate", ["00408067"], 1, "28 3 1"),
+        ("return_by_another_register", ["fea082db", "00028067"], 2, "28 3 5"),
+        ("forward_with_an_immediate", SWITCH + ["004280e7"], 3, "28 3 5"),
+        ("forward_with_a_link", SWITCH + ["000280e7"], 4, "28 2 6"),
+        ("forward_without_a_link", SWITCH + ["00028067"], 4, "28 2 6"),
+        ("forward_with_another_link", SWITCH + ["000283e7"], 4, "28 2 6"),
+        ("misaligned", ["00000297", "00628067"], 2, "0 0 0")):
+    run("jump_" + name, tiny(words), 100, f"{step} trap t0 c0 {told}", ended("finished", step, traps=1))
+# auipcc c5, 0; cjalr c0, 13(c5); a word that is no instruction; cjalr c0, 0(c1)
+run("jump_odd", tiny(["00000297", "00d28067", "00000813", "00008067"]), 100, ended("finished", 4))
+# csc c1, 0(c3); jal c1, 8; clc c1, 0(c3); cjalr c0, 0(c1): the last returns to the third, and then ends.
+run("jump_kept_return", tiny(["0011b023", "008000ef", "0001b083", "00008067"]), 100, ended("finished", 6))
+# cmove c8, c1; auipcc c5, 0; cjalr c7, 12(c5); cmove c7, c8; cmove c1, c7; cjalr c0, 0(c1): the third passes over the
+# fourth, to which the sixth returns, and then it ends.
+run("jump_link_elsewhere", tiny(["fea0845b", "00000297", "00c283e7", "fea403db", "fea380db", "00008067"]), 100,
+    ended("finished", 9))
+# The link of jal c6, 8 has type 5, which is shown, and no other jump takes it.
+run("jump_type_of_a_link", tiny(SLOT + ["0080036f", "00000813", "fe13055b", "00a2a023", "00030067"]), 100,
+    "5 store t0 c0 e4 10000000 4 00000005", "6 trap t0 c0 28 3 6", ended("finished", 6, devices=1, traps=1))
 run("load_without_the_right", tiny(SLOT + ["0002a503"]), 100, "3 trap t0 c0 28 18 5", ended("finished", 3, traps=1))
 run("pins", tiny(SLOT + ["04100513", "00a2a023", "0002a583", "00008067"], "gpio", "RW"), 100, STORE,
     "5 load t0 c0 e4 10000000 4 00000041", ended("finished", 7, devices=2))

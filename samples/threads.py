@@ -1,5 +1,5 @@
 #!/usr/bin/env python3
-"""Worked rows of threads: turns, ticks, and the scheduler's services yield, sleep, wait and wake.
+"""Worked rows of threads: turns, ticks, the scheduler's services yield, sleep, wait and wake, and the links of all.
 
     threads.py OUT     writes the cases that cases.py tells of
 
@@ -196,7 +196,7 @@ def refused(name, routine, wanted, *text):
         shared=[{"name": "box", "size": 16}])
 
 
-for routine in ("yield", "sleep", "wait", "wake"):
+for routine in ("yield", "sleep", "wait", "wake", "allocate", "free", "remaining"):
     jump = [f"cimport ct2, {routine}", "cjr ct2"]
     refused("without_a_link", routine, (5, 28, 2, 1), "ccleartag cra, cra", *jump)
     refused("by_globals", routine, (5, 28, 3, 1), "cmove cra, cgp", *jump)

@@ -3,8 +3,8 @@
 # the sample: report.json (audit), run.txt after it (run, at most 200 steps), and each line of why.txt
 # (an owner, a compartment, and what why writes of them). The kit builds the program once for all of
 # them, in about a minute. The worked rows are run with them: rows.py (commands, sources, images),
-# calls.py (calls between compartments), threads.py (turns and services), heap.py (the heap), scripts.py (bytes
-# that come to devices).
+# calls.py (calls between compartments), threads.py (turns and services), heap.py (the heap), freed.py (what was
+# freed, and sweeps), scripts.py (bytes that come to devices).
 here=$(cd "$(dirname "$0")" && pwd) || exit 1
 cases=$(mktemp -d) || exit 1
 trap 'rm -rf "$cases" "$cases"-*' EXIT
@@ -29,7 +29,7 @@ for report in "$here"/*/report.json; do
         [ ! -f "$source" ] || sources+=(--data "${source##*/}=$source")
     done
 done
-for table in rows calls threads heap scripts; do
+for table in rows calls threads heap freed scripts; do
     rows=$(python3 "$here/$table.py" "$cases") || exit 1
     while IFS= read -r row; do
         sources+=(--data "$row")

@@ -1,6 +1,6 @@
 """A plain, slow machine: it runs images by the rules of docs/use/machine.md, and knows nothing of the program.
 
-It has no heap: native routines from 6 on trap as a word that is no instruction does.
+The heap is in heap.py: here native routines from 6 on trap as a word that is no instruction does.
 """
 from model.words import (CODE, EX, EXECUTABLE_ROOT, GL, GLOBALS, LD, LG, LM, M32, MC, MEMORY_ROOT, SD, SE, SEALING_ROOT,
                          SL, STACK, US, Cap, derive, integer, normal, round_length, unpack)
@@ -101,7 +101,7 @@ class Machine:
             dev = Row()
             dev.base, dev.kind, dev.queue, dev.out, dev.pins = d[3], d[2], [], 0, 0
             self.devices.append(dev)
-        self.count = dict(steps=0, ticks=0, calls=0, devices=0, traps=0)
+        self.count = dict(steps=0, ticks=0, calls=0, devices=0, allocations=0, frees=0, traps=0)
 
     def slot(self, image, owners, p, n, row):
         entry, kind, packed = p.slot_entries[n], row[0], row[1]
@@ -668,6 +668,9 @@ class Machine:
 
     # -- a run
 
+    def sweep(self):
+        """A slice of the revoker: nothing without a heap."""
+
     def ended(self):
         states = [th.status for th in self.threads]
         if all(s == "ended" for s in states):
@@ -689,7 +692,6 @@ class Machine:
                     self.input(device, byte)
             if k > 1 and (k - 1) % quantum == 0:
                 self.tick()
+            self.sweep()
             out += [f"{k} {line}" for line in self.step()]
-        c = self.count
-        return out + [f"end {end} steps {k} ticks {c['ticks']} calls {c['calls']} devices {c['devices']} "
-                      f"allocations 0 frees 0 traps {c['traps']}"]
+        return out + [" ".join(["end", end, *(f"{what} {n}" for what, n in self.count.items())])]

@@ -120,9 +120,9 @@ fn run(alloc: Global, kind: &str, task: &str, count: u32) -> Result<u64, NoMemor
     if task == "make" {
         let size = count - count % 16;
         let next = if kind == "plain" {
-            written(Plain::new(alloc, size)?).next_tagged(0)
+            written(Plain::new(alloc, size)?).next_tagged(0, size)
         } else {
-            written(Planes::new(alloc, size)?).next_tagged(0)
+            written(Planes::new(alloc, size)?).next_tagged(0, size)
         };
         return Ok(next.unwrap_or(0) as u64);
     }

@@ -4,8 +4,6 @@
 
 mod products;
 mod signed;
-#[cfg(test)]
-mod tests;
 
 ghost use Rattle.std.specs.Prelude.{◌≡◌, IsTrue};
 ghost use Rattle.def_instr.specs.Results.{integer_result};

@@ -12,8 +12,6 @@ mod names;
 mod object;
 mod places;
 mod tables;
-#[cfg(test)]
-mod tests;
 mod ways;
 
 ghost use Rattle.std.specs.Prelude.{◌≡◌, None, IfOk, IfErr};

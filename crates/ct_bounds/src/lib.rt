@@ -11,6 +11,3 @@ mod rounding;
 pub use decoding::decode;
 pub use def_words::{Bounds, Rounded};
 pub use rounding::{align_mask, least, round_length};
-
-#[cfg(test)]
-mod tests;

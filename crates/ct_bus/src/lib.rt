@@ -9,6 +9,3 @@ mod bus;
 mod unit;
 
 pub use bus::Bus;
-
-#[cfg(test)]
-mod tests;

@@ -24,6 +24,3 @@ pub use passing::{attenuate, derive, link, open};
 pub use pointing::{add_address, set_address};
 pub use rights::{and_perms, clear_tag};
 pub use seals::{seal, unseal};
-
-#[cfg(test)]
-mod tests;

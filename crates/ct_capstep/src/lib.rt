@@ -5,8 +5,6 @@
 #![tactic(auto)]
 
 mod numbers;
-#[cfg(test)]
-mod tests;
 
 ghost use Rattle.std.specs.Prelude.{IsTrue, MatchResult, false, true, ◌||◌, ◌≡◌};
 ghost use Rattle.def_profile.specs.declared.traps.TheConstants.{PCC_REGISTER, SYSTEM_REGISTER_CODE};

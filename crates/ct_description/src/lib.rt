@@ -15,8 +15,6 @@ mod naming;
 mod references;
 mod rules;
 mod spaces;
-#[cfg(test)]
-mod tests;
 
 ghost use Rattle.std.specs.Prelude.{◌≡◌, Some, MatchResult};
 ghost use Rattle.def_description.specs.WellFormed as spec;

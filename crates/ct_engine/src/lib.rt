@@ -25,6 +25,3 @@ pub use engine::Engine;
 pub use rows::{Region, region_hidden};
 pub use starting::Fresh;
 pub use written::{calls_written, ends_written, sweeps_written};
-
-#[cfg(test)]
-mod tests;

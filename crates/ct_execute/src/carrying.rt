@@ -6,7 +6,7 @@ ghost use Rattle.def_instr.specs.Table.{InRange};
 ghost use Rattle.def_words.specs.Capability.{raised};
 ghost use Rattle.def_step.specs.declared.Class.TheVariants as kinds;
 ghost use Rattle.def_step.specs.Devices.{Bank};
-ghost use Rattle.def_step.specs.Operands.{class_of};
+ghost use Rattle.def_step.specs.Operands.{class_of, operands_of};
 ghost use Rattle.ct_engine.specs.Seen.{thread, went};
 ghost use Rattle.ct_heaped.specs.Seen.{with_threads};
 ghost use Rattle.ct_engine.specs.Steps.{space_in, IsHeapPlaced};
@@ -23,10 +23,11 @@ use ct_entry::Entries;
 use ct_exports::called;
 use ct_flow::flow;
 use ct_heaped::Engine;
+use ct_isa::shape;
 use ct_mem::Memory;
 use def_instr::Instr;
 use def_profile::traps::{BREAKPOINT, ENVIRONMENT_CALL, PCC_REGISTER, SYSTEM_REGISTER_CODE};
-use def_step::Class;
+use def_step::{Class, Operands};
 
 /// Execution goes on after the instruction, and a register gets a value.
 fn advance<M: Memory + Drop>(engine: &mut Engine<M>, t: u32, to: u32, value: Live)
@@ -45,12 +46,17 @@ fn advance<M: Memory + Drop>(engine: &mut Engine<M>, t: u32, to: u32, value: Liv
 /// A branch or a jump. A sentry that holds interrupts off does so by the export that its root names.
 fn carry_jump<M: Memory + Drop>(
     instruction: Instr,
+    operands: Operands,
     entries: &Entries,
     engine: &mut Engine<M>,
     t: u32,
 ) -> Ran
     requires runs { engine.old.threads.running ≡ Some t }
     requires ranged { InRange instruction }
+    requires operands { operands ≡ operands_of instruction }
+    requires to { operands.to < 16 }
+    requires first { operands.first < 16 }
+    requires second { operands.second < 16 }
     requires class { class_of instruction ≡ kinds.Jump }
     requires jump { is_jump instruction ≡ true }
     ensures is { (k : Bank) (time : ℕ) → Decided
@@ -60,7 +66,6 @@ fn carry_jump<M: Memory + Drop>(
     ensures kept { engine.new ≡ with_threads engine.old engine.new.threads }
     ensures stays { Stays engine.old.threads engine.new.threads }
 {
-    let operands = operands_of(instruction);
     let x = engine.register(t, operands.first);
     let y = engine.register(t, operands.second);
     let named = called(entries, x.cap.shadow.root);
@@ -83,6 +88,7 @@ fn carry_jump<M: Memory + Drop>(
 /// A load or a store.
 fn carry_access<M: Memory + Drop>(
     instruction: Instr,
+    operands: Operands,
     engine: &mut Engine<M>,
     t: u32,
     bus: &mut Bus,
@@ -94,6 +100,10 @@ fn carry_access<M: Memory + Drop>(
     requires heap { IsHeapPlaced engine.old.threads.region.ram heap
         (length engine.old.threads.granules) }
     requires ranged { InRange instruction }
+    requires operands { operands ≡ operands_of instruction }
+    requires to { operands.to < 16 }
+    requires first { operands.first < 16 }
+    requires second { operands.second < 16 }
     requires class { class_of instruction ≡ kinds.Access }
     requires access { is_access instruction ≡ true }
     ensures is { (named : ℕ) → Decided
@@ -104,7 +114,6 @@ fn carry_access<M: Memory + Drop>(
     ensures stays { Stays engine.old.threads engine.new.threads }
     ensures bases { bus.new.bases ≡ bus.old.bases }
 {
-    let operands = operands_of(instruction);
     let x = engine.register(t, operands.first);
     let y = engine.register(t, operands.second);
     match engine.loadstore(instruction, x, y, heap, bus, time) {
@@ -128,11 +137,16 @@ fn carry_access<M: Memory + Drop>(
 fn carry_value<M: Memory + Drop>(
     class: Class,
     instruction: Instr,
+    operands: Operands,
     engine: &mut Engine<M>,
     t: u32,
 ) -> Ran
     requires runs { engine.old.threads.running ≡ Some t }
     requires ranged { InRange instruction }
+    requires operands { operands ≡ operands_of instruction }
+    requires to { operands.to < 16 }
+    requires first { operands.first < 16 }
+    requires second { operands.second < 16 }
     requires is { class ≡ class_of instruction }
     requires jump { class ≡ kinds.Jump → ⊥ }
     requires access { class ≡ kinds.Access → ⊥ }
@@ -146,7 +160,6 @@ fn carry_value<M: Memory + Drop>(
     ensures kept { engine.new ≡ with_threads engine.old engine.new.threads }
     ensures stays { Stays engine.old.threads engine.new.threads }
 {
-    let operands = operands_of(instruction);
     let x = engine.register(t, operands.first);
     let y = engine.register(t, operands.second);
     let went = Ran::Went {
@@ -210,10 +223,12 @@ pub(crate) fn carry_out<M: Memory + Drop>(
     ensures stays { Stays engine.old.threads engine.new.threads }
     ensures bases { bus.new.bases ≡ bus.old.bases }
 {
-    let class = class_of(instruction);
+    let shape = shape(instruction);
+    let class = class_of(shape);
+    let operands = operands_of(shape);
     match class {
-        Class::Jump => carry_jump(instruction, entries, engine, t),
-        Class::Access => carry_access(instruction, engine, t, bus, heap, time),
-        _ => carry_value(class, instruction, engine, t),
+        Class::Jump => carry_jump(instruction, operands, entries, engine, t),
+        Class::Access => carry_access(instruction, operands, engine, t, bus, heap, time),
+        _ => carry_value(class, instruction, operands, engine, t),
     }
 }

@@ -1,13 +1,11 @@
 //! The registers of an instruction, and what kind of work it is.
 
 ghost use Rattle.std.specs.Prelude.{◌≡◌, ◌<◌, true, false};
-ghost use Rattle.def_instr.specs.Shapes.{is_access, is_capability, is_integer, is_jump, is_system};
+ghost use Rattle.def_instr.specs.Shapes.{is_access_shape, is_capability_shape, is_integer_shape, is_jump_shape, is_system_shape, shaped};
 ghost use Rattle.def_step.specs.declared.Class.TheVariants as kinds;
 ghost use Rattle.def_instr.specs.Table.{InRange};
-ghost use Rattle.def_step.specs.Operands.{operands, operands_of, class_of};
+ghost use Rattle.def_step.specs.Operands.{operands, shape_operands, shape_class};
 
-use ct_isa::shape;
-use def_instr::Instr;
 use def_instr::shapes::{ImmediateOperation, RegisterOperation, Shape, UpperOperation};
 use def_step::{Class, Operands};
 
@@ -24,15 +22,15 @@ fn operands(to: u32, first: u32, second: u32) -> Operands
     Operands { to, first, second }
 }
 
-/// The register that an instruction writes, and its first and second source.
-pub(crate) fn operands_of(instruction: Instr) -> Operands
-    requires { InRange instruction }
-    ensures is { result ≡ operands_of instruction }
+/// The register that an instruction of this shape writes, and its first and second source.
+pub(crate) fn operands_of(shape: Shape) -> Operands
+    requires { InRange (shaped shape) }
+    ensures is { result ≡ shape_operands shape }
     ensures to { result.to < 16 }
     ensures first { result.first < 16 }
     ensures second { result.second < 16 }
 {
-    match shape(instruction) {
+    match shape {
         Shape::Registers { rd, rs1, rs2, .. } => operands(rd, rs1, rs2),
         Shape::Upper {
             operation: UpperOperation::AuiCgp,
@@ -53,16 +51,16 @@ pub(crate) fn operands_of(instruction: Instr) -> Operands
     }
 }
 
-/// What kind of work an instruction is.
-pub(crate) fn class_of(instruction: Instr) -> Class
-    ensures is { result ≡ class_of instruction }
-    ensures integer { result ≡ kinds.Integer → is_integer instruction ≡ true }
+/// What kind of work an instruction of this shape is.
+pub(crate) fn class_of(shape: Shape) -> Class
+    ensures is { result ≡ shape_class shape }
+    ensures integer { result ≡ kinds.Integer → is_integer_shape shape ≡ true }
     ensures capability { result ≡ kinds.Capability
-        → (is_capability instruction ≡ true) × (is_system instruction ≡ false) }
-    ensures jump { result ≡ kinds.Jump → is_jump instruction ≡ true }
-    ensures access { result ≡ kinds.Access → is_access instruction ≡ true }
+        → (is_capability_shape shape ≡ true) × (is_system_shape shape ≡ false) }
+    ensures jump { result ≡ kinds.Jump → is_jump_shape shape ≡ true }
+    ensures access { result ≡ kinds.Access → is_access_shape shape ≡ true }
 {
-    match shape(instruction) {
+    match shape {
         Shape::Registers {
             operation: RegisterOperation::Integer(_),
             ..

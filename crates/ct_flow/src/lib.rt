@@ -12,6 +12,3 @@ mod registers;
 pub use deciding::flow;
 pub use outcome::Flow;
 pub use registers::posture_through;
-
-#[cfg(test)]
-mod tests;

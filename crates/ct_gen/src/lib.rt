@@ -5,8 +5,6 @@
 mod description;
 mod numbers;
 mod sources;
-#[cfg(test)]
-mod tests;
 
 ghost use Rattle.std.specs.Prelude.{◌≡◌, IfOk, map, string_bytes};
 ghost use Rattle.def_description.specs.Reading.{rows_of};

@@ -13,6 +13,3 @@ mod sharing;
 mod walk;
 
 pub use sharing::{Graph, Path};
-
-#[cfg(test)]
-mod tests;

@@ -18,6 +18,3 @@ pub use def_chunks::{Account, Range};
 pub use def_refusals::NoMemory;
 pub use heap::Heap;
 pub use rows::{Found, HeapRefusal, NotWhole, Object};
-
-#[cfg(test)]
-mod tests;

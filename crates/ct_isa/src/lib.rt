@@ -12,8 +12,6 @@ mod memory;
 mod rows;
 mod shapes;
 mod system;
-#[cfg(test)]
-mod tests;
 
 ghost use Rattle.std.specs.Prelude.{◌≡◌, ◌↔◌, ℕ, IsNone, IfSome, Some};
 ghost use Rattle.def_instr.specs.Table.{EncodesTo, InRange, word_of};

@@ -11,6 +11,3 @@ mod fresh;
 mod launching;
 
 pub use launching::launch;
-
-#[cfg(test)]
-mod tests;

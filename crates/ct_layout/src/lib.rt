@@ -8,8 +8,6 @@
 mod ends;
 mod fault;
 mod sizes;
-#[cfg(test)]
-mod tests;
 
 ghost use Rattle.std.specs.Prelude.{◌≡◌, MatchResult};
 ghost use Rattle.ct_layout.specs.Rows.{HasRoom, IsPlaceable, Refuses, places_of};

@@ -10,6 +10,3 @@ mod rows;
 mod traps;
 
 pub use licence::{licensed, off_licensed};
-
-#[cfg(test)]
-mod tests;

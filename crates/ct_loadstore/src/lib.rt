@@ -14,6 +14,3 @@ mod shapes;
 
 pub use marks::filter;
 pub use moving::{Map, Moved, loadstore};
-
-#[cfg(test)]
-mod tests;

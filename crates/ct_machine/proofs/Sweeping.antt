@@ -1,8 +1,9 @@
 -- What a slice of the revoker leaves of the engine is what the written sweep leaves, and what it asks where it ends.
-use Rattle.std.proofs.Common.{ℕ, suc, ◌+◌, ◌*◌, ◌≡◌, ◌≤◌, Bool, true, false, cond, min, nat_le, List, [], ◌∷◌, length, Option, Some, None, refl, sym, ap, ◌∙◌, subst}
+use Rattle.std.proofs.Common.{ℕ, zero, suc, ◌+◌, ◌*◌, ◌≡◌, ◌≤◌, inl, inr, Bool, true, false, cond, min, nat_eq, nat_le, get_or, if◌then◌else◌, List, [], ◌∷◌, length, Option, Some, None, refl, sym, ap, ◌∙◌, subst}
 use Rattle.ct_entry.specs.declared.acts.Happened.{Happened}
 use Rattle.ct_entry.specs.declared.acts.Owned.{Owned}
 use Rattle.def_words.specs.declared.Cap.{Cap}
+use Rattle.def_words.specs.declared.Posture.{Posture}
 use Rattle.def_memory.specs.declared.Granule.{Granule}
 use Rattle.def_sched.specs.declared.Status.TheVariants.{Ready}
 use Rattle.def_board.specs.Guarded.{Guarded}
@@ -10,13 +11,15 @@ use Rattle.def_confined.specs.Keeps.{Keeps}
 use Rattle.def_confined.specs.Partitioned.{Partitioned}
 use Rattle.def_facts.specs.Facts.{RootsAway}
 use Rattle.def_machine.specs.Image.{Image}
-use Rattle.def_machine.specs.State.{State, Thread, Frame, Object, Counts, thread}
+use Rattle.def_machine.specs.State.{State, Thread, Frame, Object, Counts, thread, nobody}
 use Rattle.def_machine.specs.Objects.{Each, has_quarantined, painted}
 use Rattle.def_machine.specs.Heap as heap
 use Rattle.def_machine.specs.Threads.{Clockwork, with_status}
 use Rattle.def_step.specs.Devices.{Bank}
 use Rattle.def_step.specs.Instructions.{Board}
-use Rattle.def_step.specs.Events.{MachineRow, holder, begun, begun_since, told_of, swept_on}
+use Rattle.def_step.specs.Events.{MachineRow, happens, holder, holder_by, begun_since, swept_on}
+use Rattle.def_step.specs.declared.Event.TheVariants.{Sweep}
+use Rattle.law_lists.proofs.Tests.{eq_tells}
 use Rattle.law_turns.proofs.Moves.{clock_confined}
 use Rattle.law_sweeps.proofs.Moves.{clock_beside}
 use Rattle.law_swept.specs.Clean.{SavedClean, StoppedClean, IsClean}
@@ -33,7 +36,7 @@ use Rattle.ct_heaped.specs.Seen.{Seen}
 use Rattle.ct_heaped.specs.Sweeps.{size_of, began, with_slice, unmarked, over, ended, slice_end, passed_on, swept_by}
 use Rattle.ct_heaped.proofs.Shown.{swept_shown}
 use Rattle.ct_machine.specs.Parts.{state_by, IsKept}
-use Rattle.ct_machine.specs.Going.{MaySweep, one_more_sweep}
+use Rattle.ct_machine.specs.Going.{MaySweep, one_more_sweep, silence}
 use Rattle.ct_machine.proofs.Statuses.{like_with}
 use Rattle.ct_machine.proofs.Taking.{ram_is, frames_with}
 use Rattle.ct_machine.proofs.Keeping.{StaysBeside, stays_kept, still_ready}
@@ -203,12 +206,69 @@ may_sweep m n g board state = whole n.board n.state board state
     whole : (b : Board) (s : State) → b ≡ m.board → s ≡ one_more_sweep m.state → MaySweep (record { board = b; state = s })
     whole b s is_board is_state = rw is_board (record { parts = g.partitioned; away = g.facts.away; keeps = counted_keeps m.board.image m.state s g.keeps is_state })
 
-pub swept_as : (b : Board) (s mid new : State) (before : Option (ℕ × ℕ)) (off : Option Owned) → mid ≡ one_more_sweep s → new ≡ heap.swept b.image mid → before ≡ holder s → off ≡ begun_since before new (holder new)
-    → (new, record { deed = None; off = off }) ≡ told_of s (swept_on b s, None)
-swept_as b s mid new before off is after was begins =
-    let there : new ≡ swept_on b s = after ∙ ap (λ (m : State). heap.swept b.image m) is in
-    let begun_is : off ≡ begun s new = begins ∙ ap (λ o. begun_since o new (holder new)) was in
-    ap (λ (o : Option Owned). told_with new o) begun_is ∙ ap (λ (n : State). told_with n (begun s n)) there
+pub swept_as : (b : Board) (s mid new : State) → mid ≡ one_more_sweep s → new ≡ heap.swept b.image mid → new ≡ swept_on b s
+swept_as b s mid new is after = after ∙ ap (λ (m : State). heap.swept b.image m) is
+
+-- ---- a sweep tells nothing
+
+-- the same thread runs, and the postures are the same
+record PosturesStay (x y : State) : Type 0 where
+  running : y.running ≡ x.running
+  postures : (t : ℕ) → (thread y t).posture ≡ (thread x t).posture
+
+sliced_posture : (i : Image) (s : State) (low high n : ℕ) (ts : List Thread) (t : ℕ) → (get_or (heap.sliced_threads i s low high n ts) t nobody).posture ≡ (get_or ts t nobody).posture
+sliced_posture i s low high n [] t = refl
+sliced_posture i s low high n (x ∷ xs) zero = refl
+sliced_posture i s low high n (x ∷ xs) (suc t) = sliced_posture i s low high (n + 1) xs t
+
+either_stays : (b : Bool) (s x y : State) → PosturesStay s x → PosturesStay s y → PosturesStay s (cond b x y)
+either_stays true s x y h k = h
+either_stays false s x y h k = k
+
+began_postures : (s : State) (o : Option ℕ) → PosturesStay s (heap.sweep_began s o)
+began_postures s None =
+    either_stays (has_quarantined s.objects) s (record s { objects = painted s.objects; front = Some 0 }) s (record { running = refl; postures = λ t. refl }) (record { running = refl; postures = λ t. refl })
+began_postures s (Some front) = record { running = refl; postures = λ t. refl }
+
+on_postures : (i : Image) (s : State) (o : Option ℕ) → PosturesStay s (heap.sweep_on i s o)
+on_postures i s None = record { running = refl; postures = λ t. refl }
+on_postures i s (Some front) =
+    let w = heap.with_slice i s front (heap.slice_end i s front) in
+    let sliced : PosturesStay s w = record { running = refl; postures = sliced_posture i s front (heap.slice_end i s front) 0 s.threads } in
+    either_stays (nat_le (heap.ram_size w) (heap.slice_end i s front)) s (heap.sweep_over i w) w (record { running = refl; postures = sliced.postures }) sliced
+
+swept_postures : (i : Image) (s : State) → PosturesStay s (heap.swept i s)
+swept_postures i s =
+    let began = began_postures s s.front in
+    let on = on_postures i (heap.sweep_began s s.front) (heap.sweep_began s s.front).front in
+    record { running = on.running ∙ began.running; postures = λ t. on.postures t ∙ began.postures t }
+
+holder_stays : (x y : State) → PosturesStay x y → holder y ≡ holder x
+holder_stays x y h = ap (holder_by y) h.running ∙ by x.running
   where
-    told_with : State → Option Owned → State × Happened
-    told_with n o = (n, record { deed = None; off = o })
+    by : (o : Option ℕ) → holder_by y o ≡ holder_by x o
+    by None = refl
+    by (Some t) = ap (λ (p : Posture). if p.off then Some (t, p.source) else None) (h.postures t)
+
+same_number : (n : ℕ) → nat_eq n n ≡ true
+same_number n = elim (eq_tells n n) [ inl z ↦ z.0 | inr z ↦ absurd (z.1 refl) ]
+
+-- whoever holds interrupts off already begins no span
+none_begins : (s : State) (o : Option (ℕ × ℕ)) → begun_since o s o ≡ None
+none_begins s None = refl
+none_begins s (Some h) = rw (same_number h.0, same_number h.1) refl
+
+pub sweep_silent : (b : Board) (s : State) → (happens b s Sweep).1 ≡ silence
+sweep_silent b s =
+    let counted : State = one_more_sweep s in
+    let stays : holder (swept_on b s) ≡ holder s = holder_stays counted (heap.swept b.image counted) (swept_postures b.image counted) in
+    ap (λ (o : Option Owned). told_with o) (ap (λ o. begun_since (holder s) (swept_on b s) o) stays ∙ none_begins (swept_on b s) (holder s))
+  where
+    told_with : Option Owned → Happened
+    told_with o = record { deed = None; off = o }
+
+pub both_told : (b : Board) (s new : State) → new ≡ (happens b s Sweep).0 → (happens b s Sweep).1 ≡ silence → (new, silence) ≡ happens b s Sweep
+both_told b s new is told = ap (λ (n : State). pair n silence) is ∙ ap (λ (h : Happened). pair (happens b s Sweep).0 h) (sym told)
+  where
+    pair : State → Happened → State × Happened
+    pair n h = (n, h)

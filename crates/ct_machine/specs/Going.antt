@@ -1,8 +1,9 @@
 -- The running thread carries on: what that asks, what an instruction or a native routine came to, and what is left
 -- where its frame ends.
-use Rattle.std.specs.Prelude.{ℕ, ◌+◌, ◌≡◌, ◌<◌, Bool, true, length, map, nat_lt, Option, Some, None, option_map, slice_set, cond}
+use Rattle.std.specs.Prelude.{ℕ, ◌+◌, ◌≡◌, ◌<◌, Bool, true, false, length, map, nat_lt, Option, Some, None, option_map, slice_set, cond}
 use Rattle.ct_entry.specs.Listed.{Listed}
 use Rattle.ct_entry.specs.declared.acts.Deed.{Deed}
+use Rattle.ct_entry.specs.declared.acts.Happened.{Happened}
 use Rattle.ct_entry.specs.declared.acts.Act.TheVariants.{Call, Trap}
 use Rattle.def_words.specs.declared.Trap as words
 use Rattle.def_confined.specs.Keeps.{Keeps}
@@ -63,6 +64,10 @@ clock_on s = record s {
 -- a sweep counts before its slice
 abbrev pub one_more_sweep : State → State
 one_more_sweep s = record s { counts = record s.counts { sweeps = s.counts.sweeps + 1 } }
+
+-- what an event tells that tells nothing
+abbrev pub silence : Happened
+silence = record { deed = None; off = None }
 
 -- each sleep is one tick shorter
 abbrev pub sleepers_on : State → State
@@ -129,6 +134,11 @@ finished b t actor s (Went act entry) = (s, deed_by t actor (Went act entry))
 finished b t actor s Returned = (frames.returned b.image s t (state.thread s t).frames, None)
 finished b t actor s (Native number) = served b s t (native b.image s t number)
 finished b t actor s (Trapped why) = trapped b s t why
+
+-- the thread went on, and did nothing that is told
+abbrev pub is_quiet : Ran → Bool
+is_quiet (Went None entry) = true
+is_quiet _ = false
 
 -- of a step after its instruction and its native routine
 abbrev pub IsDone : Ran → Type 0

@@ -6,7 +6,7 @@ ghost use Rattle.def_board.specs.Guarded.{Guarded};
 ghost use Rattle.def_machine.specs.Heap.{swept};
 ghost use Rattle.def_step.specs.Events.{happens, is_lawful, one_more_step};
 ghost use Rattle.def_step.specs.declared.Event.TheVariants as event;
-ghost use Rattle.ct_machine.specs.Going.{MaySweep, clock_on, sleepers_on, one_more_sweep};
+ghost use Rattle.ct_machine.specs.Going.{MaySweep, clock_on, sleepers_on, one_more_sweep, silence};
 ghost use Rattle.ct_machine.specs.Parts.{deeds_of};
 
 use crate::engine::Engine;
@@ -92,18 +92,30 @@ impl<M: Memory + Drop> Engine<M> {
         self.threads.sweep(self.plan.sweep());
     }
 
-    /// One slice of the revoker, as an event.
-    fn sweep(&mut self) -> Happened
+    /// One slice of the revoker, as an event, which tells nothing.
+    pub(crate) fn sweep(&mut self)
+        requires guarded { Guarded self.old }
+        requires lawful { IsTrue (is_lawful self.old.state event.Sweep) }
+        ensures state { self.new.state ≡ (happens self.old.board self.old.state event.Sweep).0 }
+        ensures silent { (happens self.old.board self.old.state event.Sweep).1 ≡ silence }
+        ensures board { self.new.board ≡ self.old.board }
+    {
+        self.count_sweep();
+        self.slice();
+    }
+
+    /// The same with what it tells.
+    fn told_sweep(&mut self) -> Happened
         requires guarded { Guarded self.old }
         requires lawful { IsTrue (is_lawful self.old.state event.Sweep) }
         ensures is { (self.new.state, result) ≡ happens self.old.board self.old.state event.Sweep }
         ensures board { self.new.board ≡ self.old.board }
     {
-        let before = self.holder();
-        self.count_sweep();
-        self.slice();
-        let off = self.begun(before);
-        Happened { deed: None, off }
+        self.sweep();
+        Happened {
+            deed: None,
+            off: None,
+        }
     }
 
     /// One byte comes at a device.
@@ -131,7 +143,7 @@ impl<M: Memory + Drop> Engine<M> {
         match event {
             Event::Step => self.step(),
             Event::Tick => self.tick(),
-            Event::Sweep => self.sweep(),
+            Event::Sweep => self.told_sweep(),
             Event::Input { device, byte } => self.input(device, byte),
         }
     }

@@ -7,7 +7,7 @@ ghost use Rattle.ct_engine.specs.Calls.{TopLies};
 ghost use Rattle.ct_execute.specs.Deciding.{IfUnfinished, RanInRange};
 ghost use Rattle.ct_exports.specs.Exports.{AreSorted};
 ghost use Rattle.ct_heaped.specs.Seen.{with_threads};
-ghost use Rattle.ct_machine.specs.Going.{MayGoOn, Runs, MayEnd, CameTo, IsDone, finished, left_after, goes_after, status_after, deed_by};
+ghost use Rattle.ct_machine.specs.Going.{MayGoOn, Runs, MayEnd, CameTo, IsDone, finished, left_after, goes_after, status_after, deed_by, is_quiet};
 ghost use Rattle.ct_machine.specs.Parts.{deeds_of};
 
 use crate::engine::Engine;
@@ -72,6 +72,13 @@ fn deed_of(thread: u32, actor: u32, ran: Ran) -> Option<Deed>
     }
 }
 
+/// Whether the thread went on and did nothing that is told: then nothing is left to do.
+fn is_quiet(ran: Ran) -> bool
+    ensures { result ≡ is_quiet ran }
+{
+    matches!(ran, Ran::Went { act: None, .. })
+}
+
 impl<M: Memory + Drop> Engine<M> {
     /// One instruction of the running thread.
     fn execute(&mut self, t: u32) -> Ran
@@ -106,6 +113,7 @@ impl<M: Memory + Drop> Engine<M> {
 
     /// What is left of a step after its instruction and its native routine: where it returned or trapped
     /// its innermost frame ends, and what it did counts.
+    #[inline(never)]
     fn finish(&mut self, t: u32, actor: u32, ran: Ran) -> Option<Deed>
         requires done { IsDone ran }
         requires ends { IfUnfinished ran (MayEnd self.old t actor) }
@@ -133,6 +141,9 @@ impl<M: Memory + Drop> Engine<M> {
             Some(t) => {
                 let actor = self.threads.actor(t);
                 let ran = self.run(t);
+                if is_quiet(ran) {
+                    return None;
+                }
                 self.finish(t, actor, ran)
             }
             None => None,

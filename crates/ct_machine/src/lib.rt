@@ -13,8 +13,3 @@ mod turns;
 
 pub use def_step::Event;
 pub use machine::Machine;
-
-#[cfg(test)]
-mod routine_tests;
-#[cfg(test)]
-mod tests;

@@ -7,6 +7,7 @@ ghost use Rattle.def_confined.specs.Telling.{AllLicensed, IsLicensedEvent};
 ghost use Rattle.def_machine.specs.Image.{root};
 ghost use Rattle.def_machine.specs.Objects.{charges};
 ghost use Rattle.def_step.specs.declared.Event as events;
+ghost use Rattle.def_step.specs.declared.Event.TheVariants.{Sweep};
 ghost use Rattle.law_history.specs.Accesses.{UsesReach};
 ghost use Rattle.law_history.specs.Clean.{CleanEvent};
 ghost use Rattle.law_history.specs.Each.{EachEvent};
@@ -14,6 +15,7 @@ ghost use Rattle.law_history.specs.Temporal.{AllocatesFresh, UsesLive};
 ghost use Rattle.def_step.specs.Events.{told, happens, run, is_lawful, end_of, totals_of};
 ghost use Rattle.law_boot_words.specs.Booting.{empty_granules};
 ghost use Rattle.ct_machine.specs.Coming.{SweptBeforeReuse};
+ghost use Rattle.ct_machine.specs.Going.{silence};
 
 use crate::engine::Engine;
 use ct_entry::{End, Happened, Totals};
@@ -99,6 +101,17 @@ impl<M: Memory + Drop> Machine<M> {
         ensures licensed { IsLicensedEvent self.old.board.image.entries result }
     {
         self.engine.advance(event)
+    }
+
+    /// A slice of a sweep, which is lawful now: what `advance` does of that event, which tells nothing.
+    pub fn sweep(&mut self)
+        requires { IsTrue (is_lawful self.old.state Sweep) }
+        ensures state { self.new.state ≡ (happens self.old.board self.old.state Sweep).0 }
+        ensures silent { (happens self.old.board self.old.state Sweep).1 ≡ silence }
+        ensures board { self.new.board ≡ self.old.board }
+        ensures guarded { Guarded self.new }
+    {
+        self.engine.sweep();
     }
 
     /// Whatever events come next, one after another: calls are clean, each access goes through a capability

@@ -142,6 +142,7 @@ impl<M: Memory + Drop> Engine<M> {
     }
 
     /// The native routine of a number, which isn't the return's.
+    #[inline(never)]
     pub(crate) fn serve(&mut self, t: u32, number: u32) -> Ran
         requires may { MayGoOn self.old }
         requires runs { Runs self.old t }

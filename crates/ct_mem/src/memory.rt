@@ -1,10 +1,10 @@
 //! The trait that everything above stands on.
 
-ghost use Rattle.std.specs.Prelude.{◌≡◌, ◌*◌, ◌/◌, ◌<◌, List, length, MatchOption};
+ghost use Rattle.std.specs.Prelude.{ℕ, ◌≡◌, ◌*◌, ◌/◌, ◌<◌, false, List, length, MatchOption};
 ghost use Rattle.def_memory.specs.declared.Granule.{Granule};
 ghost use Rattle.def_memory.specs.Granules.{granule_at};
 ghost use Rattle.def_memory.specs.Accesses.{IsAccess, IsPlace, loaded, stored, loaded_cap, stored_cap};
-ghost use Rattle.def_memory.specs.Ranges.{IsRange, IsZeroed, IsMarked, IsNextTagged, NoneTagged};
+ghost use Rattle.def_memory.specs.Ranges.{IsRange, IsZeroed, IsMarked, IsNextTagged, Inside, is_tagged};
 
 use def_words::Cap;
 
@@ -56,9 +56,10 @@ pub trait Memory {
         requires { at < 8 * length (granules self.now) }
         ensures { result ≡ (granule_at (granules self.now) (at / 8)).mark };
 
-    /// The offset of the least tagged granule at or after an offset, `None` exactly where there
-    /// is none.
-    fn next_tagged(&self, from: u32) -> Option<u32>
-        ensures { MatchOption result (NoneTagged (granules self.now) from)
-            (IsNextTagged (granules self.now) from) };
+    /// The offset of the least tagged granule at or after an offset and below another, `None`
+    /// exactly where there is none. What this takes goes by how far the two lie apart.
+    fn next_tagged(&self, from: u32, to: u32) -> Option<u32>
+        ensures { MatchOption result
+            ((k : ℕ) → Inside from to k → is_tagged (granules self.now) k ≡ false)
+            (λ at. IsNextTagged (granules self.now) from at × (at < to)) };
 }

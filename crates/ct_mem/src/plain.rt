@@ -113,9 +113,10 @@ impl Memory for Plain {
         self.rows[(at / 8) as usize].mark
     }
 
-    fn next_tagged(&self, from: u32) -> Option<u32> {
+    fn next_tagged(&self, from: u32, to: u32) -> Option<u32> {
         let first = (from as usize + 7) / 8;
-        for i in first..self.rows.len() {
+        let end = ((to as usize + 7) / 8).min(self.rows.len());
+        for i in first..end {
             if self.rows[i].cap.tag {
                 return Some(8 * i as u32);
             }

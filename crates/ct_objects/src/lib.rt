@@ -9,8 +9,6 @@ mod exports;
 mod files;
 mod names;
 mod sources;
-#[cfg(test)]
-mod tests;
 
 pub use built::objects;
 pub use exports::begin_of;

@@ -1,12 +1,12 @@
 -- The least bit that is set, in words.
-use Rattle.std.proofs.Common.{ℕ, ◌≡◌, ◌+◌, ◌-◌, ◌*◌, ◌/◌, ◌%◌, ◌^◌, ◌<◌, ◌≤◌, inl, inr, Bool, true, false, cond, List, length, get_or, refl, sym, ap, ◌∙◌, arith, subst}
+use Rattle.std.proofs.Common.{ℕ, ◌≡◌, ◌+◌, ◌-◌, ◌*◌, ◌/◌, ◌%◌, ◌^◌, ◌<◌, ◌≤◌, inl, inr, Bool, true, false, cond, List, length, get_or, min, refl, sym, ap, ◌∙◌, arith, subst}
 use Rattle.std.specs.Int.{bit_at, trailing_zeros, w64}
 use Rattle.std.proofs.Math.Nat.{div-div-eq-div-mul, div-le_self}
 use Rattle.std.proofs.lemmas.Nat.{pow-add}
 use Rattle.std.proofs.lemmas.Nat.Bits.{bit_at-zero, bit_at_above, bit_at-trailing_zeros}
 use Rattle.std.proofs.lemmas.List.{get_or_past}
 use Rattle.law_lists.proofs.Tests.{lt_tells}
-use Rattle.ct_planes.specs.Bits.{Spells, NoneSet, IsNextSet}
+use Rattle.ct_planes.specs.Bits.{Spells, Clear, IsNextSet}
 use Rattle.ct_planes.specs.Scan.{ZerosTo}
 use Rattle.ct_planes.proofs.Spelling.{spelled_bit}
 use Rattle.ct_planes.proofs.Zeros.{differ}
@@ -18,10 +18,6 @@ no_bit false e = refl
 one_bit : (b : Bool) → cond {A = ℕ} b 1 0 ≡ 1 → b ≡ true
 one_bit true e = refl
 one_bit false e = absurd (omega (arith, e))
-
--- no bit from one number to another is set
-abbrev pub Clear : List Bool → ℕ → ℕ → Type 0
-Clear flags from to = (k : ℕ) → from ≤ k → k < to → get_or flags k false ≡ false
 
 shifted : (x s i : ℕ) → bit_at (x / 2 ^ s) i ≡ bit_at x (s + i)
 shifted x s i = ap (λ n. n % 2) (div-div-eq-div-mul x (2 ^ s) (2 ^ i) ∙ ap (λ n. x / n) (sym (pow-add 2 s i)))
@@ -95,5 +91,13 @@ pub clear_to : (flags : List Bool) (ws : List ℕ) (from m : ℕ) → Spells fla
 clear_to flags ws from m s zero le zeros =
     clear_both flags from (64 * (from / 64 + 1)) (64 * m) (clear_rest flags ws from s zero) (clear_words flags ws (from / 64 + 1) m s zeros)
 
-pub none_after : (flags : List Bool) (ws : List ℕ) (from m : ℕ) → Spells flags ws → Clear flags from (64 * m) → length ws ≤ m → NoneSet flags from
-none_after flags ws from m s clear past k le = elim (lt_tells k (64 * m)) [ inl p ↦ clear k le p.1 | inr p ↦ clear_past flags ws (64 * m) k s (omega (arith, past)) p.1 ]
+-- up to a number, where so many words were looked at
+pub clear_below : (flags : List Bool) (ws : List ℕ) (from to end : ℕ) → Spells flags ws → end ≡ min ((to + 63) / 64) (length ws) → Clear flags from (64 * end) → Clear flags from to
+clear_below flags ws from to end s is clear k le lt = elim (lt_tells k (64 * end)) [
+  | inl p ↦ clear k le p.1
+  | inr p ↦ clear_past flags ws k k s (let past = p.1 in omega (arith, past, is, lt)) (omega arith)
+]
+
+-- what comes next lies past the number
+pub clear_before : (flags : List Bool) (from at to : ℕ) → IsNextSet flags from at → to ≤ at → Clear flags from to
+clear_before flags from at to next past k le lt = next.least k le (omega (arith, past, lt))

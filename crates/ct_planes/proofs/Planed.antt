@@ -9,8 +9,8 @@ use Rattle.ct_planes.specs.Lent.{bytes_of}
 use Rattle.def_words.specs.declared.Shadow.{Shadow}
 use Rattle.def_memory.specs.declared.Granule.{Granule}
 use Rattle.def_memory.specs.Granules.{nothing, granule_at, blank}
-use Rattle.def_memory.specs.Ranges.{IsRange, IsZeroed, IsMarked, IsNextTagged, NoneTagged, is_tagged}
-use Rattle.ct_planes.specs.Bits.{NoneSet, IsNextSet}
+use Rattle.def_memory.specs.Ranges.{IsRange, IsZeroed, IsMarked, IsNextTagged, Inside, is_tagged}
+use Rattle.ct_planes.specs.Bits.{Clear, IsNextSet}
 use Rattle.ct_planes.specs.Fills.{filled}
 use Rattle.ct_planes.specs.View.{granules_of, Fit, no_shadow}
 use Rattle.ct_planes.proofs.Fillings.{length_filled, filled_inside, filled_rest}
@@ -153,8 +153,9 @@ marked_is ws ts ss ms from to on f r =
 pub tag_of : (ws : List ℕ) (ts : List Bool) (ss : List Shadow) (ms : List Bool) (k : ℕ) → Fit ws ts ss ms → is_tagged (granules_of ws ts ss ms) k ≡ get_or ts k false
 tag_of ws ts ss ms k f = ap (λ (g : Granule). g.cap.tag) (granule_of ws ts ss ms k f)
 
-pub none_tagged : (ws : List ℕ) (ts : List Bool) (ss : List Shadow) (ms : List Bool) (from : ℕ) → Fit ws ts ss ms → NoneSet ts ((from + 7) / 8) → NoneTagged (granules_of ws ts ss ms) from
-none_tagged ws ts ss ms from f none k le = tag_of ws ts ss ms k f ∙ none k (omega (arith, le))
+pub none_tagged : (ws : List ℕ) (ts : List Bool) (ss : List Shadow) (ms : List Bool) (from to : ℕ) → Fit ws ts ss ms → Clear ts ((from + 7) / 8) ((to + 7) / 8)
+    → (k : ℕ) → Inside from to k → is_tagged (granules_of ws ts ss ms) k ≡ false
+none_tagged ws ts ss ms from to f none k within = tag_of ws ts ss ms k f ∙ none k (let le = within.0 in omega (arith, le)) (let lt = within.1 in omega (arith, lt))
 
 pub next_tagged_is : (ws : List ℕ) (ts : List Bool) (ss : List Shadow) (ms : List Bool) (from i : ℕ) → Fit ws ts ss ms → IsNextSet ts ((from + 7) / 8) i → IsNextTagged (granules_of ws ts ss ms) from (8 * i)
 next_tagged_is ws ts ss ms from i f next = record {

@@ -31,9 +31,9 @@ pub record Spells (flags : List Bool) (words : List ℕ) : Type 0 where
 abbrev pub Kept : ℕ → List ℕ → Type 0
 Kept count words = (count < 2 ^ 29) × Spells (flags_of count words) words
 
--- no bit at or after this number is set
-abbrev pub NoneSet : List Bool → ℕ → Type 0
-NoneSet flags from = (k : ℕ) → from ≤ k → slice_index_or flags k false ≡ false
+-- no bit from one number to another is set
+abbrev pub Clear : List Bool → ℕ → ℕ → Type 0
+Clear flags from to = (k : ℕ) → from ≤ k → k < to → slice_index_or flags k false ≡ false
 
 -- the least bit that is set, at or after a number
 pub record IsNextSet (flags : List Bool) (from at : ℕ) : Type 0 where

@@ -1,7 +1,7 @@
 //! A plane of bits.
 
 ghost use Rattle.std.specs.Prelude.{◌≡◌, ◌+◌, ◌/◌, ◌<◌, ◌≤◌, ◌^◌, Bool, false, List, length, replicate, slice_set, slice_index_or, IfOk, MatchOption};
-ghost use Rattle.ct_planes.specs.Bits.{words_of, NoneSet, IsNextSet};
+ghost use Rattle.ct_planes.specs.Bits.{words_of, Clear, IsNextSet};
 ghost use Rattle.ct_planes.specs.Fills.{filled};
 
 use crate::words::{fill_in, is_set, next_in, put_in};
@@ -69,10 +69,13 @@ impl Bits {
         fill_in(&mut self.words, from, to, on);
     }
 
-    /// The least bit that is set, at or after a number; `None` exactly where there is none.
-    pub(crate) fn next(&self, from: usize) -> Option<usize>
-        ensures { MatchOption result (NoneSet self.now from) (IsNextSet self.now from) }
+    /// The least bit that is set, at or after a number and below another; `None` exactly where there
+    /// is none.
+    pub(crate) fn next(&self, from: usize, to: usize) -> Option<usize>
+        requires { to < 2 ^ 32 }
+        ensures { MatchOption result (Clear self.now from to)
+            (λ at. IsNextSet self.now from at × (at < to)) }
     {
-        next_in(&self.words, from)
+        next_in(&self.words, from, to)
     }
 }

@@ -12,6 +12,3 @@ mod words;
 
 pub use ct_mem::Memory;
 pub use planes::Planes;
-
-#[cfg(test)]
-mod tests;

@@ -21,24 +21,25 @@ fn zeros_in(words: &[u64], at: usize) -> usize
     }
 }
 
-/// The number of the first word that isn't 0, at or after a number; the count of words where there
-/// is none.
-pub(crate) fn first_word(words: &[u64], from: usize) -> usize
-    requires { from ≤ length words.now }
+/// The number of the first word that isn't 0, at or after a number and below another; the latter
+/// where there is none.
+pub(crate) fn first_word(words: &[u64], from: usize, to: usize) -> usize
+    requires order { from ≤ to }
+    requires inside { to ≤ length words.now }
     ensures later { from ≤ result }
-    ensures most { result ≤ length words.now }
+    ensures most { result ≤ to }
     ensures zeros { ZerosTo words.now from result }
-    ensures stops { result < length words.now → slice_index_or words.now result 0 ≢ 0 }
+    ensures stops { result < to → slice_index_or words.now result 0 ≢ 0 }
 {
     let mut i = from;
-    while words.len() - i >= 8 {
+    while to - i >= 8 {
         let zeros = zeros_in(words, i);
         if zeros < 8 {
             return i + zeros;
         }
         i += 8;
     }
-    while i < words.len() && words[i] == 0 {
+    while i < to && words[i] == 0 {
         i += 1;
     }
     i

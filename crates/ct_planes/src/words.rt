@@ -2,7 +2,7 @@
 
 ghost use Rattle.std.specs.Prelude.{◌≡◌, ◌≢◌, ◌+◌, ◌/◌, ◌%◌, ◌*◌, ◌^◌, ◌-◌, ◌<◌, ◌≤◌, ℕ, Bool, cond, ◌&&◌, nat_le, nat_lt, List, length, slice_set, slice_index_or, min, max, MatchOption};
 ghost use Rattle.std.specs.Int.{bit_at};
-ghost use Rattle.ct_planes.specs.Bits.{Spells, flag_in, NoneSet, IsNextSet};
+ghost use Rattle.ct_planes.specs.Bits.{Spells, flag_in, Clear, IsNextSet};
 ghost use Rattle.ct_planes.specs.Fills.{filled};
 
 use crate::scan::first_word;
@@ -84,23 +84,45 @@ pub(crate) fn fill_in(words: &mut [u64], from: usize, to: usize, on: bool)
     }
 }
 
+/// How many words hold the bits below a number, of so many words.
+fn words_below(to: usize, count: usize) -> usize
+    requires { to < 2 ^ 32 }
+    ensures { result ≡ min ((to + 63) / 64) count }
+{
+    ((to + 63) / 64).min(count)
+}
+
 /// The least bit that is set, at or after a number.
-pub(crate) fn next_in(words: &[u64], from: usize) -> Option<usize>
-    requires { 64 * length words.now < 2 ^ 32 }
-    ensures { (flags : List Bool)
-        → Spells flags words.now → MatchOption result (NoneSet flags from) (IsNextSet flags from) }
+fn next_from(words: &[u64], from: usize, end: usize) -> Option<usize>
+    requires few { 64 * length words.now < 2 ^ 32 }
+    requires end { end ≤ length words.now }
+    ensures { (flags : List Bool) → Spells flags words.now
+        → MatchOption result (Clear flags from (64 * end)) (IsNextSet flags from) }
 {
     let n = from / 64;
-    if n >= words.len() {
+    if n >= end {
         return None;
     }
     let first = words[n] >> (from % 64);
     if first != 0 {
         return Some(from + first.trailing_zeros() as usize);
     }
-    let m = first_word(words, n + 1);
-    if m >= words.len() {
+    let m = first_word(words, n + 1, end);
+    if m >= end {
         return None;
     }
     Some(64 * m + words[m].trailing_zeros() as usize)
+}
+
+/// The least bit that is set, at or after a number and below another.
+pub(crate) fn next_in(words: &[u64], from: usize, to: usize) -> Option<usize>
+    requires few { 64 * length words.now < 2 ^ 32 }
+    requires to { to < 2 ^ 32 }
+    ensures { (flags : List Bool) → Spells flags words.now
+        → MatchOption result (Clear flags from to) (λ at. IsNextSet flags from at × (at < to)) }
+{
+    match next_from(words, from, words_below(to, words.len())) {
+        Some(at) => { if at < to { Some(at) } else { None } }
+        None => None,
+    }
 }

@@ -19,6 +19,3 @@ pub use folders::FolderMem;
 pub use outside::{Folder, Sink};
 pub use sinks::SinkMem;
 pub use steady::{SteadyFolder, SteadySink};
-
-#[cfg(test)]
-mod tests;

@@ -5,6 +5,3 @@
 mod asked;
 
 pub use asked::{is_ready, may_call};
-
-#[cfg(test)]
-mod tests;

@@ -1,5 +1,5 @@
--- A walk over the tagged granules, least first.
-use Rattle.std.proofs.Common.{ℕ, zero, suc, ◌≡◌, ◌+◌, ◌*◌, ◌/◌, ◌%◌, ◌≤◌, ◌<◌, inl, inr, true, false, List, [], ◌∷◌, length, min, refl, sym, ap, ◌∙◌, arith, subst}
+-- The tagged granules of a range, least first.
+use Rattle.std.proofs.Common.{ℕ, zero, suc, ◌≡◌, ◌+◌, ◌*◌, ◌/◌, ◌≤◌, ◌<◌, inl, inr, true, false, List, [], ◌∷◌, length, min, refl, sym, ap, ◌∙◌, arith, subst}
 use Rattle.std.proofs.lemmas.List.{get_or-set_same, length-set}
 use Rattle.std.proofs.lemmas.Bool.{cases_eq}
 use Rattle.law_lists.proofs.Tests.{lt_tells}
@@ -112,48 +112,20 @@ finishes ram low high at old new p none = record {
   ];
 }
 
--- ---- a walk over all granules
-
--- from the first whole granule on
-pub walk_begins : (ram low high : ℕ) (gs : List Granule) → Passing ram low high ((low + 7) / 8 * 8) gs gs
-walk_begins ram low high gs = record {
-  order = omega arith;
-  sliced = record { size = refl; passed = λ k h. absurd (omega (arith, h.0, h.1)); rest = λ k h. refl };
-  within = λ k a b. absurd (omega (arith, a, b));
-}
-
-pub tagged_next : (gs : List Granule) (at : ℕ) → at % 8 ≡ 0 → at < 8 * length gs → (loaded_cap gs at).tag ≡ true → IsNextTagged gs at at
-tagged_next gs at even inside tagged = record { aligned = even; later = omega arith; inside = inside; tagged = tagged; least = λ k a b. absurd (omega (arith, a, b)) }
-
--- one granule more, which isn't tagged
-pub passes_untagged : (ram low high at : ℕ) (old new : List Granule) → Passing ram low high at old new → at % 8 ≡ 0 → (loaded_cap new at).tag ≡ false → at < high
-    → Passing ram low high (at + 8) old new
-passes_untagged ram low high at old new p even off under =
-    let order = p.order in
-    record {
-      order = omega (arith, order);
-      sliced = record {
-        size = p.sliced.size;
-        passed = λ k inside. passed_on ram low high at (at + 8) old new p
-            (λ j a b. let here : j ≡ at / 8 = omega (arith, a, b, even) in subst (λ n. is_tagged new n ≡ false) (sym here) off) k inside;
-        rest = λ k out. elim out [ inl a ↦ p.sliced.rest k (inl a) | inr b ↦ p.sliced.rest k (inr (omega (arith, b))) ];
-      };
-      within = λ k a b. elim (lt_tells (8 * k) at) [
-        | inl under_ ↦ p.within k a under_.1
-        | inr here ↦ (let le = here.1 in omega (arith, le, b, even, under))
-      ];
-    }
-
 past_untagged : (gs : List Granule) (k : ℕ) → length gs ≤ k → is_tagged gs k ≡ false
 past_untagged [] k le = refl
 past_untagged (g ∷ gs) zero le = absurd (omega (arith, le))
 past_untagged (g ∷ gs) (suc k) le = past_untagged gs k (omega (arith, le))
 
--- up to the end of the range, or of memory
-pub walk_ends : (ram low high at end : ℕ) (old new : List Granule) → Passing ram low high at old new → end ≡ min high (8 * length old) → end ≤ at → IsSliced ram low high old new
-walk_ends ram low high at end old new p is past =
+-- none is left up to the end of the range, or of memory
+pub finishes_within : (ram low high at end : ℕ) (old new : List Granule) → Passing ram low high at old new → end ≡ min high (8 * length old)
+    → ((k : ℕ) → Inside at end k → is_tagged new k ≡ false) → IsSliced ram low high old new
+finishes_within ram low high at end old new p is none =
     finishes ram low high at old new p
-    (λ k a b. past_untagged new k (let size = p.sliced.size in omega (arith, a, b, is, past, size)))
+    (λ k a b. elim (lt_tells (8 * k) end) [
+      | inl within ↦ none k (a, within.1)
+      | inr past ↦ past_untagged new k (let size = p.sliced.size in let le = past.1 in omega (arith, b, le, is, size))
+    ])
 
 -- ---- what a slice leaves is clean
 

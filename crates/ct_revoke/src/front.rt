@@ -3,7 +3,7 @@
 ghost use Rattle.std.specs.Prelude.{ℕ, ◌≡◌, ◌+◌, ◌*◌, ◌≤◌, ◌↔◌, length, min, IsSome, IsTrue, Option, Some, None, unwrap_or, is_some};
 ghost use Rattle.ct_revoke.specs.Slices.{CleanFrom, IsSliced, SlicesHeap};
 
-use crate::sweeping::walk;
+use crate::sweeping::pass;
 use ct_mem::Memory;
 use std::marker::Model;
 
@@ -68,7 +68,7 @@ impl Front {
     {
         let low = self.at();
         let high = slice_end(low, count, mem.size());
-        walk(mem, ram, low, high);
+        pass(mem, ram, low, high);
         self.at = Some(high);
     }
 

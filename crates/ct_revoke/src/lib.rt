@@ -9,6 +9,3 @@ mod sweeping;
 
 pub use front::Front;
 pub use sweeping::sweep_all;
-
-#[cfg(test)]
-mod tests;

@@ -30,30 +30,9 @@ pub(crate) fn pass<M: Memory>(mem: &mut M, ram: u32, low: u32, high: u32)
 {
     let end = high.min(mem.size());
     let mut at = low;
-    while let Some(found) = mem.next_tagged(at) {
-        if found >= end {
-            return;
-        }
+    while let Some(found) = mem.next_tagged(at, end) {
         pass_one(mem, ram, found);
         at = found + 8;
-    }
-}
-
-/// The granules from one offset to another pass the load filter, one after another: what this takes goes by how many
-/// they are, wherever the next tagged one stands.
-pub(crate) fn walk<M: Memory>(mem: &mut M, ram: u32, low: u32, high: u32)
-    ensures { IsSliced ram low high (M.granules mem.old) (M.granules mem.new) }
-{
-    let end = high.min(mem.size());
-    if end <= low {
-        return;
-    }
-    let mut at = (low + 7) / 8 * 8;
-    while at < end {
-        if mem.load_cap(at).tag {
-            pass_one(mem, ram, at);
-        }
-        at += 8;
     }
 }
 

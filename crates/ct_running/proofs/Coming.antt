@@ -19,7 +19,8 @@ use Rattle.law_counts.proofs.Counted.{run_kinds}
 use Rattle.law_counts.proofs.Devices.{run_keeps}
 use Rattle.def_script.specs.declared.Given.{Given}
 use Rattle.def_program.specs.Runs.{input_of}
-use Rattle.ct_running.specs.Rounds.{Came, ticks_if, lines_of, round_of}
+use Rattle.ct_machine.specs.Going.{silence}
+use Rattle.ct_running.specs.Rounds.{Came, Passed, ticks_if, lines_of, round_of}
 use Rattle.ct_running.proofs.Pieces as pieces
 
 -- ---- lists of events
@@ -58,6 +59,15 @@ pub one_fails : (m : MachineRow) (k : ℕ) (e : Event) (h : Happened) (before af
     → h ≡ (happens m.board m.state e).1
     → WriteFails before after faults now (trace_line k h) → WriteFails before after faults now (lines_of m k (e ∷ []))
 one_fails m k e h before after faults now told w = subst (λ t. WriteFails before after faults now t) (ap (λ x. trace_line k x) told ∙ sym (one_line m k e)) w
+
+-- a slice of a sweep, of which nothing is written
+pub silent_came : (m n : MachineRow) (k : ℕ) (before : Option (List ℕ)) (faults : ℕ) → Passed m n (Sweep ∷ []) → (happens m.board m.state Sweep).1 ≡ silence → Came m n k (Sweep ∷ []) before before faults faults
+unfolding trace_line
+silent_came m n k before faults passed silent = record {
+  board = passed.board;
+  state = passed.state;
+  written = subst (λ t. Writes before before faults faults t) (ap (λ x. trace_line k x) (sym silent) ∙ sym (one_line m k Sweep)) (pieces.nothing before faults);
+}
 
 pub both_came : (m n o : MachineRow) (k : ℕ) (es fs : List Event) (before mid after : Option (List ℕ)) (f g h : ℕ)
     → Came m n k es before mid f g → Came n o k fs mid after g h → Came m o k (es ++ fs) before after f h

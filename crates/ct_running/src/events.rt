@@ -4,8 +4,9 @@ ghost use Rattle.std.specs.Prelude.{◌≡◌, ◌<◌, ◌++◌, [], ◌∷◌,
 ghost use Rattle.def_profile.specs.declared.limits.TheConstants.{MOST_STEPS};
 ghost use Rattle.def_port.specs.Writes.{WriteFails};
 ghost use Rattle.def_step.specs.declared.Event.TheVariants.{Step, Sweep};
-ghost use Rattle.def_step.specs.Events.{is_lawful};
+ghost use Rattle.def_step.specs.Events.{happens, is_lawful};
 ghost use Rattle.def_program.specs.Runs.{input_of};
+ghost use Rattle.ct_machine.specs.Going.{silence};
 ghost use Rattle.ct_running.specs.Rounds.{Came, HasInputs, HasRoom, Passed, lines_of, round_of, ticks_if};
 
 use crate::lines::write_happened;
@@ -85,6 +86,15 @@ fn write_tick<M: Memory + Drop, S: Sink>(
     Ok(())
 }
 
+/// A slice of a sweep, which tells nothing, so nothing is written.
+fn make_sweep<M: Memory + Drop>(machine: &mut Machine<M>)
+    requires { machine.old.state.counts.sweeps < MOST_STEPS }
+    ensures passed { Passed machine.old machine.new (Sweep ∷ []) }
+    ensures silent { (happens machine.old.board machine.old.state Sweep).1 ≡ silence }
+{
+    machine.sweep();
+}
+
 /// A slice of a sweep, and a step.
 fn write_step<M: Memory + Drop, S: Sink>(
     machine: &mut Machine<M>,
@@ -101,10 +111,8 @@ fn write_step<M: Memory + Drop, S: Sink>(
         WriteFails (S.bytes sink.old) (S.bytes sink.new) (S.faults sink.old)
         (S.faults sink.new) (lines_of machine.old number (Sweep ∷ Step ∷ []))) }
 {
-    match write_event(machine, Event::Sweep, number, sink) {
-        Ok(()) => write_event(machine, Event::Step, number, sink),
-        Err(failed) => Err(failed),
-    }
+    make_sweep(machine);
+    write_event(machine, Event::Step, number, sink)
 }
 
 /// A step with the tick and the slice of a sweep before it.
@@ -177,7 +185,7 @@ fn make_step<M: Memory + Drop>(machine: &mut Machine<M>)
     requires sweeps { machine.old.state.counts.sweeps < MOST_STEPS }
     ensures { Passed machine.old machine.new (Sweep ∷ Step ∷ []) }
 {
-    make_event(machine, Event::Sweep);
+    make_sweep(machine);
     make_event(machine, Event::Step);
 }
 

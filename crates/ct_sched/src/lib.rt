@@ -12,6 +12,3 @@ mod turning;
 pub use def_refusals::NoMemory;
 pub use def_sched::Status;
 pub use sched::Sched;
-
-#[cfg(test)]
-mod tests;

@@ -12,6 +12,3 @@ mod script;
 
 pub use def_script::{Given, ScriptFault};
 pub use script::{Script, read};
-
-#[cfg(test)]
-mod tests;

@@ -9,8 +9,6 @@ mod numbers;
 mod operands;
 mod ranges;
 mod tables;
-#[cfg(test)]
-mod tests;
 mod tokens;
 
 ghost use Rattle.std.specs.Prelude.{◌≡◌, ◌++◌, ◌+◌, ◌<◌, ◌^◌, length, option_map, OnOk, IfOk};

@@ -15,6 +15,3 @@ mod starting;
 
 pub use booting::boot;
 pub use start::{First, Start};
-
-#[cfg(test)]
-mod tests;

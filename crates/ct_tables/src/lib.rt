@@ -5,8 +5,6 @@
 
 mod export;
 mod import;
-#[cfg(test)]
-mod tests;
 
 pub use def_image::{ExportRow, ImportRow, SlotKind};
 pub use export::{read_export, write_export};

@@ -8,6 +8,3 @@ mod numbers;
 
 pub use lines::{line_of, summary_of};
 pub use numbers::Line;
-
-#[cfg(test)]
-mod tests;

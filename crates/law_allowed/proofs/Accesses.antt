@@ -1,5 +1,5 @@
--- Each access through an import of a device is by an owner that a rule lists.
-use Rattle.std.proofs.Common.{◌≡◌, ℕ, zero, suc, List, [], ◌∷◌, Option, Some, None, slice_get, true, refl, arith, subst}
+-- Each access to a device is by an import of it, of an owner that a rule lists.
+use Rattle.std.proofs.Common.{◌≡◌, ℕ, zero, suc, ◌+◌, ◌<◌, ◌≤◌, List, [], ◌∷◌, Option, Some, None, slice_get, true, refl, arith, subst}
 use Rattle.ct_entry.specs.declared.rows.Entry.{Entry}
 use Rattle.ct_entry.specs.declared.rows.Gate.{Gate}
 use Rattle.ct_entry.specs.declared.rows.Kind.TheVariants as kind
@@ -7,25 +7,31 @@ use Rattle.ct_entry.specs.declared.acts.Act.{Act}
 use Rattle.ct_entry.specs.declared.acts.Act.TheVariants.{Call, Load, Store, Allocate, Free, Trap}
 use Rattle.ct_entry.specs.declared.acts.Deed.{Deed}
 use Rattle.ct_entry.specs.declared.acts.Happened.{Happened}
-use Rattle.ct_entry.specs.Listed.{Listed}
+use Rattle.ct_entry.specs.Listed.{DeviceRow, Listed}
 use Rattle.def_boot.specs.Boot.{board_of, boot_state, image_of}
 use Rattle.def_boot.specs.Gates.{entries_of}
-use Rattle.def_confined.specs.Licensed.{IsLicensed}
+use Rattle.def_confined.specs.Licensed.{IsDeviceAccess, IsLicensed}
 use Rattle.def_confined.specs.Telling.{AllLicensed}
 use Rattle.def_image.specs.Accepted.{IsFaultless}
 use Rattle.def_image.specs.Parts.{PartsRow}
+use Rattle.def_image.specs.Sound.{Sound}
 use Rattle.def_policy.specs.Breaking.{Holds, Keeps, is_listed}
 use Rattle.def_policy.specs.Denials.{AllDenied}
 use Rattle.def_policy.specs.Rulings.{Ruling}
 use Rattle.def_policy.specs.declared.Subject.TheVariants.{Device}
+use Rattle.def_profile.specs.declared.layout.TheConstants.{DEVICE_SIZE}
 use Rattle.def_reach.specs.Roots.{Listing, TrustedPart, Unknown, gate_for, listed_root, root_of}
 use Rattle.def_step.specs.Events.{told}
 use Rattle.def_step.specs.declared.Event.{Event}
 use Rattle.law_accepted.proofs.Running.{licensed}
-use Rattle.law_allowed.specs.Accesses.{AllListed, IsAccess, IsListedDeed}
+use Rattle.law_allowed.proofs.Imports.{import_of, same_device}
+use Rattle.law_allowed.specs.Accesses.{AllListed, IsListedDeed, Meets, Touches}
+use Rattle.law_image.proofs.Sounds.{sound}
 use Rattle.law_policy.specs.Denied.{AreListed}
 use Rattle.law_policy.proofs.Denials.{holds_where}
 use Rattle.law_policy.proofs.Devices.{held}
+
+-- ---- an import that is listed
 
 module _ (e : Listed) (r : Ruling) (device : ℕ) (are : AreListed e r device) where
   by_row : (n : ℕ) (g : Gate) (o : Option Entry) → slice_get e.rows n ≡ o → (listed_root o g).origin ≡ Listing kind.Device → (listed_root o g).of ≡ device
@@ -40,17 +46,44 @@ module _ (e : Listed) (r : Ruling) (device : ℕ) (are : AreListed e r device) w
   by_root zero origin of_is = absurd (let clash : TrustedPart ≡ Listing kind.Device = origin in cc)
   by_root (suc n) origin of_is = by_row n (gate_for e.gates (suc n)) (slice_get e.rows n) refl origin of_is
 
-  by_act : (d : Deed) (a : Act) → IsLicensed e d a → IsAccess a → (root_of e d.entry).of ≡ device → IsListedDeed e r d
-  by_act d (Call export) l access of_is = absurd access
-  by_act d (Load address width value) l access of_is = record { listed = by_root d.entry l.0 of_is; reached = l.1 }
-  by_act d (Store address width value) l access of_is = record { listed = by_root d.entry l.0 of_is; reached = l.1 }
-  by_act d (Allocate number base length live) l access of_is = absurd access
-  by_act d (Free number base length live) l access of_is = absurd access
-  by_act d (Trap cause code register) l access of_is = absurd access
+-- ---- a licensed access
 
-  all_listed : (hs : List Happened) → AllLicensed e hs → AllListed e r device hs
+-- an access within one device's range that meets another's
+shares : (base top row other address width : ℕ) → base ≡ row → top ≡ row + DEVICE_SIZE → base ≤ address → address + width ≤ top → Meets other address width
+    → (row < other + DEVICE_SIZE) × (other < row + DEVICE_SIZE)
+shares base top row other address width starts ends from to meets =
+    let low = meets.0 in
+    let high = meets.1 in
+    (omega (arith, starts, from, low), omega (arith, ends, to, high))
+
+module _ (p : PartsRow) (s : Sound p) (r : Ruling) (device : ℕ) (row : DeviceRow) (there : slice_get p.devices device ≡ Some row)
+    (are : AreListed (entries_of p) r device) where
+  of_device : (n address width : ℕ) (origin : (root_of (entries_of p) n).origin ≡ Listing kind.Device) → (root_of (entries_of p) n).base ≤ address
+      → address + width ≤ (root_of (entries_of p) n).top → Meets row.base address width → (root_of (entries_of p) n).of ≡ device
+  of_device n address width origin from to meets =
+      let i = import_of p s n origin in
+      let near = shares _ _ i.row.base row.base address width i.starts i.ends from to meets in
+      same_device p s _ device i.row row i.there there near.0 near.1
+
+  by_access : (d : Deed) (address width right : ℕ) → IsDeviceAccess (entries_of p) d address width right → Meets row.base address width
+      → IsListedDeed (entries_of p) r device d
+  by_access d address width right l meets =
+      let of_is = of_device d.entry address width l.0 l.2 l.3 meets in
+      record { kind_is = l.0; of_is = of_is; listed = by_root (entries_of p) r device are d.entry l.0 of_is; reached = l.1 }
+
+  by_act : (d : Deed) (a : Act) → IsLicensed (entries_of p) d a → Touches row.base a → IsListedDeed (entries_of p) r device d
+  by_act d (Call export) l touches = absurd touches
+  by_act d (Load address width value) l touches = by_access d address width _ l touches
+  by_act d (Store address width value) l touches = by_access d address width _ l touches
+  by_act d (Allocate number base length live) l touches = absurd touches
+  by_act d (Free number base length live) l touches = absurd touches
+  by_act d (Trap cause code register) l touches = absurd touches
+
+  all_listed : (hs : List Happened) → AllLicensed (entries_of p) hs → AllListed (entries_of p) r device row.base hs
   all_listed [] l = tt
-  all_listed (h ∷ hs) l = (λ d is access of_is. by_act d d.act (l.0.deed d is) access of_is, all_listed hs l.1)
+  all_listed (h ∷ hs) l = (λ d is touches. by_act d d.act (l.0.deed d is) touches, all_listed hs l.1)
+
+-- ---- a rule of those that hold
 
 rule_keeps : (e : Listed) (rulings : List Ruling) (k : ℕ) (r : Ruling) → Holds e rulings → slice_get rulings k ≡ Some r → Keeps e r
 rule_keeps e [] k r holds is = absurd (let clash : None ≡ Some r = is in cc)
@@ -59,10 +92,11 @@ rule_keeps e (x ∷ xs) zero r holds is =
     subst (λ y. Keeps e y) same (holds 0 x (omega arith))
 rule_keeps e (x ∷ xs) (suc k) r holds is = rule_keeps e xs k r (λ j d inside. holds (suc j) d (omega (arith, inside))) is
 
-pub allowed : (p : PartsRow) (es : List Event) (rulings : List Ruling) (k : ℕ) (r : Ruling) (device : ℕ) → IsFaultless p → AllDenied p 1 rulings []
-    → slice_get rulings k ≡ Some r → r.subject ≡ Device device → AllListed (entries_of p) r device (told (board_of p) (boot_state p) es)
+pub allowed : (p : PartsRow) (es : List Event) (rulings : List Ruling) (k : ℕ) (r : Ruling) (device : ℕ) (d : DeviceRow) → IsFaultless p → AllDenied p 1 rulings []
+    → slice_get rulings k ≡ Some r → r.subject ≡ Device device → slice_get p.devices device ≡ Some d
+    → AllListed (entries_of p) r device d.base (told (board_of p) (boot_state p) es)
 unfolding image_of
-allowed p es rulings k r device f none there is =
-    all_listed (entries_of p) r device
+allowed p es rulings k r device d f none there is stands =
+    all_listed p (sound p f) r device d stands
     (held (entries_of p) r device is (rule_keeps (entries_of p) rulings k r (holds_where p 1 rulings [] none refl) there))
     (told (board_of p) (boot_state p) es) (licensed p es f)

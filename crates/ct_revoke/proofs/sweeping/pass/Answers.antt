@@ -1,28 +1,26 @@
-use Rattle.std.proofs.Common.{ℕ, ◌≡◌, ◌<◌, ◌≤◌, length, min, arith}
-use Rattle.ct_revoke.proofs.Passing.{passes_next, finishes}
+use Rattle.std.proofs.Common.{ℕ, ◌≡◌, ◌+◌, ◌*◌, ◌%◌, ◌<◌, ◌^◌, min, arith}
+use Rattle.ct_revoke.proofs.Passing.{passes_next, finishes_within}
 use Rattle.ct_revoke.proofs.sweeping.pass.Goals as goal
-
--- what lies in memory, but at the end of the range or past it, lies past what was asked for
-past : (end high size found : ℕ) → end ≡ min high size → end ≤ found → found < size → high ≤ found
-past end high size found is over inside = omega (arith, is, over, inside)
 
 below : (end high size found : ℕ) → end ≡ min high size → found < end → found < high
 below end high size found is under = omega (arith, is, under)
 
-pub returns-then-found-end : goal.returns-then-found-end
-returns-then-found-end g c =
-    let next = c.in-Some.ensures in
-    let size : ℕ = length (g.M.Memory.granules c.args.mem.now) in
-    let same = c.loop-found.invariant.sliced.size in
-    let inside : c.in-Some.found < c.size.result = let here = next.inside in let all = c.size.ensures in omega (arith, here, same, all) in
-    let high : c.args.high ≤ c.in-Some.found = past c.min-end.result c.args.high c.size.result c.in-Some.found c.min-end.ensures c.if-found-end.true inside in
-    finishes _ _ _ _ _ _ c.loop-found.invariant (λ k a b. next.least k a (omega (arith, b, high)))
+-- a whole granule lies below the end
+fits : (end high size found count : ℕ) → end ≡ min high size → size ≡ 8 * count → size < 2 ^ 32 → found % 8 ≡ 0 → found < end → found + 8 < 2 ^ 32
+fits end high size found count is all few even under = omega (arith, is, all, few, even, under)
+
+pub overflow_add-at : goal.overflow_add-at
+overflow_add-at g c =
+    let small = fits c.min-end.result c.args.high c.size.result c.in-Some.found _ c.min-end.ensures c.size.ensures c.size.type_inv c.in-Some.ensures.0.aligned c.in-Some.ensures.1 in
+    omega (arith, small)
 
 pub loop-found-preserved : goal.loop-found-preserved
 loop-found-preserved g c =
-    passes_next _ _ _ _ _ _ _ _ c.loop-found.invariant c.in-Some.ensures
-    (below c.min-end.result c.args.high c.size.result c.in-Some.found c.min-end.ensures c.if-found-end.false)
-    c.pass_one.ensures
+    passes_next _ _ _ _ _ _ _ _ c.loop-found.invariant c.in-Some.ensures.0
+    (below c.min-end.result c.args.high c.size.result c.in-Some.found c.min-end.ensures c.in-Some.ensures.1) c.pass_one.ensures
 
 pub returns : goal.returns
-returns g c = finishes _ _ _ _ _ _ c.loop-found.invariant (λ k a b. c.in_default.ensures k a)
+returns g c =
+    let all = c.size.ensures in
+    let most = c.min-end.ensures in
+    finishes_within _ _ _ _ c.min-end.result _ _ c.loop-found.invariant (omega (arith, all, most)) c.in_default.ensures

@@ -1,0 +1,21 @@
+//! Tests of the crates of descriptions, placement, images and the sharing graph, by their public calls.
+//!
+//! They stand apart, since a crate with tests is proved twice.
+#![tactic(auto)]
+
+#[cfg(test)]
+mod description;
+#[cfg(test)]
+mod generated;
+#[cfg(test)]
+mod graph;
+#[cfg(test)]
+mod launch;
+#[cfg(test)]
+mod layout;
+#[cfg(test)]
+mod licence;
+#[cfg(test)]
+mod start;
+#[cfg(test)]
+mod tables;

@@ -1,0 +1,295 @@
+//! Jumps from a code capability of 48 bytes at 0x80000000, whose high word is 0x56000030. Words are
+//! put together by hand from the fields of docs/use/capabilities.md.
+
+ghost use Rattle.std.specs.Prelude.{IsTrue};
+ghost use Rattle.def_instr.specs.Shapes.{is_jump};
+
+use ct_cap::{Cap, Live, Posture, Shadow, Trap, expand};
+use ct_flow::{Flow, flow};
+use def_instr::Instr;
+
+/// A tagged capability of an entry.
+fn of_entry(root: u32, word: u64) -> Live {
+    expand(Cap {
+        tag: true,
+        word,
+        shadow: Shadow { root, source: 0 },
+    })
+}
+
+/// An integer.
+fn number(word: u64) -> Live {
+    expand(Cap {
+        tag: false,
+        word,
+        shadow: Shadow { root: 0, source: 0 },
+    })
+}
+
+/// What a jump from 0x80000010 gives, with interrupts on.
+fn jump(instruction: Instr, x: Live, y: Live) -> Result<Flow, Trap>
+    requires { IsTrue (is_jump instruction) }
+{
+    let on = Posture {
+        off: false,
+        source: 0,
+    };
+    flow(instruction, x, y, of_entry(1, 0x5600_0030_8000_0010), on, 0)
+}
+
+#[test]
+fn jal_links_as_a_return_sentry(rt: HostRuntime) {
+    let instruction = Instr::Jal { rd: 1, offset: 8 };
+    match jump(instruction, number(0), number(0)) {
+        Ok(went) => {
+            assert_eq!(rt; went.pcc.cap.word, 0x5600_0030_8000_0018);
+            match went.link {
+                Some(link) => {
+                    assert_eq!(rt; link.cap.word, 0x5740_0030_8000_0014);
+                    assert_eq!(rt; link.cap.tag, true);
+                    assert_eq!(rt; link.cap.shadow, Shadow { root: 1, source: 0 });
+                }
+                None => assert!(rt; false),
+            }
+        }
+        Err(_) => assert!(rt; false),
+    }
+}
+
+#[test]
+fn branches_compare_and_align(rt: HostRuntime) {
+    let signed = Instr::Blt {
+        rs1: 5,
+        rs2: 6,
+        offset: 8,
+    };
+    match jump(signed, number(0xFFFF_FFFF), number(1)) {
+        Ok(went) => assert_eq!(rt; went.pcc.cap.word, 0x5600_0030_8000_0018),
+        Err(_) => assert!(rt; false),
+    }
+    let unsigned = Instr::Bltu {
+        rs1: 5,
+        rs2: 6,
+        offset: 8,
+    };
+    match jump(unsigned, number(0xFFFF_FFFF), number(1)) {
+        Ok(went) => assert_eq!(rt; went.pcc.cap.word, 0x5600_0030_8000_0014),
+        Err(_) => assert!(rt; false),
+    }
+    let between = Instr::Beq {
+        rs1: 5,
+        rs2: 6,
+        offset: 6,
+    };
+    match jump(between, number(1), number(1)) {
+        Ok(_) => assert!(rt; false),
+        Err(trap) => assert_eq!(rt;
+            trap,
+            Trap {
+                cause: 0,
+                code: 0,
+                register: 0
+            }
+        ),
+    }
+}
+
+/// A return through the sentry of the native return, and through a forward sentry, which it refuses.
+#[test]
+fn returns_take_return_sentries(rt: HostRuntime) {
+    let back = Instr::CJalr {
+        rd: 0,
+        rs1: 1,
+        immediate: 0,
+    };
+    match jump(back, of_entry(0, 0x5140_2018_0001_0010), number(0)) {
+        Ok(went) => {
+            assert_eq!(rt; went.pcc.cap.word, 0x5000_2018_0001_0010);
+            assert_eq!(rt; went.posture.off, false);
+        }
+        Err(_) => assert!(rt; false),
+    }
+    match jump(back, of_entry(3, 0x5040_0008_0001_0000), number(0)) {
+        Ok(_) => assert!(rt; false),
+        Err(trap) => assert_eq!(rt;
+            trap,
+            Trap {
+                cause: 28,
+                code: 3,
+                register: 1
+            }
+        ),
+    }
+}
+
+/// Interrupts on, and off by export 6.
+const ON: Posture = Posture {
+    off: false,
+    source: 0,
+};
+
+const OFF: Posture = Posture {
+    off: true,
+    source: 6,
+};
+
+/// The code capability at 0x80000020, unsealed and of types 1 to 5.
+const TARGETS: [u64; 6] = [
+    0x5600_0030_8000_0020,
+    0x5640_0030_8000_0020,
+    0x5680_0030_8000_0020,
+    0x56C0_0030_8000_0020,
+    0x5700_0030_8000_0020,
+    0x5740_0030_8000_0020,
+];
+
+/// A register jump from 0x80000010 through a capability of entry 2 with source 7; that entry names
+/// export 9.
+fn through(rd: u32, rs1: u32, immediate: u32, word: u64, posture: Posture) -> Result<Flow, Trap> {
+    let x = expand(Cap {
+        tag: true,
+        word,
+        shadow: Shadow { root: 2, source: 7 },
+    });
+    flow(
+        Instr::CJalr { rd, rs1, immediate },
+        x,
+        number(0),
+        of_entry(1, 0x5600_0030_8000_0010),
+        posture,
+        9,
+    )
+}
+
+/// A trap of a register's capability.
+fn refused(code: u32, register: u32) -> Trap {
+    Trap {
+        cause: 28,
+        code,
+        register,
+    }
+}
+
+/// Of a register for the link and one for the target, which types the jump takes, from unsealed to 5:
+/// the return, calls, and any other.
+const TAKEN: [(u32, u32, [bool; 6]); 6] = [
+    (0, 1, [true, false, false, false, true, true]),
+    (1, 5, [true, true, true, true, false, false]),
+    (1, 1, [true, true, true, true, false, false]),
+    (0, 5, [true, true, false, false, false, false]),
+    (7, 5, [true, true, false, false, false, false]),
+    (7, 1, [true, true, false, false, false, false]),
+];
+
+#[test]
+fn jumps_take_their_sentries(rt: HostRuntime) {
+    for (rd, rs1, taken) in &TAKEN {
+        for kind in 0..6 {
+            match through(*rd, *rs1, 0, TARGETS[kind], ON) {
+                Ok(went) => {
+                    assert!(rt; taken[kind], "type {kind}");
+                    assert_eq!(rt; went.pcc.cap.word, 0x5600_0030_8000_0020);
+                    assert_eq!(rt; went.pcc.cap.tag, true);
+                    assert_eq!(rt; went.pcc.cap.shadow, Shadow { root: 2, source: 0 });
+                }
+                Err(trap) => {
+                    assert!(rt; !taken[kind], "type {kind}");
+                    assert_eq!(rt; trap, refused(3, *rs1));
+                }
+            }
+        }
+    }
+}
+
+/// The posture through each type: as before, off by the export that the root names, on, off by the
+/// capability's own source.
+const POSTURES: [(u32, usize, Posture, bool, u32); 9] = [
+    (1, 0, ON, false, 0),
+    (1, 0, OFF, true, 6),
+    (1, 1, ON, false, 0),
+    (1, 1, OFF, true, 6),
+    (1, 2, ON, true, 9),
+    (1, 2, OFF, true, 9),
+    (1, 3, OFF, false, 0),
+    (0, 4, ON, true, 7),
+    (0, 5, OFF, false, 0),
+];
+
+#[test]
+fn targets_decide_the_posture(rt: HostRuntime) {
+    for (rd, kind, before, off, source) in &POSTURES {
+        match TARGETS.get(*kind) {
+            Some(word) => match through(*rd, 1, 0, *word, *before) {
+                Ok(went) => assert_eq!(rt;
+                    (went.posture.off, went.posture.source),
+                    (*off, *source)
+                ),
+                Err(_) => assert!(rt; false, "type {kind}"),
+            },
+            None => assert!(rt; false),
+        }
+    }
+}
+
+/// Where interrupts were off the link turns them off again, by the same export.
+#[test]
+fn links_keep_interrupts_off(rt: HostRuntime) {
+    match through(7, 5, 0, TARGETS[0], OFF) {
+        Ok(went) => match went.link {
+            Some(link) => {
+                assert_eq!(rt; link.cap.word, 0x5700_0030_8000_0014);
+                assert_eq!(rt; link.cap.shadow, Shadow { root: 1, source: 6 });
+            }
+            None => assert!(rt; false),
+        },
+        Err(_) => assert!(rt; false),
+    }
+}
+
+#[test]
+fn immediates_of_unsealed_targets_alone(rt: HostRuntime) {
+    for kind in 1..4 {
+        match through(1, 5, 4, TARGETS[kind], ON) {
+            Ok(_) => assert!(rt; false, "type {kind}"),
+            Err(trap) => assert_eq!(rt; trap, refused(3, 5)),
+        }
+    }
+    match through(1, 5, 5, TARGETS[0], ON) {
+        Ok(went) => assert_eq!(rt; went.pcc.cap.word, 0x5600_0030_8000_0024),
+        Err(_) => assert!(rt; false),
+    }
+    match through(1, 5, 6, TARGETS[0], ON) {
+        Ok(_) => assert!(rt; false),
+        Err(trap) => assert_eq!(rt;
+            trap,
+            Trap {
+                cause: 0,
+                code: 0,
+                register: 0
+            }
+        ),
+    }
+}
+
+/// A sealed export, of type 9, is no target; an unsealed capability of data isn't executable; an
+/// integer has no tag.
+#[test]
+fn data_is_no_target(rt: HostRuntime) {
+    match through(1, 5, 0, 0x6440_8050_8000_0040, ON) {
+        Ok(_) => assert!(rt; false),
+        Err(trap) => assert_eq!(rt; trap, refused(3, 5)),
+    }
+    match through(1, 5, 0, 0x6400_8050_8000_0040, ON) {
+        Ok(_) => assert!(rt; false),
+        Err(trap) => assert_eq!(rt; trap, refused(17, 5)),
+    }
+    let call = Instr::CJalr {
+        rd: 1,
+        rs1: 5,
+        immediate: 0,
+    };
+    match jump(call, number(0x8000_0020), number(0)) {
+        Ok(_) => assert!(rt; false),
+        Err(trap) => assert_eq!(rt; trap, refused(2, 5)),
+    }
+}

@@ -1,0 +1,149 @@
+"""The plain machine of machine.py with the heap: routines 6 to 8, and slices of the revoker."""
+from model.machine import Machine, Row, cap_trap
+from model.words import GLOBALS, MEMORY_ROOT, derive, integer, round_length
+
+ALLOCATE, FREE, REMAINING = 6, 7, 8
+
+
+class HeapMachine(Machine):
+    """A machine as it boots an image that run_images' reference read."""
+
+    def __init__(self, image):
+        super().__init__(image)
+        self.marks = [False] * len(self.g)
+        self.heap, self.end = image.heap, image.ram + image.size
+        self.objects, self.front = [], None
+        self.areas, at = [], image.trusted + 16
+        for thread in self.threads:
+            self.areas.append(at)
+            at += 160 + 64 * thread.most
+        self.limits = {}
+        for owner in image.owners:
+            for n, (_, row, _) in enumerate(owner.slots):
+                self.limits[owner.slot_entries[n]] = int.from_bytes(row[4:8], "little")
+
+    # -- the load filter
+
+    def filtered(self, cap):
+        base = cap.bounds()[0]
+        return cap.put(tag=False) if cap.tag and self.in_ram(base, 1) and self.marks[(base - self.ram) // 8] else cap
+
+    def load(self, th, rd, rs1, imm, f3, gives):
+        return super().load(th, rd, rs1, imm, f3, lambda to, value: gives(to, self.filtered(value)))
+
+    def pick(self):
+        t = super().pick()
+        if t is not None:
+            th = self.threads[t]
+            th.pcc, th.regs = self.filtered(th.pcc), [self.filtered(cap) for cap in th.regs]
+        return t
+
+    def leave(self, t, first, second):
+        th = self.threads[t]
+        super().leave(t, first, second)
+        if th.frames:
+            th.pcc = self.filtered(th.pcc)
+            for n in (2, 3, 8, 9):
+                th.regs[n] = self.filtered(th.regs[n])
+
+    # -- routines
+
+    def native(self, t, number):
+        if not ALLOCATE <= number <= REMAINING:
+            return super().native(t, number)
+        th = self.threads[t]
+        c1, quota = th.regs[1], th.regs[10]
+        if not c1.tag:
+            raise cap_trap(2, 1)
+        if c1.seal not in (4, 5):
+            raise cap_trap(3, 1)
+        if not quota.tag or quota.seal != 10:
+            return self.answer(t, integer(-1))
+        if number == ALLOCATE:
+            return self.allocate(t, quota.root, th.regs[11].address)
+        if number == FREE:
+            return self.free(t, quota.root, th.regs[11])
+        return self.answer(t, integer(self.limits[quota.root] - self.charges(quota.root)))
+
+    def charges(self, quota):
+        return sum(r.length + 8 for r in self.objects if r.live and r.quota == quota)
+
+    def place(self, length, alignment):
+        """The least: it begins as early as it may where the heap begins, or where another object ends."""
+        ends = [self.heap] + [r.base + r.length for r in self.objects]
+        for base in sorted(-(-(end + 8) // alignment) * alignment for end in ends):
+            if base + length <= self.end and all(base + length + 8 <= r.base or r.base + r.length + 8 <= base
+                                                 for r in self.objects):
+                return base
+        return None
+
+    def allocate(self, t, quota, size):
+        if size == 0 or size > self.end - self.heap:
+            return self.answer(t, integer(-4))
+        exponent, length = round_length(-(-size // 8) * 8)
+        if self.charges(quota) + length + 8 > self.limits[quota]:
+            return self.answer(t, integer(-2))
+        base = self.place(length, max(8, 2 ** exponent))
+        if base is None:
+            return self.answer(t, integer(-3 if all(r.live for r in self.objects) else -5))
+        self.count["allocations"] += 1
+        made = Row()
+        made.number, made.quota, made.base, made.length = self.count["allocations"], quota, base, length
+        made.live, made.painted = True, False
+        self.objects.append(made)
+        self.answer(t, derive(MEMORY_ROOT, base, length, GLOBALS, base, 0, quota, made.number))
+        return "allocate", quota, f"n{made.number} {base:08x} {length} {self.charges(quota)}"
+
+    def free(self, t, quota, cap):
+        found = [r for r in self.objects if cap.tag and not cap.field and r.live and r.quota == quota
+                 and cap.bounds() == (r.base, r.base + r.length)]
+        if not found:
+            return self.answer(t, integer(-6))
+        gone, th = found[0], self.threads[t]
+        self.zero(gone.base, gone.base + gone.length)
+        self.mark(gone, True)
+        gone.live = False
+        self.count["frees"] += 1
+        th.regs = [self.filtered(cap) for cap in th.regs]
+        self.answer(t, integer(0))
+        return "free", quota, f"n{gone.number} {gone.base:08x} {gone.length} {self.charges(quota)}"
+
+    # -- the revoker
+
+    def mark(self, r, marked):
+        for k in range((r.base - 8 - self.ram) // 8, (r.base + r.length - self.ram) // 8):
+            self.marks[k] = marked
+
+    def sweep(self):
+        if self.front is None:
+            if all(r.live for r in self.objects):
+                return
+            self.front = 0
+            for r in self.objects:
+                r.painted = not r.live
+        low, high = self.front, min(self.front + 8 * self.i.sweep, self.size)
+        inside = range(self.ram + low, self.ram + high)
+        for k in range(low // 8, high // 8):
+            if self.g[k].tag:
+                self.g[k] = self.filtered(self.g[k])
+        for t, th in enumerate(self.threads):
+            self.sweep_area(t, th, inside)
+        self.front = high
+        if high == self.size:
+            for r in self.objects:
+                if r.painted:
+                    self.mark(r, False)
+            self.objects = [r for r in self.objects if not r.painted]
+            self.front = None
+
+    def sweep_area(self, t, th, inside):
+        area = self.areas[t]
+        if t != self.running:
+            if area in inside:
+                th.pcc = self.filtered(th.pcc)
+            th.regs = [self.filtered(cap) if area + 8 * n in inside else cap for n, cap in enumerate(th.regs)]
+        for n, frame in enumerate(th.frames):
+            at = area + 160 + 64 * n
+            if frame.saved:
+                frame.saved = tuple(self.filtered(cap) if at + 8 * k in inside else cap
+                                    for k, cap in enumerate(frame.saved))
