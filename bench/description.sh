@@ -2,12 +2,12 @@
 # How long a description takes to read, beside its JSON text alone: 1, 4 and 16 MiB that are refused
 # (many devices, many names, many words of code, open brackets), blanks before a small one, and the
 # largest lawful description, whose imports are calls and whose owners have as many exports as may be.
-# Build first: (cd crates/bench_description && rt run -- tiny.json)
+# Build first: (cd crates/bench_parts && rt run -- decode 1000)
 here=$(cd "$(dirname "$0")/.." && pwd)
-program=$here/crates/bench_description/out/bench_description
+program=$here/crates/bench_parts/out/bench_parts
 work=$(mktemp -d)
 trap 'rm -rf "$work"' EXIT
-python3 -B - "$here/crates/bench_description/data/tiny.json" "$work" "$here/bench" <<'PYTHON'
+python3 -B - "$here/crates/bench_parts/data/tiny.json" "$work" "$here/bench" <<'PYTHON'
 import sys
 sys.path.insert(0, sys.argv[3])
 import largest
@@ -31,7 +31,7 @@ for file in $(ls -v "$work"); do
     size=$(stat -c %s "$work/$file")
     for form in "" json; do
         start=$(date +%s.%N)
-        answer=$("$program" "$work/$file" $form)
+        answer=$("$program" description "$work/$file" $form)
         end=$(date +%s.%N)
         printf '%-12s %9d bytes, %s s: %s\n' "$file" "$size" "$(echo "$end - $start" | bc)" "$answer"
     done

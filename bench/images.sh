@@ -2,9 +2,9 @@
 # How long an image takes to accept, beside reading its file alone: 1, 4 and 16 MiB that are refused
 # (many devices, one list of slots, one text), and the largest lawful list of owners, each with as many
 # slots and exports as may be and 64 KiB of text.
-# Build first: (cd crates/bench_image && rt run -- accept tiny.image)
+# Build first: (cd crates/bench_parts && rt run -- decode 1000)
 here=$(cd "$(dirname "$0")/.." && pwd)
-program=$here/crates/bench_image/out/bench_image
+program=$here/crates/bench_parts/out/bench_parts
 work=$(mktemp -d)
 trap 'rm -rf "$work"' EXIT
 python3 -B - "$here/crates/run_images" "$work" <<'PYTHON'
@@ -69,7 +69,7 @@ for file in $(ls -v "$work"); do
     size=$(stat -c %s "$work/$file")
     for form in accept read; do
         start=$(date +%s.%N)
-        answer=$("$program" "$form" "$work/$file")
+        answer=$("$program" image "$form" "$work/$file")
         end=$(date +%s.%N)
         printf '%-12s %9d bytes, %s s: %s\n' "$file" "$size" "$(echo "$end - $start" | bc)" "$answer"
     done

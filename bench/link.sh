@@ -2,9 +2,9 @@
 # How long a description and its sources take to link and how much memory, beside reading both alone: compartments
 # of 148 slots and 64 exports and libraries of 128 slots and 64 exports, each with a source of 1,024 or 16,384
 # words of text.
-# Build first: (cd crates/bench_link && rt run -- link tiny.json app.s)
+# Build first: (cd crates/bench_parts && rt run -- decode 1000)
 here=$(cd "$(dirname "$0")/.." && pwd)
-program=$here/crates/bench_link/out/bench_link
+program=$here/crates/bench_parts/out/bench_parts
 work=$(mktemp -d)
 trap 'rm -rf "$work"' EXIT
 python3 - "$work" <<'PYTHON'
@@ -60,7 +60,7 @@ import resource
 import subprocess
 import sys
 program, form, work, name = sys.argv[1:]
-words = [program, form, "%s/%s" % (work, name)] + sorted(glob.glob("%s/%s-[0-9][0-9][0-9].s" % (work, name)))
+words = [program, "link", form, "%s/%s" % (work, name)] + sorted(glob.glob("%s/%s-[0-9][0-9][0-9].s" % (work, name)))
 answer = subprocess.run(words, capture_output=True, text=True).stdout.strip()
 used = resource.getrusage(resource.RUSAGE_CHILDREN)
 print("%-10s %-4s %.3f s, %5.1f MiB: %s" % (name, form, used.ru_utime + used.ru_stime, used.ru_maxrss / 1024, answer))

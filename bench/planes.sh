@@ -2,8 +2,8 @@
 # Loads, stores and loads of capabilities a second on 64 KiB, of an array of Rust's own, of `Plain` and
 # of `Planes`, in one run; then how much memory of the host each takes for 8 and 64 MiB of RAM.
 # The word is the number of calls, 200 million by default.
-# Build first: (cd crates/bench_planes && rt run)
-cd "$(dirname "$0")/../crates/bench_planes" || exit 1
+# Build first: (cd crates/bench_parts && rt run -- decode 1000)
+cd "$(dirname "$0")/../crates/bench_parts" || exit 1
 python3 - "${1:-200000000}" <<'PYTHON'
 import resource, subprocess, sys, time
 
@@ -12,7 +12,7 @@ def run(kind, work, count):
     before = resource.getrusage(resource.RUSAGE_CHILDREN).ru_utime
     script = "import resource, subprocess, sys; status = subprocess.call(sys.argv[1:], stdout=subprocess.DEVNULL); " \
         "print(resource.getrusage(resource.RUSAGE_CHILDREN).ru_maxrss); sys.exit(status)"
-    told = subprocess.run([sys.executable, "-c", script, "out/bench_planes", kind, work, str(count)],
+    told = subprocess.run([sys.executable, "-c", script, "out/bench_parts", "planes", kind, work, str(count)],
                           capture_output=True, check=True, text=True)
     return resource.getrusage(resource.RUSAGE_CHILDREN).ru_utime - before, int(told.stdout) / 1024
 

@@ -2,9 +2,9 @@
 # How long the report of an image takes and how much memory, beside acceptance alone: images of 8, 16, 32 and
 # 64 compartments of 148 slots and 64 exports with 64 threads, and the largest with 32 libraries besides. Names
 # have 32 letters, each compartment calls and shares with every other.
-# Build first: (cd crates/bench_report && rt run -- report tiny.image)
+# Build first: (cd crates/bench_parts && rt run -- decode 1000)
 here=$(cd "$(dirname "$0")/.." && pwd)
-program=$here/crates/bench_report/out/bench_report
+program=$here/crates/bench_parts/out/bench_parts
 work=$(mktemp -d)
 trap 'rm -rf "$work"' EXIT
 python3 -B - "$here/crates/run_images" "$work" <<'PYTHON'
@@ -62,7 +62,7 @@ import os
 import resource
 import subprocess
 import sys
-answer = subprocess.run(sys.argv[1:4], capture_output=True, text=True).stdout.strip()
+answer = subprocess.run([sys.argv[1], "report"] + sys.argv[2:4], capture_output=True, text=True).stdout.strip()
 used = resource.getrusage(resource.RUSAGE_CHILDREN)
 print("%-6s %-7s %.3f s, %5.1f MiB: %s" % (sys.argv[4], sys.argv[2], used.ru_utime + used.ru_stime,
                                            used.ru_maxrss / 1024, answer))

@@ -2,15 +2,15 @@
 # Nanoseconds of a slice of 64 granules over RAM of 8 MiB, in `Plain` and in `Planes`: where no granule
 # is tagged, where every 64th is, and where each is. The word is the number of slices, 200,000 by default;
 # a thousandth of them where no granule of `Plain` is tagged, since each slice then walks the rest of RAM.
-# Build first: (cd crates/bench_sweep && rt run -- planes 4 3)
-cd "$(dirname "$0")/../crates/bench_sweep" || exit 1
+# Build first: (cd crates/bench_parts && rt run -- decode 1000)
+cd "$(dirname "$0")/../crates/bench_parts" || exit 1
 python3 - "${1:-200000}" <<'PYTHON'
 import resource, subprocess, sys
 
 def run(kind, share, count):
     """Processor seconds of a run."""
     before = resource.getrusage(resource.RUSAGE_CHILDREN).ru_utime
-    subprocess.run(["out/bench_sweep", kind, str(share), str(count)], check=True, stdout=subprocess.DEVNULL)
+    subprocess.run(["out/bench_parts", "sweep", kind, str(share), str(count)], check=True, stdout=subprocess.DEVNULL)
     return resource.getrusage(resource.RUSAGE_CHILDREN).ru_utime - before
 
 count = int(sys.argv[1])

@@ -2,15 +2,16 @@
 # What a compartment call and its return cost, with the clearing of the callee's stack in both, and beside it what the
 # clearing alone costs, for stacks of 16, 256 and 4,096 bytes over `Plain`. What the loop does beside the calls is
 # measured by itself and taken off. The word is the number of rounds, one million by default.
-# Build first: (cd crates/bench_switch && rt run)
-cd "$(dirname "$0")/../crates/bench_switch" || exit 1
+# Build first: (cd crates/bench_parts && rt run -- decode 1000)
+cd "$(dirname "$0")/../crates/bench_parts" || exit 1
 python3 - "${1:-1000000}" <<'PYTHON'
 import resource, subprocess, sys
 
 def seconds(task, room, count):
     """Processor seconds of a run in which all rounds were done."""
     before = resource.getrusage(resource.RUSAGE_CHILDREN).ru_utime
-    told = subprocess.run(["out/bench_switch", task, str(room), str(count)], capture_output=True, check=True, text=True)
+    words = ["out/bench_parts", "switch", task, str(room), str(count)]
+    told = subprocess.run(words, capture_output=True, check=True, text=True)
     assert told.stdout.split()[-1] == str(count), told.stdout
     return resource.getrusage(resource.RUSAGE_CHILDREN).ru_utime - before
 

@@ -21,6 +21,7 @@ use def_instr::Instr;
 ///
 /// Division by zero gives all ones, and its remainder is the dividend; -2^31 divided by -1 gives
 /// -2^31 and remainder 0. Shift amounts count modulo 32.
+#[inline(always)]
 pub fn alu(instruction: Instr, x: u32, y: u32) -> u32
     requires { IsTrue (is_integer instruction) }
     ensures { result ≡ integer_result instruction x y }

@@ -7,9 +7,9 @@ ghost use Rattle.def_areas.specs.Touches.{Touches};
 ghost use Rattle.ct_areas.specs.Threads.{HasArea, area_begin, area_end, frames_most, thread_of};
 ghost use Rattle.ct_areas.specs.Parts.{saved_of, with_frame, deeper, pushed, inner_frame, inner_place, outer_frames, saved_in, without_frame, frame_cleared, shallower};
 
-use crate::areas::{frame_offset, plain, put};
+use crate::areas::{decoded, frame_offset, plain, put};
 use crate::thread::{Area, Thread};
-use ct_cap::{Live, expand, shrink};
+use ct_cap::{Live, shrink};
 use ct_mem::Memory;
 use def_profile::layout::FRAME_SIZE;
 
@@ -99,11 +99,11 @@ pub fn innermost<M: Memory>(t: &Thread, mem: &M) -> Saved
     let at = frame_offset(&t.area, t.depth - 1, mem);
     Saved {
         export: words(mem.load_cap(at + 40).word).0,
-        c1: expand(mem.load_cap(at)),
-        c2: expand(mem.load_cap(at + 8)),
-        c3: expand(mem.load_cap(at + 16)),
-        c8: expand(mem.load_cap(at + 24)),
-        c9: expand(mem.load_cap(at + 32)),
+        c1: decoded(mem.load_cap(at)),
+        c2: decoded(mem.load_cap(at + 8)),
+        c3: decoded(mem.load_cap(at + 16)),
+        c8: decoded(mem.load_cap(at + 24)),
+        c9: decoded(mem.load_cap(at + 32)),
     }
 }
 

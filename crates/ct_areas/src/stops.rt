@@ -9,9 +9,9 @@ ghost use Rattle.def_areas.specs.Touches.{Touches};
 ghost use Rattle.ct_areas.specs.Threads.{HasArea, area_begin, area_end, frames_most, thread_of};
 ghost use Rattle.ct_areas.specs.Parts.{register_in, with_saved, without_saved};
 
-use crate::areas::{area_offset, clear, put};
+use crate::areas::{area_offset, clear, decoded, put};
 use crate::thread::Thread;
-use ct_cap::{Live, expand, shrink};
+use ct_cap::{Live, shrink};
 use ct_loadstore::filter;
 use ct_mem::Memory;
 use def_profile::layout::SAVED_SIZE;
@@ -58,7 +58,7 @@ fn take_registers<M: Memory>(registers: &mut [Live; 16], mem: &M, ram: u32, at: 
     let _size = mem.size();
     registers[0] = Live::integer(0);
     for i in 0..15 {
-        registers[i + 1] = filter(mem, ram, expand(mem.load_cap(at + 8 * i as u32)));
+        registers[i + 1] = filter(mem, ram, decoded(mem.load_cap(at + 8 * i as u32)));
     }
 }
 
@@ -76,7 +76,7 @@ pub fn resume<M: Memory>(t: &mut Thread, mem: &mut M)
     ensures zero { register_in t.new 0 ≡ plain 0 }
 {
     let at = area_offset(&t.area, mem);
-    t.pcc = filter(mem, t.area.ram, expand(mem.load_cap(at)));
+    t.pcc = filter(mem, t.area.ram, decoded(mem.load_cap(at)));
     take_registers(&mut t.regs, mem, t.area.ram, at + 8);
     clear(mem, t.area.ram, t.area.trusted, SAVED_SIZE);
 }

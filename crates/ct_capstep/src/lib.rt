@@ -8,15 +8,17 @@ mod numbers;
 
 ghost use Rattle.std.specs.Prelude.{IsTrue, MatchResult, false, true, ◌||◌, ◌≡◌};
 ghost use Rattle.def_profile.specs.declared.traps.TheConstants.{PCC_REGISTER, SYSTEM_REGISTER_CODE};
+ghost use Rattle.def_words.specs.Capability.{with_address};
 ghost use Rattle.def_words.specs.Traps.{capability_trap};
 ghost use Rattle.def_instr.specs.Shapes.{is_capability, is_system};
 ghost use Rattle.def_capstep.specs.Results.{capability_result};
 
 use crate::numbers::{base, high, length, mask, rounded, top, upper_offset, with_high};
 use ct_cap::{
-    Live, add_address, and_perms, clear_tag, same, seal, set_address, set_bounds, set_bounds_exact,
-    subset, unseal,
+    Live, add_address, and_perms, clear_tag, same, seal, set_bounds, set_bounds_exact, subset,
+    unseal,
 };
+use ct_counter::turn;
 use def_instr::Instr;
 use def_profile::traps::{PCC_REGISTER, SYSTEM_REGISTER_CODE};
 use def_words::Trap;
@@ -27,6 +29,7 @@ use def_words::Trap;
 /// `auicgp` has the globals capability as x. An instruction with an immediate doesn't read y. `csr`
 /// and `cspecialrw` trap, whatever they name: there are no system registers (cause 28, code 24,
 /// register 16). Nothing else traps: a refused operation gives an untagged result.
+#[inline(always)]
 pub fn capstep(i: Instr, x: Live, y: Live, pcc: Live) -> Result<Live, Trap>
     requires { IsTrue (is_capability i || is_system i) }
     ensures { MatchResult result
@@ -37,44 +40,55 @@ pub fn capstep(i: Instr, x: Live, y: Live, pcc: Live) -> Result<Live, Trap>
         Instr::Csr { .. } | Instr::CSpecialRw { .. } => {
             Err(Trap::capability(SYSTEM_REGISTER_CODE, PCC_REGISTER))
         }
-        _ => Ok(carried_out(i, x, y, pcc)),
+        _ => Ok(derived(i, &x, &y, &pcc)),
     }
 }
 
-/// The result of an instruction that writes one.
+/// A capability at another address, by the address rule.
+#[inline(always)]
+fn placed(x: &Live, address: u32) -> Live
+    ensures { result ≡ with_address x.now address }
+{
+    let mut l = *x;
+    turn(&mut l, address);
+    l
+}
+
+/// The same of an instruction that is no access of system registers, from the capabilities where they stand.
 #[tactic(auto, unfolding(def_capstep::specs::Results::capability_result))]
-fn carried_out(i: Instr, x: Live, y: Live, pcc: Live) -> Live
+#[inline(always)]
+pub fn derived(i: Instr, x: &Live, y: &Live, pcc: &Live) -> Live
     requires { IsTrue (is_capability i) }
-    ensures { result ≡ capability_result i x y pcc }
+    ensures { result ≡ capability_result i x.now y.now pcc.now }
 {
     match i {
-        Instr::AuiPcc { immediate, .. } => add_address(pcc, upper_offset(immediate)),
-        Instr::AuiCgp { immediate, .. } => add_address(x, upper_offset(immediate)),
-        Instr::CIncAddr { .. } => add_address(x, y.address()),
-        Instr::CIncAddrImm { immediate, .. } => add_address(x, immediate),
-        Instr::CSetAddr { .. } => set_address(x, y.address()),
-        Instr::CSetBounds { .. } => set_bounds(x, y.address()),
-        Instr::CSetBoundsImm { immediate, .. } => set_bounds(x, immediate),
-        Instr::CSetBoundsExact { .. } => set_bounds_exact(x, y.address()),
-        Instr::CAndPerm { .. } => and_perms(x, y.address()),
-        Instr::CSeal { .. } => seal(x, y),
-        Instr::CUnseal { .. } => unseal(x, y),
-        Instr::CSetHigh { .. } => with_high(x, y.address()),
-        Instr::CMove { .. } => x,
-        Instr::CClearTag { .. } => clear_tag(x),
-        Instr::CTestSubset { .. } => Live::integer(subset(y, x) as u32),
-        Instr::CSetEqualExact { .. } => Live::integer(same(x, y) as u32),
+        Instr::AuiPcc { immediate, .. } => add_address(*pcc, upper_offset(immediate)),
+        Instr::AuiCgp { immediate, .. } => add_address(*x, upper_offset(immediate)),
+        Instr::CIncAddr { .. } => placed(x, x.address().wrapping_add(y.address())),
+        Instr::CIncAddrImm { immediate, .. } => placed(x, x.address().wrapping_add(immediate)),
+        Instr::CSetAddr { .. } => placed(x, y.address()),
+        Instr::CSetBounds { .. } => set_bounds(*x, y.address()),
+        Instr::CSetBoundsImm { immediate, .. } => set_bounds(*x, immediate),
+        Instr::CSetBoundsExact { .. } => set_bounds_exact(*x, y.address()),
+        Instr::CAndPerm { .. } => and_perms(*x, y.address()),
+        Instr::CSeal { .. } => seal(*x, *y),
+        Instr::CUnseal { .. } => unseal(*x, *y),
+        Instr::CSetHigh { .. } => with_high(*x, y.address()),
+        Instr::CMove { .. } => *x,
+        Instr::CClearTag { .. } => clear_tag(*x),
+        Instr::CTestSubset { .. } => Live::integer(subset(*y, *x) as u32),
+        Instr::CSetEqualExact { .. } => Live::integer(same(*x, *y) as u32),
         Instr::CSub { .. } => Live::integer(x.address().wrapping_sub(y.address())),
         Instr::CGetPerm { .. } => Live::integer(x.perms.0 as u32),
         Instr::CGetType { .. } => Live::integer(x.seal),
-        Instr::CGetBase { .. } => Live::integer(base(x)),
-        Instr::CGetTop { .. } => Live::integer(top(x)),
-        Instr::CGetLen { .. } => Live::integer(length(x)),
+        Instr::CGetBase { .. } => Live::integer(base(*x)),
+        Instr::CGetTop { .. } => Live::integer(top(*x)),
+        Instr::CGetLen { .. } => Live::integer(length(*x)),
         Instr::CGetTag { .. } => Live::integer(x.cap.tag as u32),
         Instr::CGetAddr { .. } => Live::integer(x.address()),
-        Instr::CGetHigh { .. } => Live::integer(high(x)),
-        Instr::Crrl { .. } => Live::integer(rounded(x)),
-        Instr::Cram { .. } => Live::integer(mask(x)),
+        Instr::CGetHigh { .. } => Live::integer(high(*x)),
+        Instr::Crrl { .. } => Live::integer(rounded(*x)),
+        Instr::Cram { .. } => Live::integer(mask(*x)),
         _ => unreachable!(),
     }
 }

@@ -1,6 +1,8 @@
 -- The running thread goes on.
 use Rattle.std.proofs.Common.{ℕ, zero, suc, ◌≡◌, ◌<◌, true, List, [], ◌∷◌, length, Some, refl, sym, ap, ◌∙◌, subst, arith}
 use Rattle.std.proofs.Math.ListN.{get_or, set}
+use Rattle.std.proofs.lemmas.List.{length-set}
+use Rattle.std.specs.Vec.{with_item}
 use Rattle.def_words.specs.declared.Cap.{Cap}
 use Rattle.def_words.specs.declared.Posture.{Posture}
 use Rattle.def_memory.specs.declared.Granule.{Granule}
@@ -20,6 +22,7 @@ use Rattle.ct_engine.specs.Seen.{seen_by, seen, thread, went, row_gone}
 use Rattle.ct_engine.specs.Kept.{IsKept, AreasFrom, Holds}
 use Rattle.ct_engine.proofs.Whole.{runs_it, thread_is, seen_turn, running_kept}
 use Rattle.ct_engine.proofs.Ends.{call_areas, stays_on}
+use Rattle.ct_engine.proofs.Stacks.{stacks_turn}
 
 -- what is seen of the running thread is its row
 pub running_is : (gs : List Granule) (rows : Rows) (t : ℕ) (r : row.Thread) → Holds gs rows → rows.running ≡ Some t → r ≡ get_or rows.list.items t r
@@ -83,3 +86,24 @@ go_seen gs rows t r q pcc posture to value holds runs is gone =
     (seen_turn rows.region gs gs rows.list.items rows.running rows.running t r (row_gone r pcc posture to value) (jumped (thread (seen gs rows) t) pcc posture to value)
     holds.areas (holds.runs t runs) is (unchanged gs (area_begin r.area) (area_end r.area)) (stays_on rows.running t) refl
     (subst (λ b. thread_of gs b (row_gone r pcc posture to value) ≡ jumped (thread (seen gs rows) t) pcc posture to value) (sym (runs_it rows t runs)) new))
+
+-- ---- it goes on from its own program counter, with its own posture
+
+-- these rows, of which one is another
+abbrev pub put_row : Rows → ℕ → row.Thread → Rows
+put_row rows t q = record rows { list = with_item rows.list t q }
+
+pub own_holds : (gs : List Granule) (rows : Rows) (t : ℕ) (r q : row.Thread) (f : Cap → Cap) (to : ℕ) (value : Cap) → Holds gs rows → rows.running ≡ Some t
+    → r ≡ get_or rows.list.items t r → q ≡ row_gone r (f r.pcc) r.posture to value → Holds gs (put_row rows t q)
+own_holds gs rows t r q f to value holds runs is gone = record {
+  areas = go_areas gs rows t r q (f r.pcc) r.posture to value holds runs is gone;
+  runs = λ u e. (let lt = holds.runs u e in let size = length-set rows.list.items t q in omega (arith, lt, size));
+  stacks = stacks_turn gs gs rows t r q holds (holds.runs t runs) is refl (ap (λ (u : row.Thread). u.area) gone);
+}
+
+pub own_seen : (gs : List Granule) (rows : Rows) (t : ℕ) (r q : row.Thread) (f : Cap → Cap) (to : ℕ) (value : Cap) → Holds gs rows → rows.running ≡ Some t
+    → r ≡ get_or rows.list.items t r → q ≡ row_gone r (f r.pcc) r.posture to value
+    → seen_by gs rows.region (set rows.list.items t q) rows.running ≡ went (seen gs rows) t (f (thread (seen gs rows) t).pcc) (thread (seen gs rows) t).posture to value
+own_seen gs rows t r q f to value holds runs is gone =
+    go_seen gs rows t r q (f r.pcc) r.posture to value holds runs is gone
+    ∙ ap (λ (u : Thread). went (seen gs rows) t (f u.pcc) u.posture to value) (sym (running_is gs rows t r holds runs is))

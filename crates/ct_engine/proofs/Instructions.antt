@@ -1,5 +1,5 @@
 -- An instruction's fetch, load or store that meets nothing hidden is the one of what is seen.
-use Rattle.std.proofs.Common.{ℕ, ◌≡◌, ◌+◌, ◌-◌, ◌*◌, ◌/◌, ◌%◌, ◌≤◌, Bool, true, false, List, length, Option, Some, None, Result, Ok, Err, nat_le, refl, sym, ap, ◌∙◌, subst}
+use Rattle.std.proofs.Common.{ℕ, ◌≡◌, ◌+◌, ◌-◌, ◌*◌, ◌/◌, ◌%◌, ◌≤◌, Bool, true, false, List, length, Option, Some, None, IfSome, Result, Ok, Err, nat_le, refl, sym, ap, ◌∙◌, subst}
 use Rattle.std.proofs.lemmas.Bool.{leb-true, and_parts}
 use Rattle.law_lists.proofs.Tests.{chosen}
 use Rattle.law_granules.proofs.Lists.{store_rest, cap_rest}
@@ -10,11 +10,12 @@ use Rattle.def_words.specs.Loaded.{stored_through}
 use Rattle.def_memory.specs.declared.Granule.{Granule}
 use Rattle.def_areas.specs.Areas.{held}
 use Rattle.def_instr.specs.declared.Instr.{Instr}
+use Rattle.def_instr.specs.Reading.{instruction_in}
 use Rattle.def_step.specs.declared.Access.{Access}
 use Rattle.def_step.specs.Checks.{first_failed}
 use Rattle.def_step.specs.Devices.{Bank}
 use Rattle.def_step.specs.Accesses.{Space, Accessed, access_of, access_address, access_checks, access_result, accessed, in_ram, on_device, is_ram, ram_stored, unless}
-use Rattle.def_step.specs.Instructions.{next_at}
+use Rattle.def_step.specs.Instructions.{next_at, next_word}
 use Rattle.def_veil.specs.Veil.{veiled}
 use Rattle.def_veil.specs.Steps.{veil_space, veil_result, IsSeen, SeesAccess}
 use Rattle.law_veil.proofs.Granules.{veiled_length}
@@ -36,6 +37,12 @@ pub next_is : (gs : List Granule) (rows : Rows) (v : Seen) (at : ℕ) → seen g
 next_is gs rows v at is open_ =
     let here : IsSeen (hides rows.region) rows.region.ram at = rw (← is) at open_ in
     sym (next_same (hides rows.region) (space_of rows.region.ram gs no_bank 0) at here) ∙ ap (λ (s : Seen). next_in s at) is
+
+-- of a word
+pub word_is : (gs : List Granule) (rows : Rows) (v : Seen) (at : ℕ) (r : Option ℕ) → seen gs rows ≡ v → IsSeen (hides v.region) v.region.ram at
+    → IfSome r (λ w. next_at (space_of rows.region.ram gs no_bank 0) at ≡ next_word (instruction_in w)) → IfSome r (λ w. next_in v at ≡ next_word (instruction_in w))
+word_is gs rows v at None is open_ e = e
+word_is gs rows v at (Some w) is open_ e = sym (next_is gs rows v at is open_) ∙ e
 
 -- ---- what a load or a store leaves of what is hidden
 

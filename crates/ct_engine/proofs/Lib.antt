@@ -18,3 +18,4 @@ pub mod Sweeps
 pub mod Sliced
 pub mod Sifting
 pub mod Flushing
+pub mod Quietly

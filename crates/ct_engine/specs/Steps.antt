@@ -1,5 +1,5 @@
 -- What an instruction of the running thread works on beside that thread, and what it finds and leaves there.
-use Rattle.std.specs.Prelude.{ℕ, ◌+◌, ◌*◌, ◌%◌, ◌≡◌, ◌≤◌, List, [], Result, Ok, Err, MatchResult}
+use Rattle.std.specs.Prelude.{ℕ, ◌+◌, ◌*◌, ◌%◌, ◌≡◌, ◌≤◌, Bool, List, [], Some, None, Result, Ok, Err, MatchResult}
 use Rattle.def_profile.specs.declared.limits.TheConstants.{RAM_END}
 use Rattle.def_profile.specs.declared.native.TheConstants.{RETURN}
 use Rattle.def_words.specs.declared.Cap.{Cap}
@@ -10,7 +10,9 @@ use Rattle.def_instr.specs.Table.{InRange}
 use Rattle.def_step.specs.declared.Next.{Next}
 use Rattle.def_step.specs.declared.Next.TheVariants.{Returning, Instruction, Native, Nothing}
 use Rattle.def_step.specs.declared.TheConstants.{LAST_ROUTINE}
-use Rattle.def_step.specs.Accesses.{Space, access_result}
+use Rattle.def_step.specs.declared.Access.{Access}
+use Rattle.def_step.specs.Accesses.{Space, access_of, access_result}
+use Rattle.def_veil.specs.Steps.{SeesAccess}
 use Rattle.def_step.specs.Devices.{Bank}
 use Rattle.def_step.specs.Instructions.{next_at}
 use Rattle.ct_loadstore.specs.Shapes.{MovedRow, space_of}
@@ -54,3 +56,23 @@ IsMoved i x y p gs k r =
     (λ m. access_result i x y p
     ≡ Ok (record { value = m.value; act = m.device; granules = gs; bank = k }))
     (λ w. (access_result i x y p ≡ Err w) × (gs ≡ p.granules) × (k ≡ p.bank))
+
+-- ---- an access that no check refuses, in RAM, by an instruction of this access, whatever the devices and the time
+
+-- an instruction has this access, and where its checks pass nothing is hidden
+abbrev pub SeesThrough : (ℕ → Bool) → ℕ → Access → Cap → Cap → Type 0
+SeesThrough hides ram a x y = (i : Instr) × (access_of i ≡ a) × SeesAccess hides ram i x y
+
+-- a load through x gives this
+abbrev pub IsGiven : Access → Cap → Cap → Seen → Cap → Type 0
+IsGiven a x y s value =
+    (i : Instr) (k : Bank) (time : ℕ) → access_of i ≡ a
+    → access_result i x y (space_in s k time)
+    ≡ Ok (record { value = Some value; act = None; granules = s.granules; bank = k })
+
+-- a store of y through x leaves these granules
+abbrev pub IsStored : Access → Cap → Cap → Seen → List Granule → Type 0
+IsStored a x y s gs =
+    (i : Instr) (k : Bank) (time : ℕ) → access_of i ≡ a
+    → access_result i x y (space_in s k time)
+    ≡ Ok (record { value = None; act = None; granules = gs; bank = k })

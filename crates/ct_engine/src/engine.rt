@@ -158,6 +158,7 @@ impl<M: Memory + Drop> Engine<M> {
     }
 
     /// A register of the running thread.
+    #[inline(always)]
     pub fn register(&self, t: u32, number: u32) -> Live
         requires runs { self.now.running ≡ Some t }
         requires number { number < 16 }
@@ -167,6 +168,7 @@ impl<M: Memory + Drop> Engine<M> {
     }
 
     /// The program counter capability of the running thread.
+    #[inline(always)]
     pub fn pcc(&self, t: u32) -> Live
         requires { self.now.running ≡ Some t }
         ensures { result ≡ (thread self.now t).pcc }

@@ -1,7 +1,8 @@
 //! What stands at an address.
 
-ghost use Rattle.std.specs.Prelude.{◌≡◌, ◌+◌, ◌*◌, ◌%◌, ◌&&◌, ◌==◌, length, nat_le};
-ghost use Rattle.def_step.specs.Instructions.{fetched, next_at, next_native, is_native_entry};
+ghost use Rattle.std.specs.Prelude.{◌≡◌, ◌+◌, ◌*◌, ◌%◌, ◌&&◌, ◌==◌, IfSome, length, nat_le};
+ghost use Rattle.def_instr.specs.Reading.{instruction_in};
+ghost use Rattle.def_step.specs.Instructions.{fetched, next_at, next_native, next_word, is_native_entry};
 ghost use Rattle.ct_loadstore.specs.Shapes.{space_of};
 ghost use Rattle.ct_engine.specs.Steps.{no_bank, NextInRange};
 
@@ -10,7 +11,11 @@ use ct_mem::Memory;
 use def_profile::native::{LAST_NATIVE, NATIVE_BASE, NATIVE_UNIT, RETURN_ENTRY};
 use def_step::{LAST_ROUTINE, Next};
 
+/// The first address past the entries of native routines.
+const FIRST_AFTER_NATIVE: u32 = NATIVE_BASE + NATIVE_UNIT * (LAST_NATIVE + 1);
+
 /// Whether an aligned word at an address lies in RAM.
+#[inline(always)]
 fn is_word_of_ram<M: Memory>(mem: &M, ram: u32, at: u32) -> bool
     ensures { result ≡ nat_le ram at && nat_le (at + 4) (ram + 8 * length (M.granules mem.now))
         && (at % 4 == 0) }
@@ -33,7 +38,7 @@ fn fetch<M: Memory>(mem: &M, ram: u32, at: u32) -> u32
 fn is_native_entry(at: u32) -> bool
     ensures { result ≡ is_native_entry at }
 {
-    NATIVE_BASE <= at && at < NATIVE_BASE + NATIVE_UNIT * (LAST_NATIVE + 1) && at % NATIVE_UNIT == 0
+    NATIVE_BASE <= at && at < FIRST_AFTER_NATIVE && at % NATIVE_UNIT == 0
 }
 
 /// The native routine of a number, where one is carried out.
@@ -63,4 +68,17 @@ pub(crate) fn next<M: Memory>(mem: &M, ram: u32, at: u32) -> Next
         Some(instruction) => Next::Instruction { instruction },
         None => Next::Nothing,
     }
+}
+
+/// The word at an address past the native routines, hidden or not, where a whole word of RAM stands there; else `None`.
+#[inline(always)]
+pub(crate) fn word_at<M: Memory>(mem: &M, ram: u32, at: u32) -> Option<u32>
+    requires { ram % 16 ≡ 0 }
+    ensures { IfSome result (λ w. next_at (space_of ram (M.granules mem.now) no_bank 0) at
+        ≡ next_word (instruction_in w)) }
+{
+    if at >= FIRST_AFTER_NATIVE && is_word_of_ram(mem, ram, at) {
+        return Some(mem.load(at - ram, 4));
+    }
+    None
 }

@@ -12,6 +12,7 @@ mod engine;
 mod fetching;
 mod frames;
 mod heaps;
+mod quiet;
 mod rows;
 mod starting;
 mod steps;

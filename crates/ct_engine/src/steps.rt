@@ -1,19 +1,23 @@
 //! What the running thread holds, and how it goes on.
 
-ghost use Rattle.std.specs.Prelude.{◌≡◌, ◌<◌, Some, List, length, map, slice_index_or};
+ghost use Rattle.std.specs.Prelude.{◌≡◌, ◌<◌, Some, List, is_none, length, map, slice_index_or};
+ghost use Rattle.def_words.specs.Authority.{cap_address};
+ghost use Rattle.def_words.specs.Capability.{integer, raised, with_address};
 ghost use Rattle.def_memory.specs.declared.Granule.{Granule};
 ghost use Rattle.def_memory.specs.Granules.{plain};
 ghost use Rattle.def_machine.specs.Memory.{filtered_in};
 ghost use Rattle.def_machine.specs.Registers.{written};
 ghost use Rattle.def_machine.specs.State.{register};
-ghost use Rattle.def_step.specs.Instructions.{actor_of};
+ghost use Rattle.def_step.specs.Checks.{first_failed};
+ghost use Rattle.def_step.specs.Instructions.{actor_of, fetch_checks};
 ghost use Rattle.ct_engine.specs.Heaps.{sifted};
 ghost use Rattle.ct_engine.specs.Kept.{Holds};
 ghost use Rattle.ct_engine.specs.Seen.{seen, thread, went, row_gone};
 
 use crate::rows::Rows;
 use ct_areas::Thread;
-use ct_cap::{Live, Posture};
+use ct_cap::{Live, Permission, Posture};
+use ct_counter::raise;
 use ct_loadstore::filter;
 use ct_mem::Memory;
 
@@ -28,6 +32,7 @@ fn write(registers: &mut [Live; 16], number: u32, value: Live)
 }
 
 /// A register's value.
+#[inline(always)]
 fn read(registers: &[Live; 16], number: u32) -> Live
     requires { number < 16 }
     ensures { result ≡ slice_index_or registers.now number (plain 0) }
@@ -58,6 +63,7 @@ pub(crate) fn go(rows: &mut Rows, t: u32, pcc: Live, posture: Posture, to: u32, 
 }
 
 /// A register of the running thread.
+#[inline(always)]
 pub(crate) fn register(rows: &Rows, t: u32, number: u32) -> Live
     requires there { t < length rows.now.list.items }
     requires runs { rows.now.running ≡ Some t }
@@ -69,6 +75,7 @@ pub(crate) fn register(rows: &Rows, t: u32, number: u32) -> Live
 }
 
 /// The program counter capability of the running thread.
+#[inline(always)]
 pub(crate) fn pcc(rows: &Rows, t: u32) -> Live
     requires there { t < length rows.now.list.items }
     requires runs { rows.now.running ≡ Some t }
@@ -127,4 +134,159 @@ pub(crate) fn sift<M: Memory>(rows: &mut Rows, mem: &M, t: u32)
         ≡ sifted (seen (M.granules mem.now) rows.old) t }
 {
     sift_row(&mut rows.list[t as usize], mem);
+}
+
+/// Whether each check of a fetch passes.
+#[inline(always)]
+fn may_fetch(pcc: &Live) -> bool
+    ensures { result ≡ is_none (first_failed (fetch_checks pcc.now)) }
+{
+    let at = pcc.address() as u64;
+    pcc.cap.tag
+        && pcc.seal == 0
+        && pcc.perms.has(Permission::Execute)
+        && pcc.bounds.base <= at
+        && at + 4 <= pcc.bounds.top
+}
+
+/// Whether each check of a fetch by the running thread passes.
+#[inline(always)]
+pub(crate) fn fetches(rows: &Rows, t: u32) -> bool
+    requires there { t < length rows.now.list.items }
+    requires runs { rows.now.running ≡ Some t }
+    ensures { (gs : List Granule) → Holds gs rows.now
+        → result ≡ is_none (first_failed (fetch_checks (thread (seen gs rows.now) t).pcc)) }
+{
+    may_fetch(&rows.list[t as usize].pcc)
+}
+
+/// The address of the running thread's program counter.
+#[inline(always)]
+pub(crate) fn address(rows: &Rows, t: u32) -> u32
+    requires there { t < length rows.now.list.items }
+    requires runs { rows.now.running ≡ Some t }
+    ensures { (gs : List Granule) → Holds gs rows.now
+        → result ≡ cap_address (thread (seen gs rows.now) t).pcc }
+{
+    rows.list[t as usize].pcc.address()
+}
+
+/// A register's value where it stands.
+#[inline(always)]
+fn lend(registers: &[Live; 16], number: u32) -> &Live
+    requires { number < 16 }
+    ensures { result.now ≡ slice_index_or registers.now number (plain 0) }
+{
+    &registers[number as usize]
+}
+
+/// A register of the running thread where it stands.
+#[inline(always)]
+pub(crate) fn lent(rows: &Rows, t: u32, number: u32) -> &Live
+    requires there { t < length rows.now.list.items }
+    requires runs { rows.now.running ≡ Some t }
+    requires number { number < 16 }
+    ensures { (gs : List Granule) → Holds gs rows.now
+        → result.now ≡ register (thread (seen gs rows.now) t) number }
+{
+    lend(&rows.list[t as usize].regs, number)
+}
+
+/// The program counter capability of the running thread where it stands.
+#[inline(always)]
+pub(crate) fn lent_pcc(rows: &Rows, t: u32) -> &Live
+    requires there { t < length rows.now.list.items }
+    requires runs { rows.now.running ≡ Some t }
+    ensures { (gs : List Granule) → Holds gs rows.now
+        → result.now ≡ (thread (seen gs rows.now) t).pcc }
+{
+    &rows.list[t as usize].pcc
+}
+
+/// The address in a register of the running thread.
+#[inline(always)]
+pub(crate) fn number(rows: &Rows, t: u32, number: u32) -> u32
+    requires there { t < length rows.now.list.items }
+    requires runs { rows.now.running ≡ Some t }
+    requires number { number < 16 }
+    ensures { (gs : List Granule) → Holds gs rows.now
+        → result ≡ cap_address (register (thread (seen gs rows.now) t) number) }
+{
+    lent(rows, t, number).address()
+}
+
+/// A row whose thread goes on after its instruction; a register gets a number.
+#[inline(always)]
+fn put_number_row(t: &mut Thread, to: u32, value: u32)
+    requires { to < 16 }
+    ensures { t.new ≡ row_gone t.old (raised t.old.pcc 4) t.old.posture to (integer value) }
+{
+    if to != 0 {
+        t.regs[to as usize] = Live::integer(value);
+    }
+    raise(&mut t.pcc, 4);
+}
+
+/// The running thread goes on after its instruction; a register gets a number.
+#[inline(always)]
+pub(crate) fn put_number(rows: &mut Rows, t: u32, to: u32, value: u32)
+    requires there { t < length rows.old.list.items }
+    requires runs { rows.old.running ≡ Some t }
+    requires to { to < 16 }
+    ensures holds { (gs : List Granule) → Holds gs rows.old → Holds gs rows.new }
+    ensures seen { (gs : List Granule) → Holds gs rows.old
+        → seen gs rows.new ≡ went (seen gs rows.old) t
+        (raised (thread (seen gs rows.old) t).pcc 4)
+        (thread (seen gs rows.old) t).posture to (integer value) }
+{
+    put_number_row(&mut rows.list[t as usize], to, value);
+}
+
+/// A row whose thread goes on after its instruction; a register gets a value.
+#[inline(always)]
+fn put_row(t: &mut Thread, to: u32, value: Live)
+    requires { to < 16 }
+    ensures { t.new ≡ row_gone t.old (raised t.old.pcc 4) t.old.posture to value }
+{
+    if to != 0 {
+        t.regs[to as usize] = value;
+    }
+    raise(&mut t.pcc, 4);
+}
+
+/// The running thread goes on after its instruction; a register gets a value.
+#[inline(always)]
+pub(crate) fn put(rows: &mut Rows, t: u32, to: u32, value: Live)
+    requires there { t < length rows.old.list.items }
+    requires runs { rows.old.running ≡ Some t }
+    requires to { to < 16 }
+    ensures holds { (gs : List Granule) → Holds gs rows.old → Holds gs rows.new }
+    ensures seen { (gs : List Granule) → Holds gs rows.old
+        → seen gs rows.new ≡ went (seen gs rows.old) t
+        (raised (thread (seen gs rows.old) t).pcc 4)
+        (thread (seen gs rows.old) t).posture to value }
+{
+    put_row(&mut rows.list[t as usize], to, value);
+}
+
+/// A row whose thread goes on at an address.
+#[inline(always)]
+fn turn_row(t: &mut Thread, target: u32)
+    ensures { t.new ≡ row_gone t.old (with_address t.old.pcc target) t.old.posture 0 (integer 0) }
+{
+    ct_counter::turn(&mut t.pcc, target);
+}
+
+/// The running thread goes on at an address.
+#[inline(always)]
+pub(crate) fn turn(rows: &mut Rows, t: u32, target: u32)
+    requires there { t < length rows.old.list.items }
+    requires runs { rows.old.running ≡ Some t }
+    ensures holds { (gs : List Granule) → Holds gs rows.old → Holds gs rows.new }
+    ensures seen { (gs : List Granule) → Holds gs rows.old
+        → seen gs rows.new ≡ went (seen gs rows.old) t
+        (with_address (thread (seen gs rows.old) t).pcc target)
+        (thread (seen gs rows.old) t).posture 0 (integer 0) }
+{
+    turn_row(&mut rows.list[t as usize], target);
 }

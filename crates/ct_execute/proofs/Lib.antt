@@ -1,4 +1,5 @@
 pub mod Ends
 pub mod Executed
 pub mod Opens
+pub mod Quietly
 pub mod Reaching

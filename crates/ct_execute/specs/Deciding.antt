@@ -88,6 +88,16 @@ Decided Returns t s k new bank r = (new ≡ s) × (bank ≡ k) × (r ≡ Returne
 Decided (Serves number) t s k new bank r = (new ≡ s) × (bank ≡ k) × (r ≡ Native number)
 Decided (Traps why) t s k new bank r = (new ≡ s) × (bank ≡ k) × (r ≡ Trapped why)
 
+-- what it leaves of the engine where it goes on, does nothing that is told, leaves the devices as they are, and keeps
+-- the posture; no other decision is so
+abbrev pub WentQuietly : Decision → ℕ → Seen → Bank → Seen → Type 0
+WentQuietly (Goes d entry) t s k new =
+    (new ≡ with_granules (went s t d.pcc d.posture d.to d.value) d.granules) × (k ≡ d.bank)
+    × (d.act ≡ None) × (d.posture ≡ (thread s t).posture)
+WentQuietly Returns t s k new = ⊥
+WentQuietly (Serves number) t s k new = ⊥
+WentQuietly (Traps why) t s k new = ⊥
+
 -- of one instruction after which something is left to do: it returned or trapped, or a native routine is to run
 abbrev pub IfUnfinished : Ran → Type 0 → Type 0
 IfUnfinished (Went act entry) P = Unit {0}

@@ -1,2 +1,3 @@
 pub mod Deciding
 pub mod Opening
+pub mod Quiet

@@ -13,12 +13,12 @@ ghost use Rattle.ct_engine.specs.Steps.{space_in, IsHeapPlaced};
 ghost use Rattle.ct_execute.specs.Deciding.{decide_by, decide_instruction, Decided, Stays};
 ghost use Rattle.ct_execute.specs.Opening.{IsOpen};
 
-use crate::operands::{class_of, operands_of};
 use crate::ran::Ran;
 use ct_alu::alu;
 use ct_bus::Bus;
 use ct_cap::{Live, Trap, add_address};
 use ct_capstep::capstep;
+use ct_decoded::{class_of, operands_of};
 use ct_entry::Entries;
 use ct_exports::called;
 use ct_flow::flow;

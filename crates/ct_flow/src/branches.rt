@@ -13,8 +13,10 @@ fn is_less_signed(x: u32, y: u32) -> bool
     x.cast_signed() < y.cast_signed()
 }
 
-/// Whether a branch is taken, for the words of its two registers; no other instruction is.
-pub(crate) fn takes(instruction: Instr, x: u32, y: u32) -> bool
+/// Whether a branch is taken, for the words of its two registers: `beq` and `bne` compare the words, `blt` and `bge`
+/// compare them as signed numbers, `bltu` and `bgeu` as unsigned ones. What is no branch is not taken.
+#[inline(always)]
+pub fn takes(instruction: Instr, x: u32, y: u32) -> bool
     ensures { result ≡ is_taken instruction x y }
 {
     match instruction {

@@ -9,6 +9,7 @@ mod deciding;
 mod outcome;
 mod registers;
 
+pub use branches::takes;
 pub use deciding::flow;
 pub use outcome::Flow;
 pub use registers::posture_through;

@@ -6,5 +6,6 @@ pub mod Granted
 pub mod Freeing
 pub mod Turns
 pub mod Moves
+pub mod Quietly
 pub mod Calls
 pub mod Begins

@@ -92,6 +92,7 @@ impl<M: Memory + Drop> Engine<M> {
     }
 
     /// A register of the running thread.
+    #[inline(always)]
     pub fn register(&self, t: u32, number: u32) -> Live
         requires runs { self.now.threads.running ≡ Some t }
         requires number { number < 16 }
@@ -101,6 +102,7 @@ impl<M: Memory + Drop> Engine<M> {
     }
 
     /// The program counter capability of the running thread.
+    #[inline(always)]
     pub fn pcc(&self, t: u32) -> Live
         requires { self.now.threads.running ≡ Some t }
         ensures { result ≡ (thread self.now.threads t).pcc }

@@ -10,6 +10,7 @@ mod calling;
 mod engine;
 mod granting;
 mod moving;
+mod quiet;
 mod sweeping;
 
 pub use ct_engine::{Called, Fresh, Region};

@@ -1,9 +1,10 @@
 //! The revoker.
 
-ghost use Rattle.std.specs.Prelude.{ℕ, ◌≡◌, ◌≤◌, ◌*◌, Some, IsSome, List, length, unwrap_or};
+ghost use Rattle.std.specs.Prelude.{ℕ, ◌≡◌, ◌≤◌, ◌*◌, ◌||◌, Some, IsSome, is_some, List, length, unwrap_or};
 ghost use Rattle.def_machine.specs.Image.{Image};
 ghost use Rattle.def_machine.specs.State.{State, Status};
 ghost use Rattle.def_machine.specs.Heap.{swept};
+ghost use Rattle.def_machine.specs.Objects.{has_quarantined};
 ghost use Rattle.ct_engine.specs.Heaps.{NoneLeft};
 ghost use Rattle.ct_engine.specs.Written.{HasAreas};
 ghost use Rattle.ct_heaped.specs.Seen.{Seen};
@@ -14,6 +15,14 @@ use crate::engine::Engine;
 use ct_mem::Memory;
 
 impl<M: Memory + Drop> Engine<M> {
+    /// Whether a sweep runs, or is to begin.
+    #[inline(always)]
+    fn has_sweep(&self) -> bool
+        ensures { result ≡ is_some self.now.front || has_quarantined self.now.objects }
+    {
+        self.front.running() || self.heap.quarantined()
+    }
+
     /// Where no sweep runs and an object is quarantined, a sweep begins: every quarantined object is painted.
     fn begin(&mut self)
         ensures { self.new ≡ began self.old self.old.front }
@@ -52,12 +61,9 @@ impl<M: Memory + Drop> Engine<M> {
         }
     }
 
-    /// One slice of the revoker: where no sweep runs and an object is quarantined, one begins; where one runs, it
-    /// passes `rate` granules, or those that are left; where it has passed all of RAM, the objects that were painted
-    /// as it began leave.
-    ///
-    /// Condition: where it ends, no capability of a painted object is left, which a sweep sees to.
-    pub fn sweep(&mut self, rate: u32)
+    /// One slice of the revoker, also where no sweep runs and none is to begin: then nothing changes.
+    #[inline(never)]
+    fn sweep_on(&mut self, rate: u32)
         requires left { (front : ℕ) → (began self.old self.old.front).front ≡ Some front
             → size_of self.old ≤ slice_end self.old rate front
             → NoneLeft (began self.old self.old.front).objects
@@ -67,6 +73,25 @@ impl<M: Memory + Drop> Engine<M> {
     {
         self.begin();
         self.pass(rate);
+    }
+
+    /// One slice of the revoker: where no sweep runs and an object is quarantined, one begins; where one runs, it
+    /// passes `rate` granules, or those that are left; where it has passed all of RAM, the objects that were painted
+    /// as it began leave.
+    ///
+    /// Condition: where it ends, no capability of a painted object is left, which a sweep sees to.
+    #[inline(always)]
+    pub fn sweep(&mut self, rate: u32)
+        requires left { (front : ℕ) → (began self.old self.old.front).front ≡ Some front
+            → size_of self.old ≤ slice_end self.old rate front
+            → NoneLeft (began self.old self.old.front).objects
+            (with_slice (began self.old self.old.front) front
+            (slice_end self.old rate front)).threads }
+        ensures { self.new ≡ swept_by self.old rate }
+    {
+        if self.has_sweep() {
+            self.sweep_on(rate);
+        }
     }
 }
 

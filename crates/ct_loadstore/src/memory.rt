@@ -23,6 +23,16 @@ pub(crate) fn kept(x: Live, y: Live) -> Live
     y
 }
 
+/// The number at an address in RAM, as a load widens it.
+pub(crate) fn number<M: Memory>(a: Access, at: u32, mem: &M, ram: u32) -> u32
+    requires shape { IsShape a }
+    requires part { a.whole ≡ false }
+    requires reaches { Reaches a ram (length (M.granules mem.now)) at }
+    ensures { result ≡ widened a (loaded (M.granules mem.now) (at - ram) a.width) }
+{
+    widen(a, mem.load(at - ram, a.width))
+}
+
 /// A load at an address in RAM, through x.
 pub(crate) fn load<M: Memory>(a: Access, x: Live, at: u32, mem: &M, ram: u32) -> Live
     requires shape { IsShape a }
@@ -32,7 +42,7 @@ pub(crate) fn load<M: Memory>(a: Access, x: Live, at: u32, mem: &M, ram: u32) ->
     if a.whole {
         return filter(mem, ram, attenuate(x, expand(mem.load_cap(at - ram))));
     }
-    Live::integer(widen(a, mem.load(at - ram, a.width)))
+    Live::integer(number(a, at, mem, ram))
 }
 
 /// A store of y at an address in RAM, through x.

@@ -49,7 +49,7 @@ impl Model for Moved {
 }
 
 /// Whether so many bytes from an address on lie in RAM.
-fn in_ram<M: Memory>(mem: &M, ram: u32, at: u32, width: u32) -> bool
+pub(crate) fn in_ram<M: Memory>(mem: &M, ram: u32, at: u32, width: u32) -> bool
     ensures { result ≡ nat_le ram at
         && nat_le (at + width) (ram + 8 * length (M.granules mem.now)) }
 {

@@ -38,7 +38,7 @@ fn store(width: u32, whole: bool, by: u32, immediate: u32) -> Access
 }
 
 /// A load or store as its instruction names it.
-pub(crate) fn access(instruction: Instr) -> Access
+pub fn access(instruction: Instr) -> Access
     requires { IsTrue (is_access instruction) }
     ensures is { result ≡ access_of instruction }
     ensures shape { IsShape result }

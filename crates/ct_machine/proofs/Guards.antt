@@ -1,11 +1,12 @@
 -- A machine that starts is guarded, and every event keeps it so.
-use Rattle.std.proofs.Common.{◌≡◌, subst, sym}
+use Rattle.std.proofs.Common.{◌≡◌, Bool, true, false, refl, ap, subst, sym}
 use Rattle.ct_entry.specs.declared.acts.Happened.{Happened}
 use Rattle.def_board.specs.Guarded.{Guarded}
 use Rattle.def_confined.specs.Telling.{IsLicensedEvent}
 use Rattle.def_hidden.specs.Hidden.{Blank}
 use Rattle.def_machine.specs.State.{State}
 use Rattle.def_step.specs.declared.Event.{Event}
+use Rattle.def_step.specs.declared.Event.TheVariants.{Step}
 use Rattle.def_step.specs.Instructions.{Board}
 use Rattle.def_step.specs.Events.{MachineRow, happens}
 use Rattle.def_image.specs.Parts.{PartsRow}
@@ -21,6 +22,7 @@ use Rattle.law_started.proofs.Blanking.{blank}
 use Rattle.law_settled.proofs.Events.{event_settles}
 use Rattle.law_blank.proofs.Events.{event_blank}
 use Rattle.law_events.proofs.Events.{event_keeps, deed_licensed, span_licensed}
+use Rattle.ct_machine.specs.Going.{silence}
 
 pub at_boot : (p : PartsRow) → Sound p → Guarded (booted_machine p)
 at_boot p s = record {
@@ -75,3 +77,18 @@ blank_by m n e g hidden state board = whole n.board n.state board state
 
 pub blank_booted : (p : PartsRow) (m : MachineRow) → Sound p → m ≡ booted_machine p → IsBlank m
 blank_booted p m s is = subst IsBlank (sym is) (blank p s)
+
+-- ---- a step that tells nothing, or nothing
+
+same_by : (m n : MachineRow) → n.state ≡ m.state → n.board ≡ m.board → Guarded m × IsBlank m → Guarded n × IsBlank n
+same_by m n state board h = whole n.board n.state board state
+  where
+    whole : (b : Board) (s : State) → b ≡ m.board → s ≡ m.state → Guarded (record { board = b; state = s }) × Blank b.image s
+    whole b s is_board is_state = rw (is_board, is_state) h
+
+pub quietly_by : (m n : MachineRow) (went : Bool) → (went ≡ true → (n.state, silence) ≡ happens m.board m.state Step) → (went ≡ false → n.state ≡ m.state) → n.board ≡ m.board
+    → Guarded m × IsBlank m → Guarded n × IsBlank n
+quietly_by m n true is same board h =
+    let state : n.state ≡ (happens m.board m.state Step).0 = ap (λ (r : State × Happened). r.0) (is refl) in
+    (kept_by m n Step h.0 state board, blank_by m n Step h.0 h.1 state board)
+quietly_by m n false is same board h = same_by m n (same refl) board h

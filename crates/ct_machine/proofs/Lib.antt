@@ -4,6 +4,7 @@ pub mod Granting
 pub mod Guards
 pub mod Keeping
 pub mod Opened
+pub mod Quietly
 pub mod Ready
 pub mod Resting
 pub mod Sizes

@@ -8,6 +8,7 @@ ghost use Rattle.def_step.specs.Events.{is_lawful, end_of, totals_of, holder, is
 use crate::plan::Plan;
 use crate::tally::Tally;
 use ct_bus::Bus;
+use ct_decoded::Decoded;
 use ct_entry::{End, Owned, Totals};
 use ct_heaped::Engine as Threads;
 use ct_mem::Memory;
@@ -18,7 +19,8 @@ use std::marker::Model;
 
 /// What a machine consists of. Its type keeps places, priorities and counts.
 ///
-/// Contracts see it as its board, which never changes, and its state.
+/// Contracts see it as its board, which never changes, and its state. The words of code that are kept decoded are for
+/// speed alone, and no contract sees them.
 #[derive(Drop)]
 pub(crate) struct Engine<M: Memory + Drop> {
     pub(crate) plan: Plan,
@@ -28,6 +30,7 @@ pub(crate) struct Engine<M: Memory + Drop> {
     pub(crate) pending: bool,
     pub(crate) time: u64,
     pub(crate) counts: Tally,
+    pub(crate) decoded: Decoded,
 }
 
 impl<M: Memory + Drop> Model for Engine<M> {

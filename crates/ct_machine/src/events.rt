@@ -1,6 +1,6 @@
 //! What an event does to an engine.
 
-ghost use Rattle.std.specs.Prelude.{◌≡◌, ◌≤◌, ◌<◌, IsTrue};
+ghost use Rattle.std.specs.Prelude.{◌≡◌, ◌≤◌, ◌<◌, IsTrue, true, false};
 ghost use Rattle.def_profile.specs.declared.limits.TheConstants.{MOST_STEPS};
 ghost use Rattle.def_board.specs.Guarded.{Guarded};
 ghost use Rattle.def_machine.specs.Heap.{swept};
@@ -11,6 +11,7 @@ ghost use Rattle.ct_machine.specs.Parts.{deeds_of};
 
 use crate::engine::Engine;
 use ct_entry::Happened;
+use ct_execute::execute_quietly;
 use ct_mem::Memory;
 use def_step::Event;
 
@@ -40,6 +41,33 @@ impl<M: Memory + Drop> Engine<M> {
         let deed = self.carry_on();
         let off = self.begun(before);
         Happened { deed, off }
+    }
+
+    /// The same where no tick is pending, a thread runs, and `execute_quietly` carries its instruction out: `true`, and
+    /// the step tells nothing. Else `false`, and nothing changes: a step that tells nothing may be left too, and a body
+    /// that always answers `false` meets this.
+    #[inline(always)]
+    pub(crate) fn step_quietly(&mut self) -> bool
+        requires guarded { Guarded self.old }
+        requires lawful { IsTrue (is_lawful self.old.state event.Step) }
+        ensures is { result ≡ true
+            → (self.new.state, silence) ≡ happens self.old.board self.old.state event.Step }
+        ensures same { result ≡ false → self.new.state ≡ self.old.state }
+        ensures board { self.new.board ≡ self.old.board }
+    {
+        if self.pending {
+            return false;
+        }
+        match self.threads.running() {
+            Some(t) => {
+                if !execute_quietly(&mut self.threads, t, &mut self.decoded) {
+                    return false;
+                }
+                self.count_step();
+                true
+            }
+            None => false,
+        }
     }
 
     /// A tick counts, and time goes on.

@@ -1,13 +1,13 @@
 //! The machine: an engine whose state is confined.
 
-ghost use Rattle.std.specs.Prelude.{ℕ, ◌≡◌, ◌≤◌, List, IsTrue, IfOk};
+ghost use Rattle.std.specs.Prelude.{ℕ, ◌≡◌, ◌≤◌, List, IsTrue, IfOk, true, false};
 ghost use Rattle.def_board.specs.Guarded.{Guarded};
 ghost use Rattle.def_boot.specs.Boot.{booted_machine};
 ghost use Rattle.def_confined.specs.Telling.{AllLicensed, IsLicensedEvent};
 ghost use Rattle.def_machine.specs.Image.{root};
 ghost use Rattle.def_machine.specs.Objects.{charges};
 ghost use Rattle.def_step.specs.declared.Event as events;
-ghost use Rattle.def_step.specs.declared.Event.TheVariants.{Sweep};
+ghost use Rattle.def_step.specs.declared.Event.TheVariants.{Step, Sweep};
 ghost use Rattle.law_history.specs.Accesses.{UsesReach};
 ghost use Rattle.law_history.specs.Clean.{CleanEvent};
 ghost use Rattle.law_history.specs.Each.{EachEvent};
@@ -52,8 +52,8 @@ impl<M: Memory + Drop> Machine<M> {
     /// no event has come.
     ///
     /// Condition: the memory reads as zero, is unmarked, and has the size of the image's RAM.
-    /// `NoMemory` where the allocator has no room for the entries, the devices, the threads and their
-    /// turns.
+    /// `NoMemory` where the allocator has no room for the entries, the devices, the threads, their turns and
+    /// the words of code that are kept decoded.
     pub fn start(alloc: Global, image: &Image, mem: M) -> Result<Machine<M>, NoMemory>
         requires empty { M.granules mem ≡ empty_granules image.now }
         ensures booted { IfOk result (λ m. m ≡ booted_machine image.now) }
@@ -112,6 +112,23 @@ impl<M: Memory + Drop> Machine<M> {
         ensures guarded { Guarded self.new }
     {
         self.engine.sweep();
+    }
+
+    /// A step, which is lawful now, where it tells nothing and is one of the many that take no more than the running
+    /// thread's registers and RAM: `true`, and what `advance` does of that event is done. Else `false`, and nothing
+    /// changes. A body that always answers `false` meets this too: this call is for speed.
+    #[inline(always)]
+    pub fn step_quietly(&mut self) -> bool
+        requires { IsTrue (is_lawful self.old.state Step) }
+        ensures state { result ≡ true
+            → self.new.state ≡ (happens self.old.board self.old.state Step).0 }
+        ensures silent { result ≡ true
+            → (happens self.old.board self.old.state Step).1 ≡ silence }
+        ensures same { result ≡ false → self.new.state ≡ self.old.state }
+        ensures board { self.new.board ≡ self.old.board }
+        ensures guarded { Guarded self.new }
+    {
+        self.engine.step_quietly()
     }
 
     /// Whatever events come next, one after another: calls are clean, each access goes through a capability

@@ -17,6 +17,7 @@ use crate::engine::Engine;
 use crate::plan::Plan;
 use crate::tally::Tally;
 use ct_bus::Bus;
+use ct_decoded::Decoded;
 use ct_entry::Entries;
 use ct_heaped::Engine as Threads;
 use ct_image::Image;
@@ -75,6 +76,7 @@ fn put_together<M: Memory + Drop>(
     threads: Threads<M>,
     bus: Bus,
     sched: Sched,
+    decoded: Decoded,
 ) -> Engine<M>
     requires sound { Sound parts.now }
     requires plan { plan ≡ image_of parts.now }
@@ -104,6 +106,7 @@ fn put_together<M: Memory + Drop>(
             frees: 0,
             traps: 0,
         },
+        decoded,
     }
 }
 
@@ -121,6 +124,7 @@ impl<M: Memory + Drop> Engine<M> {
         let sched = turns(alloc, parts)?;
         let limits = limits(alloc, plan.entries())?;
         let threads = launch(alloc, image, mem, limits.as_slice())?;
-        Ok(put_together(parts, plan, threads, bus, sched))
+        let decoded = Decoded::new(alloc)?;
+        Ok(put_together(parts, plan, threads, bus, sched, decoded))
     }
 }

@@ -1,17 +1,15 @@
 -- Events that come one after the other, with their lines.
-use Rattle.std.proofs.Common.{◌≡◌, ℕ, suc, ◌+◌, ◌<◌, ◌≤◌, Bool, true, false, List, [], ◌∷◌, ◌++◌, length, map, Option, refl, sym, ap, ◌∙◌, subst, arith}
-use Rattle.std.proofs.lemmas.Bool.{lt-ltb}
+use Rattle.std.proofs.Common.{◌≡◌, ℕ, suc, ◌+◌, ◌≤◌, Bool, true, false, List, [], ◌∷◌, ◌++◌, length, map, Option, refl, sym, ap, ◌∙◌, subst, arith}
 use Rattle.std.proofs.lemmas.List.{append-nil}
 use Rattle.std.proofs.lemmas.Grind.{flat_map-append}
 use Rattle.std.specs.List.{flat_map}
 use Rattle.ct_entry.specs.declared.acts.Happened.{Happened}
-use Rattle.def_profile.specs.declared.limits.TheConstants.{MOST_STEPS}
 use Rattle.def_port.specs.Writes.{Writes, WriteFails}
 use Rattle.def_machine.specs.State.{State}
 use Rattle.def_step.specs.declared.Event.{Event}
 use Rattle.def_step.specs.declared.Event.TheVariants.{Step, Tick, Sweep}
 use Rattle.def_step.specs.Instructions.{Board}
-use Rattle.def_step.specs.Events.{MachineRow, happens, run, told, is_lawful}
+use Rattle.def_step.specs.Events.{MachineRow, happens, run, told}
 use Rattle.def_trace.specs.Trace.{trace_line}
 use Rattle.law_counts.specs.Kinds.{Kinds, kinds, all_more}
 use Rattle.law_counts.proofs.Appended.{run_append, told_append}
@@ -60,13 +58,13 @@ pub one_fails : (m : MachineRow) (k : ℕ) (e : Event) (h : Happened) (before af
     → WriteFails before after faults now (trace_line k h) → WriteFails before after faults now (lines_of m k (e ∷ []))
 one_fails m k e h before after faults now told w = subst (λ t. WriteFails before after faults now t) (ap (λ x. trace_line k x) told ∙ sym (one_line m k e)) w
 
--- a slice of a sweep, of which nothing is written
-pub silent_came : (m n : MachineRow) (k : ℕ) (before : Option (List ℕ)) (faults : ℕ) → Passed m n (Sweep ∷ []) → (happens m.board m.state Sweep).1 ≡ silence → Came m n k (Sweep ∷ []) before before faults faults
+-- an event that tells nothing, of which nothing is written
+pub silent_came : (m n : MachineRow) (k : ℕ) (e : Event) (before : Option (List ℕ)) (faults : ℕ) → Passed m n (e ∷ []) → (happens m.board m.state e).1 ≡ silence → Came m n k (e ∷ []) before before faults faults
 unfolding trace_line
-silent_came m n k before faults passed silent = record {
+silent_came m n k e before faults passed silent = record {
   board = passed.board;
   state = passed.state;
-  written = subst (λ t. Writes before before faults faults t) (ap (λ x. trace_line k x) (sym silent) ∙ sym (one_line m k Sweep)) (pieces.nothing before faults);
+  written = subst (λ t. Writes before before faults faults t) (ap (λ x. trace_line k x) (sym silent) ∙ sym (one_line m k e)) (pieces.nothing before faults);
 }
 
 pub both_came : (m n o : MachineRow) (k : ℕ) (es fs : List Event) (before mid after : Option (List ℕ)) (f g h : ℕ)
@@ -92,15 +90,6 @@ second_failed m n k es fs before mid after f g h a w =
 
 came_kinds : (m n : MachineRow) (k : ℕ) (es : List Event) (before after : Option (List ℕ)) (f g : ℕ) → Came m n k es before after f g → kinds n.state.counts ≡ all_more es (kinds m.state.counts)
 came_kinds m n k es before after f g c = ap (λ (s : State). kinds s.counts) c.state ∙ run_kinds m.board m.state es
-
--- after a slice of a sweep a step may come as before
-swept_steps : (m n : MachineRow) (k : ℕ) (before after : Option (List ℕ)) (f g : ℕ) → Came m n k (Sweep ∷ []) before after f g → n.state.counts.steps ≡ m.state.counts.steps
-swept_steps m n k before after f g c = ap (λ (x : Kinds). x.steps) (came_kinds m n k (Sweep ∷ []) before after f g c)
-
-pub step_may : (m n : MachineRow) (k : ℕ) (before after : Option (List ℕ)) (f g : ℕ) → Came m n k (Sweep ∷ []) before after f g → m.state.counts.steps < MOST_STEPS → is_lawful n.state Step ≡ true
-step_may m n k before after f g c few =
-    let same = swept_steps m n k before after f g c in
-    lt-ltb n.state.counts.steps MOST_STEPS (omega (arith, same, few))
 
 pub ticked_steps : (m n : MachineRow) (due : Bool) (k : ℕ) (before after : Option (List ℕ)) (f g : ℕ) → Came m n k (ticks_if due) before after f g → n.state.counts.steps ≡ m.state.counts.steps
 ticked_steps m n true k before after f g c = ap (λ (x : Kinds). x.steps) (came_kinds m n k (Tick ∷ []) before after f g c)

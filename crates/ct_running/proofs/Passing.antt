@@ -38,6 +38,10 @@ both_passed m n o es fs a b = record {
   state = b.state ∙ (rw (a.board, a.state) refl) ∙ sym (run_append m.board m.state es fs);
 }
 
+-- another machine of the same state
+pub still_passed : (m n o : MachineRow) (es : List Event) → Passed m n es → o.state ≡ n.state → o.board ≡ n.board → Passed m o es
+still_passed m n o es p state board = record { board = board ∙ p.board; state = state ∙ p.state }
+
 -- ---- what was counted
 
 passed_kinds : (m n : MachineRow) (es : List Event) → Passed m n es → kinds n.state.counts ≡ all_more es (kinds m.state.counts)

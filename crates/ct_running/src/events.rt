@@ -112,6 +112,9 @@ fn write_step<M: Memory + Drop, S: Sink>(
         (S.faults sink.new) (lines_of machine.old number (Sweep ∷ Step ∷ []))) }
 {
     make_sweep(machine);
+    if machine.step_quietly() {
+        return Ok(());
+    }
     write_event(machine, Event::Step, number, sink)
 }
 
@@ -186,7 +189,9 @@ fn make_step<M: Memory + Drop>(machine: &mut Machine<M>)
     ensures { Passed machine.old machine.new (Sweep ∷ Step ∷ []) }
 {
     make_sweep(machine);
-    make_event(machine, Event::Step);
+    if !machine.step_quietly() {
+        make_event(machine, Event::Step);
+    }
 }
 
 /// A step with what comes before it, of which nothing is written.

@@ -39,7 +39,8 @@ use std::alloc::Global;
 /// - `upgrade IMAGE` writes the image in the file IMAGE in the last version of the format, with its sweep
 ///   rate;
 /// - `check DESC POLICY` judges the report of the description by the policy in the file POLICY: it writes
-///   `allow`, or a line for each entry and each path that breaks a rule;
+///   `allow`, or a line for each rule and entry that breaks it, and one for each rule that wants an owner
+///   apart from a compartment which it reaches, with the path;
 /// - `demo NUMBER` generates a firmware from the number, links it, runs it for at most 100,000 steps and
 ///   writes the summary; it reads no file.
 ///

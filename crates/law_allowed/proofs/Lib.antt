@@ -1,3 +1,5 @@
+pub mod Once
 pub mod Named
 pub mod Imports
 pub mod Accesses
+pub mod Lines

@@ -1,14 +1,16 @@
--- What a rule on a device means: a device of the rule's name.
+-- What a rule on a device means: the device of the rule's name.
 use Rattle.std.proofs.Common.{◌≡◌, ℕ, suc, ◌+◌, List, [], ◌∷◌, Option, Some, None, inl, inr, refl, sym, ap, ◌∙◌, arith, map, slice_get, option_map}
 use Rattle.std.proofs.lemmas.Slice.Eq.{bytes_eq-Decides}
 use Rattle.std.specs.Str.{bytes_eq}
 use Rattle.ct_entry.specs.Listed.{DeviceRow}
 use Rattle.ct_entry.specs.declared.rows.Owner.{Owner}
+use Rattle.def_image.specs.Accepted.{IsFaultless}
 use Rattle.def_image.specs.Parts.{PartsRow}
 use Rattle.def_policy.specs.Names.{device_named, index_from, owners_named}
 use Rattle.def_policy.specs.Rules.{Device}
 use Rattle.def_policy.specs.Rulings.{Ruling, meant, only, ruling}
 use Rattle.def_policy.specs.declared.Subject.TheVariants as subject
+use Rattle.law_allowed.proofs.Once.{named_once}
 use Rattle.law_allowed.specs.Named.{IsOnDevice}
 use Rattle.law_lists.proofs.Tests.{bool_tells}
 
@@ -32,7 +34,7 @@ found f n name (x ∷ xs) k is = elim (bool_tells (bytes_eq name (f x))) [
       record { index = suc later.index; member = later.member; there = later.there; name_is = later.name_is; number = omega (arith, number) }
 ]
 
-module _ (p : PartsRow) (name : List ℕ) (owners : List (List ℕ)) (r : Ruling) where
+module _ (p : PartsRow) (name : List ℕ) (owners : List (List ℕ)) (r : Ruling) (faultless : IsFaultless p) where
   by_owners : (k : ℕ) (os : Option (List Owner)) → device_named p name ≡ Some k → owners_named p owners ≡ os → only (Some (subject.Device k)) os ≡ Some r
       → IsOnDevice p name owners r
   by_owners k None device listed is = absurd (let clash : None ≡ Some r = is in cc)
@@ -47,6 +49,7 @@ module _ (p : PartsRow) (name : List ℕ) (owners : List (List ℕ)) (r : Ruling
         subject_is = ap (λ (z : Ruling). z.subject) (sym same);
         there = ap (λ i. slice_get p.devices i) place ∙ f.there;
         name_is = f.name_is;
+        alone = λ j d at same. named_once p faultless j f.index d f.member at f.there (same ∙ sym f.name_is) ∙ sym place;
         owners_are = listed ∙ ap (λ (z : Ruling). Some z.owners) same;
       }
 
@@ -54,6 +57,6 @@ module _ (p : PartsRow) (name : List ℕ) (owners : List (List ℕ)) (r : Ruling
   by_device None device is = absurd (let clash : None ≡ Some r = is in cc)
   by_device (Some k) device is = by_owners k (owners_named p owners) device refl is
 
-pub on_device : (p : PartsRow) (name : List ℕ) (owners : List (List ℕ)) (r : Ruling) → meant p (Device name owners) ≡ Some r → IsOnDevice p name owners r
+pub on_device : (p : PartsRow) (name : List ℕ) (owners : List (List ℕ)) (r : Ruling) → IsFaultless p → meant p (Device name owners) ≡ Some r → IsOnDevice p name owners r
 unfolding meant
-on_device p name owners r is = by_device p name owners r (device_named p name) refl is
+on_device p name owners r faultless is = by_device p name owners r faultless (device_named p name) refl is

@@ -6,11 +6,13 @@ use Rattle.def_policy.specs.Names.{owners_named}
 use Rattle.def_policy.specs.Rulings.{Ruling}
 use Rattle.def_policy.specs.declared.Subject.TheVariants.{Device}
 
--- what it means is about a device of that name, and lists what the owners' names stand for
+-- what it means is about the one device of that name, and lists what the owners' names stand for
 pub record IsOnDevice (p : PartsRow) (name : List ℕ) (owners : List (List ℕ)) (r : Ruling) : Type 0 where
   pub device : ℕ
   pub row : DeviceRow
   pub subject_is : r.subject ≡ Device device
   pub there : slice_get p.devices device ≡ Some row
   pub name_is : row.name ≡ name
+  pub alone : (k : ℕ) (other : DeviceRow) → slice_get p.devices k ≡ Some other → other.name ≡ name
+      → k ≡ device
   pub owners_are : owners_named p owners ≡ Some r.owners

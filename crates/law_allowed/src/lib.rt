@@ -1,7 +1,7 @@
-//! Laws of what a policy allows: its rule on a device is on a device of the image that has the name; and
-//! where it holds of an image, each access to a byte of the device, in any run of the image, is by an
-//! import of the device, of an owner that the rule lists. Functions with empty bodies whose contracts
-//! are the laws.
+//! Laws of what a policy allows: its rule on a device is on the one device of the image that has the
+//! name; and where it holds of an image, each access to a byte of the device, in any run of the image, is
+//! by an import of the device, of an owner that the rule lists. The last law says so of a text's lines.
+//! Functions with empty bodies whose contracts are the laws.
 #![tactic(auto)]
 
 ghost use Rattle.std.specs.Prelude.{ℕ, ◌≡◌, List, [], Some, slice_get};
@@ -13,17 +13,19 @@ ghost use Rattle.def_image.specs.Parts.{PartsRow};
 ghost use Rattle.def_policy.specs.Denials.{AllDenied};
 ghost use Rattle.def_policy.specs.Rules as rule;
 ghost use Rattle.def_policy.specs.Rulings.{Ruling, meant};
+ghost use Rattle.def_policy.specs.Texts.{Reads};
 ghost use Rattle.def_policy.specs.declared.Subject.TheVariants.{Device};
 ghost use Rattle.def_step.specs.Events.{told};
 ghost use Rattle.def_step.specs.declared.Event.{Event};
 ghost use Rattle.law_allowed.specs.Accesses.{AllListed};
+ghost use Rattle.law_allowed.specs.Lines.{IsHeldDevice};
 ghost use Rattle.law_allowed.specs.Named.{IsOnDevice};
 
-/// What a rule on a device means in an image is about a device of the image that has the rule's name,
-/// and lists what the rule's owners stand for.
+/// What a rule on a device means in parts without a fault is about the one device that has the rule's
+/// name, and lists what the rule's owners stand for.
 pub fn rules_name_devices()
     ensures { (p : PartsRow) (name : List ℕ) (owners : List (List ℕ)) (r : Ruling)
-        → meant p (rule.Device name owners) ≡ Some r → IsOnDevice p name owners r }
+        → IsFaultless p → meant p (rule.Device name owners) ≡ Some r → IsOnDevice p name owners r }
 {}
 
 /// Of parts without a fault, whatever their code is, and rules that nothing denies, one of which is on
@@ -37,4 +39,16 @@ pub fn allowed_devices_are_held()
         → slice_get rulings k ≡ Some r → r.subject ≡ Device device
         → slice_get p.devices device ≡ Some d
         → AllListed (entries_of p) r device d.base (told (board_of p) (boot_state p) es) }
+{}
+
+/// Of parts without a fault, whatever their code is, and a text of rules that nothing denies: for each
+/// line on a device there is one device of the line's name; and each load and store that a list of
+/// events from boot tells, one of whose bytes is one of the device's, is by an import of the device, of
+/// an owner that the line names, and which reaches the compartment that made the access.
+pub fn policies_hold_over_runs()
+    ensures { (p : PartsRow) (es : List Event) (text : List ℕ) (rulings : List Ruling) (k : ℕ)
+        (name : List ℕ) (owners : List (List ℕ))
+        → IsFaultless p → (reads : Reads p text rulings) → AllDenied p 1 rulings []
+        → slice_get reads.rules k ≡ Some (rule.Device name owners)
+        → IsHeldDevice p name owners (told (board_of p) (boot_state p) es) }
 {}

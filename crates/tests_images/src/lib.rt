@@ -1,4 +1,5 @@
-//! Tests of the crates of descriptions, placement, images and the sharing graph, by their public calls.
+//! Tests of the crates of descriptions, placement, images and the sharing graph, by their public
+//! calls.
 //!
 //! They stand apart, since a crate with tests is proved twice.
 #![tactic(auto)]

@@ -1,4 +1,5 @@
-//! Tests of the crates of the switcher, the threads over memory and the machine, by their public calls.
+//! Tests of the crates of the switcher, the threads over memory and the machine, by their public
+//! calls.
 //!
 //! They stand apart, since a crate with tests is proved twice.
 #![tactic(auto)]

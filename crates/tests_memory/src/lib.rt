@@ -1,4 +1,5 @@
-//! Tests of the crates of memory, devices, the heap, the scheduler, scripts and the lines of a run, by their public calls.
+//! Tests of the crates of memory, devices, the heap, the scheduler, scripts and the lines of a run, by
+//! their public calls.
 //!
 //! They stand apart, since a crate with tests is proved twice.
 #![tactic(auto)]

@@ -1,3 +1,5 @@
+//! Fields of words, signs, extensions and alignment at worked values.
+
 use ct_bits::{align_up, extended, field, sign};
 
 #[test]

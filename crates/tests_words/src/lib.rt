@@ -14,4 +14,6 @@ mod cap;
 #[cfg(test)]
 mod capstep;
 #[cfg(test)]
+mod counter;
+#[cfg(test)]
 mod perm;

@@ -1,3 +1,6 @@
+//! Each set of permissions and each spelling of six bits, beside a slow program for the forms, and
+//! worked sets.
+
 use bitflags::Flags;
 use ct_perm::{Permission, Perms};
 

@@ -13,7 +13,7 @@ returns-clause-thread g c =
     let here : c.area_offset-at.result / 8 ≡ area_begin t.area = omega (arith, c.area_offset-at.ensures.is) in
     let next : (c.area_offset-at.result + 8) / 8 ≡ area_begin t.area + 1 = omega (arith, c.area_offset-at.ensures.is) in
     resumed_is old (g.M.Memory.granules c.clear.new.mem) t c.filter-t.result c.take_registers.new.registers (8 * length old) t.area.ram c.requires.area c.clear.ensures
-    (c.filter-t.ensures ∙ ap (λ x. filtered_in t.area.ram old x) (c.expand.ensures ∙ c.load_cap.ensures ∙ ap (λ k. held old k) here))
+    (c.filter-t.ensures ∙ ap (λ x. filtered_in t.area.ram old x) (c.decoded.ensures ∙ c.load_cap.ensures ∙ ap (λ k. held old k) here))
     (c.take_registers.ensures ∙ ap (λ k. plain 0 ∷ map (filtered_in t.area.ram old) (held_from old k 15)) next)
 
 pub returns-clause-touches : goal.returns-clause-touches

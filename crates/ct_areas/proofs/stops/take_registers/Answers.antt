@@ -9,7 +9,7 @@ loop-i-preserved g c =
     let gs = g.M.Memory.granules c.args.mem.now in
     take_step (filtered_in c.args.ram gs) gs c.args.registers.now c.loop-i.registers _ c.args.at c.loop-i.i c.load_cap.result c.filter.result
     c.requires.even c.told-registers c.loop-i-test.true c.loop-i.invariant c.load_cap.ensures
-    (c.filter.ensures ∙ ap (λ x. filtered_in c.args.ram gs x) c.expand.ensures) refl
+    (c.filter.ensures ∙ ap (λ x. filtered_in c.args.ram gs x) c.decoded.ensures) refl
 
 pub returns : goal.returns
 returns g c =

@@ -1,4 +1,4 @@
-use Rattle.std.proofs.Common.{◌≡◌, ◌∙◌, length, ap, sym}
+use Rattle.std.proofs.Common.{◌∙◌, length, ap, sym}
 use Rattle.def_step.specs.Accesses.{Accessed}
 use Rattle.ct_loadstore.specs.Shapes.{space_of}
 use Rattle.ct_loadstore.proofs.Sizes.{accessed_bases, accessed_size}

@@ -3,14 +3,12 @@ use Rattle.ct_planes.proofs.Planed.{none_tagged, next_tagged_is}
 use Rattle.def_memory.specs.Ranges.{Inside, IsNextTagged, is_tagged}
 use Rattle.ct_planes.proofs.planes.PlanesMemory.next_tagged.Goals as goal
 
-below : (i to : ℕ) → i < (to + 7) / 8 → 8 * i < to
-below i to lt = omega (arith, lt)
-
 pub returns-in-Some : goal.returns-in-Some
 returns-in-Some c =
-    let p = c.self.inside in (
+    let p = c.self.inside in
+    let lt = c.in-Some.ensures.1 in (
       subst (λ gs. IsNextTagged gs c.args.from (8 * c.in-Some.i)) c.self.view_is (next_tagged_is p.words p.tags p.shadows p.marks c.args.from c.in-Some.i c.self.invariant c.in-Some.ensures.0),
-      below c.in-Some.i c.args.to c.in-Some.ensures.1,
+      omega (arith, lt),
     )
 
 pub returns-in-None : goal.returns-in-None

@@ -1,0 +1,38 @@
+//! `image accept FILE` reads an image's file and accepts its bytes; with another word than `accept` the file is
+//! read alone.
+
+use crate::failure::{Failure, written};
+use crate::given::word;
+use ct_image::{ImageFault, accept};
+use std::alloc::{AllocError, Global};
+use std::fs;
+
+/// What is answered to bytes, in a word.
+fn answered(alloc: Global, bytes: &[u8]) -> Result<String, AllocError> {
+    if bytes.len() >= 1 << 32 {
+        return String::from_str(alloc, "large");
+    }
+    match accept(alloc, bytes) {
+        Ok(_) => String::from_str(alloc, "ok"),
+        Err(ImageFault::At { number, place }) => format!(in alloc; "{number} {place}"),
+        Err(ImageFault::NoMemory) => String::from_str(alloc, "memory"),
+    }
+}
+
+/// Measures the acceptance of an image's file.
+pub fn measure(rt: &HostRuntime, words: &[String]) -> Result<(), Failure> {
+    let alloc = rt.alloc();
+    let Ok(bytes) = fs::read(rt, word(words, 1)) else {
+        return Err(Failure::File);
+    };
+    let count = bytes.len();
+    let answer = if word(words, 0) == "accept" {
+        answered(alloc, bytes.as_slice())
+    } else {
+        String::from_str(alloc, "read")
+    };
+    let Ok(answer) = answer else {
+        return Err(Failure::Memory);
+    };
+    written(println!(rt; "{count} bytes: {answer}"))
+}

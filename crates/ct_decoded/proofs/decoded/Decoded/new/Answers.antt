@@ -1,0 +1,8 @@
+use Rattle.std.proofs.Common.{refl}
+use Rattle.ct_decoded.proofs.Slots.{one_read, copies_read}
+use Rattle.ct_decoded.proofs.decoded.Decoded.new.Goals as goal
+
+pub invariant_of-result : goal.invariant_of-result
+invariant_of-result c =
+    copies_read c.in_ok-rows.rows.items _ c.read.result (c.in_ok-rows.ensures.items_if_clones_equal (λ y same. same)) refl c.read.ensures.is
+    (one_read c.read.result 0 c.read.ensures.is c.read.ensures.word c.read.ensures.registers c.read.ensures.shape)

@@ -1,0 +1,102 @@
+-- A load or a store that no check refuses, in RAM, and meets nothing hidden.
+use Rattle.std.proofs.Common.{ℕ, ◌≡◌, Bool, true, false, List, length, Option, Some, None, IfSome, Ok, refl, sym, ap, ◌∙◌, subst}
+use Rattle.def_words.specs.declared.Cap.{Cap}
+use Rattle.def_memory.specs.declared.Granule.{Granule}
+use Rattle.def_instr.specs.declared.Instr.{Instr}
+use Rattle.def_machine.specs.State.{register}
+use Rattle.def_step.specs.declared.Access.{Access}
+use Rattle.def_step.specs.Checks.{first_failed}
+use Rattle.def_step.specs.Devices.{Bank}
+use Rattle.def_step.specs.Accesses.{access_of, access_address, access_checks, access_result}
+use Rattle.def_veil.specs.Steps.{IsSeen, SeesAccess}
+use Rattle.ct_loadstore.specs.Quiet.{Quiet}
+use Rattle.ct_loadstore.specs.Shapes.{MovedRow}
+use Rattle.ct_engine.specs.declared.rows.Rows.{Rows}
+use Rattle.ct_engine.specs.Seen.{Seen, hides, seen, thread, with_granules}
+use Rattle.ct_engine.specs.Kept.{Holds}
+use Rattle.ct_engine.specs.Steps.{space_in, no_bank, IsGiven, IsStored, SeesThrough}
+use Rattle.ct_engine.proofs.Instructions.{Moving, move_holds, move_is, move_kept}
+
+abbrev given : Option Cap → MovedRow
+given value = record { value = value; device = None }
+
+-- instructions of one access see alike
+sees_by : (h : ℕ → Bool) (ram : ℕ) (a : Access) (x y : Cap) (i : Instr) → SeesThrough h ram a x y → access_of i ≡ a → SeesAccess h ram i x y
+sees_by h ram a x y i open_ of =
+    subst (λ (b : Access). first_failed (access_checks b x y (access_address b x)) ≡ None → IsSeen h ram (access_address b x)) (open_.1 ∙ sym of) open_.2
+
+moving : (gs hs : List Granule) (rows : Rows) (v : Seen) (a : Access) (x y : Cap) (value : Option Cap) (i : Instr) (k : Bank) (time : ℕ) → seen gs rows ≡ v → Holds gs rows
+    → SeesThrough (hides v.region) v.region.ram a x y → Quiet a x y rows.region.ram gs value hs → length hs ≡ length gs → access_of i ≡ a
+    → Moving gs hs rows v i x y k k time (Ok (given value))
+moving gs hs rows v a x y value i k time is holds open_ quiet size of = record {
+  is = is;
+  holds = holds;
+  meets = sees_by (hides v.region) v.region.ram a x y i open_ of;
+  moved = quiet i k time of;
+  size = size;
+}
+
+-- it comes to what it comes to over the seen granules
+quiet_is : (gs hs : List Granule) (rows : Rows) (v : Seen) (a : Access) (x y : Cap) (value : Option Cap) (i : Instr) (k : Bank) (time : ℕ) → seen gs rows ≡ v → Holds gs rows
+    → SeesThrough (hides v.region) v.region.ram a x y → Quiet a x y rows.region.ram gs value hs → length hs ≡ length gs → access_of i ≡ a
+    → access_result i x y (space_in v k time) ≡ Ok (record { value = value; act = None; granules = (seen hs rows).granules; bank = k })
+quiet_is gs hs rows v a x y value i k time is holds open_ quiet size of =
+    move_is gs hs rows v i x y k k time (Ok (given value)) (moving gs hs rows v a x y value i k time is holds open_ quiet size of)
+
+-- ---- a load
+
+given_is : (gs : List Granule) (rows : Rows) (v : Seen) (a : Access) (x y value : Cap) → seen gs rows ≡ v → Holds gs rows → SeesThrough (hides v.region) v.region.ram a x y
+    → Quiet a x y rows.region.ram gs (Some value) gs → IsGiven a x y v value
+given_is gs rows v a x y value is holds open_ quiet i k time of =
+    quiet_is gs gs rows v a x y (Some value) i k time is holds open_ quiet refl of
+    ∙ ap (λ (s : Seen). Ok (record { value = Some value; act = None; granules = s.granules; bank = k })) is
+
+-- through register n of thread t
+pub loaded_is : {A : Type 0} (gs : List Granule) (rows : Rows) (v : Seen) (a : Access) (t n : ℕ) (value : A → Cap) (r : Option A) → seen gs rows ≡ v → Holds gs rows
+    → ((y : Cap) → SeesThrough (hides v.region) v.region.ram a (register (thread v t) n) y)
+    → IfSome r (λ (u : A). (y : Cap) → Quiet a (register (thread (seen gs rows) t) n) y rows.region.ram gs (Some (value u)) gs)
+    → IfSome r (λ (u : A). (y : Cap) → IsGiven a (register (thread v t) n) y v (value u))
+loaded_is gs rows v a t n value None is holds open_ quiet = quiet
+loaded_is gs rows v a t n value (Some u) is holds open_ quiet = λ y.
+    given_is gs rows v a (register (thread v t) n) y (value u) is holds (open_ y)
+    (subst (λ (s : Seen). Quiet a (register (thread s t) n) y rows.region.ram gs (Some (value u)) gs) is (quiet y))
+
+-- ---- a store
+
+-- what is known of a store of register m of thread t through register n, of which the real granules are gs before it and hs after it
+pub record Storing (gs hs : List Granule) (rows : Rows) (v : Seen) (a : Access) (t n m : ℕ) (done : Bool) : Type 0 where
+  pub is : seen gs rows ≡ v
+  pub holds : Holds gs rows
+  pub meets : SeesThrough (hides v.region) v.region.ram a (register (thread v t) n) (register (thread v t) m)
+  pub moved : done ≡ true → Quiet a (register (thread (seen gs rows) t) n) (register (thread (seen gs rows) t) m) rows.region.ram gs None hs
+  pub same : done ≡ false → hs ≡ gs
+  pub size : length hs ≡ length gs
+
+quiet_by : (gs hs : List Granule) (rows : Rows) (v : Seen) (a : Access) (t n m : ℕ) → Storing gs hs rows v a t n m true
+    → Quiet a (register (thread v t) n) (register (thread v t) m) rows.region.ram gs None hs
+quiet_by gs hs rows v a t n m s = subst (λ (w : Seen). Quiet a (register (thread w t) n) (register (thread w t) m) rows.region.ram gs None hs) s.is (s.moved refl)
+
+moving_by : (gs hs : List Granule) (rows : Rows) (v : Seen) (a : Access) (t n m : ℕ) (s : Storing gs hs rows v a t n m true)
+    → Moving gs hs rows v s.meets.0 (register (thread v t) n) (register (thread v t) m) no_bank no_bank 0 (Ok (given None))
+moving_by gs hs rows v a t n m s =
+    moving gs hs rows v a (register (thread v t) n) (register (thread v t) m) None s.meets.0 no_bank 0 s.is s.holds s.meets (quiet_by gs hs rows v a t n m s) s.size s.meets.1
+
+pub store_holds : (gs hs : List Granule) (rows : Rows) (v : Seen) (a : Access) (t n m : ℕ) (done : Bool) → Storing gs hs rows v a t n m done → Holds hs rows
+store_holds gs hs rows v a t n m true s =
+    move_holds gs hs rows v s.meets.0 (register (thread v t) n) (register (thread v t) m) no_bank no_bank 0 (Ok (given None)) (moving_by gs hs rows v a t n m s)
+store_holds gs hs rows v a t n m false s = subst (λ (xs : List Granule). Holds xs rows) (sym (s.same refl)) s.holds
+
+-- nothing but granules changes
+pub store_kept : (gs hs : List Granule) (rows : Rows) (v : Seen) (a : Access) (t n m : ℕ) (done : Bool) → Storing gs hs rows v a t n m done
+    → seen hs rows ≡ with_granules v (seen hs rows).granules
+store_kept gs hs rows v a t n m true s =
+    move_kept gs hs rows v s.meets.0 (register (thread v t) n) (register (thread v t) m) no_bank no_bank 0 (Ok (given None)) (moving_by gs hs rows v a t n m s)
+store_kept gs hs rows v a t n m false s =
+    subst (λ (xs : List Granule). seen xs rows ≡ with_granules v (seen xs rows).granules) (sym (s.same refl))
+    (ap (λ (w : Seen). with_granules w (seen gs rows).granules) s.is)
+
+pub store_is : (gs hs : List Granule) (rows : Rows) (v : Seen) (a : Access) (t n m : ℕ) (done : Bool) → Storing gs hs rows v a t n m done → done ≡ true
+    → IsStored a (register (thread v t) n) (register (thread v t) m) v (seen hs rows).granules
+store_is gs hs rows v a t n m true s e i k time of =
+    quiet_is gs hs rows v a (register (thread v t) n) (register (thread v t) m) None i k time s.is s.holds s.meets (quiet_by gs hs rows v a t n m s) s.size of
+store_is gs hs rows v a t n m false s e i k time of = absurd (let clash : false ≡ true = e in cc)

@@ -1,0 +1,9 @@
+use Rattle.std.proofs.Common.{Some, IfSome, subst}
+use Rattle.def_words.specs.declared.Cap.{Cap}
+use Rattle.ct_loadstore.specs.Quiet.{Quiet}
+use Rattle.ct_engine.proofs.accesses.load_capability.Goals as goal
+
+pub returns : goal.returns
+returns g c =
+    let gs = g.M.Memory.granules c.args.mem.now in
+    subst (λ (x : Cap). IfSome c.load_capability.result (λ (u : Cap). (y : Cap) → Quiet c.args.access.now x y c.args.rows.now.region.ram gs (Some u) gs)) (c.lent.ensures gs c.requires.holds) c.load_capability.ensures.given

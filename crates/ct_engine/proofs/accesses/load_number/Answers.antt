@@ -1,0 +1,10 @@
+use Rattle.std.proofs.Common.{ℕ, Some, IfSome, subst}
+use Rattle.def_words.specs.declared.Cap.{Cap}
+use Rattle.def_words.specs.Capability.{integer}
+use Rattle.ct_loadstore.specs.Quiet.{Quiet}
+use Rattle.ct_engine.proofs.accesses.load_number.Goals as goal
+
+pub returns : goal.returns
+returns g c =
+    let gs = g.M.Memory.granules c.args.mem.now in
+    subst (λ (x : Cap). IfSome c.load_number.result (λ (u : ℕ). (y : Cap) → Quiet c.args.access.now x y c.args.rows.now.region.ram gs (Some (integer u)) gs)) (c.lent.ensures gs c.requires.holds) c.load_number.ensures.given

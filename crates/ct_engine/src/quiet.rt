@@ -1,0 +1,178 @@
+//! The running thread's registers, and what it loads and stores in RAM, where they stand: what a step that tells
+//! nothing asks and leaves.
+
+ghost use Rattle.std.specs.Prelude.{◌≡◌, ◌%◌, ◌<◌, Some, IfSome, true, false, is_none, length};
+ghost use Rattle.def_instr.specs.Reading.{instruction_in};
+ghost use Rattle.def_machine.specs.State.{register};
+ghost use Rattle.def_words.specs.declared.Cap.{Cap};
+ghost use Rattle.def_words.specs.Authority.{cap_address};
+ghost use Rattle.def_words.specs.Capability.{integer, raised, with_address};
+ghost use Rattle.def_step.specs.Checks.{first_failed};
+ghost use Rattle.def_step.specs.Instructions.{fetch_checks, next_word};
+ghost use Rattle.def_veil.specs.Steps.{IsSeen};
+ghost use Rattle.ct_loadstore.specs.Shapes.{IsShape};
+ghost use Rattle.ct_engine.specs.Seen.{hides, thread, went, with_granules};
+ghost use Rattle.ct_engine.specs.Steps.{next_in, IsGiven, IsStored, SeesThrough};
+
+use crate::engine::Engine;
+use crate::{accesses, fetching, steps};
+use ct_cap::Live;
+use ct_mem::Memory;
+use def_step::Access;
+
+impl<M: Memory + Drop> Engine<M> {
+    /// Whether each check of a fetch by the running thread passes.
+    #[inline(always)]
+    pub fn fetches(&self, t: u32) -> bool
+        requires { self.now.running ≡ Some t }
+        ensures { result ≡ is_none (first_failed (fetch_checks (thread self.now t).pcc)) }
+    {
+        steps::fetches(&self.rows, t)
+    }
+
+    /// The address of the running thread's program counter.
+    #[inline(always)]
+    pub fn address(&self, t: u32) -> u32
+        requires { self.now.running ≡ Some t }
+        ensures { result ≡ cap_address (thread self.now t).pcc }
+    {
+        steps::address(&self.rows, t)
+    }
+
+    /// The address in a register of the running thread.
+    #[inline(always)]
+    pub fn number(&self, t: u32, number: u32) -> u32
+        requires runs { self.now.running ≡ Some t }
+        requires number { number < 16 }
+        ensures { result ≡ cap_address (register (thread self.now t) number) }
+    {
+        steps::number(&self.rows, t, number)
+    }
+
+    /// A register of the running thread, where it stands.
+    #[inline(always)]
+    pub fn lend(&self, t: u32, number: u32) -> &Live
+        requires runs { self.now.running ≡ Some t }
+        requires number { number < 16 }
+        ensures { result.now ≡ register (thread self.now t) number }
+    {
+        steps::lent(&self.rows, t, number)
+    }
+
+    /// The program counter capability of the running thread, where it stands.
+    #[inline(always)]
+    pub fn lend_pcc(&self, t: u32) -> &Live
+        requires { self.now.running ≡ Some t }
+        ensures { result.now ≡ (thread self.now t).pcc }
+    {
+        steps::lent_pcc(&self.rows, t)
+    }
+
+    /// The word at an address past the native routines, where a whole word of RAM stands there; else `None`. A body
+    /// that always answers `None` meets this too.
+    ///
+    /// Condition: the address isn't hidden.
+    #[inline(always)]
+    pub fn word_at(&self, at: u32) -> Option<u32>
+        requires even { self.now.region.ram % 16 ≡ 0 }
+        requires seen { IsSeen (hides self.now.region) self.now.region.ram at }
+        ensures { IfSome result (λ w. next_in self.now at ≡ next_word (instruction_in w)) }
+    {
+        fetching::word_at(&self.mem, self.rows.region.ram, at)
+    }
+
+    /// The running thread goes on after its instruction, and a register gets a number, which register 0 drops.
+    #[inline(always)]
+    pub fn put_number(&mut self, t: u32, to: u32, value: u32)
+        requires runs { self.old.running ≡ Some t }
+        requires to { to < 16 }
+        ensures { self.new ≡ went self.old t (raised (thread self.old t).pcc 4)
+            (thread self.old t).posture to (integer value) }
+    {
+        steps::put_number(&mut self.rows, t, to, value);
+    }
+
+    /// The running thread goes on after its instruction, and a register gets a value, which register 0 drops.
+    #[inline(always)]
+    pub fn put(&mut self, t: u32, to: u32, value: Live)
+        requires runs { self.old.running ≡ Some t }
+        requires to { to < 16 }
+        ensures { self.new ≡ went self.old t (raised (thread self.old t).pcc 4)
+            (thread self.old t).posture to value }
+    {
+        steps::put(&mut self.rows, t, to, value);
+    }
+
+    /// The running thread goes on at an address, by the address rule.
+    #[inline(always)]
+    pub fn turn(&mut self, t: u32, target: u32)
+        requires { self.old.running ≡ Some t }
+        ensures { self.new ≡ went self.old t (with_address (thread self.old t).pcc target)
+            (thread self.old t).posture 0 (integer 0) }
+    {
+        steps::turn(&mut self.rows, t, target);
+    }
+
+    /// The number that a load through a register of the running thread gives, where its checks pass and it lies in RAM;
+    /// else `None`. A body that always answers `None` meets this too.
+    ///
+    /// Condition: where its checks pass, the load reaches nothing hidden.
+    #[inline(always)]
+    pub fn load_number(&self, t: u32, number: u32, access: &Access) -> Option<u32>
+        requires runs { self.now.running ≡ Some t }
+        requires number { number < 16 }
+        requires even { self.now.region.ram % 16 ≡ 0 }
+        requires shape { IsShape access.now }
+        requires loads { access.now.loads ≡ true }
+        requires part { access.now.whole ≡ false }
+        requires seen { (y : Cap) → SeesThrough (hides self.now.region) self.now.region.ram
+            access.now (register (thread self.now t) number) y }
+        ensures { IfSome result (λ n. (y : Cap) → IsGiven access.now
+            (register (thread self.now t) number) y self.now (integer n)) }
+    {
+        accesses::load_number(&self.rows, &self.mem, t, number, access)
+    }
+
+    /// The capability that a load through a register of the running thread gives, where its checks pass and it lies in
+    /// RAM; else `None`. A body that always answers `None` meets this too.
+    ///
+    /// Condition: where its checks pass, the load reaches nothing hidden.
+    #[inline(always)]
+    pub fn load_capability(&self, t: u32, number: u32, access: &Access) -> Option<Live>
+        requires runs { self.now.running ≡ Some t }
+        requires number { number < 16 }
+        requires even { self.now.region.ram % 16 ≡ 0 }
+        requires shape { IsShape access.now }
+        requires loads { access.now.loads ≡ true }
+        requires whole { access.now.whole ≡ true }
+        requires seen { (y : Cap) → SeesThrough (hides self.now.region) self.now.region.ram
+            access.now (register (thread self.now t) number) y }
+        ensures { IfSome result (λ c. (y : Cap) → IsGiven access.now
+            (register (thread self.now t) number) y self.now c) }
+    {
+        accesses::load_capability(&self.rows, &self.mem, t, number, access)
+    }
+
+    /// Stores what stands in a register of the running thread through another, where the checks pass and it lies in
+    /// RAM; else `false`, and nothing changes. A body that always answers `false` meets this too.
+    ///
+    /// Condition: where its checks pass, the store reaches nothing hidden.
+    #[inline(always)]
+    pub fn store_register(&mut self, t: u32, number: u32, stored: u32, access: &Access) -> bool
+        requires runs { self.old.running ≡ Some t }
+        requires number { number < 16 }
+        requires stored { stored < 16 }
+        requires even { self.old.region.ram % 16 ≡ 0 }
+        requires shape { IsShape access.now }
+        requires stores { access.now.loads ≡ false }
+        requires seen { SeesThrough (hides self.old.region) self.old.region.ram access.now
+            (register (thread self.old t) number) (register (thread self.old t) stored) }
+        ensures is { result ≡ true → IsStored access.now (register (thread self.old t) number)
+            (register (thread self.old t) stored) self.old self.new.granules }
+        ensures same { result ≡ false → self.new ≡ self.old }
+        ensures kept { self.new ≡ with_granules self.old self.new.granules }
+        ensures size { length self.new.granules ≡ length self.old.granules }
+    {
+        accesses::store_register(&self.rows, &mut self.mem, t, number, stored, access)
+    }
+}

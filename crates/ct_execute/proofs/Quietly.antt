@@ -1,0 +1,139 @@
+-- What is carried out quietly: what a reading says, a fetch that passes, and branches and jumps whose target is whole.
+use Rattle.std.proofs.Common.{ℕ, ◌≡◌, ◌%◌, ◌==◌, Bool, true, false, Option, Some, None, IfSome, is_some, is_none, Ok, refl, sym, ap, ◌∙◌, subst, if◌then◌else◌}
+use Rattle.ct_entry.specs.Listed.{Listed}
+use Rattle.def_words.specs.declared.Cap.{Cap}
+use Rattle.def_words.specs.declared.Posture.{Posture}
+use Rattle.def_words.specs.declared.Trap.{Trap}
+use Rattle.def_words.specs.Authority.{cap_address}
+use Rattle.def_words.specs.Capability.{integer, with_address}
+use Rattle.def_instr.specs.declared.Instr.{Instr}
+use Rattle.def_instr.specs.declared.Instr.TheVariants.{Beq, Bne, Blt, Bge, Bltu, Bgeu}
+use Rattle.def_machine.specs.State.{register}
+use Rattle.def_step.specs.declared.Class.TheVariants as kinds
+use Rattle.def_step.specs.declared.Next.{Next}
+use Rattle.def_step.specs.declared.Operands.{Operands}
+use Rattle.def_step.specs.Accesses.{access_of}
+use Rattle.def_step.specs.Checks.{first_failed}
+use Rattle.def_step.specs.Devices.{Bank}
+use Rattle.def_step.specs.Instructions.{fetch_checks, next_at, next_word}
+use Rattle.def_step.specs.Jumps.{flow_result, is_taken, target_at, jumped_to, branched}
+use Rattle.def_step.specs.Operands.{class_of, operands_of}
+use Rattle.ct_decoded.specs.declared.reading.Reading.{Reading}
+use Rattle.ct_decoded.specs.Reading.{reading_by}
+use Rattle.ct_engine.specs.Seen.{Seen, thread, went}
+use Rattle.ct_engine.specs.Steps.{space_in, next_in}
+use Rattle.ct_heaped.specs.Seen as heaped
+use Rattle.ct_execute.specs.Deciding.{decision, decide_fetched, decide_next, named_in, WentQuietly}
+use Rattle.ct_execute.specs.Quiet.{offset_of, Says, CarriesQuietly}
+
+-- ---- what a reading says
+
+says_read : (word : ℕ) (o : Option Instr) (i : Instr) → (reading_by word o).instruction ≡ Some i → Says (reading_by word o) i
+says_read word None i e = absurd (cc)
+says_read word (Some j) i e =
+    let same : j ≡ i = cc in
+    record { class = ap class_of same; operands = ap operands_of same; access = ap access_of same }
+
+pub says : (word : ℕ) (o : Option Instr) (r : Reading) → r ≡ reading_by word o → (i : Instr) → r.instruction ≡ Some i → Says r i
+says word o r is i e = subst (λ (q : Reading). Says q i) (sym is) (says_read word o i (subst (λ (q : Reading). q.instruction ≡ Some i) is e))
+
+instruction_read : (word : ℕ) (o : Option Instr) → (reading_by word o).instruction ≡ o
+instruction_read word None = refl
+instruction_read word (Some i) = refl
+
+-- ---- a fetch that passes
+
+passes : (e : Listed) (s : Seen) (t : ℕ) (k : Bank) (time : ℕ) (new : Seen) (o : Option Trap) → is_none o ≡ true
+    → WentQuietly (decide_next e (thread s t) (space_in s k time) (next_at (space_in s k time) (cap_address (thread s t).pcc))) t s k new
+    → WentQuietly (decide_fetched e (thread s t) (space_in s k time) o) t s k new
+passes e s t k time new None none h = h
+passes e s t k time new (Some why) none h = absurd (cc)
+
+fetched_quietly : (e : Listed) (s : Seen) (t : ℕ) (k : Bank) (time : ℕ) (new : Seen) (o : Option Instr) → is_some o ≡ true → IfSome o (λ i. CarriesQuietly s t i new)
+    → next_in s (cap_address (thread s t).pcc) ≡ next_word o
+    → WentQuietly (decide_next e (thread s t) (space_in s k time) (next_at (space_in s k time) (cap_address (thread s t).pcc))) t s k new
+fetched_quietly e s t k time new None some carries next = absurd (cc)
+fetched_quietly e s t k time new (Some i) some carries next =
+    subst (λ (n : Next). WentQuietly (decide_next e (thread s t) (space_in s k time) n) t s k new) (sym next) (carries e k time)
+
+pub decided_quietly : (s : Seen) (t word : ℕ) (new : Seen) (o : Option Instr) (r : Reading) → r ≡ reading_by word o
+    → is_none (first_failed (fetch_checks (thread s t).pcc)) ≡ true
+    → next_in s (cap_address (thread s t).pcc) ≡ next_word o
+    → is_some r.instruction ≡ true → IfSome r.instruction (λ i. CarriesQuietly s t i new)
+    → (e : Listed) (k : Bank) (time : ℕ) → WentQuietly (decision e s t k time) t s k new
+decided_quietly s t word new o r is checks next some carries e k time =
+    let same : r.instruction ≡ o = subst (λ (q : Reading). q.instruction ≡ o) (sym is) (instruction_read word o) in
+    passes e s t k time new (first_failed (fetch_checks (thread s t).pcc)) checks
+    (fetched_quietly e s t k time new o (subst (λ (p : Option Instr). is_some p ≡ true) same some)
+    (subst (λ (p : Option Instr). IfSome p (λ i. CarriesQuietly s t i new)) same carries) next)
+
+-- ---- branches and jumps
+
+whole_target : (pcc : Cap) (posture : Posture) (target : ℕ) (link : Option Cap) → (target % 4 == 0) ≡ true
+    → jumped_to pcc posture target link ≡ Ok (record { link = link; pcc = with_address pcc target; posture = posture })
+whole_target pcc posture target link whole = rw whole refl
+
+branch_goes : (taken : Bool) (pcc : Cap) (posture : Posture) (offset n : ℕ) → n ≡ (if taken then offset else 4) → (target_at pcc n % 4 == 0) ≡ true
+    → branched taken pcc posture offset ≡ Ok (record { link = None; pcc = with_address pcc (target_at pcc n); posture = posture })
+branch_goes true pcc posture offset n is whole =
+    subst (λ (m : ℕ). branched true pcc posture offset ≡ Ok (record { link = None; pcc = with_address pcc (target_at pcc m); posture = posture })) (sym is)
+    (whole_target pcc posture (target_at pcc offset) None (subst (λ (m : ℕ). (target_at pcc m % 4 == 0) ≡ true) is whole))
+branch_goes false pcc posture offset n is whole =
+    subst (λ (m : ℕ). branched false pcc posture offset ≡ Ok (record { link = None; pcc = with_address pcc (target_at pcc m); posture = posture })) (sym is) refl
+
+-- the address in a register
+abbrev number : Seen → ℕ → ℕ → ℕ
+number s t n = cap_address (register (thread s t) n)
+
+abbrev Turned : Seen → ℕ → ℕ → Seen → Type 0
+Turned s t n new = new ≡ went s t (with_address (thread s t).pcc (target_at (thread s t).pcc n)) (thread s t).posture 0 (integer 0)
+
+-- what a branch comes to is by its offset
+branch_flows : (i : Instr) (offset : ℕ) (x y pcc : Cap) (posture : Posture) (named : ℕ) → offset_of i ≡ Some offset
+    → flow_result i x y pcc posture named ≡ branched (is_taken i (cap_address x) (cap_address y)) pcc posture offset
+unfolding flow_result
+branch_flows (Beq rs1 rs2 n) offset x y pcc posture named e = let same : n ≡ offset = cc in ap (branched (is_taken (Beq rs1 rs2 n) (cap_address x) (cap_address y)) pcc posture) same
+branch_flows (Bne rs1 rs2 n) offset x y pcc posture named e = let same : n ≡ offset = cc in ap (branched (is_taken (Bne rs1 rs2 n) (cap_address x) (cap_address y)) pcc posture) same
+branch_flows (Blt rs1 rs2 n) offset x y pcc posture named e = let same : n ≡ offset = cc in ap (branched (is_taken (Blt rs1 rs2 n) (cap_address x) (cap_address y)) pcc posture) same
+branch_flows (Bge rs1 rs2 n) offset x y pcc posture named e = let same : n ≡ offset = cc in ap (branched (is_taken (Bge rs1 rs2 n) (cap_address x) (cap_address y)) pcc posture) same
+branch_flows (Bltu rs1 rs2 n) offset x y pcc posture named e = let same : n ≡ offset = cc in ap (branched (is_taken (Bltu rs1 rs2 n) (cap_address x) (cap_address y)) pcc posture) same
+branch_flows (Bgeu rs1 rs2 n) offset x y pcc posture named e = let same : n ≡ offset = cc in ap (branched (is_taken (Bgeu rs1 rs2 n) (cap_address x) (cap_address y)) pcc posture) same
+branch_flows i offset x y pcc posture named e = absurd (cc)
+
+-- a branch is a jump that leaves no link
+branch_class : (i : Instr) (offset : ℕ) → offset_of i ≡ Some offset → (class_of i ≡ kinds.Jump) × ((operands_of i).to ≡ 0)
+branch_class (Beq rs1 rs2 n) offset e = (refl, refl)
+branch_class (Bne rs1 rs2 n) offset e = (refl, refl)
+branch_class (Blt rs1 rs2 n) offset e = (refl, refl)
+branch_class (Bge rs1 rs2 n) offset e = (refl, refl)
+branch_class (Bltu rs1 rs2 n) offset e = (refl, refl)
+branch_class (Bgeu rs1 rs2 n) offset e = (refl, refl)
+branch_class i offset e = absurd (cc)
+
+branch_by : (s : Seen) (t : ℕ) (i : Instr) (offset n : ℕ) (new : Seen) → offset_of i ≡ Some offset
+    → n ≡ (if is_taken i (number s t (operands_of i).first) (number s t (operands_of i).second) then offset else 4)
+    → (target_at (thread s t).pcc n % 4 == 0) ≡ true → Turned s t n new → CarriesQuietly s t i new
+branch_by s t i offset n new e by whole is listed k time =
+    let w = thread s t in
+    let named : ℕ = named_in listed (register w (operands_of i).first) in
+    let kind = branch_class i offset e in
+    rw (
+      kind.0,
+      kind.1,
+      branch_flows i offset (register w (operands_of i).first) (register w (operands_of i).second) w.pcc w.posture named e,
+      branch_goes (is_taken i (number s t (operands_of i).first) (number s t (operands_of i).second)) w.pcc w.posture offset n by whole,
+    ) (is, refl, refl, refl)
+
+-- x and y are the addresses in the registers
+pub branch_quiet : (s new : heaped.Seen) (t : ℕ) (i : Instr) (o : Operands) (offset n x y : ℕ) (taken : Bool) → offset_of i ≡ Some offset → o ≡ operands_of i
+    → x ≡ number s.threads t o.first → y ≡ number s.threads t o.second → taken ≡ is_taken i x y → n ≡ (if taken then offset else 4)
+    → (target_at (thread s.threads t).pcc n % 4 == 0) ≡ true
+    → new ≡ heaped.with_threads s (went s.threads t (with_address (thread s.threads t).pcc (target_at (thread s.threads t).pcc n)) (thread s.threads t).posture 0 (integer 0))
+    → CarriesQuietly s.threads t i new.threads
+branch_quiet s new t i o offset n x y taken e os xs ys is by whole turned =
+    let v = s.threads in
+    let first : x ≡ number v t (operands_of i).first = xs ∙ ap (λ (r : Operands). number v t r.first) os in
+    let second : y ≡ number v t (operands_of i).second = ys ∙ ap (λ (r : Operands). number v t r.second) os in
+    let same : taken ≡ is_taken i (number v t (operands_of i).first) (number v t (operands_of i).second) =
+    is ∙ ap (λ (a : ℕ). is_taken i a y) first ∙ ap (is_taken i (number v t (operands_of i).first)) second in
+    branch_by v t i offset n new.threads e (by ∙ ap (λ (b : Bool). if b then offset else 4) same) whole (ap (λ (m : heaped.Seen). m.threads) turned)

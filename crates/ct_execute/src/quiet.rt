@@ -1,0 +1,234 @@
+//! One instruction that does nothing that is told, on the running thread where it stands.
+
+ghost use Rattle.std.specs.Prelude.{ℕ, ◌≡◌, ◌%◌, ◌==◌, Some, IfSome, is_some, true, false};
+ghost use Rattle.ct_entry.specs.Listed.{Listed};
+ghost use Rattle.def_instr.specs.declared.Instr.{Instr};
+ghost use Rattle.def_step.specs.declared.Class.TheVariants as kinds;
+ghost use Rattle.def_step.specs.Devices.{Bank};
+ghost use Rattle.def_step.specs.Jumps.{target_at};
+ghost use Rattle.def_step.specs.Operands.{class_of, operands_of};
+ghost use Rattle.def_words.specs.Capability.{integer, with_address};
+ghost use Rattle.ct_decoded.specs.Reading.{AreRegisters};
+ghost use Rattle.ct_engine.specs.Seen.{thread, went};
+ghost use Rattle.ct_execute.specs.Deciding.{decision, Stays, WentQuietly};
+ghost use Rattle.ct_execute.specs.Opening.{IsOpen};
+ghost use Rattle.ct_execute.specs.Quiet.{offset_of, CarriesQuietly, Says};
+ghost use Rattle.ct_heaped.specs.Seen.{with_threads};
+
+use ct_alu::alu;
+use ct_capstep::derived;
+use ct_decoded::{Decoded, Reading};
+use ct_flow::takes;
+use ct_heaped::Engine;
+use ct_mem::Memory;
+use def_instr::Instr;
+use def_step::Class;
+
+/// What stands at the running thread's program counter is carried out where it is an instruction of integers, of
+/// capabilities, a branch, a jump by an offset that leaves no link, or a load or a store of RAM, and no check fails;
+/// else `false`, and nothing changes. `true` says that this is the written step: the thread goes on, nothing is told,
+/// and devices and posture stay as they are.
+///
+/// A body that always answers `false` meets this too: `execute` does all that this leaves.
+#[inline(always)]
+pub fn execute_quietly<M: Memory + Drop>(
+    engine: &mut Engine<M>,
+    t: u32,
+    decoded: &mut Decoded,
+) -> bool
+    requires runs { engine.old.threads.running ≡ Some t }
+    requires opened { IsOpen engine.old t }
+    requires even { engine.old.threads.region.ram % 16 ≡ 0 }
+    ensures quiet { result ≡ true → (e : Listed) (k : Bank) (time : ℕ)
+        → WentQuietly (decision e engine.old.threads t k time) t engine.old.threads k
+        engine.new.threads }
+    ensures kept { engine.new ≡ with_threads engine.old engine.new.threads }
+    ensures same { result ≡ false → engine.new ≡ engine.old }
+    ensures stays { Stays engine.old.threads engine.new.threads }
+{
+    if !engine.fetches(t) {
+        return false;
+    }
+    let at = engine.address(t);
+    match engine.word_at(at) {
+        Some(word) => {
+            decoded.keep(at, word);
+            carry(engine, t, decoded.reading(at))
+        }
+        None => false,
+    }
+}
+
+/// What was read is carried out; else `false`, and nothing changes.
+#[inline(always)]
+fn carry<M: Memory + Drop>(engine: &mut Engine<M>, t: u32, reading: &Reading) -> bool
+    requires runs { engine.old.threads.running ≡ Some t }
+    requires opened { IsOpen engine.old t }
+    requires even { engine.old.threads.region.ram % 16 ≡ 0 }
+    requires says { (i : Instr) → reading.now.instruction ≡ Some i → Says reading.now i }
+    requires registers { AreRegisters reading.now.operands }
+    ensures quiet { result ≡ true → IfSome reading.now.instruction
+        (λ i. CarriesQuietly engine.old.threads t i engine.new.threads) }
+    ensures some { result ≡ true → is_some reading.now.instruction ≡ true }
+    ensures kept { engine.new ≡ with_threads engine.old engine.new.threads }
+    ensures same { result ≡ false → engine.new ≡ engine.old }
+    ensures stays { Stays engine.old.threads engine.new.threads }
+{
+    match &reading.instruction {
+        Some(instruction) => match reading.class {
+            Class::Integer => {
+                let x = engine.number(t, reading.operands.first);
+                let y = engine.number(t, reading.operands.second);
+                engine.put_number(t, reading.operands.to, alu(*instruction, x, y));
+                true
+            }
+            Class::Jump => jump(engine, t, reading, *instruction),
+            Class::Access => move_it(engine, t, reading),
+            Class::Capability => derive(engine, t, reading, *instruction),
+            _ => false,
+        },
+        None => false,
+    }
+}
+
+/// A branch, taken or not, or a jump by an offset that leaves no link; else `false`, and nothing changes.
+#[tactic(auto, unfolding(def_step::specs::Jumps::flow_result))]
+#[inline(always)]
+fn jump<M: Memory + Drop>(
+    engine: &mut Engine<M>,
+    t: u32,
+    reading: &Reading,
+    instruction: Instr,
+) -> bool
+    requires runs { engine.old.threads.running ≡ Some t }
+    requires says { Says reading.now instruction }
+    requires registers { AreRegisters reading.now.operands }
+    ensures quiet { result ≡ true
+        → CarriesQuietly engine.old.threads t instruction engine.new.threads }
+    ensures kept { engine.new ≡ with_threads engine.old engine.new.threads }
+    ensures same { result ≡ false → engine.new ≡ engine.old }
+    ensures stays { Stays engine.old.threads engine.new.threads }
+{
+    match instruction {
+        Instr::Beq { offset, .. }
+        | Instr::Bne { offset, .. }
+        | Instr::Blt { offset, .. }
+        | Instr::Bge { offset, .. }
+        | Instr::Bltu { offset, .. }
+        | Instr::Bgeu { offset, .. } => branch(engine, t, reading, instruction, offset),
+        Instr::Jal { rd: 0, offset } => turn(engine, t, offset),
+        _ => false,
+    }
+}
+
+/// A branch by an offset, taken or not; `false`, and nothing changes, where it leads to no multiple of 4.
+#[inline(always)]
+fn branch<M: Memory + Drop>(
+    engine: &mut Engine<M>,
+    t: u32,
+    reading: &Reading,
+    instruction: Instr,
+    offset: u32,
+) -> bool
+    requires runs { engine.old.threads.running ≡ Some t }
+    requires operands { reading.now.operands ≡ operands_of instruction }
+    requires registers { AreRegisters reading.now.operands }
+    requires offset { offset_of instruction ≡ Some offset }
+    ensures quiet { result ≡ true
+        → CarriesQuietly engine.old.threads t instruction engine.new.threads }
+    ensures kept { engine.new ≡ with_threads engine.old engine.new.threads }
+    ensures same { result ≡ false → engine.new ≡ engine.old }
+    ensures stays { Stays engine.old.threads engine.new.threads }
+{
+    let x = engine.number(t, reading.operands.first);
+    let y = engine.number(t, reading.operands.second);
+    let by = if takes(instruction, x, y) { offset } else { 4 };
+    turn(engine, t, by)
+}
+
+/// The program counter moves by an offset, where that leads to a multiple of 4; else `false`, and nothing changes.
+#[inline(always)]
+fn turn<M: Memory + Drop>(engine: &mut Engine<M>, t: u32, by: u32) -> bool
+    requires { engine.old.threads.running ≡ Some t }
+    ensures whole { result ≡ (target_at (thread engine.old.threads t).pcc by % 4 == 0) }
+    ensures gone { result ≡ true → engine.new ≡ with_threads engine.old
+        (went engine.old.threads t
+        (with_address (thread engine.old.threads t).pcc
+        (target_at (thread engine.old.threads t).pcc by))
+        (thread engine.old.threads t).posture 0 (integer 0)) }
+    ensures same { result ≡ false → engine.new ≡ engine.old }
+{
+    let target = engine.address(t).wrapping_add(by);
+    if target % 4 != 0 {
+        return false;
+    }
+    engine.turn(t, target);
+    true
+}
+
+/// A load or a store of RAM whose checks pass; else `false`, and nothing changes.
+#[inline(always)]
+fn move_it<M: Memory + Drop>(engine: &mut Engine<M>, t: u32, reading: &Reading) -> bool
+    requires runs { engine.old.threads.running ≡ Some t }
+    requires opened { IsOpen engine.old t }
+    requires even { engine.old.threads.region.ram % 16 ≡ 0 }
+    requires says { (i : Instr) × Says reading.now i × (class_of i ≡ kinds.Access) }
+    requires registers { AreRegisters reading.now.operands }
+    ensures quiet { result ≡ true → (i : Instr) → Says reading.now i
+        → class_of i ≡ kinds.Access → CarriesQuietly engine.old.threads t i engine.new.threads }
+    ensures kept { engine.new ≡ with_threads engine.old engine.new.threads }
+    ensures same { result ≡ false → engine.new ≡ engine.old }
+    ensures stays { Stays engine.old.threads engine.new.threads }
+{
+    let first = reading.operands.first;
+    if !reading.access.loads {
+        if !engine.store_register(t, first, reading.operands.second, &reading.access) {
+            return false;
+        }
+        engine.put_number(t, 0, 0);
+        return true;
+    }
+    if reading.access.whole {
+        return match engine.load_capability(t, first, &reading.access) {
+            Some(value) => {
+                engine.put(t, reading.operands.to, value);
+                true
+            }
+            None => false,
+        };
+    }
+    match engine.load_number(t, first, &reading.access) {
+        Some(value) => {
+            engine.put_number(t, reading.operands.to, value);
+            true
+        }
+        None => false,
+    }
+}
+
+/// An instruction of capabilities.
+fn derive<M: Memory + Drop>(
+    engine: &mut Engine<M>,
+    t: u32,
+    reading: &Reading,
+    instruction: Instr,
+) -> bool
+    requires runs { engine.old.threads.running ≡ Some t }
+    requires says { Says reading.now instruction }
+    requires registers { AreRegisters reading.now.operands }
+    requires class { class_of instruction ≡ kinds.Capability }
+    ensures quiet { result ≡ true
+        → CarriesQuietly engine.old.threads t instruction engine.new.threads }
+    ensures kept { engine.new ≡ with_threads engine.old engine.new.threads }
+    ensures same { result ≡ false → engine.new ≡ engine.old }
+    ensures stays { Stays engine.old.threads engine.new.threads }
+{
+    let value = derived(
+        instruction,
+        engine.lend(t, reading.operands.first),
+        engine.lend(t, reading.operands.second),
+        engine.lend_pcc(t),
+    );
+    engine.put(t, reading.operands.to, value);
+    true
+}

@@ -1,0 +1,11 @@
+use Rattle.def_words.specs.Capability.{integer}
+use Rattle.ct_heaped.proofs.Quietly.{load_by, loaded_is}
+use Rattle.ct_heaped.proofs.engine.Engine.load_number.Goals as goal
+
+pub load_number-requires-clause-seen : goal.load_number-requires-clause-seen
+load_number-requires-clause-seen g c = load_by c.self.inside.threads c.self.inside.heap c.self.inside.front c.args.self.now c.args.access.now c.args.t c.args.number c.self.view_is c.requires.seen
+
+pub returns : goal.returns
+returns g c =
+    loaded_is c.self.inside.threads c.self.inside.heap c.self.inside.front c.args.self.now c.args.access.now c.args.t c.args.number (λ n. integer n) c.load_number.result
+    c.self.view_is c.self.invariant c.requires.seen c.load_number.ensures

@@ -1,0 +1,119 @@
+-- A step that tells nothing: what the code leaves of it is what the written step leaves.
+use Rattle.std.proofs.Common.{ℕ, zero, suc, ◌+◌, ◌≡◌, nat_eq, Bool, true, false, inl, inr, if◌then◌else◌, List, [], ◌∷◌, Option, Some, None, refl, sym, ap, ◌∙◌}
+use Rattle.std.proofs.Math.ListN.{get_or, set}
+use Rattle.law_lists.proofs.Tests.{eq_tells}
+use Rattle.ct_entry.specs.declared.acts.Owned.{Owned}
+use Rattle.def_words.specs.declared.Posture.{Posture}
+use Rattle.def_machine.specs.Image.{Image}
+use Rattle.def_machine.specs.State.{State, Thread, Counts, thread, nobody}
+use Rattle.def_machine.specs.Threads.{jumped}
+use Rattle.def_step.specs.declared.Event.TheVariants.{Step}
+use Rattle.def_step.specs.Devices.{Bank}
+use Rattle.def_step.specs.Instructions.{Board, actor_of}
+use Rattle.def_step.specs.Events.{MachineRow, holder_by, holder, begun_since, begun, preempted, scheduled, one_more_step, run_on, told_of, happens}
+use Rattle.ct_sched.specs.Sched.{SchedRow}
+use Rattle.ct_engine.specs.Seen as engine
+use Rattle.ct_heaped.specs.Seen.{Seen, with_threads}
+use Rattle.ct_execute.specs.declared.ran.Ran.{Ran}
+use Rattle.ct_execute.specs.declared.ran.Ran.TheVariants.{Went}
+use Rattle.ct_execute.specs.Deciding.{Decision, Goes, Returns, Serves, Traps, decision, Decided, Stays, WentQuietly}
+use Rattle.ct_machine.specs.Parts.{state_by, IsKept, IsCounted}
+use Rattle.ct_machine.specs.Going.{silence}
+use Rattle.ct_machine.proofs.Carried.{came}
+use Rattle.ct_machine.proofs.Keeping.{ran_kept, counted_so}
+use Rattle.ct_machine.proofs.Stepping.{carried_so, quietly_left}
+use Rattle.ct_machine.proofs.Taking.{posture_with, not_pending, runs_scheduled}
+
+-- ---- what was decided
+
+abbrev entry_of : Decision → ℕ
+entry_of (Goes d entry) = entry
+entry_of Returns = 0
+entry_of (Serves number) = 0
+entry_of (Traps why) = 0
+
+quietly_decided : (D : Decision) (t : ℕ) (s : engine.Seen) (k : Bank) (new : engine.Seen) → WentQuietly D t s k new → Decided D t s k new k (Went None (entry_of D))
+quietly_decided (Goes d entry) t s k new h = (h.0, h.1, ap (λ a. Went a entry) (sym h.2))
+quietly_decided Returns t s k new h = absurd h
+quietly_decided (Serves number) t s k new h = absurd h
+quietly_decided (Traps why) t s k new h = absurd h
+
+set_posture : (ts : List Thread) (t : ℕ) (x : Thread) → x.posture ≡ (get_or ts t nobody).posture → (get_or (set ts t x) t nobody).posture ≡ (get_or ts t nobody).posture
+set_posture [] t x is = refl
+set_posture (y ∷ ts) zero x is = is
+set_posture (y ∷ ts) (suc t) x is = set_posture ts t x is
+
+same_posture : (D : Decision) (t : ℕ) (s : engine.Seen) (k : Bank) (new : engine.Seen) → WentQuietly D t s k new → (engine.thread new t).posture ≡ (engine.thread s t).posture
+same_posture (Goes d entry) t s k new h =
+    ap (λ (x : engine.Seen). (engine.thread x t).posture) h.0 ∙ set_posture s.threads t (jumped (get_or s.threads t nobody) d.pcc d.posture d.to d.value) h.3
+same_posture Returns t s k new h = absurd h
+same_posture (Serves number) t s k new h = absurd h
+same_posture (Traps why) t s k new h = absurd h
+
+-- ---- no span with interrupts off begins
+
+is_same : (n : ℕ) → nat_eq n n ≡ true
+is_same n = elim (eq_tells n n) [ inl z ↦ z.0 | inr z ↦ absurd (z.1 refl) ]
+
+held_still : (o : Option (ℕ × ℕ)) (after : State) → begun_since o after o ≡ None
+held_still None after = refl
+held_still (Some h) after = rw (is_same h.0, is_same h.1) refl
+
+holder_still : (s new : State) (t : ℕ) → s.running ≡ Some t → new.running ≡ Some t → (thread new t).posture ≡ (thread s t).posture → holder new ≡ holder s
+holder_still s new t runs still posture =
+    ap (holder_by new) still
+    ∙ ap (λ (p : Posture). if p.off then Some (t, p.source) else None) posture
+    ∙ sym (ap (holder_by s) runs)
+
+none_begun : (s new : State) (t : ℕ) → s.running ≡ Some t → new.running ≡ Some t → (thread new t).posture ≡ (thread s t).posture → begun s new ≡ None
+none_begun s new t runs still posture = ap (begun_since (holder s) new) (holder_still s new t runs still posture) ∙ held_still (holder s) new
+
+-- ---- the written step, where no tick is pending and a thread runs
+
+goes_straight_on : (b : Board) (s : State) (t : ℕ) → s.pending ≡ false → s.running ≡ Some t → scheduled b (preempted (one_more_step s)) ≡ one_more_step s
+goes_straight_on b s t none runs = ap (scheduled b) (not_pending (one_more_step s) none) ∙ runs_scheduled b (one_more_step s) t runs
+
+steps_quietly : (b : Board) (s new : State) (t : ℕ) → s.pending ≡ false → s.running ≡ Some t → new.running ≡ Some t → (thread new t).posture ≡ (thread s t).posture
+    → (new, None) ≡ run_on b (one_more_step s) → (new, silence) ≡ happens b s Step
+steps_quietly b s new t none runs still posture is =
+    ap (λ (o : Option Owned). (new, record { deed = None; off = o })) (sym (none_begun s new t runs still posture))
+    ∙ ap (told_of s) (is ∙ ap (run_on b) (sym (goes_straight_on b s t none runs)))
+
+-- ---- what the code leaves
+
+module _ (i : Image) (e new : Seen) (r : SchedRow) (k : Bank) (pending : Bool) (time : ℕ) (c : Counts) (t : ℕ)
+    (kept : IsKept i e r) (runs : Some t ≡ e.threads.running)
+    (quiet : WentQuietly (decision i.entries e.threads t k time) t e.threads k new.threads)
+    (is : new ≡ with_threads e new.threads) (stays : Stays e.threads new.threads) where
+  abbrev board : Board
+  board = record { image = i; bases = k.bases }
+
+  abbrev one_more : Counts
+  one_more = record c { steps = c.steps + 1 }
+
+  pub quietly_kept : IsCounted c time e.next → IsKept i new r × IsCounted c time new.next
+  quietly_kept counted = (
+    ran_kept i (decision i.entries e.threads t k time) t e new r k k (Went None (entry_of (decision i.entries e.threads t k time))) kept
+        (quietly_decided (decision i.entries e.threads t k time) t e.threads k new.threads quiet) is stays,
+    counted_so c time e new new.threads is counted,
+  )
+
+  quietly_run : (state_by new r pending k.states time one_more, None) ≡ run_on board (state_by e r pending k.states time one_more)
+  quietly_run =
+      let ran : Ran = Went None (entry_of (decision i.entries e.threads t k time)) in
+      let m : MachineRow = record { board = board; state = state_by e r pending k.states time one_more } in
+      let n : MachineRow = record { board = board; state = state_by new r pending k.states time one_more } in
+      carried_so m n t (actor_of (thread (state_by e r pending k.states time one_more) t).frames) ran (state_by new r pending k.states time one_more) None (sym runs) refl
+      (came i i.entries e r k pending time one_more t kept refl new k ran (quietly_decided (decision i.entries e.threads t k time) t e.threads k new.threads quiet) is refl tt)
+      (quietly_left n t (actor_of (thread (state_by e r pending k.states time one_more) t).frames) ran refl)
+
+  still_posture : (thread (state_by new r pending k.states time one_more) t).posture ≡ (thread (state_by e r pending k.states time c) t).posture
+  still_posture =
+      posture_with new.threads.threads r.statuses t
+      ∙ same_posture (decision i.entries e.threads t k time) t e.threads k new.threads quiet
+      ∙ sym (posture_with e.threads.threads r.statuses t)
+
+  pub quietly_is : (after : State) → pending ≡ false → after ≡ one_more_step (state_by new r pending k.states time c) → (after, silence) ≡ happens board (state_by e r pending k.states time c) Step
+  quietly_is after none counts =
+      ap (λ (s : State). (s, silence)) counts
+      ∙ steps_quietly board (state_by e r pending k.states time c) (state_by new r pending k.states time one_more) t none (sym runs) (stays.running ∙ sym runs) still_posture quietly_run
