@@ -7,10 +7,10 @@ here=$(cd "$(dirname "$0")/.." && pwd)
 program=$here/crates/bench_parts/out/bench_parts
 work=$(mktemp -d)
 trap 'rm -rf "$work"' EXIT
-python3 -B - "$here/crates/run_images" "$work" <<'PYTHON'
+python3 -B - "$here/crates/run_rows/reference" "$work" <<'PYTHON'
 import sys
 sys.path.insert(0, sys.argv[1])
-import reference as r
+import images as r
 
 MIB = 1 << 20
 SERVICE = r.import_row(1, 40, 2)

@@ -2,8 +2,8 @@
 
 A table is run as TABLE.py OUT: it writes OUT/NAME, OUT/NAME.args and OUT/NAME.stdout for each row, and prints
 SOURCE=FILE for each source. What a row must write was worked out by hand. Images and reports are made by
-model/linker.py and the reference beside run_reports; the plain machine of model/heap.py must write of each run what
-its row says, so what the program's output is compared with was found twice. samples/try.sh runs the cases.
+model/linker.py and run_rows' reference of reports; the plain machine of model/heap.py must write of each run what its
+row says, so what the program's output is compared with was found twice. samples/try.sh runs the cases.
 """
 import json
 import os

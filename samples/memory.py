@@ -3,8 +3,8 @@
 
     memory.py PROGRAM WORK     called by memory.sh, whose WORK/refusing.so counts allocations and refuses them
 
-A row is a sample, a row of the tables beside this one, or an image of run_reports, so what it is to write with ample
-memory was found apart from the program. It is run once without the library, and then with the first allocation
+A row is a sample, a row of the tables beside this one, or an image that run_rows reports, so what it is to write with
+ample memory was found apart from the program. It is run once without the library, and then with the first allocation
 refused, the second, and so on, up to a run that makes no refused one: once with that allocation alone refused, and
 once with all from it on. By docs/use/errors.md a run of which memory was wanted ends with status 10 and has written
 nothing. Any other run ends and writes as with ample memory: it can do without what was refused. Nothing goes to
@@ -20,6 +20,7 @@ from collections import Counter
 sys.dont_write_bytecode = True
 from model.linker import images, reports  # noqa: E402
 from model.machine import Machine  # noqa: E402
+from statuses import DENIED, status_of  # noqa: E402
 
 HERE = os.path.dirname(os.path.abspath(__file__))
 PROGRAM, WORK = sys.argv[1:]
@@ -29,7 +30,6 @@ MOST_CALLS = 10 ** 9
 MOST_STEPS = 10
 NO_MEMORY = 10, b""
 MOST_BYTES = 16_777_216
-DENIED = 12
 
 COMMANDS = "audit image run runimage why upgrade check demo".split()
 
@@ -51,12 +51,6 @@ def content(*path):
 def put(name, data):
     with open(os.path.join(FILES, name), "wb") as file:
         file.write(data)
-
-
-def status_of(due):
-    """The status with which a text is due."""
-    first, *more = due.split(b" ", 2)
-    return int(more[0]) if first == b"refused" else DENIED if first == b"denied" else 0
 
 
 # ---- rows: words, and what is due
@@ -93,13 +87,12 @@ def of_tables():
 
 
 def of_images():
-    """The report and the run of each image of run_reports, one with each service and one with a slot of each kind."""
-    folder = os.path.join(HERE, "..", "crates", "run_reports", "data")
-    for name in sorted(os.listdir(folder)):
-        data = content(folder, name)
-        read = images.read(data)
+    """The report and the run of each image that run_rows reports, one with each service, one with each kind of slot."""
+    for stem, data in reports.reported():
+        name, read = stem + ".image", images.read(data)
+        put(name, data)
         due = [reports.report(data)[0], *Machine(read).run(MOST_STEPS, read.quantum, [])]
-        yield folder, ["runimage", name, str(MOST_STEPS)], "".join(line + "\n" for line in due).encode()
+        yield FILES, ["runimage", name, str(MOST_STEPS)], "".join(line + "\n" for line in due).encode()
 
 
 def of_sizes():

@@ -4,7 +4,7 @@
 # (an owner, a compartment, and what why writes of them). The kit builds the program once for all of
 # them, in about a minute. The worked rows are run with them: rows.py (commands, sources, images),
 # calls.py (calls between compartments), threads.py (turns and services), heap.py (the heap), freed.py (what was
-# freed, and sweeps), scripts.py (bytes that come to devices).
+# freed, and sweeps), scripts.py (bytes that come to devices). Of each run the status is compared too (statuses.py).
 here=$(cd "$(dirname "$0")" && pwd) || exit 1
 cases=$(mktemp -d) || exit 1
 trap 'rm -rf "$cases" "$cases"-*' EXIT
@@ -35,4 +35,9 @@ for table in rows calls threads heap freed scripts; do
         sources+=(--data "$row")
     done <<< "$rows"
 done
-cd "$here/../crates/ct_main" && rt try "${sources[@]}" --cases "$cases"
+cd "$here/../crates/ct_main" || exit 1
+rt try "${sources[@]}" --cases "$cases" 2> "$cases-said"
+status=$?
+cat "$cases-said" >&2
+[ $status -eq 0 ] || exit $status
+python3 "$here/statuses.py" "$cases" < "$cases-said"

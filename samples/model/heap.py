@@ -6,7 +6,7 @@ ALLOCATE, FREE, REMAINING = 6, 7, 8
 
 
 class HeapMachine(Machine):
-    """A machine as it boots an image that run_images' reference read."""
+    """A machine as it boots an image that the reference of images read."""
 
     def __init__(self, image):
         super().__init__(image)

@@ -1,6 +1,6 @@
 """A linker by docs/use/description.md and image.md, for descriptions without faults: the bytes of an image.
 
-The rows of images, and how an image is read again, are those of the references beside run_images and run_reports.
+The rows of images, and how an image is read again, are those of the references of run_rows.
 """
 import importlib.util
 import os
@@ -11,7 +11,7 @@ from model.assembler import assemble  # noqa: E402
 from model.words import round_length  # noqa: E402
 
 CRATES = os.path.join(os.path.dirname(os.path.abspath(__file__)), "..", "..", "crates")
-spec = importlib.util.spec_from_file_location("reports", os.path.join(CRATES, "run_reports", "reference.py"))
+spec = importlib.util.spec_from_file_location("reports", os.path.join(CRATES, "run_rows", "reference", "reports.py"))
 reports = importlib.util.module_from_spec(spec)
 spec.loader.exec_module(reports)
 images = reports.r

@@ -29,7 +29,7 @@ def signed(n):
 
 class Machine:
     def __init__(self, image):
-        """As it boots an image that run_images' reference read."""
+        """As it boots an image that the reference of images read."""
         self.i = image
         self.ram, self.size = image.ram, image.size
         self.g = [Cap() for _ in range(image.size // 8)]

@@ -3,7 +3,7 @@
 use std::io;
 
 /// Why a measure, and with it the program, ends early.
-#[derive(Clone, Copy, Debug)]
+#[derive(Clone, Copy)]
 pub enum Failure {
     /// Nothing was measured: there is no measure of such a name, a word is lacking or asks for too much, or memory
     /// was wanting for what is measured on.

@@ -5,7 +5,7 @@ use def_refusals::NoMemory;
 use std::alloc::Global;
 
 /// An object, and what has become of it.
-#[derive(Clone, Copy, Debug, Drop)]
+#[derive(Clone, Copy, Drop)]
 struct Row {
     number: u32,
     quota: u32,

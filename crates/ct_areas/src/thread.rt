@@ -12,7 +12,7 @@ use ct_mem::Memory;
 
 /// Where RAM begins, and where a thread's stack and its area of the trusted region lie: addresses, and lengths in
 /// bytes.
-#[derive(Clone, Copy, Debug, PartialEq, Eq, Drop)]
+#[derive(Clone, Copy, PartialEq, Eq, Drop)]
 pub struct Area {
     pub ram: u32,
     pub stack: u32,
@@ -26,7 +26,7 @@ pub struct Area {
 ///
 /// The frames stand in the area (docs/use/machine.md), and so do program counter capability and registers while the
 /// thread isn't running. A thread without frames has ended.
-#[derive(Debug, Drop)]
+#[derive(Drop)]
 pub struct Thread {
     pub pcc: Live,
     pub regs: [Live; 16],

@@ -22,7 +22,7 @@ use def_instr::shapes::{BranchOperation, ImmediateOperation, Shape};
 use def_source::parts::{BareOperation, Number, Part};
 
 /// The instructions that a statement stands for.
-#[derive(Clone, Copy, Debug, Drop)]
+#[derive(Clone, Copy, Drop)]
 pub(crate) enum Emitted {
     Nothing,
     One { only: Instr },

@@ -9,7 +9,7 @@ use std::alloc::{AllocError, Global};
 use std::marker::Model;
 
 /// Labels by name.
-#[derive(Debug, Drop)]
+#[derive(Drop)]
 pub struct Labels {
     table: IndexMap<Vec<u8>, Label>,
 }

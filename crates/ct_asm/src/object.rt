@@ -16,7 +16,7 @@ use std::alloc::Global;
 use std::marker::Model;
 
 /// The bytes of the text, the initial bytes of the globals, and the labels, which `find` reads.
-#[derive(Debug, Drop)]
+#[derive(Drop)]
 pub struct Object {
     pub text: Vec<u8>,
     pub init: Vec<u8>,

@@ -18,7 +18,7 @@ use std::marker::Model;
 ///
 /// `bounds`, `perms` and `seal` are those that the capability's word decodes to; `seal` is the type,
 /// 0 where it is unsealed. Contracts see a `Live` as its `Cap`.
-#[derive(Clone, Copy, Debug)]
+#[derive(Clone, Copy)]
 pub struct Live {
     pub cap: Cap,
     pub bounds: Bounds,

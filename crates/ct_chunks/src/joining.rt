@@ -12,7 +12,7 @@ use def_chunks::Range;
 use def_chunks::heads::{FREE, NO_CHUNK, PAINTED};
 
 /// The last free chunk so far, by its offset, with its size; `NO_CHUNK` where there is none.
-#[derive(Clone, Copy, Debug, Drop)]
+#[derive(Clone, Copy, Drop)]
 pub struct Last {
     pub offset: u32,
     pub size: u32,

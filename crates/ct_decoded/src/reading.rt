@@ -16,7 +16,7 @@ use def_step::{Access, Class, Operands};
 /// What a word of code says: the instruction, if it is one, with its class, its registers and, where it is a load or
 /// a store, its access. A word that is no instruction's has the class of a break, and no registers; what is neither a
 /// load nor a store has the access of a store of a byte through register 0.
-#[derive(Clone, Copy, Debug, PartialEq, Eq, Drop)]
+#[derive(Clone, Copy, Drop)]
 pub struct Reading {
     pub word: u32,
     pub class: Class,

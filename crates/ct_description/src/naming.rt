@@ -1,24 +1,18 @@
 //! The name of a place, and F4: a name that isn't of the form.
 
-ghost use Rattle.std.specs.Prelude.{◌≡◌, true, if◌then◌else◌, string_bytes, IfOk};
+ghost use Rattle.std.specs.Prelude.{◌≡◌, true, if◌then◌else◌, IfOk};
 ghost use Rattle.std.specs.Cow.{cow_str_bytes};
 ghost use Rattle.serde_json.specs.View.{view};
 ghost use Rattle.def_names.specs.Names as name;
 ghost use Rattle.def_description.specs.Names as spec;
 
 use ct_names::is_name;
+use ct_rows::key_name;
 use ct_value::members::{number_in, text_or};
 use def_description::PartWord;
 use serde_json::Value;
 use std::alloc::{AllocError, Global};
 use std::borrow::CowStr;
-
-/// The name of a key's slot.
-fn key_name(alloc: Global, n: u64) -> Result<String, AllocError>
-    ensures { IfOk result (λ s. string_bytes s ≡ spec.key_name n) }
-{
-    format!(in alloc; "key{n}")
-}
 
 /// The name of what stands at a place: RAM has none, and a key's is made from its number.
 pub fn name_at<'a>(

@@ -15,7 +15,7 @@ use def_description::{Form, PartWord, Place};
 use def_image::taken::SERVICES_TAKEN;
 
 /// A rule that is judged at each place by what stands there.
-#[derive(Clone, Copy, Debug, PartialEq, Eq, Drop)]
+#[derive(Clone, Copy, PartialEq, Eq, Drop)]
 pub enum Rule {
     /// F8: rights are listed for their kind.
     Rights,

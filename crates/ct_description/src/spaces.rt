@@ -11,7 +11,7 @@ use std::alloc::{AllocError, Global};
 use std::marker::Model;
 
 /// The names of each space so far. Slots and exports are those of one compartment or library.
-#[derive(Debug, Drop)]
+#[derive(Drop)]
 pub struct Spaces {
     devices: Names,
     shared: Names,

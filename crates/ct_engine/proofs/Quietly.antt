@@ -1,5 +1,6 @@
 -- A load or a store that no check refuses, in RAM, and meets nothing hidden.
-use Rattle.std.proofs.Common.{ℕ, ◌≡◌, Bool, true, false, List, length, Option, Some, None, IfSome, Ok, refl, sym, ap, ◌∙◌, subst}
+use Rattle.std.proofs.Common.{ℕ, ◌+◌, ◌*◌, ◌%◌, ◌==◌, ◌&&◌, ◌≡◌, nat_le, not, Bool, true, false, List, length, Option, Some, None, IfSome, is_some, Ok, refl, sym, ap, ◌∙◌, subst}
+use Rattle.def_profile.specs.declared.native.TheConstants.{LAST_NATIVE, NATIVE_BASE, NATIVE_UNIT}
 use Rattle.def_words.specs.declared.Cap.{Cap}
 use Rattle.def_memory.specs.declared.Granule.{Granule}
 use Rattle.def_instr.specs.declared.Instr.{Instr}
@@ -7,21 +8,60 @@ use Rattle.def_machine.specs.State.{register}
 use Rattle.def_step.specs.declared.Access.{Access}
 use Rattle.def_step.specs.Checks.{first_failed}
 use Rattle.def_step.specs.Devices.{Bank}
-use Rattle.def_step.specs.Accesses.{access_of, access_address, access_checks, access_result}
+use Rattle.def_step.specs.Accesses.{access_of, access_address, access_checks, access_result, load_checks, store_checks}
 use Rattle.def_veil.specs.Steps.{IsSeen, SeesAccess}
-use Rattle.ct_loadstore.specs.Quiet.{Quiet}
+use Rattle.law_veil.proofs.Granules.{veiled_length}
+use Rattle.ct_loadstore.specs.Quiet.{Quiet, is_within, is_quiet_load, is_quiet_store}
 use Rattle.ct_loadstore.specs.Shapes.{MovedRow}
 use Rattle.ct_engine.specs.declared.rows.Rows.{Rows}
 use Rattle.ct_engine.specs.Seen.{Seen, hides, seen, thread, with_granules}
 use Rattle.ct_engine.specs.Kept.{Holds}
-use Rattle.ct_engine.specs.Steps.{space_in, no_bank, IsGiven, IsStored, SeesThrough}
+use Rattle.ct_engine.specs.Steps.{space_in, no_bank, is_word_of_ram, IsGiven, IsStored, SeesThrough}
 use Rattle.ct_engine.proofs.Instructions.{Moving, move_holds, move_is, move_kept}
 
 abbrev given : Option Cap → MovedRow
 given value = record { value = value; device = None }
 
+-- ---- when: by how many granules there are
+
+within_same : (ram : ℕ) (gs hs : List Granule) (at width : ℕ) → length hs ≡ length gs → is_within ram gs at width ≡ is_within ram hs at width
+within_same ram gs hs at width size = ap (λ n. nat_le ram at && nat_le (at + width) (ram + 8 * n)) (sym size)
+
+pub word_same : (ram : ℕ) (gs hs : List Granule) (at : ℕ) → length hs ≡ length gs → is_word_of_ram ram gs at ≡ is_word_of_ram ram hs at
+word_same ram gs hs at size = ap (λ b. nat_le (NATIVE_BASE + NATIVE_UNIT * (LAST_NATIVE + 1)) at && (b && (at % 4 == 0))) (within_same ram gs hs at 4 size)
+
+pub load_same : (a : Access) (x : Cap) (ram : ℕ) (gs hs : List Granule) → length hs ≡ length gs → is_quiet_load a x ram gs ≡ is_quiet_load a x ram hs
+load_same a x ram gs hs size =
+    ap (λ b. not (is_some (first_failed (load_checks a x (access_address a x)))) && b) (within_same ram gs hs (access_address a x) a.width size)
+
+pub store_same : (a : Access) (x y : Cap) (ram : ℕ) (gs hs : List Granule) → length hs ≡ length gs → is_quiet_store a x y ram gs ≡ is_quiet_store a x y ram hs
+store_same a x y ram gs hs size =
+    ap (λ b. not (is_some (first_failed (store_checks a x (access_address a x) (a.whole && y.tag)))) && b) (within_same ram gs hs (access_address a x) a.width size)
+
+pub word_when : (gs : List Granule) (rows : Rows) (v : Seen) (at : ℕ) → seen gs rows ≡ v → is_word_of_ram rows.region.ram gs at ≡ is_word_of_ram v.region.ram v.granules at
+word_when gs rows v at is =
+    word_same rows.region.ram gs (seen gs rows).granules at (veiled_length (hides rows.region) gs)
+    ∙ ap (λ (s : Seen). is_word_of_ram s.region.ram s.granules at) is
+
+-- through register n of thread t
+pub load_when : (gs : List Granule) (rows : Rows) (v : Seen) (a : Access) (t n : ℕ) → seen gs rows ≡ v
+    → is_quiet_load a (register (thread (seen gs rows) t) n) rows.region.ram gs ≡ is_quiet_load a (register (thread v t) n) v.region.ram v.granules
+load_when gs rows v a t n is =
+    load_same a (register (thread (seen gs rows) t) n) rows.region.ram gs (seen gs rows).granules (veiled_length (hides rows.region) gs)
+    ∙ ap (λ (s : Seen). is_quiet_load a (register (thread s t) n) s.region.ram s.granules) is
+
+-- and of its register m
+pub store_when : (gs : List Granule) (rows : Rows) (v : Seen) (a : Access) (t n m : ℕ) → seen gs rows ≡ v
+    → is_quiet_store a (register (thread (seen gs rows) t) n) (register (thread (seen gs rows) t) m) rows.region.ram gs
+    ≡ is_quiet_store a (register (thread v t) n) (register (thread v t) m) v.region.ram v.granules
+store_when gs rows v a t n m is =
+    store_same a (register (thread (seen gs rows) t) n) (register (thread (seen gs rows) t) m) rows.region.ram gs (seen gs rows).granules (veiled_length (hides rows.region) gs)
+    ∙ ap (λ (s : Seen). is_quiet_store a (register (thread s t) n) (register (thread s t) m) s.region.ram s.granules) is
+
+-- ---- what an access meets
+
 -- instructions of one access see alike
-sees_by : (h : ℕ → Bool) (ram : ℕ) (a : Access) (x y : Cap) (i : Instr) → SeesThrough h ram a x y → access_of i ≡ a → SeesAccess h ram i x y
+pub sees_by : (h : ℕ → Bool) (ram : ℕ) (a : Access) (x y : Cap) (i : Instr) → SeesThrough h ram a x y → access_of i ≡ a → SeesAccess h ram i x y
 sees_by h ram a x y i open_ of =
     subst (λ (b : Access). first_failed (access_checks b x y (access_address b x)) ≡ None → IsSeen h ram (access_address b x)) (open_.1 ∙ sym of) open_.2
 

@@ -1,7 +1,7 @@
 -- What an instruction of the running thread works on beside that thread, and what it finds and leaves there.
-use Rattle.std.specs.Prelude.{ℕ, ◌+◌, ◌*◌, ◌%◌, ◌≡◌, ◌≤◌, Bool, List, [], Some, None, Result, Ok, Err, MatchResult}
+use Rattle.std.specs.Prelude.{ℕ, ◌+◌, ◌*◌, ◌%◌, ◌==◌, ◌&&◌, ◌≡◌, ◌≤◌, Bool, nat_le, List, [], Some, None, Result, Ok, Err, MatchResult}
 use Rattle.def_profile.specs.declared.limits.TheConstants.{RAM_END}
-use Rattle.def_profile.specs.declared.native.TheConstants.{RETURN}
+use Rattle.def_profile.specs.declared.native.TheConstants.{LAST_NATIVE, NATIVE_BASE, NATIVE_UNIT, RETURN}
 use Rattle.def_words.specs.declared.Cap.{Cap}
 use Rattle.def_words.specs.declared.Trap.{Trap}
 use Rattle.def_memory.specs.declared.Granule.{Granule}
@@ -15,6 +15,7 @@ use Rattle.def_step.specs.Accesses.{Space, access_of, access_result}
 use Rattle.def_veil.specs.Steps.{SeesAccess}
 use Rattle.def_step.specs.Devices.{Bank}
 use Rattle.def_step.specs.Instructions.{next_at}
+use Rattle.ct_loadstore.specs.Quiet.{is_within}
 use Rattle.ct_loadstore.specs.Shapes.{MovedRow, space_of}
 use Rattle.ct_engine.specs.Seen.{Seen}
 
@@ -28,6 +29,12 @@ no_bank = record { bases = []; states = [] }
 -- what stands at an address, whatever the devices and the time
 abbrev pub next_in : Seen → ℕ → Next
 next_in s at = next_at (space_in s no_bank 0) at
+
+-- past the entries of native routines, a whole word of RAM stands at an address that is a multiple of 4
+abbrev pub is_word_of_ram : ℕ → List Granule → ℕ → Bool
+is_word_of_ram ram gs at =
+    nat_le (NATIVE_BASE + NATIVE_UNIT * (LAST_NATIVE + 1)) at
+    && (is_within ram gs at 4 && (at % 4 == 0))
 
 -- of a native routine but the return: its number is at most the last
 pub record IsRoutine (number : ℕ) : Type 0 where

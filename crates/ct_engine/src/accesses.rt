@@ -1,12 +1,12 @@
 //! Loads and stores of the running thread.
 
-ghost use Rattle.std.specs.Prelude.{◌≡◌, ◌*◌, ◌%◌, ◌<◌, Some, None, IfSome, length, true, false};
+ghost use Rattle.std.specs.Prelude.{◌≡◌, ◌*◌, ◌%◌, ◌<◌, Some, None, IfSome, is_some, length, true, false};
 ghost use Rattle.def_words.specs.declared.Cap.{Cap};
 ghost use Rattle.def_words.specs.Capability.{integer};
 ghost use Rattle.def_instr.specs.Shapes.{is_access};
 ghost use Rattle.def_machine.specs.State.{register};
 ghost use Rattle.ct_loadstore.specs.Maps.{IsMap};
-ghost use Rattle.ct_loadstore.specs.Quiet.{Quiet};
+ghost use Rattle.ct_loadstore.specs.Quiet.{Quiet, is_quiet_load, is_quiet_store};
 ghost use Rattle.ct_loadstore.specs.Shapes.{IsShape, space_of};
 ghost use Rattle.ct_engine.specs.Kept.{Holds};
 ghost use Rattle.ct_engine.specs.Seen.{seen, thread};
@@ -75,7 +75,10 @@ pub(crate) fn load_number<M: Memory>(
     requires shape { IsShape access.now }
     requires loads { access.now.loads ≡ true }
     requires part { access.now.whole ≡ false }
-    ensures { IfSome result (λ n. (y : Cap) → Quiet access.now
+    ensures when { is_some result ≡ is_quiet_load access.now
+        (register (thread (seen (M.granules mem.now) rows.now) t) number) rows.now.region.ram
+        (M.granules mem.now) }
+    ensures given { IfSome result (λ n. (y : Cap) → Quiet access.now
         (register (thread (seen (M.granules mem.now) rows.now) t) number) y rows.now.region.ram
         (M.granules mem.now) (Some (integer n)) (M.granules mem.now)) }
 {
@@ -99,7 +102,10 @@ pub(crate) fn load_capability<M: Memory>(
     requires shape { IsShape access.now }
     requires loads { access.now.loads ≡ true }
     requires whole { access.now.whole ≡ true }
-    ensures { IfSome result (λ c. (y : Cap) → Quiet access.now
+    ensures when { is_some result ≡ is_quiet_load access.now
+        (register (thread (seen (M.granules mem.now) rows.now) t) number) rows.now.region.ram
+        (M.granules mem.now) }
+    ensures given { IfSome result (λ c. (y : Cap) → Quiet access.now
         (register (thread (seen (M.granules mem.now) rows.now) t) number) y rows.now.region.ram
         (M.granules mem.now) (Some c) (M.granules mem.now)) }
 {
@@ -124,6 +130,10 @@ pub(crate) fn store_register<M: Memory>(
     requires even { rows.now.region.ram % 16 ≡ 0 }
     requires shape { IsShape access.now }
     requires stores { access.now.loads ≡ false }
+    ensures when { result ≡ is_quiet_store access.now
+        (register (thread (seen (M.granules mem.old) rows.now) t) number)
+        (register (thread (seen (M.granules mem.old) rows.now) t) stored) rows.now.region.ram
+        (M.granules mem.old) }
     ensures is { result ≡ true → Quiet access.now
         (register (thread (seen (M.granules mem.old) rows.now) t) number)
         (register (thread (seen (M.granules mem.old) rows.now) t) stored) rows.now.region.ram

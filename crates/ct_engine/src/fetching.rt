@@ -1,10 +1,11 @@
 //! What stands at an address.
 
-ghost use Rattle.std.specs.Prelude.{◌≡◌, ◌+◌, ◌*◌, ◌%◌, ◌&&◌, ◌==◌, IfSome, length, nat_le};
+ghost use Rattle.std.specs.Prelude.{◌≡◌, ◌%◌, ◌&&◌, ◌==◌, IfSome, is_some};
 ghost use Rattle.def_instr.specs.Reading.{instruction_in};
 ghost use Rattle.def_step.specs.Instructions.{fetched, next_at, next_native, next_word, is_native_entry};
+ghost use Rattle.ct_loadstore.specs.Quiet.{is_within};
 ghost use Rattle.ct_loadstore.specs.Shapes.{space_of};
-ghost use Rattle.ct_engine.specs.Steps.{no_bank, NextInRange};
+ghost use Rattle.ct_engine.specs.Steps.{is_word_of_ram, no_bank, NextInRange};
 
 use ct_isa::decode;
 use ct_mem::Memory;
@@ -16,9 +17,8 @@ const FIRST_AFTER_NATIVE: u32 = NATIVE_BASE + NATIVE_UNIT * (LAST_NATIVE + 1);
 
 /// Whether an aligned word at an address lies in RAM.
 #[inline(always)]
-fn is_word_of_ram<M: Memory>(mem: &M, ram: u32, at: u32) -> bool
-    ensures { result ≡ nat_le ram at && nat_le (at + 4) (ram + 8 * length (M.granules mem.now))
-        && (at % 4 == 0) }
+fn is_aligned_in_ram<M: Memory>(mem: &M, ram: u32, at: u32) -> bool
+    ensures { result ≡ is_within ram (M.granules mem.now) at 4 && (at % 4 == 0) }
 {
     ram <= at && at as u64 + 4 <= ram as u64 + mem.size() as u64 && at % 4 == 0
 }
@@ -28,7 +28,7 @@ fn fetch<M: Memory>(mem: &M, ram: u32, at: u32) -> u32
     requires { ram % 16 ≡ 0 }
     ensures { result ≡ fetched (space_of ram (M.granules mem.now) no_bank 0) at }
 {
-    if is_word_of_ram(mem, ram, at) {
+    if is_aligned_in_ram(mem, ram, at) {
         return mem.load(at - ram, 4);
     }
     0
@@ -70,14 +70,16 @@ pub(crate) fn next<M: Memory>(mem: &M, ram: u32, at: u32) -> Next
     }
 }
 
-/// The word at an address past the native routines, hidden or not, where a whole word of RAM stands there; else `None`.
+/// The word at an address, hidden or not, where it lies past the native routines, is a multiple of 4, and a whole word
+/// of RAM stands there; else `None`.
 #[inline(always)]
 pub(crate) fn word_at<M: Memory>(mem: &M, ram: u32, at: u32) -> Option<u32>
     requires { ram % 16 ≡ 0 }
-    ensures { IfSome result (λ w. next_at (space_of ram (M.granules mem.now) no_bank 0) at
+    ensures when { is_some result ≡ is_word_of_ram ram (M.granules mem.now) at }
+    ensures given { IfSome result (λ w. next_at (space_of ram (M.granules mem.now) no_bank 0) at
         ≡ next_word (instruction_in w)) }
 {
-    if at >= FIRST_AFTER_NATIVE && is_word_of_ram(mem, ram, at) {
+    if at >= FIRST_AFTER_NATIVE && is_aligned_in_ram(mem, ram, at) {
         return Some(mem.load(at - ram, 4));
     }
     None

@@ -1,6 +1,7 @@
 //! A heap's calls on an engine's memory, and a slice of its sweep.
 
 ghost use Rattle.std.specs.Prelude.{ℕ, ◌≡◌, ◌+◌, ◌*◌, ◌≤◌, ◌<◌, [], None, length, min, IsSome, unwrap_or, OnErr, MatchResult, Some};
+ghost use Rattle.def_profile.specs.declared.limits.TheConstants.{MOST_STEPS};
 ghost use Rattle.def_machine.specs.Objects.{has_quarantined};
 ghost use Rattle.def_chunks.specs.Heaps.{objects_of, Laid};
 ghost use Rattle.ct_heap.specs.Effects.{Empty, Allocates, Refuses, Frees, Paints, Flushes, Stays, Same};
@@ -43,7 +44,7 @@ impl<M: Memory + Drop> Engine<M> {
         requires behind { IsBehind self.old heap.old.range }
         requires laid { Laid heap.old self.old.granules }
         requires quota { quota < length heap.old.accounts }
-        requires few { heap.old.next ≤ 4000000000 }
+        requires few { heap.old.next ≤ MOST_STEPS }
         ensures kept { self.new ≡ with_granules self.old self.new.granules }
         ensures laid { Laid heap.new self.new.granules }
         ensures answer { MatchResult result

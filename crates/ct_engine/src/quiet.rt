@@ -1,7 +1,7 @@
 //! The running thread's registers, and what it loads and stores in RAM, where they stand: what a step that tells
 //! nothing asks and leaves.
 
-ghost use Rattle.std.specs.Prelude.{◌≡◌, ◌%◌, ◌<◌, Some, IfSome, true, false, is_none, length};
+ghost use Rattle.std.specs.Prelude.{◌≡◌, ◌%◌, ◌<◌, Some, IfSome, true, false, is_none, is_some, length};
 ghost use Rattle.def_instr.specs.Reading.{instruction_in};
 ghost use Rattle.def_machine.specs.State.{register};
 ghost use Rattle.def_words.specs.declared.Cap.{Cap};
@@ -10,9 +10,10 @@ ghost use Rattle.def_words.specs.Capability.{integer, raised, with_address};
 ghost use Rattle.def_step.specs.Checks.{first_failed};
 ghost use Rattle.def_step.specs.Instructions.{fetch_checks, next_word};
 ghost use Rattle.def_veil.specs.Steps.{IsSeen};
+ghost use Rattle.ct_loadstore.specs.Quiet.{is_quiet_load, is_quiet_store};
 ghost use Rattle.ct_loadstore.specs.Shapes.{IsShape};
 ghost use Rattle.ct_engine.specs.Seen.{hides, thread, went, with_granules};
-ghost use Rattle.ct_engine.specs.Steps.{next_in, IsGiven, IsStored, SeesThrough};
+ghost use Rattle.ct_engine.specs.Steps.{is_word_of_ram, next_in, IsGiven, IsStored, SeesThrough};
 
 use crate::engine::Engine;
 use crate::{accesses, fetching, steps};
@@ -41,12 +42,12 @@ impl<M: Memory + Drop> Engine<M> {
 
     /// The address in a register of the running thread.
     #[inline(always)]
-    pub fn number(&self, t: u32, number: u32) -> u32
+    pub fn address_in(&self, t: u32, number: u32) -> u32
         requires runs { self.now.running ≡ Some t }
         requires number { number < 16 }
         ensures { result ≡ cap_address (register (thread self.now t) number) }
     {
-        steps::number(&self.rows, t, number)
+        steps::address_in(&self.rows, t, number)
     }
 
     /// A register of the running thread, where it stands.
@@ -68,15 +69,17 @@ impl<M: Memory + Drop> Engine<M> {
         steps::lent_pcc(&self.rows, t)
     }
 
-    /// The word at an address past the native routines, where a whole word of RAM stands there; else `None`. A body
-    /// that always answers `None` meets this too.
+    /// The word at an address, where it lies past the native routines, is a multiple of 4, and a whole word of RAM
+    /// stands there; else `None`.
     ///
     /// Condition: the address isn't hidden.
     #[inline(always)]
     pub fn word_at(&self, at: u32) -> Option<u32>
         requires even { self.now.region.ram % 16 ≡ 0 }
         requires seen { IsSeen (hides self.now.region) self.now.region.ram at }
-        ensures { IfSome result (λ w. next_in self.now at ≡ next_word (instruction_in w)) }
+        ensures when { is_some result
+            ≡ is_word_of_ram self.now.region.ram self.now.granules at }
+        ensures given { IfSome result (λ w. next_in self.now at ≡ next_word (instruction_in w)) }
     {
         fetching::word_at(&self.mem, self.rows.region.ram, at)
     }
@@ -105,16 +108,16 @@ impl<M: Memory + Drop> Engine<M> {
 
     /// The running thread goes on at an address, by the address rule.
     #[inline(always)]
-    pub fn turn(&mut self, t: u32, target: u32)
+    pub fn branch_to(&mut self, t: u32, target: u32)
         requires { self.old.running ≡ Some t }
         ensures { self.new ≡ went self.old t (with_address (thread self.old t).pcc target)
             (thread self.old t).posture 0 (integer 0) }
     {
-        steps::turn(&mut self.rows, t, target);
+        steps::branch_to(&mut self.rows, t, target);
     }
 
     /// The number that a load through a register of the running thread gives, where its checks pass and it lies in RAM;
-    /// else `None`. A body that always answers `None` meets this too.
+    /// else `None`.
     ///
     /// Condition: where its checks pass, the load reaches nothing hidden.
     #[inline(always)]
@@ -127,14 +130,17 @@ impl<M: Memory + Drop> Engine<M> {
         requires part { access.now.whole ≡ false }
         requires seen { (y : Cap) → SeesThrough (hides self.now.region) self.now.region.ram
             access.now (register (thread self.now t) number) y }
-        ensures { IfSome result (λ n. (y : Cap) → IsGiven access.now
+        ensures when { is_some result
+            ≡ is_quiet_load access.now (register (thread self.now t) number)
+            self.now.region.ram self.now.granules }
+        ensures given { IfSome result (λ n. (y : Cap) → IsGiven access.now
             (register (thread self.now t) number) y self.now (integer n)) }
     {
         accesses::load_number(&self.rows, &self.mem, t, number, access)
     }
 
     /// The capability that a load through a register of the running thread gives, where its checks pass and it lies in
-    /// RAM; else `None`. A body that always answers `None` meets this too.
+    /// RAM; else `None`.
     ///
     /// Condition: where its checks pass, the load reaches nothing hidden.
     #[inline(always)]
@@ -147,14 +153,17 @@ impl<M: Memory + Drop> Engine<M> {
         requires whole { access.now.whole ≡ true }
         requires seen { (y : Cap) → SeesThrough (hides self.now.region) self.now.region.ram
             access.now (register (thread self.now t) number) y }
-        ensures { IfSome result (λ c. (y : Cap) → IsGiven access.now
+        ensures when { is_some result
+            ≡ is_quiet_load access.now (register (thread self.now t) number)
+            self.now.region.ram self.now.granules }
+        ensures given { IfSome result (λ c. (y : Cap) → IsGiven access.now
             (register (thread self.now t) number) y self.now c) }
     {
         accesses::load_capability(&self.rows, &self.mem, t, number, access)
     }
 
     /// Stores what stands in a register of the running thread through another, where the checks pass and it lies in
-    /// RAM; else `false`, and nothing changes. A body that always answers `false` meets this too.
+    /// RAM; else `false`, and nothing changes.
     ///
     /// Condition: where its checks pass, the store reaches nothing hidden.
     #[inline(always)]
@@ -167,6 +176,9 @@ impl<M: Memory + Drop> Engine<M> {
         requires stores { access.now.loads ≡ false }
         requires seen { SeesThrough (hides self.old.region) self.old.region.ram access.now
             (register (thread self.old t) number) (register (thread self.old t) stored) }
+        ensures when { result
+            ≡ is_quiet_store access.now (register (thread self.old t) number)
+            (register (thread self.old t) stored) self.old.region.ram self.old.granules }
         ensures is { result ≡ true → IsStored access.now (register (thread self.old t) number)
             (register (thread self.old t) stored) self.old self.new.granules }
         ensures same { result ≡ false → self.new ≡ self.old }

@@ -11,7 +11,7 @@ use ct_areas::Thread;
 
 /// The trusted region past its first granules, in which the threads' areas stand, and where RAM begins: addresses, of
 /// which `end` is the first past the region.
-#[derive(Clone, Copy, Debug, PartialEq, Eq, Drop)]
+#[derive(Clone, Copy, PartialEq, Eq, Drop)]
 pub struct Region {
     pub ram: u32,
     pub trusted: u32,

@@ -19,7 +19,7 @@ use std::alloc::Global;
 
 /// A thread before its first step: its program counter capability, registers and posture, the compartment and the
 /// export of its first frame, and where its stack and its area lie.
-#[derive(Debug, Drop)]
+#[derive(Drop)]
 pub struct Fresh {
     pub pcc: Live,
     pub regs: [Live; 16],

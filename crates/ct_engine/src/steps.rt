@@ -205,7 +205,7 @@ pub(crate) fn lent_pcc(rows: &Rows, t: u32) -> &Live
 
 /// The address in a register of the running thread.
 #[inline(always)]
-pub(crate) fn number(rows: &Rows, t: u32, number: u32) -> u32
+pub(crate) fn address_in(rows: &Rows, t: u32, number: u32) -> u32
     requires there { t < length rows.now.list.items }
     requires runs { rows.now.running ≡ Some t }
     requires number { number < 16 }
@@ -271,7 +271,7 @@ pub(crate) fn put(rows: &mut Rows, t: u32, to: u32, value: Live)
 
 /// A row whose thread goes on at an address.
 #[inline(always)]
-fn turn_row(t: &mut Thread, target: u32)
+fn branch_row(t: &mut Thread, target: u32)
     ensures { t.new ≡ row_gone t.old (with_address t.old.pcc target) t.old.posture 0 (integer 0) }
 {
     ct_counter::turn(&mut t.pcc, target);
@@ -279,7 +279,7 @@ fn turn_row(t: &mut Thread, target: u32)
 
 /// The running thread goes on at an address.
 #[inline(always)]
-pub(crate) fn turn(rows: &mut Rows, t: u32, target: u32)
+pub(crate) fn branch_to(rows: &mut Rows, t: u32, target: u32)
     requires there { t < length rows.old.list.items }
     requires runs { rows.old.running ≡ Some t }
     ensures holds { (gs : List Granule) → Holds gs rows.old → Holds gs rows.new }
@@ -288,5 +288,5 @@ pub(crate) fn turn(rows: &mut Rows, t: u32, target: u32)
         (with_address (thread (seen gs rows.old) t).pcc target)
         (thread (seen gs rows.old) t).posture 0 (integer 0) }
 {
-    turn_row(&mut rows.list[t as usize], target);
+    branch_row(&mut rows.list[t as usize], target);
 }

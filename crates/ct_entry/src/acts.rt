@@ -75,7 +75,7 @@ pub enum End {
 }
 
 /// The counts of a run: events, and deeds by kind (`devices` are loads and stores together).
-#[derive(Clone, Copy, Debug, PartialEq, Eq, Drop)]
+#[derive(Clone, Copy, PartialEq, Eq, Drop)]
 pub struct Totals {
     pub end: End,
     pub steps: u32,

@@ -3,7 +3,7 @@
 use std::marker::Model;
 
 /// What registers a device has (docs/use/machine.md).
-#[derive(Clone, Copy, Debug, PartialEq, Eq, Drop)]
+#[derive(Clone, Copy, PartialEq, Eq, Drop)]
 pub enum DeviceKind {
     Uart,
     Timer,
@@ -11,7 +11,7 @@ pub enum DeviceKind {
 }
 
 /// A device: its name, its kind, and the address of its 16 bytes of registers.
-#[derive(Debug, Drop)]
+#[derive(Drop)]
 pub struct Device {
     pub name: String,
     pub kind: DeviceKind,
@@ -25,19 +25,4 @@ impl Model for Device {
     ghost Value = { DeviceRow };
 
     ghost view = { λ d. record { name = string_bytes d.name; kind = d.kind; base = d.base } };
-}
-
-/// The devices, in the description's order.
-#[derive(Debug, Drop)]
-pub struct Devices {
-    pub rows: Vec<Device>,
-}
-
-impl Model for Devices {
-    ghost use Rattle.std.specs.Prelude.{List};
-    ghost use Rattle.ct_entry.specs.Listed.{DeviceRow};
-
-    ghost Value = { List DeviceRow };
-
-    ghost view = { λ d. d.rows.items };
 }

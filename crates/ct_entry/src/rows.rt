@@ -11,11 +11,11 @@ pub enum Owner {
 }
 
 /// A compartment, by its index.
-#[derive(Clone, Copy, Debug, PartialEq, Eq, Drop)]
+#[derive(Clone, Copy, PartialEq, Eq, Drop)]
 pub struct Comp(pub u32);
 
 /// What an entry gives. The kinds from `Device` to `Key` are slots of an import table.
-#[derive(Clone, Copy, Debug, PartialEq, Eq, Drop)]
+#[derive(Clone, Copy, PartialEq, Eq, Drop)]
 pub enum Kind {
     Code,
     Globals,
@@ -36,7 +36,7 @@ pub enum Kind {
 /// `base` and `length` are bytes, `rights` the twelve permission bits, `of` the number of the named
 /// export or the index of the device, shared or sealed object or service, else 0, and `limit` a
 /// quota's bytes, else 0.
-#[derive(Clone, Copy, Debug, PartialEq, Eq, Drop)]
+#[derive(Clone, Copy, PartialEq, Eq, Drop)]
 pub struct Entry {
     pub owner: Owner,
     pub kind: Kind,
@@ -58,7 +58,7 @@ pub enum Mode {
 /// What an export's entry has beside its row: the entry's number, the address of its code, the stack
 /// that it asks for in bytes, how many arguments it takes (0 to 6), its posture, and whether a call
 /// passes capabilities.
-#[derive(Clone, Copy, Debug, PartialEq, Eq, Drop)]
+#[derive(Clone, Copy, PartialEq, Eq, Drop)]
 pub struct Gate {
     pub entry: u32,
     pub code: u32,
@@ -69,7 +69,7 @@ pub struct Gate {
 }
 
 /// The rows in the order of their numbers from 1, and one gate for each export in the same order.
-#[derive(Debug, Drop)]
+#[derive(Drop)]
 pub struct Entries {
     pub rows: Vec<Entry>,
     pub gates: Vec<Gate>,

@@ -1,5 +1,5 @@
 -- What is carried out quietly: what a reading says, a fetch that passes, and branches and jumps whose target is whole.
-use Rattle.std.proofs.Common.{ℕ, ◌≡◌, ◌%◌, ◌==◌, Bool, true, false, Option, Some, None, IfSome, is_some, is_none, Ok, refl, sym, ap, ◌∙◌, subst, if◌then◌else◌}
+use Rattle.std.proofs.Common.{ℕ, ◌≡◌, ◌%◌, ◌==◌, ◌&&◌, Bool, true, false, Option, Some, None, IfSome, is_none, Ok, refl, sym, ap, ◌∙◌, subst, if◌then◌else◌}
 use Rattle.ct_entry.specs.Listed.{Listed}
 use Rattle.def_words.specs.declared.Cap.{Cap}
 use Rattle.def_words.specs.declared.Posture.{Posture}
@@ -8,7 +8,7 @@ use Rattle.def_words.specs.Authority.{cap_address}
 use Rattle.def_words.specs.Capability.{integer, with_address}
 use Rattle.def_instr.specs.declared.Instr.{Instr}
 use Rattle.def_instr.specs.declared.Instr.TheVariants.{Beq, Bne, Blt, Bge, Bltu, Bgeu}
-use Rattle.def_machine.specs.State.{register}
+use Rattle.def_machine.specs.State.{Thread, register}
 use Rattle.def_step.specs.declared.Class.TheVariants as kinds
 use Rattle.def_step.specs.declared.Next.{Next}
 use Rattle.def_step.specs.declared.Operands.{Operands}
@@ -21,10 +21,10 @@ use Rattle.def_step.specs.Operands.{class_of, operands_of}
 use Rattle.ct_decoded.specs.declared.reading.Reading.{Reading}
 use Rattle.ct_decoded.specs.Reading.{reading_by}
 use Rattle.ct_engine.specs.Seen.{Seen, thread, went}
-use Rattle.ct_engine.specs.Steps.{space_in, next_in}
+use Rattle.ct_engine.specs.Steps.{space_in, next_in, is_word_of_ram}
 use Rattle.ct_heaped.specs.Seen as heaped
 use Rattle.ct_execute.specs.Deciding.{decision, decide_fetched, decide_next, named_in, WentQuietly}
-use Rattle.ct_execute.specs.Quiet.{offset_of, Says, CarriesQuietly}
+use Rattle.ct_execute.specs.Quiet.{offset_of, address_in, takes, jump_by, jump_offset, jumps_whole, goes_at, goes_quietly, Says, CarriesQuietly}
 
 -- ---- what a reading says
 
@@ -49,23 +49,44 @@ passes : (e : Listed) (s : Seen) (t : ℕ) (k : Bank) (time : ℕ) (new : Seen) 
 passes e s t k time new None none h = h
 passes e s t k time new (Some why) none h = absurd (cc)
 
-fetched_quietly : (e : Listed) (s : Seen) (t : ℕ) (k : Bank) (time : ℕ) (new : Seen) (o : Option Instr) → is_some o ≡ true → IfSome o (λ i. CarriesQuietly s t i new)
+fetched_quietly : (e : Listed) (s : Seen) (t : ℕ) (k : Bank) (time : ℕ) (new : Seen) (o : Option Instr) → goes_at (thread s t) s.region.ram s.granules (next_word o) ≡ true → IfSome o (λ i. CarriesQuietly s t i new)
     → next_in s (cap_address (thread s t).pcc) ≡ next_word o
     → WentQuietly (decide_next e (thread s t) (space_in s k time) (next_at (space_in s k time) (cap_address (thread s t).pcc))) t s k new
-fetched_quietly e s t k time new None some carries next = absurd (cc)
-fetched_quietly e s t k time new (Some i) some carries next =
+fetched_quietly e s t k time new None goes carries next = absurd (cc)
+fetched_quietly e s t k time new (Some i) goes carries next =
     subst (λ (n : Next). WentQuietly (decide_next e (thread s t) (space_in s k time) n) t s k new) (sym next) (carries e k time)
 
 pub decided_quietly : (s : Seen) (t word : ℕ) (new : Seen) (o : Option Instr) (r : Reading) → r ≡ reading_by word o
     → is_none (first_failed (fetch_checks (thread s t).pcc)) ≡ true
     → next_in s (cap_address (thread s t).pcc) ≡ next_word o
-    → is_some r.instruction ≡ true → IfSome r.instruction (λ i. CarriesQuietly s t i new)
+    → goes_at (thread s t) s.region.ram s.granules (next_word r.instruction) ≡ true → IfSome r.instruction (λ i. CarriesQuietly s t i new)
     → (e : Listed) (k : Bank) (time : ℕ) → WentQuietly (decision e s t k time) t s k new
-decided_quietly s t word new o r is checks next some carries e k time =
+decided_quietly s t word new o r is checks next goes carries e k time =
     let same : r.instruction ≡ o = subst (λ (q : Reading). q.instruction ≡ o) (sym is) (instruction_read word o) in
     passes e s t k time new (first_failed (fetch_checks (thread s t).pcc)) checks
-    (fetched_quietly e s t k time new o (subst (λ (p : Option Instr). is_some p ≡ true) same some)
+    (fetched_quietly e s t k time new o (subst (λ (p : Option Instr). goes_at (thread s t) s.region.ram s.granules (next_word p) ≡ true) same goes)
     (subst (λ (p : Option Instr). IfSome p (λ i. CarriesQuietly s t i new)) same carries) next)
+
+-- ---- when
+
+both_pass : (a b c went : Bool) → a ≡ true → b ≡ true → went ≡ c → went ≡ (a && (b && c))
+both_pass a b c went first second is = rw (first, second) is
+
+-- the fetch passes, a whole word stands there, and it goes or not
+pub when_fetched : (s : Seen) (t word at : ℕ) (o : Option Instr) (r : Reading) (went : Bool) → r ≡ reading_by word o
+    → is_none (first_failed (fetch_checks (thread s t).pcc)) ≡ true → at ≡ cap_address (thread s t).pcc
+    → true ≡ is_word_of_ram s.region.ram s.granules at → next_in s at ≡ next_word o
+    → went ≡ goes_at (thread s t) s.region.ram s.granules (next_word r.instruction)
+    → went ≡ goes_quietly (thread s t) s.region.ram s.granules
+when_fetched s t word at o r went is checks there stands next goes =
+    let same : r.instruction ≡ o = subst (λ (q : Reading). q.instruction ≡ o) (sym is) (instruction_read word o) in
+    let whole : is_word_of_ram s.region.ram s.granules (cap_address (thread s t).pcc) ≡ true =
+    subst (λ (n : ℕ). is_word_of_ram s.region.ram s.granules n ≡ true) there (sym stands) in
+    let here : next_in s (cap_address (thread s t).pcc) ≡ next_word o = subst (λ (n : ℕ). next_in s n ≡ next_word o) there next in
+    both_pass (is_none (first_failed (fetch_checks (thread s t).pcc))) (is_word_of_ram s.region.ram s.granules (cap_address (thread s t).pcc))
+    (goes_at (thread s t) s.region.ram s.granules (next_in s (cap_address (thread s t).pcc))) went checks whole
+    (goes ∙ ap (λ (p : Option Instr). goes_at (thread s t) s.region.ram s.granules (next_word p)) same
+    ∙ ap (λ (n : Next). goes_at (thread s t) s.region.ram s.granules n) (sym here))
 
 -- ---- branches and jumps
 
@@ -80,10 +101,6 @@ branch_goes true pcc posture offset n is whole =
     (whole_target pcc posture (target_at pcc offset) None (subst (λ (m : ℕ). (target_at pcc m % 4 == 0) ≡ true) is whole))
 branch_goes false pcc posture offset n is whole =
     subst (λ (m : ℕ). branched false pcc posture offset ≡ Ok (record { link = None; pcc = with_address pcc (target_at pcc m); posture = posture })) (sym is) refl
-
--- the address in a register
-abbrev number : Seen → ℕ → ℕ → ℕ
-number s t n = cap_address (register (thread s t) n)
 
 abbrev Turned : Seen → ℕ → ℕ → Seen → Type 0
 Turned s t n new = new ≡ went s t (with_address (thread s t).pcc (target_at (thread s t).pcc n)) (thread s t).posture 0 (integer 0)
@@ -111,7 +128,7 @@ branch_class (Bgeu rs1 rs2 n) offset e = (refl, refl)
 branch_class i offset e = absurd (cc)
 
 branch_by : (s : Seen) (t : ℕ) (i : Instr) (offset n : ℕ) (new : Seen) → offset_of i ≡ Some offset
-    → n ≡ (if is_taken i (number s t (operands_of i).first) (number s t (operands_of i).second) then offset else 4)
+    → n ≡ (if takes (thread s t) i then offset else 4)
     → (target_at (thread s t).pcc n % 4 == 0) ≡ true → Turned s t n new → CarriesQuietly s t i new
 branch_by s t i offset n new e by whole is listed k time =
     let w = thread s t in
@@ -121,19 +138,29 @@ branch_by s t i offset n new e by whole is listed k time =
       kind.0,
       kind.1,
       branch_flows i offset (register w (operands_of i).first) (register w (operands_of i).second) w.pcc w.posture named e,
-      branch_goes (is_taken i (number s t (operands_of i).first) (number s t (operands_of i).second)) w.pcc w.posture offset n by whole,
+      branch_goes (takes w i) w.pcc w.posture offset n by whole,
     ) (is, refl, refl, refl)
 
 -- x and y are the addresses in the registers
+taken_is : (w : Thread) (i : Instr) (o : Operands) (x y : ℕ) (taken : Bool) → o ≡ operands_of i → x ≡ address_in w o.first → y ≡ address_in w o.second → taken ≡ is_taken i x y
+    → taken ≡ takes w i
+taken_is w i o x y taken os xs ys is =
+    let first : x ≡ address_in w (operands_of i).first = xs ∙ ap (λ (r : Operands). address_in w r.first) os in
+    let second : y ≡ address_in w (operands_of i).second = ys ∙ ap (λ (r : Operands). address_in w r.second) os in
+    is ∙ ap (λ (a : ℕ). is_taken i a y) first ∙ ap (is_taken i (address_in w (operands_of i).first)) second
+
+pub branch_when : (w : Thread) (i : Instr) (o : Operands) (offset n x y : ℕ) (taken : Bool) → offset_of i ≡ Some offset → o ≡ operands_of i
+    → x ≡ address_in w o.first → y ≡ address_in w o.second → taken ≡ is_taken i x y → n ≡ (if taken then offset else 4)
+    → (target_at w.pcc n % 4 == 0) ≡ jumps_whole w.pcc (jump_offset w i)
+branch_when w i o offset n x y taken e os xs ys is by =
+    ap (λ (m : ℕ). target_at w.pcc m % 4 == 0) (by ∙ ap (λ (b : Bool). if b then offset else 4) (taken_is w i o x y taken os xs ys is))
+    ∙ sym (ap (λ (p : Option ℕ). jumps_whole w.pcc (jump_by w i p)) e)
+
 pub branch_quiet : (s new : heaped.Seen) (t : ℕ) (i : Instr) (o : Operands) (offset n x y : ℕ) (taken : Bool) → offset_of i ≡ Some offset → o ≡ operands_of i
-    → x ≡ number s.threads t o.first → y ≡ number s.threads t o.second → taken ≡ is_taken i x y → n ≡ (if taken then offset else 4)
+    → x ≡ address_in (thread s.threads t) o.first → y ≡ address_in (thread s.threads t) o.second → taken ≡ is_taken i x y → n ≡ (if taken then offset else 4)
     → (target_at (thread s.threads t).pcc n % 4 == 0) ≡ true
     → new ≡ heaped.with_threads s (went s.threads t (with_address (thread s.threads t).pcc (target_at (thread s.threads t).pcc n)) (thread s.threads t).posture 0 (integer 0))
     → CarriesQuietly s.threads t i new.threads
 branch_quiet s new t i o offset n x y taken e os xs ys is by whole turned =
-    let v = s.threads in
-    let first : x ≡ number v t (operands_of i).first = xs ∙ ap (λ (r : Operands). number v t r.first) os in
-    let second : y ≡ number v t (operands_of i).second = ys ∙ ap (λ (r : Operands). number v t r.second) os in
-    let same : taken ≡ is_taken i (number v t (operands_of i).first) (number v t (operands_of i).second) =
-    is ∙ ap (λ (a : ℕ). is_taken i a y) first ∙ ap (is_taken i (number v t (operands_of i).first)) second in
-    branch_by v t i offset n new.threads e (by ∙ ap (λ (b : Bool). if b then offset else 4) same) whole (ap (λ (m : heaped.Seen). m.threads) turned)
+    let same = taken_is (thread s.threads t) i o x y taken os xs ys is in
+    branch_by s.threads t i offset n new.threads e (by ∙ ap (λ (b : Bool). if b then offset else 4) same) whole (ap (λ (m : heaped.Seen). m.threads) turned)

@@ -1,10 +1,11 @@
 //! One instruction that does nothing that is told, on the running thread where it stands.
 
-ghost use Rattle.std.specs.Prelude.{ℕ, ◌≡◌, ◌%◌, ◌==◌, Some, IfSome, is_some, true, false};
+ghost use Rattle.std.specs.Prelude.{ℕ, ◌≡◌, ◌%◌, ◌==◌, Some, IfSome, true, false};
 ghost use Rattle.ct_entry.specs.Listed.{Listed};
 ghost use Rattle.def_instr.specs.declared.Instr.{Instr};
 ghost use Rattle.def_step.specs.declared.Class.TheVariants as kinds;
 ghost use Rattle.def_step.specs.Devices.{Bank};
+ghost use Rattle.def_step.specs.Instructions.{next_word};
 ghost use Rattle.def_step.specs.Jumps.{target_at};
 ghost use Rattle.def_step.specs.Operands.{class_of, operands_of};
 ghost use Rattle.def_words.specs.Capability.{integer, with_address};
@@ -12,7 +13,7 @@ ghost use Rattle.ct_decoded.specs.Reading.{AreRegisters};
 ghost use Rattle.ct_engine.specs.Seen.{thread, went};
 ghost use Rattle.ct_execute.specs.Deciding.{decision, Stays, WentQuietly};
 ghost use Rattle.ct_execute.specs.Opening.{IsOpen};
-ghost use Rattle.ct_execute.specs.Quiet.{offset_of, CarriesQuietly, Says};
+ghost use Rattle.ct_execute.specs.Quiet.{accesses_ram, goes_at, goes_quietly, jump_offset, jumps_whole, offset_of, CarriesQuietly, Says};
 ghost use Rattle.ct_heaped.specs.Seen.{with_threads};
 
 use ct_alu::alu;
@@ -29,7 +30,10 @@ use def_step::Class;
 /// else `false`, and nothing changes. `true` says that this is the written step: the thread goes on, nothing is told,
 /// and devices and posture stay as they are.
 ///
-/// A body that always answers `false` meets this too: `execute` does all that this leaves.
+/// So it is `true` exactly where each check of the fetch passes, a whole word of RAM past the native routines stands
+/// there, and that word is an instruction of integers or of capabilities; or a branch, taken or not, or such a jump,
+/// which leads to a multiple of 4; or a load or a store that no check refuses, and that lies in RAM. `execute` does all
+/// that this leaves.
 #[inline(always)]
 pub fn execute_quietly<M: Memory + Drop>(
     engine: &mut Engine<M>,
@@ -39,6 +43,9 @@ pub fn execute_quietly<M: Memory + Drop>(
     requires runs { engine.old.threads.running ≡ Some t }
     requires opened { IsOpen engine.old t }
     requires even { engine.old.threads.region.ram % 16 ≡ 0 }
+    ensures when { result
+        ≡ goes_quietly (thread engine.old.threads t) engine.old.threads.region.ram
+        engine.old.threads.granules }
     ensures quiet { result ≡ true → (e : Listed) (k : Bank) (time : ℕ)
         → WentQuietly (decision e engine.old.threads t k time) t engine.old.threads k
         engine.new.threads }
@@ -59,7 +66,7 @@ pub fn execute_quietly<M: Memory + Drop>(
     }
 }
 
-/// What was read is carried out; else `false`, and nothing changes.
+/// What was read is carried out where it is such an instruction; else `false`, and nothing changes.
 #[inline(always)]
 fn carry<M: Memory + Drop>(engine: &mut Engine<M>, t: u32, reading: &Reading) -> bool
     requires runs { engine.old.threads.running ≡ Some t }
@@ -67,9 +74,11 @@ fn carry<M: Memory + Drop>(engine: &mut Engine<M>, t: u32, reading: &Reading) ->
     requires even { engine.old.threads.region.ram % 16 ≡ 0 }
     requires says { (i : Instr) → reading.now.instruction ≡ Some i → Says reading.now i }
     requires registers { AreRegisters reading.now.operands }
+    ensures when { result
+        ≡ goes_at (thread engine.old.threads t) engine.old.threads.region.ram
+        engine.old.threads.granules (next_word reading.now.instruction) }
     ensures quiet { result ≡ true → IfSome reading.now.instruction
         (λ i. CarriesQuietly engine.old.threads t i engine.new.threads) }
-    ensures some { result ≡ true → is_some reading.now.instruction ≡ true }
     ensures kept { engine.new ≡ with_threads engine.old engine.new.threads }
     ensures same { result ≡ false → engine.new ≡ engine.old }
     ensures stays { Stays engine.old.threads engine.new.threads }
@@ -77,21 +86,25 @@ fn carry<M: Memory + Drop>(engine: &mut Engine<M>, t: u32, reading: &Reading) ->
     match &reading.instruction {
         Some(instruction) => match reading.class {
             Class::Integer => {
-                let x = engine.number(t, reading.operands.first);
-                let y = engine.number(t, reading.operands.second);
+                let x = engine.address_in(t, reading.operands.first);
+                let y = engine.address_in(t, reading.operands.second);
                 engine.put_number(t, reading.operands.to, alu(*instruction, x, y));
                 true
             }
             Class::Jump => jump(engine, t, reading, *instruction),
-            Class::Access => move_it(engine, t, reading),
-            Class::Capability => derive(engine, t, reading, *instruction),
+            Class::Access => access(engine, t, reading),
+            Class::Capability => {
+                derive(engine, t, reading, *instruction);
+                true
+            }
             _ => false,
         },
         None => false,
     }
 }
 
-/// A branch, taken or not, or a jump by an offset that leaves no link; else `false`, and nothing changes.
+/// A branch, taken or not, or a jump by an offset that leaves no link, where it leads to a multiple of 4; else `false`,
+/// and nothing changes.
 #[tactic(auto, unfolding(def_step::specs::Jumps::flow_result))]
 #[inline(always)]
 fn jump<M: Memory + Drop>(
@@ -103,6 +116,9 @@ fn jump<M: Memory + Drop>(
     requires runs { engine.old.threads.running ≡ Some t }
     requires says { Says reading.now instruction }
     requires registers { AreRegisters reading.now.operands }
+    ensures when { result
+        ≡ jumps_whole (thread engine.old.threads t).pcc
+        (jump_offset (thread engine.old.threads t) instruction) }
     ensures quiet { result ≡ true
         → CarriesQuietly engine.old.threads t instruction engine.new.threads }
     ensures kept { engine.new ≡ with_threads engine.old engine.new.threads }
@@ -116,7 +132,7 @@ fn jump<M: Memory + Drop>(
         | Instr::Bge { offset, .. }
         | Instr::Bltu { offset, .. }
         | Instr::Bgeu { offset, .. } => branch(engine, t, reading, instruction, offset),
-        Instr::Jal { rd: 0, offset } => turn(engine, t, offset),
+        Instr::Jal { rd: 0, offset } => go_by(engine, t, offset),
         _ => false,
     }
 }
@@ -134,21 +150,24 @@ fn branch<M: Memory + Drop>(
     requires operands { reading.now.operands ≡ operands_of instruction }
     requires registers { AreRegisters reading.now.operands }
     requires offset { offset_of instruction ≡ Some offset }
+    ensures when { result
+        ≡ jumps_whole (thread engine.old.threads t).pcc
+        (jump_offset (thread engine.old.threads t) instruction) }
     ensures quiet { result ≡ true
         → CarriesQuietly engine.old.threads t instruction engine.new.threads }
     ensures kept { engine.new ≡ with_threads engine.old engine.new.threads }
     ensures same { result ≡ false → engine.new ≡ engine.old }
     ensures stays { Stays engine.old.threads engine.new.threads }
 {
-    let x = engine.number(t, reading.operands.first);
-    let y = engine.number(t, reading.operands.second);
+    let x = engine.address_in(t, reading.operands.first);
+    let y = engine.address_in(t, reading.operands.second);
     let by = if takes(instruction, x, y) { offset } else { 4 };
-    turn(engine, t, by)
+    go_by(engine, t, by)
 }
 
 /// The program counter moves by an offset, where that leads to a multiple of 4; else `false`, and nothing changes.
 #[inline(always)]
-fn turn<M: Memory + Drop>(engine: &mut Engine<M>, t: u32, by: u32) -> bool
+fn go_by<M: Memory + Drop>(engine: &mut Engine<M>, t: u32, by: u32) -> bool
     requires { engine.old.threads.running ≡ Some t }
     ensures whole { result ≡ (target_at (thread engine.old.threads t).pcc by % 4 == 0) }
     ensures gone { result ≡ true → engine.new ≡ with_threads engine.old
@@ -162,18 +181,21 @@ fn turn<M: Memory + Drop>(engine: &mut Engine<M>, t: u32, by: u32) -> bool
     if target % 4 != 0 {
         return false;
     }
-    engine.turn(t, target);
+    engine.branch_to(t, target);
     true
 }
 
-/// A load or a store of RAM whose checks pass; else `false`, and nothing changes.
+/// A load or a store, where its checks pass and it lies in RAM; else `false`, and nothing changes.
 #[inline(always)]
-fn move_it<M: Memory + Drop>(engine: &mut Engine<M>, t: u32, reading: &Reading) -> bool
+fn access<M: Memory + Drop>(engine: &mut Engine<M>, t: u32, reading: &Reading) -> bool
     requires runs { engine.old.threads.running ≡ Some t }
     requires opened { IsOpen engine.old t }
     requires even { engine.old.threads.region.ram % 16 ≡ 0 }
     requires says { (i : Instr) × Says reading.now i × (class_of i ≡ kinds.Access) }
     requires registers { AreRegisters reading.now.operands }
+    ensures when { result
+        ≡ accesses_ram (thread engine.old.threads t) engine.old.threads.region.ram
+        engine.old.threads.granules reading.now.access reading.now.operands }
     ensures quiet { result ≡ true → (i : Instr) → Says reading.now i
         → class_of i ≡ kinds.Access → CarriesQuietly engine.old.threads t i engine.new.threads }
     ensures kept { engine.new ≡ with_threads engine.old engine.new.threads }
@@ -207,20 +229,13 @@ fn move_it<M: Memory + Drop>(engine: &mut Engine<M>, t: u32, reading: &Reading) 
 }
 
 /// An instruction of capabilities.
-fn derive<M: Memory + Drop>(
-    engine: &mut Engine<M>,
-    t: u32,
-    reading: &Reading,
-    instruction: Instr,
-) -> bool
+fn derive<M: Memory + Drop>(engine: &mut Engine<M>, t: u32, reading: &Reading, instruction: Instr)
     requires runs { engine.old.threads.running ≡ Some t }
     requires says { Says reading.now instruction }
     requires registers { AreRegisters reading.now.operands }
     requires class { class_of instruction ≡ kinds.Capability }
-    ensures quiet { result ≡ true
-        → CarriesQuietly engine.old.threads t instruction engine.new.threads }
+    ensures quiet { CarriesQuietly engine.old.threads t instruction engine.new.threads }
     ensures kept { engine.new ≡ with_threads engine.old engine.new.threads }
-    ensures same { result ≡ false → engine.new ≡ engine.old }
     ensures stays { Stays engine.old.threads engine.new.threads }
 {
     let value = derived(
@@ -230,5 +245,4 @@ fn derive<M: Memory + Drop>(
         engine.lend_pcc(t),
     );
     engine.put(t, reading.operands.to, value);
-    true
 }

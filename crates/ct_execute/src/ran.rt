@@ -6,7 +6,7 @@ use def_words::Trap;
 /// The thread went on, with its deed, if it did one, and the entry of the capability that it used: an instruction's
 /// deed is at a device, a routine's is a call, an allocation or a free. Or it came to the native return, or to the
 /// native routine of another number; or a check failed.
-#[derive(Clone, Copy, Debug, PartialEq, Eq, Drop)]
+#[derive(Clone, Copy, PartialEq, Eq, Drop)]
 pub enum Ran {
     Went { act: Option<Act>, entry: u32 },
     Returned,

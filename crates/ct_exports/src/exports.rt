@@ -9,7 +9,7 @@ use ct_entry::{Entries, Mode, Owner};
 
 /// An export by its entry's number: whose it is, the address of its code, the stack that it asks for in bytes, how
 /// many arguments it takes, whether a call passes capabilities, and whether it runs with interrupts disabled.
-#[derive(Clone, Copy, Debug, PartialEq, Eq, Drop)]
+#[derive(Clone, Copy, PartialEq, Eq, Drop)]
 pub struct Export {
     pub number: u32,
     pub callee: u32,

@@ -5,7 +5,7 @@ use std::marker::Model;
 
 /// Where a branch or jump goes: the link that it leaves, if any, the next program counter
 /// capability, and the posture.
-#[derive(Clone, Copy, Debug)]
+#[derive(Clone, Copy)]
 pub struct Flow {
     pub link: Option<Live>,
     pub pcc: Live,

@@ -16,7 +16,7 @@ use def_refusals::NoMemory;
 use std::alloc::Global;
 
 /// A firmware: the text of its description, and the text of each compartment's source, in their order.
-#[derive(Debug, Drop)]
+#[derive(Drop)]
 pub struct Generated {
     pub description: String,
     pub sources: Vec<String>,

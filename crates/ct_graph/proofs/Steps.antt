@@ -1,7 +1,7 @@
 -- The test of a step says that there is a step, and finds each.
-use Rattle.std.proofs.Common.{◌≡◌, ◌≢◌, ℕ, zero, suc, Bool, true, false, not, ◌&&◌, ◌||◌, Option, Some, None, refl, ap, sym, ◌∙◌, subst, inl, inr, slice_get, nat_eq}
+use Rattle.std.proofs.Common.{◌≡◌, ◌≢◌, ℕ, zero, suc, Bool, true, false, not, ◌&&◌, Option, Some, None, refl, ap, sym, ◌∙◌, subst, inl, inr, slice_get, nat_eq}
 use Rattle.std.specs.List.{list_any}
-use Rattle.std.proofs.lemmas.Bool.{cases_Bool, and_parts, and_from, or_cases, both_ways, eqb-true, eq-eqb, not-true}
+use Rattle.std.proofs.lemmas.Bool.{cases_Bool, and_parts, and_from, or_cases, both_ways, eqb-true, eq-eqb, not-true, or_left, or_right}
 use Rattle.def_words.specs.Permissions.{bit, memory_capability}
 use Rattle.ct_entry.specs.declared.rows.Entry.{Entry}
 use Rattle.ct_entry.specs.declared.rows.Gate.{Gate}
@@ -221,13 +221,6 @@ shares_made e a b object ha hb =
     let of_is : r.row.of ≡ object = sym r.of_is ∙ ha.object_is in
     let other : list_any (holds r.row.of) (own (links_of e) (Compartment b)) ≡ true = subst (λ n. list_any (holds n) (own (links_of e) (Compartment b)) ≡ true) (sym of_is) (holds_made e b object hb) in
     own_made e (Compartment a) (shares (own (links_of e) (Compartment b))) r.place r.row r.at (sym r.owner_is ∙ ha.importer) (and_from _ _ (and_from _ _ slot carries) other)
-
-or_left : (x y : Bool) → x ≡ true → (x || y) ≡ true
-or_left x y h = rw h refl
-
-or_right : (x y : Bool) → y ≡ true → (x || y) ≡ true
-or_right true y h = refl
-or_right false y h = h
 
 pub meets_found : (e : Listed) (a b : ℕ) → meets (Compartment a) (own (links_of e) (Compartment a)) (Compartment b) (own (links_of e) (Compartment b)) ≡ true → Edge e a b
 meets_found e a b h = elim (or_cases _ _ h) [

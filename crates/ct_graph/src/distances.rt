@@ -6,7 +6,7 @@ ghost use Rattle.ct_graph.specs.Cells.{cell, far, IsDistance, IsLoose, IsNearer,
 use std::alloc::{AllocError, Global};
 
 /// A place that can come nearer, and how near.
-#[derive(Clone, Copy, Debug, Drop)]
+#[derive(Clone, Copy, Drop)]
 pub(crate) struct Loose {
     pub place: usize,
     pub value: u32,

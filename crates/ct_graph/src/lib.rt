@@ -12,4 +12,5 @@ mod nodes;
 mod sharing;
 mod walk;
 
+pub use links::same;
 pub use sharing::{Graph, Path};

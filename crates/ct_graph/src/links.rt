@@ -13,7 +13,7 @@ use ct_entry::{Entries, Entry, Gate, Kind, Owner};
 use std::alloc::{AllocError, Global};
 
 /// A row, with what it names looked up.
-#[derive(Clone, Copy, Debug, Drop)]
+#[derive(Clone, Copy, Drop)]
 pub(crate) struct Link {
     pub owner: Owner,
     pub kind: Kind,
@@ -24,7 +24,7 @@ pub(crate) struct Link {
 }
 
 /// Whether two owners are the same.
-pub(crate) fn same(a: Owner, b: Owner) -> bool
+pub fn same(a: Owner, b: Owner) -> bool
     ensures { result ≡ same_owner a b }
 {
     match (a, b) {

@@ -23,7 +23,7 @@ use std::marker::Model;
 
 /// The sharing graph of a firmware's entries, with everything that `reaches` looks up. Contracts
 /// see it as the entries that it is of.
-#[derive(Debug, Drop)]
+#[derive(Drop)]
 pub struct Graph {
     rows: Vec<Entry>,
     gates: Vec<Gate>,
@@ -42,12 +42,13 @@ impl Model for Graph {
 
     ghost view = { λ g. record { rows = g.rows.items; gates = g.gates.items } };
 
-    ghost invariant = { λ g. IsGraph (record { rows = g.rows.items; gates = g.gates.items }) g.nodes.items (map (λ r. r.items) g.steps.items) (map (λ d. d.items) g.far.items) };
+    ghost invariant = { λ g. IsGraph (record { rows = g.rows.items; gates = g.gates.items })
+        g.nodes.items (map (λ r. r.items) g.steps.items) (map (λ d. d.items) g.far.items) };
 }
 
 /// A list of owners from one to a compartment: each member but the last is a library that the next
 /// one imports, or a compartment that an edge joins to the next.
-#[derive(Debug, Drop)]
+#[derive(Drop)]
 pub struct Path {
     pub owners: Vec<Owner>,
 }
@@ -173,7 +174,7 @@ fn route(
 }
 
 /// The places of an owner and of one that it reaches.
-#[derive(Clone, Copy, Debug, Drop)]
+#[derive(Clone, Copy, Drop)]
 struct Ends {
     from: usize,
     to: usize,

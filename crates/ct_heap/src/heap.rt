@@ -1,6 +1,7 @@
 //! The heap and its calls.
 
 ghost use Rattle.std.specs.Prelude.{ℕ, ◌≡◌, ◌+◌, ◌-◌, ◌*◌, ◌/◌, ◌%◌, ◌^◌, ◌≤◌, ◌<◌, List, [], Some, None, length, IfOk, OnErr, MatchResult};
+ghost use Rattle.def_profile.specs.declared.limits.TheConstants.{MOST_STEPS};
 ghost use Rattle.def_memory.specs.declared.Granule.{Granule};
 ghost use Rattle.def_memory.specs.Granules.{plain, granule_at};
 ghost use Rattle.def_machine.specs.Objects.{charges, has_quarantined};
@@ -194,7 +195,7 @@ impl Heap {
     ) -> Result<Object, HeapRefusal>
         requires laid { Laid self.old (M.granules mem.old) }
         requires quota { quota < length self.old.accounts }
-        requires few { self.old.next ≤ 4000000000 }
+        requires few { self.old.next ≤ MOST_STEPS }
         ensures laid { Laid self.new (M.granules mem.new) }
         ensures answer { MatchResult result
             (λ o.
@@ -228,7 +229,7 @@ impl Heap {
     fn place<M: Memory>(&mut self, mem: &mut M, quota: u32, bytes: u32, gap: Gap) -> Object
         requires laid { Laid self.old (M.granules mem.old) }
         requires quota { quota < length self.old.accounts }
-        requires few { self.old.next ≤ 4000000000 }
+        requires few { self.old.next ≤ MOST_STEPS }
         requires fits { Placing self.old (M.granules mem.old) quota bytes gap }
         requires limit { (account self.old quota).limit < 2 ^ 32 }
         ensures laid { Laid self.new (M.granules mem.new) }

@@ -4,15 +4,17 @@ use Rattle.def_words.specs.declared.Cap.{Cap}
 use Rattle.def_instr.specs.declared.Instr.{Instr}
 use Rattle.def_machine.specs.State.{register}
 use Rattle.def_step.specs.declared.Access.{Access}
-use Rattle.def_step.specs.Checks.{first_failed}
 use Rattle.def_step.specs.Devices.{Bank}
-use Rattle.def_step.specs.Accesses.{access_of, access_address, access_checks}
-use Rattle.def_veil.specs.Steps.{IsSeen, SeesAccess}
+use Rattle.def_step.specs.Accesses.{access_of}
+use Rattle.law_veil.proofs.Granules.{veiled_length}
 use Rattle.def_chunks.specs.Heaps.{HeapRow}
+use Rattle.law_heaped.specs.Heaped.{heap_hides}
+use Rattle.ct_loadstore.specs.Quiet.{is_quiet_load, is_quiet_store}
 use Rattle.ct_loadstore.specs.Shapes.{MovedRow}
 use Rattle.ct_engine.specs.Seen.{thread}
 use Rattle.ct_engine.specs.Seen as engine
-use Rattle.ct_engine.specs.Steps.{no_bank, SeesThrough, IsGiven, IsStored}
+use Rattle.ct_engine.specs.Steps.{no_bank, is_word_of_ram, SeesThrough, IsGiven, IsStored}
+use Rattle.ct_engine.proofs.Quietly.{sees_by, word_same, load_same, store_same}
 use Rattle.ct_heaped.specs.Seen.{Seen, hides, seen, with_threads}
 use Rattle.ct_heaped.specs.Kept.{Holds}
 use Rattle.ct_heaped.proofs.Moves.{Moving, meets_by, move_holds, move_is, move_kept}
@@ -20,10 +22,30 @@ use Rattle.ct_heaped.proofs.Moves.{Moving, meets_by, move_holds, move_is, move_k
 abbrev given : Option Cap → MovedRow
 given value = record { value = value; device = None }
 
--- instructions of one access see alike
-sees_by : (hidden : ℕ → Bool) (ram : ℕ) (a : Access) (x y : Cap) (i : Instr) → SeesThrough hidden ram a x y → access_of i ≡ a → SeesAccess hidden ram i x y
-sees_by hidden ram a x y i open_ of =
-    subst (λ (b : Access). first_failed (access_checks b x y (access_address b x)) ≡ None → IsSeen hidden ram (access_address b x)) (open_.1 ∙ sym of) open_.2
+-- ---- when: the second veil too leaves as many granules
+
+pub word_when : (e : engine.Seen) (h : HeapRow) (f : Option ℕ) (v : Seen) (at : ℕ) → seen e h f ≡ v
+    → is_word_of_ram e.region.ram e.granules at ≡ is_word_of_ram v.threads.region.ram v.threads.granules at
+word_when e h f v at is =
+    word_same e.region.ram e.granules (seen e h f).threads.granules at (veiled_length (heap_hides h e.granules) e.granules)
+    ∙ ap (λ (s : Seen). is_word_of_ram s.threads.region.ram s.threads.granules at) is
+
+-- through register n of thread t
+pub load_when : (e : engine.Seen) (h : HeapRow) (f : Option ℕ) (v : Seen) (a : Access) (t n : ℕ) → seen e h f ≡ v
+    → is_quiet_load a (register (thread e t) n) e.region.ram e.granules ≡ is_quiet_load a (register (thread v.threads t) n) v.threads.region.ram v.threads.granules
+load_when e h f v a t n is =
+    load_same a (register (thread e t) n) e.region.ram e.granules (seen e h f).threads.granules (veiled_length (heap_hides h e.granules) e.granules)
+    ∙ ap (λ (s : Seen). is_quiet_load a (register (thread s.threads t) n) s.threads.region.ram s.threads.granules) is
+
+-- and of its register m
+pub store_when : (e : engine.Seen) (h : HeapRow) (f : Option ℕ) (v : Seen) (a : Access) (t n m : ℕ) → seen e h f ≡ v
+    → is_quiet_store a (register (thread e t) n) (register (thread e t) m) e.region.ram e.granules
+    ≡ is_quiet_store a (register (thread v.threads t) n) (register (thread v.threads t) m) v.threads.region.ram v.threads.granules
+store_when e h f v a t n m is =
+    store_same a (register (thread e t) n) (register (thread e t) m) e.region.ram e.granules (seen e h f).threads.granules (veiled_length (heap_hides h e.granules) e.granules)
+    ∙ ap (λ (s : Seen). is_quiet_store a (register (thread s.threads t) n) (register (thread s.threads t) m) s.threads.region.ram s.threads.granules) is
+
+-- ---- what an access meets
 
 through_by : (e : engine.Seen) (h : HeapRow) (f : Option ℕ) (v : Seen) (a : Access) (x y : Cap) → seen e h f ≡ v → SeesThrough (hides v) v.threads.region.ram a x y
     → SeesThrough (engine.hides e.region) e.region.ram a x y

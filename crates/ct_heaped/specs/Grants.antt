@@ -1,5 +1,6 @@
 -- An allocation and a free over all that is seen.
 use Rattle.std.specs.Prelude.{ℕ, ◌+◌, ◌-◌, ◌≡◌, true, false, if◌then◌else◌, Option, Some, None, Result, Ok, Err, MatchResult}
+use Rattle.def_profile.specs.declared.answers.TheConstants.{PAST_LIMIT, NO_PLACE, NO_SIZE, NO_PLACE_YET}
 use Rattle.def_profile.specs.declared.layout.TheConstants.{CHUNK_HEAD}
 use Rattle.def_memory.specs.Ranges.{zeroed_from, marked_from}
 use Rattle.def_machine.specs.State as state
@@ -38,9 +39,9 @@ after_allocation s quota size (Err why) = s
 
 -- the written allocation's answer of what was told
 abbrev pub refused_as : Seen → HeapRefusal → Allocation
-refused_as s Size = Refused 4
-refused_as s Quota = Refused 2
-refused_as s NoGap = Refused (if has_quarantined s.objects then 5 else 3)
+refused_as s Size = Refused NO_SIZE
+refused_as s Quota = Refused PAST_LIMIT
+refused_as s NoGap = Refused (if has_quarantined s.objects then NO_PLACE_YET else NO_PLACE)
 
 abbrev pub allocation_told : Seen → ℕ → ℕ → Result Object HeapRefusal → Allocation
 allocation_told s quota size (Ok o) = Made (new_object s quota size o.base)

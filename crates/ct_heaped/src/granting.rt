@@ -1,6 +1,7 @@
 //! Objects are allocated and freed.
 
 ghost use Rattle.std.specs.Prelude.{ℕ, List, ◌≡◌, ◌-◌, ◌≤◌, ◌<◌, Some, None, length, IfOk, MatchResult};
+ghost use Rattle.def_profile.specs.declared.limits.TheConstants.{MOST_STEPS};
 ghost use Rattle.def_machine.specs.Heap as machine;
 ghost use Rattle.def_machine.specs.Image.{Image, root};
 ghost use Rattle.def_machine.specs.Objects.{charges, has_quarantined};
@@ -23,7 +24,7 @@ impl<M: Memory + Drop> Engine<M> {
     /// quota's limit would be passed; else `NoGap` exactly where no place is lawful. A refusal changes nothing.
     pub fn allocate(&mut self, quota: u32, size: u32) -> Result<Object, HeapRefusal>
         requires quota { quota < length self.old.limits }
-        requires few { self.old.next ≤ 4000000000 }
+        requires few { self.old.next ≤ MOST_STEPS }
         ensures is { self.new ≡ after_allocation self.old quota size result }
         ensures answer { (i : Image) (m : State) → HasHeap i self.old → SharesObjects m self.old
             → allocation i m quota size ≡ allocation_told self.old quota size result }

@@ -1,7 +1,7 @@
 //! The running thread's registers, and what it loads and stores in RAM, where they stand: what a step that tells
 //! nothing asks and leaves.
 
-ghost use Rattle.std.specs.Prelude.{◌≡◌, ◌%◌, ◌<◌, Some, IfSome, true, false, is_none, length};
+ghost use Rattle.std.specs.Prelude.{◌≡◌, ◌%◌, ◌<◌, Some, IfSome, true, false, is_none, is_some, length};
 ghost use Rattle.def_instr.specs.Reading.{instruction_in};
 ghost use Rattle.def_machine.specs.State.{register};
 ghost use Rattle.def_words.specs.declared.Cap.{Cap};
@@ -10,9 +10,10 @@ ghost use Rattle.def_words.specs.Capability.{integer, raised, with_address};
 ghost use Rattle.def_step.specs.Checks.{first_failed};
 ghost use Rattle.def_step.specs.Instructions.{fetch_checks, next_word};
 ghost use Rattle.def_veil.specs.Steps.{IsSeen};
+ghost use Rattle.ct_loadstore.specs.Quiet.{is_quiet_load, is_quiet_store};
 ghost use Rattle.ct_loadstore.specs.Shapes.{IsShape};
 ghost use Rattle.ct_engine.specs.Seen.{thread, went, with_granules};
-ghost use Rattle.ct_engine.specs.Steps.{next_in, IsGiven, IsStored, SeesThrough};
+ghost use Rattle.ct_engine.specs.Steps.{is_word_of_ram, next_in, IsGiven, IsStored, SeesThrough};
 ghost use Rattle.ct_heaped.specs.Seen.{hides, with_threads};
 
 use crate::engine::Engine;
@@ -41,12 +42,12 @@ impl<M: Memory + Drop> Engine<M> {
 
     /// The address in a register of the running thread.
     #[inline(always)]
-    pub fn number(&self, t: u32, number: u32) -> u32
+    pub fn address_in(&self, t: u32, number: u32) -> u32
         requires runs { self.now.threads.running ≡ Some t }
         requires number { number < 16 }
         ensures { result ≡ cap_address (register (thread self.now.threads t) number) }
     {
-        self.threads.number(t, number)
+        self.threads.address_in(t, number)
     }
 
     /// A register of the running thread, where it stands.
@@ -68,15 +69,18 @@ impl<M: Memory + Drop> Engine<M> {
         self.threads.lend_pcc(t)
     }
 
-    /// The word at an address past the native routines, where a whole word of RAM stands there; else `None`. A body
-    /// that always answers `None` meets this too.
+    /// The word at an address, where it lies past the native routines, is a multiple of 4, and a whole word of RAM
+    /// stands there; else `None`.
     ///
     /// Condition: the address isn't hidden.
     #[inline(always)]
     pub fn word_at(&self, at: u32) -> Option<u32>
         requires even { self.now.threads.region.ram % 16 ≡ 0 }
         requires seen { IsSeen (hides self.now) self.now.threads.region.ram at }
-        ensures { IfSome result (λ w. next_in self.now.threads at ≡ next_word (instruction_in w)) }
+        ensures when { is_some result
+            ≡ is_word_of_ram self.now.threads.region.ram self.now.threads.granules at }
+        ensures given { IfSome result
+            (λ w. next_in self.now.threads at ≡ next_word (instruction_in w)) }
     {
         self.threads.word_at(at)
     }
@@ -109,18 +113,18 @@ impl<M: Memory + Drop> Engine<M> {
 
     /// The running thread goes on at an address, by the address rule.
     #[inline(always)]
-    pub fn turn(&mut self, t: u32, target: u32)
+    pub fn branch_to(&mut self, t: u32, target: u32)
         requires { self.old.threads.running ≡ Some t }
         ensures { self.new
             ≡ with_threads self.old
             (went self.old.threads t (with_address (thread self.old.threads t).pcc target)
             (thread self.old.threads t).posture 0 (integer 0)) }
     {
-        self.threads.turn(t, target);
+        self.threads.branch_to(t, target);
     }
 
     /// The number that a load through a register of the running thread gives, where its checks pass and it lies in RAM;
-    /// else `None`. A body that always answers `None` meets this too.
+    /// else `None`.
     ///
     /// Condition: where its checks pass, the load reaches nothing hidden.
     #[inline(always)]
@@ -133,14 +137,17 @@ impl<M: Memory + Drop> Engine<M> {
         requires part { access.now.whole ≡ false }
         requires seen { (y : Cap) → SeesThrough (hides self.now) self.now.threads.region.ram
             access.now (register (thread self.now.threads t) number) y }
-        ensures { IfSome result (λ n. (y : Cap) → IsGiven access.now
+        ensures when { is_some result
+            ≡ is_quiet_load access.now (register (thread self.now.threads t) number)
+            self.now.threads.region.ram self.now.threads.granules }
+        ensures given { IfSome result (λ n. (y : Cap) → IsGiven access.now
             (register (thread self.now.threads t) number) y self.now.threads (integer n)) }
     {
         self.threads.load_number(t, number, access)
     }
 
     /// The capability that a load through a register of the running thread gives, where its checks pass and it lies in
-    /// RAM; else `None`. A body that always answers `None` meets this too.
+    /// RAM; else `None`.
     ///
     /// Condition: where its checks pass, the load reaches nothing hidden.
     #[inline(always)]
@@ -153,14 +160,17 @@ impl<M: Memory + Drop> Engine<M> {
         requires whole { access.now.whole ≡ true }
         requires seen { (y : Cap) → SeesThrough (hides self.now) self.now.threads.region.ram
             access.now (register (thread self.now.threads t) number) y }
-        ensures { IfSome result (λ c. (y : Cap) → IsGiven access.now
+        ensures when { is_some result
+            ≡ is_quiet_load access.now (register (thread self.now.threads t) number)
+            self.now.threads.region.ram self.now.threads.granules }
+        ensures given { IfSome result (λ c. (y : Cap) → IsGiven access.now
             (register (thread self.now.threads t) number) y self.now.threads c) }
     {
         self.threads.load_capability(t, number, access)
     }
 
     /// Stores what stands in a register of the running thread through another, where the checks pass and it lies in
-    /// RAM; else `false`, and nothing changes. A body that always answers `false` meets this too.
+    /// RAM; else `false`, and nothing changes.
     ///
     /// Condition: where its checks pass, the store reaches nothing hidden.
     #[inline(always)]
@@ -174,6 +184,10 @@ impl<M: Memory + Drop> Engine<M> {
         requires seen { SeesThrough (hides self.old) self.old.threads.region.ram access.now
             (register (thread self.old.threads t) number)
             (register (thread self.old.threads t) stored) }
+        ensures when { result
+            ≡ is_quiet_store access.now (register (thread self.old.threads t) number)
+            (register (thread self.old.threads t) stored) self.old.threads.region.ram
+            self.old.threads.granules }
         ensures is { result ≡ true
             → IsStored access.now (register (thread self.old.threads t) number)
             (register (thread self.old.threads t) stored) self.old.threads

@@ -13,7 +13,7 @@ use std::alloc::Global;
 use std::marker::Model;
 
 /// An image on which nothing fails.
-#[derive(Debug, Drop)]
+#[derive(Drop)]
 pub struct Image {
     parts: Parts,
 }

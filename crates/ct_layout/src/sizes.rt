@@ -4,7 +4,7 @@ use def_layout::Region;
 use std::marker::Model;
 
 /// RAM's base and size in bytes, and the sizes of the regions in their order, not yet rounded.
-#[derive(Debug, Drop)]
+#[derive(Drop)]
 pub struct Sizes {
     pub base: u32,
     pub size: u32,
@@ -20,7 +20,7 @@ impl Model for Sizes {
 }
 
 /// The regions with their rounded lengths, in the order of their sizes, and the heap.
-#[derive(Debug, Drop)]
+#[derive(Drop)]
 pub struct Places {
     pub regions: Vec<Region>,
     pub heap: Region,

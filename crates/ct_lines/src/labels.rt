@@ -17,7 +17,7 @@ use std::alloc::{AllocError, Global};
 
 /// What the report says of an entry beside its row: its owner's name, of a slot or an export its
 /// own, of a slot what it is of, of a sealed object its type, and an export's row.
-#[derive(Clone, Copy, Debug)]
+#[derive(Clone, Copy)]
 pub(crate) struct Label<'a> {
     pub owner: &'a str,
     pub name: &'a str,
@@ -27,7 +27,7 @@ pub(crate) struct Label<'a> {
 }
 
 /// What a slot is of: what has a name of its own, or an export by its owner's name and its own.
-#[derive(Clone, Copy, Debug)]
+#[derive(Clone, Copy)]
 pub(crate) enum Of<'a> {
     Named(&'a str),
     Export(&'a str, &'a str),

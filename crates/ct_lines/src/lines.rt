@@ -13,7 +13,7 @@ use serde_json::{Map, Value, json};
 use std::alloc::{AllocError, Global};
 
 /// An entry with its number and its label.
-#[derive(Clone, Copy, Debug)]
+#[derive(Clone, Copy)]
 struct Line<'a> {
     number: usize,
     entry: Entry,

@@ -38,7 +38,7 @@ fn devices_of(alloc: Global, all: &[Device]) -> Result<Vec<Device>, AllocError>
 
 /// Where the regions of each list begin among all, and the number of the first library's first
 /// entry. The regions of compartments stand first, three each.
-#[derive(Debug, Drop)]
+#[derive(Drop)]
 pub(crate) struct Starts {
     libraries: usize,
     shared: usize,

@@ -1,11 +1,12 @@
 -- Where names stand: the first of a list, and the first export of a text `owner.export`.
-use Rattle.std.proofs.Common.{ℕ, zero, suc, ◌≡◌, ◌+◌, ◌<◌, ◌≤◌, ◌&&◌, Bool, true, false, cond, nat_eq, nat_lt, List, [], ◌∷◌, ◌++◌, length, map, take, drop, get_or, Option, Some, None, refl, sym, ap, ap₂, ◌∙◌, subst, arith, inl, inr}
+use Rattle.std.proofs.Common.{ℕ, suc, ◌≡◌, ◌+◌, ◌<◌, ◌≤◌, ◌&&◌, Bool, true, false, cond, List, [], ◌∷◌, ◌++◌, length, map, take, drop, get_or, Some, None, refl, sym, ap, ap₂, ◌∙◌, subst, arith, inl, inr}
 use Rattle.std.specs.Prelude.{bytes_eq}
 use Rattle.std.proofs.lemmas.List.{length-map, at_drop_more, take-append-drop}
 use Rattle.std.proofs.Math.ListN.{drop_of_length-le}
 use Rattle.std.proofs.lemmas.Slice.Eq.{bytes_eq-Decides}
+use Rattle.std.proofs.Math.Seq.{take_at, drop_at}
+use Rattle.std.proofs.lemmas.Bool.{eq-eqb}
 use Rattle.law_lists.proofs.Tests.{eq_tells, lt_tells}
-use Rattle.def_description.specs.Named.{export_names, library_export_names}
 use Rattle.def_description.specs.References.{export_name}
 use Rattle.def_description.specs.Rows.{ExportRow, CompartmentRow, LexportRow, LibraryRow}
 use Rattle.def_link.specs.Slots.{index_of, Exported, exported, Exporter, full_names, export_from}
@@ -119,26 +120,15 @@ lent_next text ls k owner e whole d x h low is index more =
 
 -- ---- a text by its owner's name and the rest
 
-same_byte : (x : ℕ) → nat_eq x x ≡ true
-same_byte x = elim (eq_tells x x) [ inl h ↦ h.0 | inr h ↦ absurd (h.1 refl) ]
-
 same_rest : (front a b : List ℕ) → bytes_eq (front ++ a) (front ++ b) ≡ bytes_eq a b
 same_rest [] a b = refl
-same_rest (x ∷ front) a b = ap (λ t. t && bytes_eq (front ++ a) (front ++ b)) (same_byte x) ∙ same_rest front a b
-
-front_taken : (front back : List ℕ) → take (length front) (front ++ back) ≡ front
-front_taken [] back = refl
-front_taken (x ∷ front) back = ap (λ l. x ∷ l) (front_taken front back)
-
-front_dropped : (front back : List ℕ) → drop (length front) (front ++ back) ≡ back
-front_dropped [] back = refl
-front_dropped (x ∷ front) back = front_dropped front back
+same_rest (x ∷ front) a b = ap (λ t. t && bytes_eq (front ++ a) (front ++ b)) (eq-eqb x x refl) ∙ same_rest front a b
 
 -- a name after its owner's is what follows
 follows : (owner name : List ℕ) → after_owner (export_name owner name) owner ≡ Some name
 follows owner name =
-    let front : bytes_eq (take (length owner) (export_name owner name)) owner ≡ true = (bytes_eq-Decides (take (length owner) (export_name owner name)) owner).1 (front_taken owner (46 ∷ name)) in
-    let back : after_point (drop (length owner) (export_name owner name)) ≡ Some name = ap after_point (front_dropped owner (46 ∷ name)) ∙ ap (λ b. cond b (Some name) None) (same_byte 46) in
+    let front : bytes_eq (take (length owner) (export_name owner name)) owner ≡ true = (bytes_eq-Decides (take (length owner) (export_name owner name)) owner).1 (take_at owner (46 ∷ name) (length owner) refl) in
+    let back : after_point (drop (length owner) (export_name owner name)) ≡ Some name = ap after_point (drop_at owner (46 ∷ name) (length owner) refl) ∙ ap (λ b. cond b (Some name) None) (eq-eqb 46 46 refl) in
     ap₂ (λ b r. cond b r None) front back
 
 point_is : (bs name : List ℕ) → after_point bs ≡ Some name → bs ≡ 46 ∷ name
@@ -176,7 +166,7 @@ other_owner f text owner (x ∷ xs) none = by (bytes_eq text (export_name owner 
 own_all : (owner name : List ℕ) (text : List ℕ) (names : List (List ℕ)) → text ≡ export_name owner name → index_of text (map (export_name owner) names) ≡ index_of name names
 own_all owner name text [] is = refl
 own_all owner name text (n ∷ ns) is =
-    let same : bytes_eq text (export_name owner n) ≡ bytes_eq name n = ap (λ t. bytes_eq t (export_name owner n)) is ∙ same_rest owner (46 ∷ name) (46 ∷ n) ∙ ap (λ t. t && bytes_eq name n) (same_byte 46) in
+    let same : bytes_eq text (export_name owner n) ≡ bytes_eq name n = ap (λ t. bytes_eq t (export_name owner n)) is ∙ same_rest owner (46 ∷ name) (46 ∷ n) ∙ ap (λ t. t && bytes_eq name n) (eq-eqb 46 46 refl) in
     ap₂ (λ b i. cond b 0 (i + 1)) same (own_all owner name text ns is)
 
 -- one that does has the index of what follows

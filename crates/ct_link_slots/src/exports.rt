@@ -11,7 +11,7 @@ use ct_rows::{Compartment, Library};
 use std::marker::Model;
 
 /// An export, by its owner's index and its own.
-#[derive(Debug, Drop)]
+#[derive(Drop)]
 pub struct Exported {
     pub owner: u32,
     pub export: u32,

@@ -19,7 +19,7 @@ use std::marker::Model;
 
 /// Where RAM and the heap are: first address and length in bytes of each. The heap lies in RAM, and all
 /// four are multiples of 16 (but RAM's length, which is that of memory).
-#[derive(Clone, Copy, Debug, PartialEq, Eq, Drop)]
+#[derive(Clone, Copy, PartialEq, Eq, Drop)]
 pub struct Map {
     pub ram: u32,
     pub size: u32,
@@ -29,7 +29,7 @@ pub struct Map {
 
 /// What a load or store comes to: the value for rd, where it is a load, and the deed, where it
 /// reached a device.
-#[derive(Clone, Copy, Debug)]
+#[derive(Clone, Copy)]
 pub struct Moved {
     pub value: Option<Live>,
     pub device: Option<Act>,

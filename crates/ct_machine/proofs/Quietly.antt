@@ -1,13 +1,21 @@
 -- A step that tells nothing: what the code leaves of it is what the written step leaves.
-use Rattle.std.proofs.Common.{ℕ, zero, suc, ◌+◌, ◌≡◌, nat_eq, Bool, true, false, inl, inr, if◌then◌else◌, List, [], ◌∷◌, Option, Some, None, refl, sym, ap, ◌∙◌}
+use Rattle.std.proofs.Common.{ℕ, zero, suc, ◌+◌, ◌≡◌, ◌&&◌, nat_eq, not, is_none, Bool, true, false, inl, inr, if◌then◌else◌, List, [], ◌∷◌, Option, Some, None, refl, sym, ap, ◌∙◌}
 use Rattle.std.proofs.Math.ListN.{get_or, set}
 use Rattle.law_lists.proofs.Tests.{eq_tells}
 use Rattle.ct_entry.specs.declared.acts.Owned.{Owned}
 use Rattle.def_words.specs.declared.Posture.{Posture}
+use Rattle.def_sched.specs.declared.Status.{Status}
+use Rattle.def_sched.specs.declared.Status.TheVariants.{Ended}
+use Rattle.def_instr.specs.declared.Instr.{Instr}
+use Rattle.def_memory.specs.declared.Granule.{Granule}
 use Rattle.def_machine.specs.Image.{Image}
 use Rattle.def_machine.specs.State.{State, Thread, Counts, thread, nobody}
-use Rattle.def_machine.specs.Threads.{jumped}
+use Rattle.def_machine.specs.Threads.{jumped, with_status}
+use Rattle.def_step.specs.declared.Class.{Class}
+use Rattle.def_step.specs.declared.Class.TheVariants as class
 use Rattle.def_step.specs.declared.Event.TheVariants.{Step}
+use Rattle.def_step.specs.declared.Next.{Next}
+use Rattle.def_step.specs.declared.Next.TheVariants.{Returning, Instruction, Native, Nothing}
 use Rattle.def_step.specs.Devices.{Bank}
 use Rattle.def_step.specs.Instructions.{Board, actor_of}
 use Rattle.def_step.specs.Events.{MachineRow, holder_by, holder, begun_since, begun, preempted, scheduled, one_more_step, run_on, told_of, happens}
@@ -18,11 +26,19 @@ use Rattle.ct_execute.specs.declared.ran.Ran.{Ran}
 use Rattle.ct_execute.specs.declared.ran.Ran.TheVariants.{Went}
 use Rattle.ct_execute.specs.Deciding.{Decision, Goes, Returns, Serves, Traps, decision, Decided, Stays, WentQuietly}
 use Rattle.ct_machine.specs.Parts.{state_by, IsKept, IsCounted}
-use Rattle.ct_machine.specs.Going.{silence}
+use Rattle.def_words.specs.Authority.{cap_address}
+use Rattle.def_step.specs.Checks.{first_failed}
+use Rattle.def_step.specs.Instructions.{fetch_checks, next_at}
+use Rattle.def_step.specs.Operands.{class_of}
+use Rattle.ct_engine.specs.Steps.{no_bank, is_word_of_ram}
+use Rattle.ct_loadstore.specs.Shapes.{space_of}
+use Rattle.ct_execute.specs.Quiet.{goes_quietly, goes_at, goes_by, jump_by, jumps_whole, offset_of}
+use Rattle.ct_machine.specs.Going.{silence, runner_goes, steps_quietly}
 use Rattle.ct_machine.proofs.Carried.{came}
 use Rattle.ct_machine.proofs.Keeping.{ran_kept, counted_so}
+use Rattle.ct_machine.proofs.Statuses.{thread_with}
 use Rattle.ct_machine.proofs.Stepping.{carried_so, quietly_left}
-use Rattle.ct_machine.proofs.Taking.{posture_with, not_pending, runs_scheduled}
+use Rattle.ct_machine.proofs.Taking.{ram_is, posture_with, not_pending, runs_scheduled}
 
 -- ---- what was decided
 
@@ -73,11 +89,61 @@ none_begun s new t runs still posture = ap (begun_since (holder s) new) (holder_
 goes_straight_on : (b : Board) (s : State) (t : ℕ) → s.pending ≡ false → s.running ≡ Some t → scheduled b (preempted (one_more_step s)) ≡ one_more_step s
 goes_straight_on b s t none runs = ap (scheduled b) (not_pending (one_more_step s) none) ∙ runs_scheduled b (one_more_step s) t runs
 
-steps_quietly : (b : Board) (s new : State) (t : ℕ) → s.pending ≡ false → s.running ≡ Some t → new.running ≡ Some t → (thread new t).posture ≡ (thread s t).posture
+goes_on_quietly : (b : Board) (s new : State) (t : ℕ) → s.pending ≡ false → s.running ≡ Some t → new.running ≡ Some t → (thread new t).posture ≡ (thread s t).posture
     → (new, None) ≡ run_on b (one_more_step s) → (new, silence) ≡ happens b s Step
-steps_quietly b s new t none runs still posture is =
+goes_on_quietly b s new t none runs still posture is =
     ap (λ (o : Option Owned). (new, record { deed = None; off = o })) (sym (none_begun s new t runs still posture))
     ∙ ap (told_of s) (is ∙ ap (run_on b) (sym (goes_straight_on b s t none runs)))
+
+-- ---- when; a thread's status is nothing that this asks for
+
+jump_alike : (w : Thread) (s : Status) (i : Instr) (o : Option ℕ) → jump_by (with_status w s) i o ≡ jump_by w i o
+jump_alike w s i None = refl
+jump_alike w s i (Some offset) = refl
+
+by_alike : (w : Thread) (s : Status) (ram : ℕ) (gs : List Granule) (i : Instr) (k : Class) → goes_by k (with_status w s) ram gs i ≡ goes_by k w ram gs i
+by_alike w s ram gs i class.Integer = refl
+by_alike w s ram gs i class.Capability = refl
+by_alike w s ram gs i class.System = refl
+by_alike w s ram gs i class.Jump = ap (jumps_whole w.pcc) (jump_alike w s i (offset_of i))
+by_alike w s ram gs i class.Access = refl
+by_alike w s ram gs i class.Fence = refl
+by_alike w s ram gs i class.Call = refl
+by_alike w s ram gs i class.Break = refl
+
+at_alike : (w : Thread) (s : Status) (ram : ℕ) (gs : List Granule) (n : Next) → goes_at (with_status w s) ram gs n ≡ goes_at w ram gs n
+at_alike w s ram gs Returning = refl
+at_alike w s ram gs (Instruction i) = by_alike w s ram gs i (class_of i)
+at_alike w s ram gs (Native number) = refl
+at_alike w s ram gs Nothing = refl
+
+goes_alike : (w : Thread) (s : Status) (ram : ℕ) (gs : List Granule) → goes_quietly (with_status w s) ram gs ≡ goes_quietly w ram gs
+goes_alike w s ram gs =
+    ap (λ (b : Bool). is_none (first_failed (fetch_checks w.pcc)) && (is_word_of_ram ram gs (cap_address w.pcc) && b))
+    (at_alike w s ram gs (next_at (space_of ram gs no_bank 0) (cap_address w.pcc)))
+
+module _ (i : Image) (e : Seen) (r : SchedRow) (k : Bank) (pending : Bool) (time : ℕ) (c : Counts) where
+  abbrev here : MachineRow
+  here = record { board = record { image = i; bases = k.bases }; state = state_by e r pending k.states time c }
+
+  pub when_late : pending ≡ true → false ≡ steps_quietly here
+  when_late late = rw late refl
+
+  by_runner : (o : Option ℕ) (b : Bool) → pending ≡ false → o ≡ e.threads.running → b ≡ runner_goes i.ram here.state o → b ≡ steps_quietly here
+  by_runner o b none runs is = rw (none, ← runs) is
+
+  pub when_idle : pending ≡ false → None ≡ e.threads.running → false ≡ steps_quietly here
+  when_idle none idle = by_runner None false none idle refl
+
+  -- a thread runs; its status aside, it is the engine's
+  pub when_runs : (t : ℕ) (went : Bool) → IsKept i e r → pending ≡ false → Some t ≡ e.threads.running
+      → went ≡ goes_quietly (engine.thread e.threads t) e.threads.region.ram e.threads.granules → went ≡ steps_quietly here
+  when_runs t went kept none runs is =
+      by_runner (Some t) went none runs
+      (is
+      ∙ sym (goes_alike (engine.thread e.threads t) (get_or r.statuses t Ended) e.threads.region.ram e.threads.granules)
+      ∙ ap (λ (w : Thread). goes_quietly w e.threads.region.ram e.threads.granules) (sym (thread_with e.threads.threads r.statuses t kept.statuses))
+      ∙ ap (λ n. goes_quietly (thread here.state t) n e.threads.granules) (ram_is i e r kept))
 
 -- ---- what the code leaves
 
@@ -116,4 +182,4 @@ module _ (i : Image) (e new : Seen) (r : SchedRow) (k : Bank) (pending : Bool) (
   pub quietly_is : (after : State) → pending ≡ false → after ≡ one_more_step (state_by new r pending k.states time c) → (after, silence) ≡ happens board (state_by e r pending k.states time c) Step
   quietly_is after none counts =
       ap (λ (s : State). (s, silence)) counts
-      ∙ steps_quietly board (state_by e r pending k.states time c) (state_by new r pending k.states time one_more) t none (sym runs) (stays.running ∙ sym runs) still_posture quietly_run
+      ∙ goes_on_quietly board (state_by e r pending k.states time c) (state_by new r pending k.states time one_more) t none (sym runs) (stays.running ∙ sym runs) still_posture quietly_run

@@ -1,6 +1,6 @@
 -- The running thread carries on: what that asks, what an instruction or a native routine came to, and what is left
 -- where its frame ends.
-use Rattle.std.specs.Prelude.{ℕ, ◌+◌, ◌≡◌, ◌<◌, Bool, true, false, length, map, nat_lt, Option, Some, None, option_map, slice_set, cond}
+use Rattle.std.specs.Prelude.{ℕ, ◌+◌, ◌≡◌, ◌<◌, ◌&&◌, Bool, true, false, not, length, map, nat_lt, Option, Some, None, option_map, slice_set, cond}
 use Rattle.ct_entry.specs.Listed.{Listed}
 use Rattle.ct_entry.specs.declared.acts.Deed.{Deed}
 use Rattle.ct_entry.specs.declared.acts.Happened.{Happened}
@@ -26,6 +26,7 @@ use Rattle.ct_engine.specs.Calls.{returned, ended_with}
 use Rattle.ct_execute.specs.declared.ran.Ran.{Ran}
 use Rattle.ct_execute.specs.declared.ran.Ran.TheVariants.{Went, Returned, Native, Trapped}
 use Rattle.ct_execute.specs.Deciding.{IfUnfinished}
+use Rattle.ct_execute.specs.Quiet.{goes_quietly}
 
 -- No entry reaches what is hidden, capabilities of boot are what their entries say, and the state is confined, with what
 -- stands beside.
@@ -68,6 +69,15 @@ one_more_sweep s = record s { counts = record s.counts { sweeps = s.counts.sweep
 -- what an event tells that tells nothing
 abbrev pub silence : Happened
 silence = record { deed = None; off = None }
+
+-- whether the next instruction of who runs is carried out quietly
+abbrev pub runner_goes : ℕ → State → Option ℕ → Bool
+runner_goes ram s None = false
+runner_goes ram s (Some t) = goes_quietly (state.thread s t) ram s.granules
+
+-- no tick is pending, and it is
+abbrev pub steps_quietly : MachineRow → Bool
+steps_quietly m = not m.state.pending && runner_goes m.board.image.ram m.state m.state.running
 
 -- each sleep is one tick shorter
 abbrev pub sleepers_on : State → State

@@ -1,4 +1,3 @@
 pub mod Parts
 pub mod Going
-pub mod Coming
 pub mod Starting

@@ -6,7 +6,7 @@ ghost use Rattle.def_board.specs.Guarded.{Guarded};
 ghost use Rattle.def_machine.specs.Heap.{swept};
 ghost use Rattle.def_step.specs.Events.{happens, is_lawful, one_more_step};
 ghost use Rattle.def_step.specs.declared.Event.TheVariants as event;
-ghost use Rattle.ct_machine.specs.Going.{MaySweep, clock_on, sleepers_on, one_more_sweep, silence};
+ghost use Rattle.ct_machine.specs.Going.{MaySweep, clock_on, sleepers_on, one_more_sweep, silence, steps_quietly};
 ghost use Rattle.ct_machine.specs.Parts.{deeds_of};
 
 use crate::engine::Engine;
@@ -43,13 +43,13 @@ impl<M: Memory + Drop> Engine<M> {
         Happened { deed, off }
     }
 
-    /// The same where no tick is pending, a thread runs, and `execute_quietly` carries its instruction out: `true`, and
-    /// the step tells nothing. Else `false`, and nothing changes: a step that tells nothing may be left too, and a body
-    /// that always answers `false` meets this.
+    /// The same exactly where no tick is pending, a thread runs, and `execute_quietly` carries its instruction out:
+    /// `true`, and the step tells nothing. Else `false`, and nothing changes.
     #[inline(always)]
     pub(crate) fn step_quietly(&mut self) -> bool
         requires guarded { Guarded self.old }
         requires lawful { IsTrue (is_lawful self.old.state event.Step) }
+        ensures when { result ≡ steps_quietly self.old }
         ensures is { result ≡ true
             → (self.new.state, silence) ≡ happens self.old.board self.old.state event.Step }
         ensures same { result ≡ false → self.new.state ≡ self.old.state }

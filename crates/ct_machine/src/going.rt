@@ -7,7 +7,8 @@ ghost use Rattle.ct_engine.specs.Calls.{TopLies};
 ghost use Rattle.ct_execute.specs.Deciding.{IfUnfinished, RanInRange};
 ghost use Rattle.ct_exports.specs.Exports.{AreSorted};
 ghost use Rattle.ct_heaped.specs.Seen.{with_threads};
-ghost use Rattle.ct_machine.specs.Going.{MayGoOn, Runs, MayEnd, CameTo, IsDone, finished, left_after, goes_after, status_after, deed_by, is_quiet};
+ghost use Rattle.ct_machine.specs.Going.{MayGoOn, Runs, MayEnd, CameTo, IsDone, finished};
+ghost use Rattle.ct_machine.specs.Going.{left_after, goes_after, status_after, deed_by, is_quiet};
 ghost use Rattle.ct_machine.specs.Parts.{deeds_of};
 
 use crate::engine::Engine;
@@ -84,7 +85,8 @@ impl<M: Memory + Drop> Engine<M> {
     fn execute(&mut self, t: u32) -> Ran
         requires may { MayGoOn self.old }
         requires runs { self.old.state.running ≡ Some t }
-        ensures came { CameTo self.old self.new t result (executed self.old.board self.old.state t) }
+        ensures came { CameTo self.old self.new t result
+            (executed self.old.board self.old.state t) }
         ensures ranged { RanInRange result }
     {
         execute(
@@ -102,7 +104,8 @@ impl<M: Memory + Drop> Engine<M> {
         requires may { MayGoOn self.old }
         requires runs { Runs self.old t }
         requires made { self.old.state.next ≤ self.old.state.counts.steps }
-        ensures came { CameTo self.old self.new t result (executed self.old.board self.old.state t) }
+        ensures came { CameTo self.old self.new t result
+            (executed self.old.board self.old.state t) }
         ensures done { IsDone result }
     {
         match self.execute(t) {

@@ -14,8 +14,8 @@ ghost use Rattle.law_history.specs.Each.{EachEvent};
 ghost use Rattle.law_history.specs.Temporal.{AllocatesFresh, UsesLive};
 ghost use Rattle.def_step.specs.Events.{told, happens, run, is_lawful, end_of, totals_of};
 ghost use Rattle.law_boot_words.specs.Booting.{empty_granules};
-ghost use Rattle.ct_machine.specs.Coming.{SweptBeforeReuse};
-ghost use Rattle.ct_machine.specs.Going.{silence};
+ghost use Rattle.law_history.specs.Chunks.{SweptBeforeReuse};
+ghost use Rattle.ct_machine.specs.Going.{silence, steps_quietly};
 
 use crate::engine::Engine;
 use ct_entry::{End, Happened, Totals};
@@ -116,10 +116,12 @@ impl<M: Memory + Drop> Machine<M> {
 
     /// A step, which is lawful now, where it tells nothing and is one of the many that take no more than the running
     /// thread's registers and RAM: `true`, and what `advance` does of that event is done. Else `false`, and nothing
-    /// changes. A body that always answers `false` meets this too: this call is for speed.
+    /// changes. It is `true` exactly where no tick is pending and a thread runs whose next instruction is carried out
+    /// quietly, as `ct_execute::execute_quietly` says of it. This call is for speed.
     #[inline(always)]
     pub fn step_quietly(&mut self) -> bool
         requires { IsTrue (is_lawful self.old.state Step) }
+        ensures when { result ≡ steps_quietly self.old }
         ensures state { result ≡ true
             → self.new.state ≡ (happens self.old.board self.old.state Step).0 }
         ensures silent { result ≡ true

@@ -1,6 +1,7 @@
 -- How far a loop over owners has come: the first of them are built, and their texts are taken.
-use Rattle.std.proofs.Common.{ℕ, zero, suc, ◌≡◌, ◌+◌, ◌≤◌, List, [], ◌∷◌, ◌++◌, take, drop, Some, slice_get, refl, sym, ap, ◌∙◌, subst, arith, append_assoc, append-nil, add-zero}
+use Rattle.std.proofs.Common.{ℕ, suc, ◌≡◌, ◌+◌, ◌≤◌, List, [], ◌∷◌, ◌++◌, take, drop, Some, slice_get, refl, sym, ap, ◌∙◌, subst, arith, append_assoc, append-nil, add-zero}
 use Rattle.std.specs.Prelude.{Ok, Err}
+use Rattle.std.proofs.Math.Seq.{drop-drop}
 use Rattle.def_link.specs.declared.LinkFault.{LinkFault}
 use Rattle.def_link.specs.Owners.{Unit as OwnerUnit, Built, numbered, unit_built, with_front, source_for, rest_of, all_built}
 use Rattle.ct_asm.specs.Labels.{Assembled}
@@ -21,19 +22,10 @@ none_done f xs texts used old = record {
   adds = record { more = []; built = record { built = []; is = refl; held = tt }; is = sym (append-nil old) };
 }
 
-dropped_none : {A : Type 0} (n : ℕ) → drop {A = A} n [] ≡ []
-dropped_none zero = refl
-dropped_none (suc n) = refl
-
-dropped : {A : Type 0} (a b : ℕ) (xs : List A) → drop (a + b) xs ≡ drop b (drop a xs)
-dropped zero b xs = ap (λ n. drop n xs) (let e : 0 + b ≡ b = omega arith in e)
-dropped (suc a) b [] = dropped_none (suc a + b) ∙ sym (dropped_none b)
-dropped (suc a) b (x ∷ xs) = ap (λ n. drop n (x ∷ xs)) (let e : suc a + b ≡ suc (a + b) = omega arith in e) ∙ dropped a b xs
-
 -- the texts that are left
 rest_is : {A : Type 0} (f : ℕ → A → OwnerUnit) (xs : List A) (texts : List (List ℕ)) (used : ℕ) (old new : List Assembled) (k index next : ℕ) → Done f xs texts used old new k index next
     → drop next texts ≡ drop (files_of (numbered f 0 (take k xs))) (drop used texts)
-rest_is f xs texts used old new k index next h = ap (λ n. drop n texts) h.taken ∙ dropped used (files_of (numbered f 0 (take k xs))) texts
+rest_is f xs texts used old new k index next h = ap (λ n. drop n texts) h.taken ∙ sym (drop-drop (files_of (numbered f 0 (take k xs))) used texts)
 
 -- one unit alone
 alone : (u : OwnerUnit) (sources : List (List ℕ)) (b : Built) → unit_built u (source_for u.code.file sources) ≡ Ok b → all_built (u ∷ []) sources ≡ Ok (b ∷ [])

@@ -3,6 +3,7 @@ use Rattle.std.proofs.Common.{ℕ, zero, suc, ◌≡◌, ◌+◌, ◌≤◌, ◌
 use Rattle.std.specs.Prelude.{Err}
 use Rattle.std.specs.List.{AllByRecursion}
 use Rattle.std.proofs.lemmas.Option.{slice_get-get_or}
+use Rattle.std.proofs.lemmas.List.{take_all}
 use Rattle.def_link.specs.declared.LinkFault.{LinkFault}
 use Rattle.def_link.specs.declared.LinkFault.TheVariants as fault
 use Rattle.def_link.specs.Owners.{Unit as OwnerUnit, numbered, unit_built, source_for, head_or_none, all_built}
@@ -52,19 +53,13 @@ pub room_step : {A : Type 0} (f : ℕ → A → OwnerUnit) (xs : List A) (texts 
     → Done f xs texts used old new k index next → k < length xs → used + files_of (numbered f 0 xs) ≤ n → next + file_of (f index (get_or xs k d)).code.file ≤ n
 room_step f xs texts used old new k index next n d h low room = text_there f xs texts used old new k index next n (get_or xs k d) h (slice_get-get_or xs k d low) room
 
-take_whole : {A : Type 0} (k : ℕ) (xs : List A) → length xs ≤ k → take k xs ≡ xs
-take_whole zero [] h = refl
-take_whole (suc k) [] h = refl
-take_whole zero (x ∷ xs) h = absurd (omega (arith, h))
-take_whole (suc k) (x ∷ xs) h = ap (λ l. x ∷ l) (take_whole k xs (omega (arith, h)))
-
 pub all_done : {A : Type 0} (f : ℕ → A → OwnerUnit) (xs : List A) (texts : List (List ℕ)) (used : ℕ) (old new : List Assembled) (k index next : ℕ)
     → Done f xs texts used old new k index next → length xs ≤ k → Adds (all_built (numbered f 0 xs) (drop used texts)) old new
-all_done f xs texts used old new k index next h end = subst (λ l. Adds (all_built (numbered f 0 l) (drop used texts)) old new) (take_whole k xs end) h.adds
+all_done f xs texts used old new k index next h end = subst (λ l. Adds (all_built (numbered f 0 l) (drop used texts)) old new) (take_all k xs end) h.adds
 
 pub all_taken : {A : Type 0} (f : ℕ → A → OwnerUnit) (xs : List A) (texts : List (List ℕ)) (used : ℕ) (old new : List Assembled) (k index next : ℕ)
     → Done f xs texts used old new k index next → length xs ≤ k → next ≡ used + files_of (numbered f 0 xs)
-all_taken f xs texts used old new k index next h end = h.taken ∙ ap (λ l. used + files_of (numbered f 0 l)) (take_whole k xs end)
+all_taken f xs texts used old new k index next h end = h.taken ∙ ap (λ l. used + files_of (numbered f 0 l)) (take_all k xs end)
 
 pub head_at : {A : Type 0} (f : A → List ℕ) (xs : List A) (k : ℕ) (d : A) → k < length xs → f (get_or xs k d) ≡ head_or_none (drop k (map f xs))
 head_at f [] k d low = absurd (omega (arith, low))

@@ -1,6 +1,6 @@
 -- An owner's object: its exports begin in its text, and a library has no initial bytes.
-use Rattle.std.proofs.Common.{ℕ, ◌≡◌, ◌+◌, Bool, true, false, cond, List, [], ◌∷◌, length, map, Option, Some, None, refl, sym, ap, ap₂, ◌∙◌}
-use Rattle.std.specs.Prelude.{Result, Ok, Err, is_none, nat_lt, option_and_then}
+use Rattle.std.proofs.Common.{ℕ, ◌≡◌, ◌+◌, true, false, cond, List, [], ◌∷◌, length, map, Option, Some, None, refl, sym, ap, ap₂, ◌∙◌}
+use Rattle.std.specs.Prelude.{Ok, Err, is_none, nat_lt, option_and_then}
 use Rattle.ct_entry.specs.declared.rows.Owner.TheVariants.{Compartment, Library}
 use Rattle.def_description.specs.Named.{slot_names, library_slot_names}
 use Rattle.def_description.specs.Rows.{AtRow, ExportRow, CompartmentRow, LexportRow, LibraryRow}
@@ -17,7 +17,8 @@ label_same : (b : Built) (o : Assembled) → Holds b o → (label : Option (List
 label_same b o h None offset = refl
 label_same b o h (Some name) offset = ap text_label (h.labels name)
 
-begin_at : Built → ℕ → Option ℕ
+-- the number, where it begins a word of the text
+pub begin_at : Built → ℕ → Option ℕ
 begin_at b offset = cond (is_begin b offset) (Some offset) None
 
 at_same : (b : Built) (o : Assembled) → Holds b o → (r : Option ℕ) → option_and_then (begin_at (built_of o)) r ≡ option_and_then (begin_at b) r

@@ -1,6 +1,6 @@
 //! The names of an owner's slots, in slot order.
 
-ghost use Rattle.std.specs.Prelude.{◌≡◌, IfOk, OnOk, map, string_bytes};
+ghost use Rattle.std.specs.Prelude.{◌≡◌, IfOk, OnOk, map};
 ghost use Rattle.def_description.specs.Names as name;
 ghost use Rattle.def_description.specs.Named.{slot_names, library_slot_names};
 ghost use Rattle.def_description.specs.Rows.{ImportRow, QuotaRow, LimportRow};
@@ -8,15 +8,8 @@ ghost use Rattle.def_description.specs.Lawful.{AreNames};
 ghost use Rattle.ct_objects.specs.Slots.{with_slot, with_slots};
 
 use ct_asm::Names;
-use ct_rows::{Compartment, Import, Library, LibraryImport, Quota};
+use ct_rows::{Compartment, Import, Library, LibraryImport, Quota, key_name};
 use std::alloc::{AllocError, Global};
-
-/// The name of a key's slot.
-fn key_name(alloc: Global, n: u64) -> Result<String, AllocError>
-    ensures { IfOk result (λ s. string_bytes s ≡ name.key_name n) }
-{
-    format!(in alloc; "key{n}")
-}
 
 fn add(names: &mut Names, alloc: Global, name: &str) -> Result<(), AllocError>
     ensures { OnOk result (names.new ≡ with_slot names.old name.now) }

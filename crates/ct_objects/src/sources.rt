@@ -3,7 +3,7 @@
 use std::marker::Model;
 
 /// One text for each code that is a file: compartments first, then libraries.
-#[derive(Debug, Drop)]
+#[derive(Drop)]
 pub struct Sources {
     pub texts: Vec<Vec<u8>>,
 }

@@ -6,7 +6,7 @@ use ct_tables::{ExportRow, ImportRow};
 use std::marker::Model;
 
 /// A slot of an import table: its row, and its name.
-#[derive(Debug, Drop)]
+#[derive(Drop)]
 pub struct Slot {
     pub row: ImportRow,
     pub name: String,
@@ -22,7 +22,7 @@ impl Model for Slot {
 }
 
 /// An export: its row, and its name.
-#[derive(Debug, Drop)]
+#[derive(Drop)]
 pub struct Export {
     pub row: ExportRow,
     pub name: String,
@@ -38,7 +38,7 @@ impl Model for Export {
 }
 
 /// A shared object.
-#[derive(Debug, Drop)]
+#[derive(Drop)]
 pub struct Shared {
     pub name: String,
     pub base: u32,
@@ -59,7 +59,7 @@ impl Model for Shared {
 }
 
 /// A sealed object: its region, the type that it is sealed with, and the bytes that it begins with.
-#[derive(Debug, Drop)]
+#[derive(Drop)]
 pub struct Sealed {
     pub name: String,
     pub base: u32,
@@ -84,7 +84,7 @@ impl Model for Sealed {
 }
 
 /// What compartments and libraries have: the region of slots and text, and what stands there.
-#[derive(Debug, Drop)]
+#[derive(Drop)]
 pub struct Code {
     pub name: String,
     pub base: u32,
@@ -112,7 +112,7 @@ impl Model for Code {
 
 /// A compartment: its code, the bases of its export table and globals, the length of the globals,
 /// and the bytes that these begin with.
-#[derive(Debug, Drop)]
+#[derive(Drop)]
 pub struct Compartment {
     pub code: Code,
     pub table: u32,
@@ -137,7 +137,7 @@ impl Model for Compartment {
 
 /// A thread: its stack, the index of the compartment that it enters, the index there of the export,
 /// its priority, and how many frames it may have.
-#[derive(Debug, Drop)]
+#[derive(Drop)]
 pub struct Thread {
     pub name: String,
     pub stack: u32,
@@ -168,7 +168,7 @@ impl Model for Thread {
 /// An image's parts: the version of its format, the sweep rate in granules a slice, the quantum in
 /// steps, RAM's base and size, the bases of the trusted region and of the heap, the firmware's name,
 /// and the lists.
-#[derive(Debug, Drop)]
+#[derive(Drop)]
 pub struct Parts {
     pub version: u32,
     pub sweep: u32,

@@ -21,7 +21,7 @@ const PLAIN: u16 = (GL + SD + LD) as u16;
 const SEALING: u16 = (GL + US + SE + U0) as u16;
 
 /// A form of five bits.
-#[derive(Clone, Copy, Debug, PartialEq, Eq, Drop)]
+#[derive(Clone, Copy, PartialEq, Eq, Drop)]
 pub enum Form {
     /// 01 SR LM LG.
     Executable,

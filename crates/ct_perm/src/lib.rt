@@ -17,7 +17,7 @@ use bitflags::{Flag, Flags, bitflag_items};
 use def_profile::rights;
 
 /// One of the twelve permissions.
-#[derive(Clone, Copy, Debug, PartialEq, Eq, Drop)]
+#[derive(Clone, Copy, PartialEq, Eq, Drop)]
 pub enum Permission {
     /// GL: the capability may be stored anywhere that takes capabilities.
     Global,

@@ -4,14 +4,12 @@ use Rattle.std.proofs.Math.ListN.{get_or}
 use Rattle.std.specs.List.{list_all, prefix_len}
 use Rattle.std.proofs.Math.Seq.{take-length}
 use Rattle.std.proofs.lemmas.List.{length-take-le, length-drop}
+use Rattle.std.proofs.lemmas.Bool.{both_ways}
 use Rattle.law_lists.proofs.Tests.{both_left, eq_tells}
 use Rattle.law_script.proofs.Runs.{same_run, no_end}
 use Rattle.ct_script.proofs.Parts.{IsRun, run_is, run_whole}
 use Rattle.def_policy.specs.Rules.{is_inner}
 use Rattle.ct_policy.specs.Words.{IsFirst, NoFirst, end_byte}
-
-clash : (b : Bool) → b ≡ true → b ≡ false → ⊥
-clash b one_way other_way = let bad : true ≡ false = sym one_way ∙ other_way in absurd (cc)
 
 abbrev pub place_of : List ℕ → ℕ
 place_of text = prefix_len is_inner text
@@ -38,8 +36,7 @@ no_front text none word last rest first =
 
 pub endless : (text : List ℕ) → length text ≤ place_of text → NoFirst text
 endless text long word last rest first =
-    clash (list_all is_inner text) (run_whole is_inner text long)
-    (ap (λ t. list_all is_inner t) first.text_is ∙ no_end is_inner word (end_byte last) rest (end_fails last))
+    both_ways (list_all is_inner text) (ap (λ t. list_all is_inner t) first.text_is ∙ no_end is_inner word (end_byte last) rest (end_fails last)) (run_whole is_inner text long)
 
 pub other_end : (text : List ℕ) → place_of text < length text → (get_or text (place_of text) 0 ≡ 32 → ⊥) → (get_or text (place_of text) 0 ≡ 10 → ⊥) → NoFirst text
 other_end text inside space feed word true rest first = feed (meets text word true rest inside first).1

@@ -2,14 +2,12 @@
 use Rattle.std.proofs.Common.{◌≡◌, ℕ, suc, ◌+◌, ◌<◌, ◌==◌, ◌++◌, List, [], ◌∷◌, Bool, true, false, Some, None, inl, inr, refl, ap, sym, ◌∙◌, arith, length, take, drop, nat_lt}
 use Rattle.std.proofs.Math.ListN.{get_or}
 use Rattle.std.specs.List.{list_all, prefix_len}
+use Rattle.std.proofs.lemmas.Bool.{both_ways}
 use Rattle.law_lists.proofs.Tests.{bool_tells, both_left, both_right, eq_tells, lt_tells}
 use Rattle.law_script.proofs.Runs.{same_run, no_end}
 use Rattle.ct_script.proofs.Parts.{IsRun, run_is, run_whole}
 use Rattle.def_policy.specs.Rules.{IsSide, dotted, is_no_point}
 use Rattle.ct_policy.specs.Forms.{SidesRow, has_point, sides, sides_in}
-
-clash : (b : Bool) → b ≡ true → b ≡ false → ⊥
-clash b one_way other_way = let bad : true ≡ false = sym one_way ∙ other_way in absurd (cc)
 
 abbrev side_of : List ℕ → ℕ
 side_of text = prefix_len is_no_point text
@@ -44,7 +42,7 @@ point_inside : (c e : List ℕ) → side_of (dotted c e) < length (dotted c e)
 point_inside c e =
     elim (lt_tells (side_of (dotted c e)) (length (dotted c e))) [
       | inl lt ↦ lt.1
-      | inr long ↦ absurd (clash (list_all is_no_point (dotted c e)) (run_whole is_no_point (dotted c e) long.1) (no_end is_no_point c 46 e refl))
+      | inr long ↦ absurd (both_ways (list_all is_no_point (dotted c e)) (no_end is_no_point c 46 e refl) (run_whole is_no_point (dotted c e) long.1))
     ]
 
 pub sides_back : (c e : List ℕ) → IsSide c → IsSide e → sides_in (dotted c e) ≡ Some (record { compartment = c; export = e })

@@ -9,9 +9,6 @@ use Rattle.ct_policy.specs.Forms.{OnlyRow, SidesRow, apart_in, call_by, call_in,
 use Rattle.ct_policy.proofs.Numbers.{number_back, number_told}
 use Rattle.ct_policy.proofs.Sides.{IsDotted, sides_back, sides_found, some_tells}
 
-same_word : (w v : List ℕ) → bytes_eq w v ≡ true → w ≡ v
-same_word w v told = (bytes_eq-Decides w v).0 told
-
 -- ---- from a rule to its words and back
 
 owners_back : (owners : List (List ℕ)) → 0 < length owners → owners_in (codes "only" ∷ owners) ≡ Some owners
@@ -23,7 +20,7 @@ only_back name owners some = rw (owners_back owners some) refl
 
 other_owner : (owner : List ℕ) → owner ≢ total → bytes_eq owner total ≡ false
 other_owner owner differs =
-    elim (bool_tells (bytes_eq owner total)) [ inl same ↦ absurd (differs (same_word owner total same)) | inr no_here ↦ no_here ]
+    elim (bool_tells (bytes_eq owner total)) [ inl same ↦ absurd (differs ((bytes_eq-Decides owner total).0 same)) | inr no_here ↦ no_here ]
 
 pub form_back : (r : Rule) → IsFormed r → form_of (words_of r) ≡ Some r
 form_back (Device name owners) some = rw (only_back name owners some) refl
@@ -56,7 +53,7 @@ owners_told (w ∷ ws) owners found =
           let same : ws ≡ owners = (let e : Some ws ≡ Some owners = rw yes_here at found in cc) in
           let some : 0 < length ws = elim (lt_tells 0 (length ws)) [ inl e ↦ e.1 | inr e ↦ absurd (let bad : false ≡ true = sym e.0 ∙ both_right (bytes_eq w (codes "only")) (nat_lt 0 (length ws)) yes_here in cc) ] in
           record {
-            is = ap (λ xs. codes "only" ∷ xs) (sym same) ∙ ap (λ x. x ∷ ws) (sym (same_word w (codes "only") (both_left (bytes_eq w (codes "only")) (nat_lt 0 (length ws)) yes_here)));
+            is = ap (λ xs. codes "only" ∷ xs) (sym same) ∙ ap (λ x. x ∷ ws) (sym ((bytes_eq-Decides w (codes "only")).0 (both_left (bytes_eq w (codes "only")) (nat_lt 0 (length ws)) yes_here)));
             some = subst (λ xs. 0 < length xs) same some;
           }
       | inr no_here ↦ absurd (let e : None ≡ Some owners = rw no_here at found in cc)
@@ -143,7 +140,7 @@ quota_row : (owner text : List ℕ) (n : ℕ) → n ≤ MOST_TOTAL → decimal n
 quota_row owner text n small is =
     elim (bool_tells (bytes_eq owner total)) [
       | inl yes_here ↦ rw yes_here (record {
-        is = ap (λ o. codes "quota" ∷ o ∷ decimal n ∷ []) (sym (same_word owner total yes_here)) ∙ ap (λ t. codes "quota" ∷ owner ∷ t ∷ []) is;
+        is = ap (λ o. codes "quota" ∷ o ∷ decimal n ∷ []) (sym ((bytes_eq-Decides owner total).0 yes_here)) ∙ ap (λ t. codes "quota" ∷ owner ∷ t ∷ []) is;
         formed = small;
       })
       | inr no_here ↦ rw no_here (record {
@@ -172,7 +169,7 @@ apart_told (owner ∷ compartment ∷ []) r found =
 -- ---- all forms
 
 said : (head key : List ℕ) (words : List (List ℕ)) (r : Rule) → bytes_eq head key ≡ true → IsAfter key words r → IsSaid (head ∷ words) r
-said head key words r same after = record { words_are = after.is ∙ ap (λ h. h ∷ words) (sym (same_word head key same)); formed = after.formed }
+said head key words r same after = record { words_are = after.is ∙ ap (λ h. h ∷ words) (sym ((bytes_eq-Decides head key).0 same)); formed = after.formed }
 
 -- the rule by the first of these words that it is
 last_forms : (head : List ℕ) (words : List (List ℕ)) (r : Rule)

@@ -5,11 +5,10 @@ ghost use Rattle.def_reach.specs.Roots as roots;
 ghost use Rattle.def_policy.specs.Breaking as spec;
 ghost use Rattle.ct_policy.specs.Gates.{AreGates};
 
-use crate::kinds::{
-    is_call, is_device, is_export, is_listed, is_quota, is_service, is_shared, same,
-};
+use crate::kinds::{is_call, is_device, is_export, is_listed, is_quota, is_service, is_shared};
 use crate::rulings::Ruling;
 use ct_entry::{Entries, Entry, Gate, Mode};
+use ct_graph::same;
 use def_policy::Subject;
 use std::alloc::{AllocError, Global};
 

@@ -1,23 +1,10 @@
 //! Owners and kinds of entries.
 
 ghost use Rattle.std.specs.Prelude.{◌≡◌};
-ghost use Rattle.def_graph.specs.Reach.{same_owner};
 ghost use Rattle.def_policy.specs.Breaking as spec;
 
 use ct_entry::{Kind, Owner};
-
-/// Whether two owners are the same.
-pub(crate) fn same(a: Owner, b: Owner) -> bool
-    ensures { result ≡ same_owner a b }
-{
-    match (a, b) {
-        (Owner::Trusted, Owner::Trusted) => true,
-        (Owner::Compartment(x), Owner::Compartment(y)) => x == y,
-        (Owner::Library(x), Owner::Library(y)) => x == y,
-        (Owner::Thread(x), Owner::Thread(y)) => x == y,
-        _ => false,
-    }
-}
+use ct_graph::same;
 
 /// Whether an owner is one of these.
 pub(crate) fn is_listed(owners: &[Owner], owner: Owner) -> bool

@@ -18,7 +18,7 @@ use std::alloc::Global;
 use std::marker::Model;
 
 /// The rules of a policy, in the order of its lines, by what their names stand for in an image.
-#[derive(Debug, Drop)]
+#[derive(Drop)]
 pub struct Rules {
     rows: Vec<Ruling>,
 }

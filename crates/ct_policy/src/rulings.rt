@@ -19,7 +19,7 @@ use std::alloc::{AllocError, Global};
 use std::marker::Model;
 
 /// A rule by what its names stand for: what it is about, and the owners that it lists.
-#[derive(Debug, Drop)]
+#[derive(Drop)]
 pub(crate) struct Ruling {
     pub subject: Subject,
     pub owners: Vec<Owner>,

@@ -6,12 +6,9 @@ use Rattle.std.proofs.lemmas.Bool.{cases_Bool, both_ways}
 use Rattle.std.proofs.lemmas.Slice.Eq.{bytes_eq-Decides}
 use Rattle.def_port.specs.Forms.{FileRow, file_of}
 
-pub same_text : (a b : List ℕ) → bytes_eq a b ≡ true → a ≡ b
-same_text a b h = (bytes_eq-Decides a b).0 h
-
 no_match : (a b c : List ℕ) → bytes_eq a b ≡ false → bytes_eq a c ≡ true → bytes_eq b c ≡ false
 no_match a b c differ same = elim (cases_Bool (bytes_eq b c)) [
-  | inl e ↦ let both : a ≡ b = same_text a c same ∙ sym (same_text b c e) in absurd (both_ways (bytes_eq a b) differ ((bytes_eq-Decides a b).1 both))
+  | inl e ↦ let both : a ≡ b = (bytes_eq-Decides a c).0 same ∙ sym ((bytes_eq-Decides b c).0 e) in absurd (both_ways (bytes_eq a b) differ ((bytes_eq-Decides a b).1 both))
   | inr e ↦ e
 ]
 

@@ -1,3 +1,4 @@
 mod Files
 mod Parts
 mod Writers
+pub mod Pieces

@@ -16,7 +16,7 @@ use std::marker::Model;
 ///
 /// A read answers `Failed` exactly where its number, counted from 1 in the list of calls, was given
 /// to `fail_at`, or where no file has the name.
-#[derive(Debug, Drop)]
+#[derive(Drop)]
 pub struct FolderMem {
     files: Vec<StoredFile>,
     fails: Vec<u64>,
@@ -29,7 +29,12 @@ impl Model for FolderMem {
 
     ghost Value = { FolderRow };
 
-    ghost view = { λ f. record { files = f.files.items; fails = f.fails.items; calls = f.calls.items; faults = f.faults } };
+    ghost view = { λ f. record {
+      files = f.files.items;
+      fails = f.fails.items;
+      calls = f.calls.items;
+      faults = f.faults;
+    } };
 }
 
 impl FolderMem {

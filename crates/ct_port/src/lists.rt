@@ -10,7 +10,7 @@ use std::alloc::{AllocError, Global};
 use std::marker::Model;
 
 /// A file that is kept in memory.
-#[derive(Debug, Drop)]
+#[derive(Drop)]
 pub struct StoredFile {
     name: String,
     bytes: Vec<u8>,
@@ -26,7 +26,7 @@ impl Model for StoredFile {
 }
 
 /// A read that came: the name, and whether it failed.
-#[derive(Debug, Drop)]
+#[derive(Drop)]
 pub struct Reading {
     name: String,
     failed: bool,

@@ -17,7 +17,7 @@ use std::marker::Model;
 ///
 /// A write whose number, counted from 1, was given to `fail_at` appends nothing; a write past the
 /// room appends what fits. Both are faults, and no other write is one.
-#[derive(Debug, Drop)]
+#[derive(Drop)]
 pub struct SinkMem {
     bytes: Vec<u8>,
     room: u64,
@@ -31,7 +31,13 @@ impl Model for SinkMem {
 
     ghost Value = { SinkRow };
 
-    ghost view = { λ s. record { bytes = s.bytes.items; room = s.room; fails = s.fails.items; calls = s.calls; faults = s.faults } };
+    ghost view = { λ s. record {
+      bytes = s.bytes.items;
+      room = s.room;
+      fails = s.fails.items;
+      calls = s.calls;
+      faults = s.faults;
+    } };
 
     ghost use Rattle.std.specs.Prelude.{◌≤◌, length};
     ghost use Rattle.std.specs.Vec.{vec_capacity};

@@ -16,7 +16,7 @@ use std::marker::Model;
 
 /// Files in memory, and an empty file for every other name. Its count of faults is the constant 0,
 /// so that no read of it answers `Failed`.
-#[derive(Debug, Drop)]
+#[derive(Drop)]
 pub struct SteadyFolder {
     files: Vec<StoredFile>,
     calls: Vec<Reading>,
@@ -84,7 +84,7 @@ impl Folder for SteadyFolder {
 
 /// Output of which only the number of bytes is kept; that number stands still at 2^64 - 1. Its count
 /// of faults is the constant 0, so that no write to it fails. It tells no bytes.
-#[derive(Debug, Drop)]
+#[derive(Drop)]
 pub struct SteadySink {
     taken: u64,
 }

@@ -6,7 +6,7 @@ use def_image::RawEntry;
 use std::marker::Model;
 
 /// A device.
-#[derive(Debug, Drop)]
+#[derive(Drop)]
 pub struct RawDevice {
     pub name: [u8; 32],
     pub kind: u32,
@@ -22,7 +22,7 @@ impl Model for RawDevice {
 }
 
 /// A shared object.
-#[derive(Debug, Drop)]
+#[derive(Drop)]
 pub struct RawShared {
     pub name: [u8; 32],
     pub base: u32,
@@ -38,7 +38,7 @@ impl Model for RawShared {
 }
 
 /// A sealed object.
-#[derive(Debug, Drop)]
+#[derive(Drop)]
 pub struct RawSealed {
     pub name: [u8; 32],
     pub base: u32,
@@ -64,7 +64,7 @@ impl Model for RawSealed {
 }
 
 /// What compartments and libraries have.
-#[derive(Debug, Drop)]
+#[derive(Drop)]
 pub struct RawCode {
     pub name: [u8; 32],
     pub base: u32,
@@ -90,7 +90,7 @@ impl Model for RawCode {
 }
 
 /// A compartment.
-#[derive(Debug, Drop)]
+#[derive(Drop)]
 pub struct RawCompartment {
     pub code: RawCode,
     pub table: u32,
@@ -116,7 +116,7 @@ impl Model for RawCompartment {
 }
 
 /// A thread.
-#[derive(Debug, Drop)]
+#[derive(Drop)]
 pub struct RawThread {
     pub name: [u8; 32],
     pub stack: u32,
@@ -144,7 +144,7 @@ impl Model for RawThread {
 }
 
 /// All fields of an image.
-#[derive(Debug, Drop)]
+#[derive(Drop)]
 pub struct RawImage {
     pub version: u32,
     pub quantum: u32,

@@ -1,7 +1,7 @@
 //! What stands before the lists of a part, with their counts.
 
 /// Of the whole image, how many members each list has.
-#[derive(Clone, Copy, Debug, Drop)]
+#[derive(Clone, Copy, Drop)]
 pub struct Counts {
     pub devices: u32,
     pub shared: u32,
@@ -13,7 +13,7 @@ pub struct Counts {
 
 /// Of the whole image, the numbers after these: the quantum, RAM's base and size, and the bases of
 /// the trusted region and of the heap.
-#[derive(Clone, Copy, Debug, Drop)]
+#[derive(Clone, Copy, Drop)]
 pub struct Bases {
     pub quantum: u32,
     pub ram: u32,
@@ -24,7 +24,7 @@ pub struct Bases {
 
 /// Of a compartment or library: the name, the code's base and length, and how many bytes the text
 /// has.
-#[derive(Clone, Copy, Debug, Drop)]
+#[derive(Clone, Copy, Drop)]
 pub struct CodeHead {
     pub name: [u8; 32],
     pub base: u32,
@@ -34,7 +34,7 @@ pub struct CodeHead {
 
 /// Of a compartment, the numbers after these: the bases of table and globals, the length of the
 /// globals, and how many bytes they begin with.
-#[derive(Clone, Copy, Debug, Drop)]
+#[derive(Clone, Copy, Drop)]
 pub struct GlobalsHead {
     pub table: u32,
     pub globals: u32,

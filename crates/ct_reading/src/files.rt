@@ -14,7 +14,7 @@ use std::alloc::Global;
 const MOST: u64 = MOST_FILE as u64;
 
 /// Why a file isn't given.
-#[derive(Clone, Copy, Debug, PartialEq, Eq)]
+#[derive(Clone, Copy, PartialEq, Eq)]
 pub enum Stop<'a> {
     /// The file of this name can't be read.
     Unread(&'a str),

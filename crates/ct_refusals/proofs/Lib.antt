@@ -1,4 +1,3 @@
-pub mod Pieces
 pub mod Endings
 pub mod Due
 pub mod Answered

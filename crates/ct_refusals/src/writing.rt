@@ -13,7 +13,7 @@ use def_program::Status;
 use std::alloc::AllocError;
 
 /// Writes two pieces.
-#[tactic(auto, using(crate::proofs::Pieces::both, crate::proofs::Pieces::first_fails, crate::proofs::Pieces::second_fails))]
+#[tactic(auto, using(ct_port::proofs::Pieces::both, ct_port::proofs::Pieces::first_fails, ct_port::proofs::Pieces::second_fails))]
 fn write_both<S: Sink>(first: &[u8], second: &[u8], sink: &mut S) -> Result<(), WriteFailed>
     ensures { WriteAnswers (S.bytes sink.old) (S.bytes sink.new)
         (S.faults sink.old) (S.faults sink.new) (first.now ++ second.now) result }
@@ -25,7 +25,7 @@ fn write_both<S: Sink>(first: &[u8], second: &[u8], sink: &mut S) -> Result<(), 
 }
 
 /// Writes a text, a name and a line feed.
-#[tactic(auto, using(crate::proofs::Pieces::both, crate::proofs::Pieces::first_fails, crate::proofs::Pieces::second_fails))]
+#[tactic(auto, using(ct_port::proofs::Pieces::both, ct_port::proofs::Pieces::first_fails, ct_port::proofs::Pieces::second_fails))]
 fn write_named<S: Sink>(text: &[u8], name: &str, sink: &mut S) -> Result<(), WriteFailed>
     ensures { WriteAnswers (S.bytes sink.old) (S.bytes sink.new)
         (S.faults sink.old) (S.faults sink.new) (text.now ++ (name.now ++ 10 ∷ [])) result }

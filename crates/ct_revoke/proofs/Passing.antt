@@ -1,5 +1,5 @@
 -- The tagged granules of a range, least first.
-use Rattle.std.proofs.Common.{ℕ, zero, suc, ◌≡◌, ◌+◌, ◌*◌, ◌/◌, ◌≤◌, ◌<◌, inl, inr, true, false, List, [], ◌∷◌, length, min, refl, sym, ap, ◌∙◌, arith, subst}
+use Rattle.std.proofs.Common.{ℕ, ◌≡◌, ◌+◌, ◌*◌, ◌/◌, ◌≤◌, ◌<◌, inl, inr, true, false, List, length, min, refl, sym, ap, ◌∙◌, arith, subst}
 use Rattle.std.proofs.lemmas.List.{get_or-set_same, length-set}
 use Rattle.std.proofs.lemmas.Bool.{cases_eq}
 use Rattle.law_lists.proofs.Tests.{lt_tells}
@@ -10,7 +10,7 @@ use Rattle.def_memory.specs.Granules.{nothing, granule_at}
 use Rattle.def_memory.specs.Accesses.{loaded_cap, stored_cap}
 use Rattle.def_memory.specs.Ranges.{Inside, IsNextTagged, is_tagged}
 use Rattle.def_machine.specs.Memory.{filtered_in, is_marked_in}
-use Rattle.law_granules.proofs.Lists.{cap_rest}
+use Rattle.law_granules.proofs.Lists.{cap_rest, past_untagged}
 use Rattle.ct_revoke.specs.Slices.{CleanFrom, IsSliced}
 use Rattle.ct_revoke.proofs.Filters.{SameMarks, filters_alike, marked_alike, untagged_passes, passes_clean}
 
@@ -111,11 +111,6 @@ finishes ram low high at old new p none = record {
     ]
   ];
 }
-
-past_untagged : (gs : List Granule) (k : ℕ) → length gs ≤ k → is_tagged gs k ≡ false
-past_untagged [] k le = refl
-past_untagged (g ∷ gs) zero le = absurd (omega (arith, le))
-past_untagged (g ∷ gs) (suc k) le = past_untagged gs k (omega (arith, le))
 
 -- none is left up to the end of the range, or of memory
 pub finishes_within : (ram low high at end : ℕ) (old new : List Granule) → Passing ram low high at old new → end ≡ min high (8 * length old)

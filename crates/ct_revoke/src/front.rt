@@ -8,7 +8,7 @@ use ct_mem::Memory;
 use std::marker::Model;
 
 /// How far the running sweep has come: an offset in RAM, in bytes; or that none runs.
-#[derive(Debug, Drop)]
+#[derive(Drop)]
 pub struct Front {
     at: Option<u32>,
 }

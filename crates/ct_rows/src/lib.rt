@@ -6,10 +6,12 @@
 //! ct_description.
 #![tactic(auto)]
 
+mod naming;
 mod parts;
 mod reading;
 mod targets;
 
+pub use naming::key_name;
 pub use parts::{
     At, Code, Compartment, Desc, Export, Import, Library, LibraryExport, LibraryImport, Quota,
     Sealed, Shared, Thread,

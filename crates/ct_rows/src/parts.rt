@@ -7,7 +7,7 @@ use std::marker::Model;
 
 /// Code: the words of its text in order, or the name of the file that holds its source. A
 /// well-formed description has a file exactly where it has no list of words.
-#[derive(Debug, Drop)]
+#[derive(Drop)]
 pub struct Code {
     pub words: Vec<u32>,
     pub file: Option<String>,
@@ -23,7 +23,7 @@ impl Model for Code {
 }
 
 /// Where an export begins: at a label, or at an offset in the text where there is none.
-#[derive(Debug, Drop)]
+#[derive(Drop)]
 pub struct At {
     pub label: Option<String>,
     pub offset: u64,
@@ -39,7 +39,7 @@ impl Model for At {
 }
 
 /// A shared object.
-#[derive(Debug, Drop)]
+#[derive(Drop)]
 pub struct Shared {
     pub name: String,
     pub size: u32,
@@ -55,7 +55,7 @@ impl Model for Shared {
 }
 
 /// A sealed object: the type of its seal, and its first bytes.
-#[derive(Debug, Drop)]
+#[derive(Drop)]
 pub struct Sealed {
     pub name: String,
     pub seal: u32,
@@ -68,12 +68,16 @@ impl Model for Sealed {
 
     ghost Value = { SealedRow };
 
-    ghost view = { λ x. record { name = string_bytes x.name; seal = x.seal; bytes = x.bytes.items } };
+    ghost view = { λ x. record {
+      name = string_bytes x.name;
+      seal = x.seal;
+      bytes = x.bytes.items;
+    } };
 }
 
 /// An import of a compartment: the slot's name, and what it names by the one member that is there.
 /// `rights` stands beside `device` and `shared`.
-#[derive(Debug, Drop)]
+#[derive(Drop)]
 pub struct Import {
     pub alias: String,
     pub device: Option<String>,
@@ -104,7 +108,7 @@ impl Model for Import {
 }
 
 /// A quota: how many bytes its owner may have on the heap.
-#[derive(Debug, Drop)]
+#[derive(Drop)]
 pub struct Quota {
     pub name: String,
     pub limit: u32,
@@ -121,7 +125,7 @@ impl Model for Quota {
 
 /// An export of a compartment: where it begins, its posture, how many arguments it takes, the stack
 /// that it asks for, and what passes to it and back.
-#[derive(Debug, Drop)]
+#[derive(Drop)]
 pub struct Export {
     pub name: String,
     pub at: At,
@@ -149,7 +153,7 @@ impl Model for Export {
 
 /// A compartment: its code, the size of its globals, its imports, quotas, keys by the numbers of
 /// their types, and exports.
-#[derive(Debug, Drop)]
+#[derive(Drop)]
 pub struct Compartment {
     pub name: String,
     pub code: Code,
@@ -178,7 +182,7 @@ impl Model for Compartment {
 }
 
 /// An import of a library: the slot's name, and the `library.export` that it names.
-#[derive(Debug, Drop)]
+#[derive(Drop)]
 pub struct LibraryImport {
     pub alias: String,
     pub library: String,
@@ -194,7 +198,7 @@ impl Model for LibraryImport {
 }
 
 /// An export of a library: where it begins, and its posture.
-#[derive(Debug, Drop)]
+#[derive(Drop)]
 pub struct LibraryExport {
     pub name: String,
     pub at: At,
@@ -211,7 +215,7 @@ impl Model for LibraryExport {
 }
 
 /// A library: its code, its imports and exports.
-#[derive(Debug, Drop)]
+#[derive(Drop)]
 pub struct Library {
     pub name: String,
     pub code: Code,
@@ -235,7 +239,7 @@ impl Model for Library {
 
 /// A thread: the `compartment.export` that it enters, its priority, the size of its stack, and how
 /// many frames it may have.
-#[derive(Debug, Drop)]
+#[derive(Drop)]
 pub struct Thread {
     pub name: String,
     pub entry: String,
@@ -261,7 +265,7 @@ impl Model for Thread {
 
 /// A description: the firmware's name, the version of its form, how many granules one slice of a
 /// sweep passes, RAM, the steps from one tick to the next, and the parts.
-#[derive(Debug, Drop)]
+#[derive(Drop)]
 pub struct Desc {
     pub firmware: String,
     pub version: u32,

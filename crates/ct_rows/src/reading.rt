@@ -94,7 +94,8 @@ fn code_in(alloc: Global, value: &Value) -> Result<Code, AllocError>
 
 /// The code of a compartment or library.
 fn code_of(alloc: Global, owner: &Value) -> Result<Code, AllocError>
-    ensures { IfOk result (λ x. x ≡ spec.code_of (member.member_at (codes "code") (view owner.now))) }
+    ensures { IfOk result
+        (λ x. x ≡ spec.code_of (member.member_at (codes "code") (view owner.now))) }
 {
     match owner.get("code") {
         Some(code) => code_in(alloc, code),

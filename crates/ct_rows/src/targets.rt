@@ -11,7 +11,7 @@ use def_description::Form;
 use serde_json::Value;
 
 /// What an import names: by which member, and the text there.
-#[derive(Clone, Copy, Debug, PartialEq, Eq, Drop)]
+#[derive(Clone, Copy, PartialEq, Eq, Drop)]
 pub struct Target<'a> {
     pub form: Form,
     pub name: &'a str,

@@ -4,6 +4,7 @@ use Rattle.std.proofs.Math.ListN.{get_or}
 use Rattle.std.specs.List.{list_all, prefix_len}
 use Rattle.std.proofs.Math.Seq.{take-length}
 use Rattle.std.proofs.lemmas.List.{length-take-le, length-drop}
+use Rattle.std.proofs.lemmas.Bool.{both_ways}
 use Rattle.law_lists.proofs.Tests.{bool_tells, both_left}
 use Rattle.def_profile.specs.declared.limits.TheConstants.{MOST_STEPS}
 use Rattle.def_script.specs.Script.{Row, IsRow, Begins, NoLine, is_inner}
@@ -46,9 +47,6 @@ run_whole p (x ∷ xs) long =
           absurd (omega (arith, long, none))
     ]
 
-clash : (b : Bool) → b ≡ true → b ≡ false → ⊥
-clash b one_way other_way = let bad : true ≡ false = sym one_way ∙ other_way in absurd (cc)
-
 -- ---- numbers
 
 abbrev pub place_of : List ℕ → ℕ
@@ -59,7 +57,7 @@ number_small n small = omega (arith, small)
 
 pub endless : (text : List ℕ) (end : ℕ) → is_inner end ≡ false → length text ≤ place_of text → NoNumber text end
 endless text end ends long n rest is =
-    clash (list_all is_inner text) (run_whole is_inner text long) (ap (λ t. list_all is_inner t) is.text_is ∙ no_end is_inner (decimal n) end rest ends)
+    both_ways (list_all is_inner text) (ap (λ t. list_all is_inner t) is.text_is ∙ no_end is_inner (decimal n) end rest ends) (run_whole is_inner text long)
 
 -- where the number ends, if there is one
 meets : (text : List ℕ) (end n : ℕ) (rest : List ℕ) → is_inner end ≡ false → place_of text < length text → IsNumber text end n rest
@@ -121,7 +119,7 @@ no_front text none name rest is = omega (arith, none, some_place name (32 ∷ re
 
 pub no_space : (text : List ℕ) → length text ≤ place_of text → NoName text
 no_space text long name rest is =
-    clash (list_all is_inner text) (run_whole is_inner text long) (ap (λ t. list_all is_inner t) is.text_is ∙ no_end is_inner name 32 rest refl)
+    both_ways (list_all is_inner text) (ap (λ t. list_all is_inner t) is.text_is ∙ no_end is_inner name 32 rest refl) (run_whole is_inner text long)
 
 pub other_byte : (text : List ℕ) → place_of text < length text → (get_or text (place_of text) 0 ≡ 32 → ⊥) → NoName text
 other_byte text inside other name rest is = other (name_meets text name rest inside is).1

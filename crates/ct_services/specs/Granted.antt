@@ -1,5 +1,6 @@
 -- What a routine of the heap leaves of an engine, and what it came to.
 use Rattle.std.specs.Prelude.{ℕ, ◌-◌, ◌≡◌, ◌<◌, Bool, true, length, Option, Some, None, Result, Ok, Err, if◌then◌else◌}
+use Rattle.def_profile.specs.declared.answers.TheConstants.{NO_QUOTA, NO_OBJECT}
 use Rattle.ct_entry.specs.declared.acts.Act.TheVariants.{Allocate, Free}
 use Rattle.def_words.specs.declared.Cap.{Cap}
 use Rattle.def_words.specs.declared.Trap.{Trap}
@@ -56,7 +57,7 @@ checked None s ran = ran
 abbrev pub by_quota : Seen → ℕ → Seen × Ran → Seen × Ran
 by_quota s t ran =
     checked (first_failed (return_checks (register (thread s.threads t) 1))) s
-    (if is_quota_cap (register (thread s.threads t) 10) then ran else tells s t (code 1))
+    (if is_quota_cap (register (thread s.threads t) 10) then ran else tells s t (code NO_QUOTA))
 
 -- ---- allocate
 
@@ -86,7 +87,7 @@ gives_back s t r = (
 )
 
 abbrev pub freed_as : Seen → ℕ → Option Object → Seen × Ran
-freed_as s t None = tells s t (code 6)
+freed_as s t None = tells s t (code NO_OBJECT)
 freed_as s t (Some r) = gives_back s t r
 
 -- a capability is of a live object of the quota, which was freed, and it is told so

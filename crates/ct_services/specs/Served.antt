@@ -1,5 +1,6 @@
 -- What a service of the scheduler leaves of the running thread, and of the scheduler.
 use Rattle.std.specs.Prelude.{ℕ, ◌+◌, ◌%◌, ◌==◌, ◌≡◌, ◌≤◌, true, Option, Some, None, slice_set, if◌then◌else◌}
+use Rattle.def_profile.specs.declared.answers.TheConstants.{NO_STACK, TOO_DEEP, DIFFERS}
 use Rattle.def_words.specs.declared.Cap.{Cap}
 use Rattle.def_words.specs.declared.Trap.{Trap}
 use Rattle.def_words.specs.Authority.{cap_address}
@@ -23,7 +24,7 @@ rested s t = with_running (answered_in s t (integer 0)) None
 
 -- it rests where the word holds the value that it wants; else it goes on with -21
 abbrev pub waited : Seen → ℕ → ℕ → ℕ → Seen
-waited s t held wanted = if held == wanted then rested s t else answered_in s t (code 21)
+waited s t held wanted = if held == wanted then rested s t else answered_in s t (code DIFFERS)
 
 -- the scheduler has another status for a thread
 abbrev pub with_status : SchedRow → ℕ → Status → SchedRow
@@ -59,6 +60,6 @@ IfPasses None P = P
 -- where a call isn't made for want of frames or of stack, the thread goes on with -12 or -11
 abbrev pub switched_in : Seen → Listed → ℕ → Switched → Seen
 switched_in s e t (Trapped why) = s
-switched_in s e t TooDeep = answered_in s t (code 12)
-switched_in s e t NoStack = answered_in s t (code 11)
+switched_in s e t TooDeep = answered_in s t (code TOO_DEEP)
+switched_in s e t NoStack = answered_in s t (code NO_STACK)
 switched_in s e t (Enters export high) = after_call s e t (Enters export high)

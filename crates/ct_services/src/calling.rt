@@ -13,12 +13,7 @@ use crate::answering::{answer, code};
 use ct_entry::Entries;
 use ct_heaped::{Called, Engine};
 use ct_mem::Memory;
-
-/// What a call answers, negated, where the callee's stack would have too little room.
-const NO_STACK: u32 = 11;
-
-/// What a call answers, negated, where the thread has as many frames as it may have.
-const TOO_DEEP: u32 = 12;
+use def_profile::answers::{NO_STACK, TOO_DEEP};
 
 /// The switch: the running thread goes on in the export whose capability stands in c6.
 ///

@@ -1,6 +1,7 @@
 //! Allocate, free and remaining.
 
 ghost use Rattle.std.specs.Prelude.{◌≡◌, ◌≤◌, ◌<◌, Some, None, length, if◌then◌else◌, MatchResult};
+ghost use Rattle.def_profile.specs.declared.limits.TheConstants.{MOST_STEPS};
 ghost use Rattle.def_words.specs.Authority.{cap_address, cap_base};
 ghost use Rattle.def_profile.specs.declared.rights.TheConstants as rights;
 ghost use Rattle.def_words.specs.Capability.{integer};
@@ -22,26 +23,9 @@ use ct_execute::Ran;
 use ct_exports::return_trap;
 use ct_heaped::{Engine, HeapRefusal, NotWhole, Object};
 use ct_mem::Memory;
+use def_profile::answers::{NO_OBJECT, NO_PLACE, NO_PLACE_YET, NO_QUOTA, NO_SIZE, PAST_LIMIT};
 use def_profile::rights::{HEAP_RIGHTS, MEMORY_ROOT};
 use def_profile::seals::QUOTA_TYPE;
-
-/// What the routines answer, negated, where c10 is no quota.
-const NO_QUOTA: u32 = 1;
-
-/// What an allocation answers, negated, where the quota's limit would be passed.
-const PAST_LIMIT: u32 = 2;
-
-/// What an allocation answers, negated, where no place is lawful and nothing is quarantined.
-const NO_PLACE: u32 = 3;
-
-/// What an allocation answers, negated, where the size is zero or above the heap's length.
-const NO_SIZE: u32 = 4;
-
-/// What an allocation answers, negated, where no place is lawful but something is quarantined.
-const NO_PLACE_YET: u32 = 5;
-
-/// What a free answers, negated, where c11 is no whole live object of the quota.
-const NO_OBJECT: u32 = 6;
 
 /// The quota's entry that a capability names, where it is a quota's.
 fn quota_of(c: Live) -> Option<u32>
@@ -114,7 +98,7 @@ fn refused(why: HeapRefusal, waits: bool) -> u32
 fn grant<M: Memory + Drop>(engine: &mut Engine<M>, t: u32, quota: u32) -> Ran
     requires runs { engine.old.threads.running ≡ Some t }
     requires quota { quota < length engine.old.limits }
-    requires few { engine.old.next ≤ 4000000000 }
+    requires few { engine.old.next ≤ MOST_STEPS }
     ensures { (i : Image) (m : State) → HasHeap i engine.old → SharesObjects m engine.old
         → (engine.new, result)
         ≡ allocated engine.old t
@@ -150,7 +134,7 @@ fn grant<M: Memory + Drop>(engine: &mut Engine<M>, t: u32, quota: u32) -> Ran
 pub fn allocate<M: Memory + Drop>(engine: &mut Engine<M>, t: u32) -> Ran
     requires runs { engine.old.threads.running ≡ Some t }
     requires quota { NamesQuota engine.old t }
-    requires few { engine.old.next ≤ 4000000000 }
+    requires few { engine.old.next ≤ MOST_STEPS }
     ensures { (i : Image) (m : State) → HasHeap i engine.old → SharesObjects m engine.old
         → (engine.new, result)
         ≡ by_quota engine.old t

@@ -24,9 +24,7 @@ use ct_exports::return_trap;
 use ct_heaped::Engine;
 use ct_mem::Memory;
 use ct_sched::Sched;
-
-/// What a wait answers where the word holds another value than the one that is wanted, negated.
-const DIFFERS: u32 = 21;
+use def_profile::answers::DIFFERS;
 
 /// The running thread stops, to be ready after so many ticks.
 fn stop_for<M: Memory + Drop>(engine: &mut Engine<M>, sched: &mut Sched, t: u32, ticks: u32)

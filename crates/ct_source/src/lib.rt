@@ -23,7 +23,7 @@ use def_source::parts::{Line, Part, Section, Statement};
 use std::alloc::{AllocError, Global};
 
 /// The labels and statements of a source, in order. Names are slices of the source.
-#[derive(Debug, Drop)]
+#[derive(Drop)]
 pub struct Program<'a> {
     pub statements: Vec<Statement<&'a [u8]>>,
 }

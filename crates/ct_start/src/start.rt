@@ -14,7 +14,7 @@ use std::marker::Model;
 
 /// How a thread starts: its program counter capability, its registers, its posture, the index of
 /// the compartment that it enters, and the entry number of the export by which it does.
-#[derive(Clone, Copy, Debug, Drop)]
+#[derive(Clone, Copy, Drop)]
 pub struct First {
     pub pcc: Live,
     pub regs: [Live; 16],
@@ -25,7 +25,7 @@ pub struct First {
 
 /// What is kept of a thread's start. Its c1 is the return sentry, as each thread's, and all but c1,
 /// the stack in c2 and the globals in c3 are zero.
-#[derive(Clone, Copy, Debug, Drop)]
+#[derive(Clone, Copy, Drop)]
 pub struct Kept {
     pub(crate) pcc: Cap,
     pub(crate) stack: Cap,
@@ -36,7 +36,7 @@ pub struct Kept {
 }
 
 /// Room for how the threads of an image start. Boot fills it.
-#[derive(Debug, Drop)]
+#[derive(Drop)]
 pub struct Start {
     rows: Vec<Kept>,
     count: usize,

@@ -23,7 +23,7 @@ use ct_loadstore::filter;
 use ct_mem::Memory;
 
 /// What a frame keeps of its caller, and the entry number of its own export.
-#[derive(Clone, Copy, Debug, Drop)]
+#[derive(Clone, Copy, Drop)]
 pub(crate) struct Kept {
     pub(crate) export: u32,
     pub(crate) c1: Live,

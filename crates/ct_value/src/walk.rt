@@ -41,7 +41,8 @@ fn add_items<'a>(
     values: &'a [Value],
 ) -> Result<(), AllocError>
     ensures { OnOk result (map seen spots.new.items
-        ≡ map seen spots.old.items ++ spec.items_from part (view owner.now) index 0 (map view values.now)) }
+        ≡ map seen spots.old.items
+        ++ spec.items_from part (view owner.now) index 0 (map view values.now)) }
 {
     for (n, value) in values.iter().enumerate() {
         let item = counted(n)?;
@@ -62,7 +63,8 @@ fn add_inside<'a>(
     lists: &[(PartWord, &'static str)],
 ) -> Result<(), AllocError>
     ensures { OnOk result (map seen spots.new.items
-        ≡ map seen spots.old.items ++ spec.inside (view owner.now) index (map (λ r. table.inner r.0 r.1.now) lists.now)) }
+        ≡ map seen spots.old.items
+        ++ spec.inside (view owner.now) index (map (λ r. table.inner r.0 r.1.now) lists.now)) }
 {
     for (part, key) in lists {
         add_items(spots, *part, owner, index, list_at(owner, *key))?;
@@ -77,7 +79,8 @@ fn add_each<'a>(
     values: &'a [Value],
 ) -> Result<(), AllocError>
     ensures { OnOk result (map seen spots.new.items
-        ≡ map seen spots.old.items ++ spec.each_from part (view owner.now) 0 (map view values.now)) }
+        ≡ map seen spots.old.items
+        ++ spec.each_from part (view owner.now) 0 (map view values.now)) }
 {
     for (n, value) in values.iter().enumerate() {
         let index = counted(n)?;
@@ -102,7 +105,8 @@ fn add_lists<'a>(
     lists: &[(PartWord, &'static str)],
 ) -> Result<(), AllocError>
     ensures { OnOk result (map seen spots.new.items
-        ≡ map seen spots.old.items ++ spec.each (view owner.now) (map (λ r. table.inner r.0 r.1.now) lists.now)) }
+        ≡ map seen spots.old.items
+        ++ spec.each (view owner.now) (map (λ r. table.inner r.0 r.1.now) lists.now)) }
 {
     for (part, key) in lists {
         add_each(spots, *part, owner, list_at(owner, *key))?;
@@ -128,7 +132,8 @@ fn first_spot(value: &Value) -> Spot<'_>
 
 fn add_ram<'a>(spots: &mut Vec<Spot<'a>>, value: &'a Value) -> Result<(), AllocError>
     ensures { OnOk result (map seen spots.new.items
-        ≡ map seen spots.old.items ++ spec.ram_spots (view value.now) (get (codes "ram") (view value.now))) }
+        ≡ map seen spots.old.items
+        ++ spec.ram_spots (view value.now) (get (codes "ram") (view value.now))) }
 {
     if let Some(ram) = value.get("ram") {
         let place = Place {

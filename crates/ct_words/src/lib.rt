@@ -11,7 +11,7 @@ use def_profile::limits::MOST_STEPS;
 use def_program::MOST_NUMBER;
 
 /// What is done with a file that was read.
-#[derive(Clone, Copy, Debug, PartialEq, Eq)]
+#[derive(Clone, Copy, PartialEq, Eq)]
 pub enum Task<'a> {
     /// The report of a description is written.
     Audit,
@@ -68,7 +68,7 @@ impl<'a> Task<'a> {
 }
 
 /// A command: its first file, if it has one, and what is done with it.
-#[derive(Clone, Copy, Debug)]
+#[derive(Clone, Copy)]
 pub struct Form<'a> {
     pub name: &'a str,
     pub task: Task<'a>,
@@ -151,7 +151,8 @@ pub fn form_of<'a>(words: &'a [String]) -> Option<Form<'a>>
 
 fn demo_of<'a>(name: &'a str) -> Option<Form<'a>>
     ensures short { IfSome result (λ f. IsShort f.task) }
-    ensures command { option_map command_of result ≡ option_map spec.Demo (spec.number_of name.now) }
+    ensures command { option_map command_of result
+        ≡ option_map spec.Demo (spec.number_of name.now) }
 {
     match number_of(name.as_bytes()) {
         Some(number) => Some(Form {

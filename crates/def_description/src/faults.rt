@@ -23,7 +23,7 @@ pub enum PartWord {
 
 /// A place in a description: a part, its index in its outer list, and the index in the inner list,
 /// each from 0, and 0 where there is no such list.
-#[derive(Clone, Copy, Debug, PartialEq, Eq, Drop)]
+#[derive(Clone, Copy, PartialEq, Eq, Drop)]
 pub struct Place {
     pub part: PartWord,
     pub index: u32,
@@ -31,7 +31,7 @@ pub struct Place {
 }
 
 /// The number after the letter F of what fails, and the first place where it does.
-#[derive(Clone, Copy, Debug, PartialEq, Eq, Drop)]
+#[derive(Clone, Copy, PartialEq, Eq, Drop)]
 pub struct Fault {
     pub number: u32,
     pub place: Place,

@@ -13,14 +13,14 @@ pub use faults::{Fault, PartWord, Place};
 pub use tables::{Choice, Form, Passes, Shape};
 
 /// RAM: its first address, and its size in bytes.
-#[derive(Clone, Copy, Debug, PartialEq, Eq, Drop)]
+#[derive(Clone, Copy, PartialEq, Eq, Drop)]
 pub struct Ram {
     pub base: u32,
     pub size: u32,
 }
 
 /// What the letters of an import's rights allow: `R`, `W` and `C`.
-#[derive(Clone, Copy, Debug, PartialEq, Eq, Drop)]
+#[derive(Clone, Copy, PartialEq, Eq, Drop)]
 pub struct Rights {
     pub read: bool,
     pub write: bool,

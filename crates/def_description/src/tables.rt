@@ -14,7 +14,7 @@ use def_profile::native;
 use def_profile::seals::{FIRST_KEY_TYPE, LAST_KEY_TYPE};
 
 /// The lists of texts of which one stands at a member.
-#[derive(Clone, Copy, Debug, PartialEq, Eq, Drop)]
+#[derive(Clone, Copy, PartialEq, Eq, Drop)]
 pub enum Choice {
     Kind,
     Posture,
@@ -24,7 +24,7 @@ pub enum Choice {
 
 /// What stands at a member, with its limits. Another kind of value is F2, a value outside the
 /// limits is F6.
-#[derive(Clone, Copy, Debug, PartialEq, Eq, Drop)]
+#[derive(Clone, Copy, PartialEq, Eq, Drop)]
 pub enum Shape {
     /// Any text.
     Text,

@@ -46,14 +46,14 @@ pub struct ExportRow {
 }
 
 /// A row of 16 bytes with its name of 32, as they stand in an image: a slot, or an export.
-#[derive(Clone, Copy, Debug, Drop)]
+#[derive(Clone, Copy, Drop)]
 pub struct RawEntry {
     pub row: [u8; 16],
     pub name: [u8; 32],
 }
 
 /// What is asked at a place of an image, by its offset in bytes, and whether it fails.
-#[derive(Clone, Copy, Debug, Drop)]
+#[derive(Clone, Copy, Drop)]
 pub struct Check {
     pub place: u32,
     pub fails: bool,

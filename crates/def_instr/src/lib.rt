@@ -15,7 +15,7 @@ pub mod shapes;
 /// word that the field stands for: sign-extended where the field is signed, offsets in bytes and
 /// modulo 2^32. The immediate of `lui`, `auipcc` and `auicgp` is the 20-bit field itself. What each
 /// field may hold is `InRange` of specs/Table.
-#[derive(Clone, Copy, Debug, PartialEq, Eq, Drop)]
+#[derive(Clone, Copy, Drop)]
 pub enum Instr {
     /// `lui rd, immediate`: `rd` gets the 20 bits of `immediate` as its upper bits.
     Lui {
@@ -464,7 +464,7 @@ pub enum Instr {
 
 /// A word in the six fields into which format R cuts it, of 7, 5, 3, 5, 5 and 7 bits from the lowest
 /// on (RISC-V Unprivileged ISA, "Base Instruction Formats").
-#[derive(Clone, Copy, Debug, PartialEq, Eq, Drop)]
+#[derive(Clone, Copy, Drop)]
 pub struct Fields {
     pub opcode: u32,
     pub rd: u32,

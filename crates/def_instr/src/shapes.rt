@@ -2,7 +2,7 @@
 //! instruction has one shape, and each shape is one instruction's.
 
 /// An integer operation of two registers.
-#[derive(Clone, Copy, Debug, PartialEq, Eq, Drop)]
+#[derive(Clone, Copy, PartialEq, Eq, Drop)]
 pub enum IntegerOperation {
     Add,
     Sub,
@@ -25,7 +25,7 @@ pub enum IntegerOperation {
 }
 
 /// An operation on capabilities in two registers.
-#[derive(Clone, Copy, Debug, PartialEq, Eq, Drop)]
+#[derive(Clone, Copy, PartialEq, Eq, Drop)]
 pub enum CapabilityOperation {
     CSetBounds,
     CSetBoundsExact,
@@ -41,14 +41,14 @@ pub enum CapabilityOperation {
 }
 
 /// Two sources and a result.
-#[derive(Clone, Copy, Debug, PartialEq, Eq, Drop)]
+#[derive(Clone, Copy, PartialEq, Eq, Drop)]
 pub enum RegisterOperation {
     Integer(IntegerOperation),
     Capability(CapabilityOperation),
 }
 
 /// An integer operation of a register and a signed number of twelve bits.
-#[derive(Clone, Copy, Debug, PartialEq, Eq, Drop)]
+#[derive(Clone, Copy, PartialEq, Eq, Drop)]
 pub enum SignedOperation {
     Addi,
     Slti,
@@ -59,7 +59,7 @@ pub enum SignedOperation {
 }
 
 /// A shift of a register by 0 to 31.
-#[derive(Clone, Copy, Debug, PartialEq, Eq, Drop)]
+#[derive(Clone, Copy, PartialEq, Eq, Drop)]
 pub enum ShiftOperation {
     Slli,
     Srli,
@@ -67,7 +67,7 @@ pub enum ShiftOperation {
 }
 
 /// A source, a number and a result.
-#[derive(Clone, Copy, Debug, PartialEq, Eq, Drop)]
+#[derive(Clone, Copy, PartialEq, Eq, Drop)]
 pub enum ImmediateOperation {
     Signed(SignedOperation),
     Shift(ShiftOperation),
@@ -76,7 +76,7 @@ pub enum ImmediateOperation {
 }
 
 /// A number of twenty bits and a result.
-#[derive(Clone, Copy, Debug, PartialEq, Eq, Drop)]
+#[derive(Clone, Copy, PartialEq, Eq, Drop)]
 pub enum UpperOperation {
     Lui,
     AuiPcc,
@@ -84,7 +84,7 @@ pub enum UpperOperation {
 }
 
 /// A load.
-#[derive(Clone, Copy, Debug, PartialEq, Eq, Drop)]
+#[derive(Clone, Copy, PartialEq, Eq, Drop)]
 pub enum LoadOperation {
     Lb,
     Lh,
@@ -95,7 +95,7 @@ pub enum LoadOperation {
 }
 
 /// A store.
-#[derive(Clone, Copy, Debug, PartialEq, Eq, Drop)]
+#[derive(Clone, Copy, PartialEq, Eq, Drop)]
 pub enum StoreOperation {
     Sb,
     Sh,
@@ -104,7 +104,7 @@ pub enum StoreOperation {
 }
 
 /// A branch.
-#[derive(Clone, Copy, Debug, PartialEq, Eq, Drop)]
+#[derive(Clone, Copy, PartialEq, Eq, Drop)]
 pub enum BranchOperation {
     Beq,
     Bne,
@@ -115,7 +115,7 @@ pub enum BranchOperation {
 }
 
 /// An operation on a capability in one register.
-#[derive(Clone, Copy, Debug, PartialEq, Eq, Drop)]
+#[derive(Clone, Copy, PartialEq, Eq, Drop)]
 pub enum SourceOperation {
     CGetPerm,
     CGetType,
@@ -133,7 +133,7 @@ pub enum SourceOperation {
 
 /// An instruction by its operands, with the operation where several have the same. The fields mean
 /// what they mean in `Instr`.
-#[derive(Clone, Copy, Debug, PartialEq, Eq, Drop)]
+#[derive(Clone, Copy, PartialEq, Eq, Drop)]
 pub enum Shape {
     /// `rd, rs1, rs2`
     Registers {

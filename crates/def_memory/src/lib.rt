@@ -9,7 +9,7 @@ use def_words::Cap;
 ///
 /// The word of `cap` holds the bytes, little-endian: the byte at the granule's own offset is the
 /// lowest. `mark` says that the granule belongs to a freed heap object that is in quarantine.
-#[derive(Clone, Copy, Debug, PartialEq, Eq, Drop)]
+#[derive(Clone, Copy, PartialEq, Eq, Drop)]
 pub struct Granule {
     pub cap: Cap,
     pub mark: bool,

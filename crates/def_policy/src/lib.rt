@@ -14,7 +14,7 @@ use thiserror::Error;
 pub const MOST_TOTAL: u64 = 2_199_023_255_551;
 
 /// What a rule is about, by the numbers that its names stand for in an image.
-#[derive(Clone, Copy, Debug, PartialEq, Eq, Drop)]
+#[derive(Clone, Copy, PartialEq, Eq, Drop)]
 pub enum Subject {
     /// The imports of a device, by its index.
     Device(u32),

@@ -14,7 +14,7 @@ pub const MOST_NUMBER: u32 = 4_294_967_295;
 pub const DEMO_STEPS: u32 = 100_000;
 
 /// How a call of the program ended.
-#[derive(Clone, Copy, Debug, PartialEq, Eq, Drop)]
+#[derive(Clone, Copy, PartialEq, Eq, Drop)]
 pub enum Status {
     /// The output is whole.
     Done,

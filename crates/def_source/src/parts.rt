@@ -10,7 +10,7 @@ use def_instr::shapes::{
 };
 
 /// The mnemonics without operands.
-#[derive(Clone, Copy, Debug, PartialEq, Eq, Drop)]
+#[derive(Clone, Copy, PartialEq, Eq, Drop)]
 pub enum BareOperation {
     Fence,
     Ecall,
@@ -18,14 +18,14 @@ pub enum BareOperation {
 }
 
 /// A number as it is written: a magnitude, and whether a minus stands before it.
-#[derive(Clone, Copy, Debug, PartialEq, Eq, Drop)]
+#[derive(Clone, Copy, PartialEq, Eq, Drop)]
 pub struct Number {
     pub negative: bool,
     pub magnitude: u128,
 }
 
 /// A token of a line. A directive's name is without its point.
-#[derive(Clone, Copy, Debug, Drop)]
+#[derive(Clone, Copy, Drop)]
 pub enum Token<N> {
     Name(N),
     Directive(N),
@@ -37,7 +37,7 @@ pub enum Token<N> {
 }
 
 /// A section: the text, or the initial bytes of the globals.
-#[derive(Clone, Copy, Debug, PartialEq, Eq, Drop)]
+#[derive(Clone, Copy, PartialEq, Eq, Drop)]
 pub enum Section {
     Text,
     Data,
@@ -63,7 +63,7 @@ impl Section {
 }
 
 /// Where a branch or a jump goes: to a label, or by an offset in bytes.
-#[derive(Clone, Copy, Debug, Drop)]
+#[derive(Clone, Copy, Drop)]
 pub enum Target<N> {
     Label(N),
     Offset(Number),
@@ -71,7 +71,7 @@ pub enum Target<N> {
 
 /// A label or a statement. Registers are numbers below 32 as they are read, below 16 where they are
 /// lawful.
-#[derive(Clone, Copy, Debug, Drop)]
+#[derive(Clone, Copy, Drop)]
 pub enum Part<N> {
     /// `name:`
     Label {
@@ -219,14 +219,14 @@ pub enum Part<N> {
 }
 
 /// What stands on one line.
-#[derive(Clone, Copy, Debug, Drop)]
+#[derive(Clone, Copy, Drop)]
 pub struct Line<N> {
     pub label: Option<N>,
     pub part: Option<Part<N>>,
 }
 
 /// A label or a statement, and its line, counted from 1.
-#[derive(Clone, Copy, Debug, Drop)]
+#[derive(Clone, Copy, Drop)]
 pub struct Statement<N> {
     pub line: u32,
     pub part: Part<N>,

@@ -1,5 +1,6 @@
 -- Native routines of the heap: allocate, free, remaining. c10 is the quota.
 use Rattle.std.specs.Prelude.{ℕ, ◌+◌, ◌-◌, ◌==◌, ◌&&◌, ◌||◌, Bool, not, nat_lt, filter, find, List, Option, Some, None, if◌then◌else◌}
+use Rattle.def_profile.specs.declared.answers.TheConstants.{NO_QUOTA, PAST_LIMIT, NO_PLACE, NO_SIZE, NO_PLACE_YET, NO_OBJECT}
 use Rattle.def_profile.specs.declared.seals.TheConstants.{QUOTA_TYPE}
 use Rattle.ct_entry.specs.declared.acts.Act.TheVariants.{Allocate, Free}
 use Rattle.def_words.specs.declared.Cap.{Cap}
@@ -19,15 +20,15 @@ pub data Allocation : Type 0 where
   Made : Object → Allocation
 
 abbrev pub at_place : State → ℕ → ℕ → Option ℕ → Allocation
-at_place s quota size None = Refused (if has_quarantined s.objects then 5 else 3)
+at_place s quota size None = Refused (if has_quarantined s.objects then NO_PLACE_YET else NO_PLACE)
 at_place s quota size (Some base) = Made (new_object s quota size base)
 
 -- -4 where the size is 0 or above the heap's length; else -2 where the quota's limit would be passed; else, where
 -- there is no place, -5 where a chunk is quarantined and -3 where none is
 abbrev pub allocation : Image → State → ℕ → ℕ → Allocation
 allocation i s quota size =
-    if (size == 0) || nat_lt (i.heap_end - i.heap_base) size then Refused 4
-    else if nat_lt (root i quota).limit (charges quota s.objects + charge_for size) then Refused 2
+    if (size == 0) || nat_lt (i.heap_end - i.heap_base) size then Refused NO_SIZE
+    else if nat_lt (root i quota).limit (charges quota s.objects + charge_for size) then Refused PAST_LIMIT
     else at_place s quota size (place_of i s.objects (length_for size))
 
 abbrev pub is_quota_cap : Cap → Bool
@@ -37,7 +38,7 @@ is_quota_cap c = c.tag && (cap_seal c == QUOTA_TYPE)
 abbrev pub by_quota : State → ℕ → Ran → Ran
 by_quota s t ran =
     checked (return_checks (register (thread s t) 1))
-    (if is_quota_cap (register (thread s t) 10) then ran else tells s t (code 1))
+    (if is_quota_cap (register (thread s t) 10) then ran else tells s t (code NO_QUOTA))
 
 -- the entry of the quota
 abbrev pub quota_in : State → ℕ → ℕ
@@ -81,7 +82,7 @@ gives_back i s t r = Leaves (answers (let_go i s t r) t (integer 0))
     (Some (r.quota, Free r.number r.base r.length (charges r.quota (let_go i s t r).objects)))
 
 abbrev pub freed_as : Image → State → ℕ → Option Object → Ran
-freed_as i s t None = tells s t (code 6)
+freed_as i s t None = tells s t (code NO_OBJECT)
 freed_as i s t (Some r) = gives_back i s t r
 
 abbrev pub free : Image → State → ℕ → Ran

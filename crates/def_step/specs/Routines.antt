@@ -3,6 +3,7 @@
 use Rattle.std.specs.Prelude.{ℕ, ◌+◌, ◌-◌, ◌*◌, ◌%◌, ◌==◌, ◌&&◌, Bool, nat_le, length, List, [], ◌∷◌, Option, Some, None, if◌then◌else◌}
 use Rattle.ct_entry.specs.declared.acts.Act.{Act}
 use Rattle.ct_entry.specs.declared.acts.Act.TheVariants.{Call}
+use Rattle.def_profile.specs.declared.answers.TheConstants.{NO_STACK, TOO_DEEP, DIFFERS}
 use Rattle.def_words.specs.declared.Cap.{Cap}
 use Rattle.def_words.specs.declared.Trap.{Trap}
 use Rattle.def_words.specs.Authority.{cap_address}
@@ -67,8 +68,8 @@ enters i s t callee export high = Leaves
 
 abbrev pub switched_to : Image → State → ℕ → Switched → Ran
 switched_to i s t (Trapped why) = Traps why
-switched_to i s t TooDeep = tells s t (code 12)
-switched_to i s t NoStack = tells s t (code 11)
+switched_to i s t TooDeep = tells s t (code TOO_DEEP)
+switched_to i s t NoStack = tells s t (code NO_STACK)
 switched_to i s t (Enters export high) =
     enters i s t (compartment_of (root i export).owner) export high
 
@@ -119,7 +120,7 @@ word_checks i s c =
 -- it waits where the word holds the value; else it goes on with -21
 abbrev pub waits : State → ℕ → ℕ → ℕ → ℕ → Ran
 waits s t address held wanted =
-    if held == wanted then stops s t (awaiting address held wanted) else tells s t (code 21)
+    if held == wanted then stops s t (awaiting address held wanted) else tells s t (code DIFFERS)
 
 abbrev pub wait : Image → State → ℕ → Ran
 wait i s t =

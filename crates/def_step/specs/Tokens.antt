@@ -2,6 +2,7 @@
 -- capabilities are sealed with a type that no key of an import table opens.
 use Rattle.std.specs.Prelude.{ℕ, ◌+◌, ◌==◌, ◌&&◌, ◌++◌, ◌∷◌, [], Bool, false, find, List, Option, Some, None, if◌then◌else◌}
 use Rattle.std.specs.List.{list_any}
+use Rattle.def_profile.specs.declared.answers.TheConstants.{NO_OBJECT, NO_KEY, NO_TOKEN}
 use Rattle.def_profile.specs.declared.seals.TheConstants.{TOKEN_TYPE}
 use Rattle.def_words.specs.declared.Cap.{Cap}
 use Rattle.def_words.specs.Authority.{cap_address, cap_base, cap_top}
@@ -78,7 +79,7 @@ token_key i s t = by_quota s t (made_token s t None (allocation i s (quota_in s 
 
 -- -7 where the argument is no live key
 abbrev pub by_key : State → ℕ → Option Object → (ℕ → Ran) → Ran
-by_key s t None ran = tells s t (code 7)
+by_key s t None ran = tells s t (code NO_KEY)
 by_key s t (Some key) ran = ran key.number
 
 abbrev pub token_new : Image → State → ℕ → Ran
@@ -91,7 +92,7 @@ token_new i s t = by_quota s t (by_key s t (key_of s (register (thread s t) 12))
 
 -- -8 where the argument is no live token of the key
 abbrev pub opens : State → ℕ → Cap → Option Object → Ran
-opens s t c None = tells s t (code 8)
+opens s t c None = tells s t (code NO_TOKEN)
 opens s t c (Some r) = tells s t (opened_token c)
 
 abbrev pub token_open : State → ℕ → Ran
@@ -104,9 +105,9 @@ token_open s t =
 
 -- -6 where the token isn't charged to this quota
 abbrev pub frees_token : Image → State → ℕ → ℕ → Option Object → Ran
-frees_token i s t quota None = tells s t (code 8)
+frees_token i s t quota None = tells s t (code NO_TOKEN)
 frees_token i s t quota (Some r) =
-    if r.quota == quota then gives_back i s t r else tells s t (code 6)
+    if r.quota == quota then gives_back i s t r else tells s t (code NO_OBJECT)
 
 abbrev pub token_free : Image → State → ℕ → Ran
 token_free i s t = by_quota s t (by_key s t (key_of s (register (thread s t) 11))

@@ -11,7 +11,7 @@ use def_profile::native::REMAINING;
 pub const LAST_ROUTINE: u32 = REMAINING;
 
 /// What happens at the machine, one at a time.
-#[derive(Clone, Copy, Debug, PartialEq, Eq, Drop)]
+#[derive(Clone, Copy, PartialEq, Eq, Drop)]
 pub enum Event {
     /// One instruction, or one native routine, of the running thread.
     Step,
@@ -24,7 +24,7 @@ pub enum Event {
 }
 
 /// What kind of work an instruction is.
-#[derive(Clone, Copy, Debug, PartialEq, Eq, Drop)]
+#[derive(Clone, Copy, PartialEq, Eq, Drop)]
 pub enum Class {
     /// An integer result from the addresses of its registers.
     Integer,
@@ -46,7 +46,7 @@ pub enum Class {
 
 /// The registers of an instruction: the one that it writes, and its first and second source. One
 /// that it hasn't is 0.
-#[derive(Clone, Copy, Debug, PartialEq, Eq, Drop)]
+#[derive(Clone, Copy, PartialEq, Eq, Drop)]
 pub struct Operands {
     pub to: u32,
     pub first: u32,
@@ -56,7 +56,7 @@ pub struct Operands {
 /// A load or a store as its instruction names it: whether it loads, its width in bytes, whether a
 /// loaded value is sign-extended, whether it moves a capability, the register that authorises it,
 /// and its immediate as a 32-bit word.
-#[derive(Clone, Copy, Debug, PartialEq, Eq, Drop)]
+#[derive(Clone, Copy, PartialEq, Eq, Drop)]
 pub struct Access {
     pub loads: bool,
     pub width: u32,
@@ -67,7 +67,7 @@ pub struct Access {
 }
 
 /// What stands at the program counter.
-#[derive(Clone, Copy, Debug, PartialEq, Eq, Drop)]
+#[derive(Clone, Copy, Drop)]
 pub enum Next {
     /// The native routine that returns.
     Returning,

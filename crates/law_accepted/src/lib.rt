@@ -2,9 +2,7 @@
 //! and sources are linked to. Functions with empty bodies whose contracts are the laws.
 #![tactic(auto)]
 
-ghost use Rattle.std.specs.Prelude.{◌≡◌, ◌≤◌, List, [], Some, ℕ};
-ghost use Rattle.ct_entry.specs.declared.acts.Act.TheVariants.{Allocate, Free};
-ghost use Rattle.ct_entry.specs.declared.acts.Deed.{Deed};
+ghost use Rattle.std.specs.Prelude.{◌≤◌, List, [], ℕ};
 ghost use Rattle.def_boot.specs.Boot.{board_of, boot_state, image_of};
 ghost use Rattle.def_confined.specs.Confined.{Confined};
 ghost use Rattle.def_confined.specs.Partitioned.{Partitioned};
@@ -14,18 +12,16 @@ ghost use Rattle.def_image.specs.Accepted.{IsFaultless, IsImage};
 ghost use Rattle.def_image.specs.Parts.{PartsRow};
 ghost use Rattle.def_machine.specs.Image.{root};
 ghost use Rattle.def_machine.specs.Objects.{charges};
-ghost use Rattle.def_step.specs.Events.{happens, run, told};
+ghost use Rattle.def_step.specs.Events.{run, told};
 ghost use Rattle.def_step.specs.declared.Event.{Event};
-ghost use Rattle.def_step.specs.declared.Event.TheVariants.{Step};
 ghost use Rattle.law_history.specs.Accesses.{UsesReach};
-ghost use Rattle.law_history.specs.Chunks.{ChunksMeet};
+ghost use Rattle.law_history.specs.Chunks.{SweptBeforeReuse};
 ghost use Rattle.law_history.specs.Clean.{CleanEvent};
 ghost use Rattle.law_history.specs.Each.{EachEvent};
 ghost use Rattle.law_history.specs.Temporal.{AllocatesFresh, UsesLive};
 ghost use Rattle.law_images.specs.Tiny.{tiny};
 ghost use Rattle.law_link.specs.Links.{Links};
 ghost use Rattle.law_linked.specs.Samples.{board_rows, board_sources, tiny_rows};
-ghost use Rattle.law_reuse.specs.Reuse.{SweepsWhole};
 
 use law_link_samples::samples_link;
 
@@ -54,15 +50,8 @@ pub fn accepted_images_are_safe()
         → EachEvent (λ z e. UsesLive (board_of p) z) (board_of p) (boot_state p) es }
     ensures fresh { (bytes : List ℕ) (p : PartsRow) (es : List Event) → IsImage bytes p
         → EachEvent (AllocatesFresh (board_of p)) (board_of p) (boot_state p) es }
-    ensures swept { (bytes : List ℕ) (p : PartsRow) (es fs : List Event) (d : Deed)
-        (n base long live : ℕ) (c : Deed) (number from size left : ℕ) → IsImage bytes p
-        → (happens (board_of p) (run (board_of p) (boot_state p) es) Step).1.deed ≡ Some d
-        → d.act ≡ Free n base long live
-        → (happens (board_of p) (run (board_of p) (happens (board_of p) (run (board_of p)
-        (boot_state p) es) Step).0 fs) Step).1.deed ≡ Some c
-        → c.act ≡ Allocate number from size left → ChunksMeet from size base long
-        → SweepsWhole (board_of p)
-        (happens (board_of p) (run (board_of p) (boot_state p) es) Step).0 fs }
+    ensures swept { (bytes : List ℕ) (p : PartsRow) → IsImage bytes p
+        → SweptBeforeReuse (board_of p) (boot_state p) }
     ensures quotas { (bytes : List ℕ) (p : PartsRow) (es : List Event) (q : ℕ) → IsImage bytes p
         → charges q (run (board_of p) (boot_state p) es).objects ≤ (root (image_of p) q).limit }
 {}

@@ -22,9 +22,19 @@ pub fn written_frames()
         (c1 c2 c3 c8 c9 : Cap) → export < 2 ^ 32 → top < 2 ^ 32
         → frame_place area (depth + 1) ≤ length gs
         → frames_in (holding_all gs (frame_place area depth)
-        (frame_words (c1 ∷ c2 ∷ c3 ∷ c8 ∷ c9 ∷ []) export actor top handling)) area own high false (depth
-        + 1)
-        ≡ record { actor = own; export = export; top = high; handling = false; c1 = c1; c2 = c2; c3 = c3; c8 = c8; c9 = c9 }
+        (frame_words (c1 ∷ c2 ∷ c3 ∷ c8 ∷ c9 ∷ []) export actor top handling))
+        area own high false (depth + 1)
+        ≡ record {
+          actor = own;
+          export = export;
+          top = high;
+          handling = false;
+          c1 = c1;
+          c2 = c2;
+          c3 = c3;
+          c8 = c8;
+          c9 = c9;
+        }
         ∷ frames_in gs area actor top handling depth }
 {}
 

@@ -1,37 +1,29 @@
 -- What boot puts at each place of the regions of a sound image.
-use Rattle.std.proofs.Common.{ℕ, zero, suc, ◌≡◌, ◌+◌, ◌-◌, ◌*◌, ◌/◌, ◌%◌, ◌<◌, ◌≤◌, inl, inr, true, false, cond, nat_lt, nat_eq, List, [], ◌∷◌, length, Some, unwrap_or, slice_get, refl, ap, sym, ◌∙◌, subst, arith}
+use Rattle.std.proofs.Common.{ℕ, ◌≡◌, ◌+◌, ◌-◌, ◌*◌, ◌/◌, ◌%◌, ◌<◌, ◌≤◌, true, false, cond, nat_lt, nat_eq, length, Some, unwrap_or, slice_get, refl, ap, ◌∙◌, subst, arith}
 use Rattle.std.proofs.lemmas.Option.{slice_get_within}
-use Rattle.law_lists.proofs.Tests.{lt_tells, eq_tells}
+use Rattle.std.proofs.lemmas.Bool.{lt-ltb, le-ltb, ne_eqb}
 use Rattle.ct_entry.specs.declared.rows.Owner.TheVariants.{Compartment, Library}
 use Rattle.def_words.specs.declared.Cap.{Cap}
 use Rattle.def_memory.specs.Granules.{plain}
 use Rattle.def_image.specs.Parts.{SlotRow, GateRow, SealedRow, CodeRow, CompartmentRow, PartsRow}
 use Rattle.def_image.specs.Members.{no_compartment, no_code, no_sealed, compartment, library, sealed, text_base, gate_address, code_number, globals_number, library_number}
-use Rattle.def_image.specs.Regions.{Holder, CodeOf, TableOf, GlobalsOf, SealedOf, TrustedPart, table_size, table_length, trusted_size, trusted_length}
+use Rattle.def_image.specs.Regions.{CodeOf, TableOf, GlobalsOf, SealedOf, TrustedPart, table_size, table_length, trusted_size, trusted_length}
 use Rattle.def_image.specs.Spelling.{export_field}
 use Rattle.def_image.specs.Sound.{Sound, CodeFits}
-use Rattle.def_boot.specs.Contents.{content, code_content, table_content, gate_word, word_of}
+use Rattle.def_boot.specs.Contents.{code_content, table_content, gate_word, word_of}
 use Rattle.def_boot.specs.Made.{made_for, return_sentry}
 use Rattle.law_listed.specs.Rows.{slot_number, library_slot_number}
+use Rattle.law_listed.proofs.Regions.{table_there}
 use Rattle.law_grants.proofs.Making.{length_above}
 use Rattle.law_laid.proofs.Lists.{globals_there, sealed_there}
 use Rattle.law_booted.proofs.Codes.{code_there, library_there}
 use Rattle.law_boot_words.specs.Booting.{Puts, PutsBytes}
-use Rattle.law_boot_words.proofs.Regions.{table_there, trusted_there, at_offset}
+use Rattle.law_boot_words.proofs.Regions.{trusted_there, at_offset}
 
 -- ---- the same at another name of the address and of what is put there
 
 puts_as : (p : PartsRow) (x y : ℕ) (c d : Cap) → x ≡ y → c ≡ d → Puts p x c → Puts p y d
 puts_as p x y c d place what h = subst (λ z. Puts p z d) place (subst (λ z. Puts p x z) what h)
-
-pub is_less : (a b : ℕ) → a < b → nat_lt a b ≡ true
-is_less a b lt = elim (lt_tells a b) [ inl t ↦ t.0 | inr f ↦ absurd (let over = f.1 in omega (arith, over, lt)) ]
-
-pub not_less : (a b : ℕ) → b ≤ a → nat_lt a b ≡ false
-not_less a b le = elim (lt_tells a b) [ inl t ↦ absurd (let lt = t.1 in omega (arith, lt, le)) | inr f ↦ f.0 ]
-
-pub differs : (a b : ℕ) → (a ≡ b → ⊥) → nat_eq a b ≡ false
-differs a b apart = elim (eq_tells a b) [ inl t ↦ absurd (apart t.1) | inr f ↦ f.0 ]
 
 pub compartment_is : (p : PartsRow) (b : ℕ) (c : CompartmentRow) → slice_get p.compartments b ≡ Some c → compartment p b ≡ c
 compartment_is p b c there = ap (λ o. unwrap_or o no_compartment) there
@@ -46,14 +38,14 @@ sealed_is p n s there = ap (λ o. unwrap_or o no_sealed) there
 
 slot_content : (p : PartsRow) (first : ℕ) (c : CodeRow) (j : ℕ) → j < length c.slots → code_content p first c (8 * j) ≡ made_for p (first + j)
 slot_content p first c j lt =
-    let within : nat_lt (8 * j) (8 * length c.slots) ≡ true = is_less (8 * j) (8 * length c.slots) (omega (arith, lt)) in
+    let within : nat_lt (8 * j) (8 * length c.slots) ≡ true = lt-ltb (8 * j) (8 * length c.slots) (omega (arith, lt)) in
     let index : 8 * j / 8 ≡ j = omega arith in
     ap (λ t. cond t (made_for p (first + 8 * j / 8)) (plain (word_of c.text (8 * j - 8 * length c.slots)))) within
     ∙ ap (λ n. made_for p (first + n)) index
 
 text_content : (p : PartsRow) (first : ℕ) (c : CodeRow) (k : ℕ) → code_content p first c (8 * length c.slots + k) ≡ plain (word_of c.text k)
 text_content p first c k =
-    let past : nat_lt (8 * length c.slots + k) (8 * length c.slots) ≡ false = not_less (8 * length c.slots + k) (8 * length c.slots) (omega arith) in
+    let past : nat_lt (8 * length c.slots + k) (8 * length c.slots) ≡ false = le-ltb (8 * length c.slots + k) (8 * length c.slots) (omega arith) in
     let offset : 8 * length c.slots + k - 8 * length c.slots ≡ k = omega arith in
     ap (λ t. cond t (made_for p (first + (8 * length c.slots + k) / 8)) (plain (word_of c.text (8 * length c.slots + k - 8 * length c.slots)))) past
     ∙ ap (λ n. plain (word_of c.text n)) offset
@@ -101,8 +93,8 @@ puts_library_text p sound l c there w lt =
 row_content : (p : PartsRow) (b : ℕ) (c : CompartmentRow) (j : ℕ) (x : GateRow) (m : ℕ) → slice_get p.compartments b ≡ Some c → slice_get c.code.exports j ≡ Some x → m < 16
     → table_content p b (16 + 16 * j + m) ≡ plain (word_of (export_field x.row) m)
 row_content p b c j x m there export lt =
-    let first : nat_eq (16 + 16 * j + m) 0 ≡ false = differs (16 + 16 * j + m) 0 (λ e. omega (arith, e)) in
-    let second : nat_eq (16 + 16 * j + m) 8 ≡ false = differs (16 + 16 * j + m) 8 (λ e. omega (arith, e)) in
+    let first : nat_eq (16 + 16 * j + m) 0 ≡ false = ne_eqb (16 + 16 * j + m) 0 (λ e. omega (arith, e)) in
+    let second : nat_eq (16 + 16 * j + m) 8 ≡ false = ne_eqb (16 + 16 * j + m) 8 (λ e. omega (arith, e)) in
     let index : (16 + 16 * j + m - 16) / 16 ≡ j = omega (arith, lt) in
     let offset : (16 + 16 * j + m - 16) % 16 ≡ m = omega (arith, lt) in
     let found : slice_get (compartment p b).code.exports ((16 + 16 * j + m - 16) / 16) ≡ Some x =

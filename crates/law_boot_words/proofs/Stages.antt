@@ -11,8 +11,9 @@ use Rattle.def_memory.specs.Accesses.{stored_cap}
 use Rattle.def_image.specs.Parts.{PartsRow}
 use Rattle.def_boot.specs.Contents.{boot_cap, boot_granule, boot_granules, granules_from, granules_in}
 use Rattle.law_boot_words.specs.Booting.{Puts, empty_granules, IsDone, Booting, Stage, IsFrom}
-use Rattle.law_boot_words.specs.Written.{IsWritten, OfFirst, OfAny}
+use Rattle.law_boot_words.specs.Written.{IsWritten, OfFirst}
 use Rattle.law_boot_words.proofs.Zeros.{zero_else}
+use Rattle.law_booted.proofs.Contents.{granules_count, granules_there}
 
 -- ---- stages one after another
 
@@ -144,21 +145,12 @@ same_lists (x ∷ xs) (y ∷ ys) e each =
     let rest : xs ≡ ys = same_lists xs ys (omega (arith, e)) (λ k lt. each (suc k) (omega (arith, lt))) in
     rw (here, rest) refl
 
-how_many : (p : PartsRow) (x n : ℕ) → length (granules_from p x n) ≡ n
-how_many p x zero = refl
-how_many p x (suc n) = ap (λ m. suc m) (how_many p (x + 8) n)
-
-nth_granule : (p : PartsRow) (x n k : ℕ) → k < n → get_or (granules_from p x n) k nothing ≡ boot_granule p (x + 8 * k)
-nth_granule p x zero k lt = absurd (omega (arith, lt))
-nth_granule p x (suc n) zero lt = ap (λ y. boot_granule p y) (let same : x ≡ x + 8 * 0 = omega arith in same)
-nth_granule p x (suc n) (suc k) lt = nth_granule p (x + 8) n k (omega (arith, lt)) ∙ ap (λ y. boot_granule p y) (let same : x + 8 + 8 * k ≡ x + 8 * suc k = omega arith in same)
-
 pub whole : (p : PartsRow) (gs : List Granule) → Booting p gs → ((k : ℕ) → IsWritten p (p.ram + 8 * k) → IsDone p gs k) → gs ≡ boot_granules p
 unfolding boot_granules
 whole p gs h done =
-    let count = how_many p p.ram (granules_in p) in
+    let count = granules_count p p.ram (granules_in p) in
     let size = h.size in
-    same_lists gs (granules_from p p.ram (granules_in p)) (size ∙ sym count) (λ k lt. each k ∙ sym (nth_granule p p.ram (granules_in p) k (omega (arith, lt, size))))
+    same_lists gs (granules_from p p.ram (granules_in p)) (size ∙ sym count) (λ k lt. each k ∙ sym (granules_there p p.ram (granules_in p) k (omega (arith, lt, size))))
   where
     zeros : (k : ℕ) → boot_cap p (p.ram + 8 * k) ≡ plain 0 → IsDone p gs k
     zeros k e = elim (h.each k) [ inl d ↦ d | inr n ↦ n ∙ (rw e refl) ]

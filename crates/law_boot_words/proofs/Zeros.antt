@@ -1,34 +1,34 @@
 -- What boots anything but zeros is written.
-use Rattle.std.proofs.Common.{ℕ, zero, suc, ◌≡◌, ◌+◌, ◌-◌, ◌*◌, ◌/◌, ◌%◌, ◌<◌, ◌≤◌, ◌⊎◌, inl, inr, true, false, cond, nat_lt, nat_eq, List, [], ◌∷◌, length, Option, Some, None, unwrap_or, slice_get, refl, ap, sym, ◌∙◌, subst, arith}
+use Rattle.std.proofs.Common.{ℕ, zero, ◌≡◌, ◌+◌, ◌-◌, ◌*◌, ◌/◌, ◌%◌, ◌≤◌, ◌⊎◌, inl, inr, false, cond, nat_lt, nat_eq, length, Option, Some, None, slice_get, refl, ap, ◌∙◌, arith}
 use Rattle.std.proofs.lemmas.Option.{slice_get_past}
+use Rattle.std.proofs.lemmas.Bool.{le-ltb, ne_eqb}
 use Rattle.law_lists.proofs.Tests.{lt_tells, eq_tells}
 use Rattle.ct_entry.specs.declared.rows.Owner.TheVariants.{Trusted, Compartment, Library, Thread}
-use Rattle.def_words.specs.declared.Cap.{Cap}
 use Rattle.def_memory.specs.Granules.{plain}
-use Rattle.def_image.specs.Parts.{GateRow, SealedRow, CodeRow, CompartmentRow, PartsRow}
-use Rattle.def_image.specs.Members.{compartment, library, sealed, code_number, globals_number, library_number}
+use Rattle.def_image.specs.Parts.{SealedRow, CodeRow, CompartmentRow, PartsRow}
+use Rattle.def_image.specs.Members.{compartment, code_number, globals_number, library_number}
 use Rattle.def_image.specs.Regions.{Holder, CodeOf, TableOf, GlobalsOf, SharedOf, SealedOf, StackOf, TrustedPart, RegionRow}
 use Rattle.def_boot.specs.Contents.{content, content_at, code_content, table_content, gate_word, word_of, boot_cap, region_at}
 use Rattle.def_boot.specs.Made.{made_for, return_sentry}
 use Rattle.law_laid.specs.Held.{IsOf}
 use Rattle.law_laid.proofs.Found.{back}
 use Rattle.law_laid.proofs.Lists.{held}
-use Rattle.law_boot_words.specs.Written.{InCode, InTable, InInitial, InSealed, IsWritten}
+use Rattle.law_boot_words.specs.Written.{InCode, IsWritten}
 use Rattle.law_boot_words.proofs.Past.{word_past}
-use Rattle.law_boot_words.proofs.Putting.{compartment_is, library_is, sealed_is, not_less, differs}
+use Rattle.law_boot_words.proofs.Putting.{compartment_is, library_is, sealed_is}
 
 -- ---- past the end of what stands in a region
 
 code_past : (p : PartsRow) (first : ℕ) (c : CodeRow) (k : ℕ) → 8 * length c.slots + length c.text ≤ k → code_content p first c k ≡ plain 0
 code_past p first c k past =
-    let over : nat_lt k (8 * length c.slots) ≡ false = not_less k (8 * length c.slots) (omega (arith, past)) in
+    let over : nat_lt k (8 * length c.slots) ≡ false = le-ltb k (8 * length c.slots) (omega (arith, past)) in
     ap (λ t. cond t (made_for p (first + k / 8)) (plain (word_of c.text (k - 8 * length c.slots)))) over
     ∙ ap plain (word_past c.text (k - 8 * length c.slots) (omega (arith, past)))
 
 table_past : (p : PartsRow) (b : ℕ) (c : CompartmentRow) (k : ℕ) → slice_get p.compartments b ≡ Some c → 16 + 16 * length c.code.exports ≤ k → table_content p b k ≡ plain 0
 table_past p b c k there past =
-    let first : nat_eq k 0 ≡ false = differs k 0 (λ e. omega (arith, e, past)) in
-    let second : nat_eq k 8 ≡ false = differs k 8 (λ e. omega (arith, e, past)) in
+    let first : nat_eq k 0 ≡ false = ne_eqb k 0 (λ e. omega (arith, e, past)) in
+    let second : nat_eq k 8 ≡ false = ne_eqb k 8 (λ e. omega (arith, e, past)) in
     let none : slice_get (compartment p b).code.exports ((k - 16) / 16) ≡ None =
     ap (λ (d : CompartmentRow). slice_get d.code.exports ((k - 16) / 16)) (compartment_is p b c there) ∙ slice_get_past c.code.exports ((k - 16) / 16) (omega (arith, past)) in
     let rows = plain (gate_word (slice_get (compartment p b).code.exports ((k - 16) / 16)) ((k - 16) % 16)) in

@@ -1,22 +1,11 @@
 -- The regions of code among those of an image.
-use Rattle.std.proofs.Common.{ℕ, zero, suc, ◌≡◌, ◌+◌, List, [], ◌∷◌, ◌++◌, length, Some, slice_get, refl, ◌∙◌, subst, arith}
-use Rattle.std.proofs.lemmas.Option.{slice_get_within}
+use Rattle.std.proofs.Common.{ℕ, zero, suc, ◌≡◌, ◌+◌, List, [], ◌∷◌, ◌++◌, length, Some, slice_get, refl, subst, arith}
 use Rattle.ct_entry.specs.declared.rows.Owner.TheVariants.{Compartment, Library}
 use Rattle.def_image.specs.Parts.{CodeRow, CompartmentRow, PartsRow}
-use Rattle.def_image.specs.Sizes.{shared_at, sealed_at, compartments_at, compartment_size, libraries_at, library_size, threads_at}
+use Rattle.def_image.specs.Sizes.{compartments_at, compartment_size, libraries_at, library_size}
 use Rattle.def_image.specs.Spelling.{raw_of, raw_compartment, raw_code}
-use Rattle.def_image.specs.Regions.{Holder, CodeOf, RegionRow, region, shared_regions, sealed_regions, compartment_regions, library_regions, stack_regions, regions_of}
-use Rattle.law_listed.proofs.Blocks.{before, further}
-use Rattle.law_laid.proofs.Lists.{Among}
-
-left : (xs ys : List RegionRow) (h : Holder) (base size : ℕ) → Among xs h base size → Among (xs ++ ys) h base size
-left xs ys h base size a = record { index = a.index; place = a.place; is = before xs ys a.index (slice_get_within xs a.index (region h a.place base size) a.is) ∙ a.is }
-
-right : (xs ys : List RegionRow) (h : Holder) (base size : ℕ) → Among ys h base size → Among (xs ++ ys) h base size
-right xs ys h base size a = record { index = length xs + a.index; place = a.place; is = further xs ys a.index ∙ a.is }
-
-next : (x : RegionRow) (xs : List RegionRow) (h : Holder) (base size : ℕ) → Among xs h base size → Among (x ∷ xs) h base size
-next x xs h base size a = record { index = suc a.index; place = a.place; is = a.is }
+use Rattle.def_image.specs.Regions.{CodeOf, region, compartment_regions, library_regions, regions_of}
+use Rattle.law_listed.proofs.Regions.{own_part, library_part, stack_part, objects, Among, left, right, next}
 
 code_in : (at n : ℕ) (cs : List CompartmentRow) (k : ℕ) (c : CompartmentRow) → slice_get cs k ≡ Some c → Among (compartment_regions at n cs) (CodeOf (Compartment (n + k))) c.code.base c.code.length
 code_in at n [] k c is = cc
@@ -43,18 +32,6 @@ library_in at n (d ∷ ds) zero c is =
 library_in at n (d ∷ ds) (suc k) c is =
     let index : n + 1 + k ≡ n + suc k = omega arith in
     subst (λ m. Among (library_regions at n (d ∷ ds)) (CodeOf (Library m)) c.base c.length) index (next _ _ _ _ _ (library_in (at + library_size (raw_code d)) (n + 1) ds k c is))
-
-abbrev objects : PartsRow → List RegionRow
-objects p = shared_regions (shared_at (raw_of p)) 0 p.shared ++ sealed_regions (sealed_at (raw_of p)) 0 p.sealed
-
-abbrev own_part : PartsRow → List RegionRow
-own_part p = compartment_regions (compartments_at (raw_of p)) 0 p.compartments
-
-abbrev library_part : PartsRow → List RegionRow
-library_part p = library_regions (libraries_at (raw_of p)) 0 p.libraries
-
-abbrev stack_part : PartsRow → List RegionRow
-stack_part p = stack_regions (threads_at (raw_of p)) 0 p.threads
 
 pub code_there : (p : PartsRow) (b : ℕ) (c : CompartmentRow) → slice_get p.compartments b ≡ Some c → Among (regions_of p) (CodeOf (Compartment b)) c.code.base c.code.length
 unfolding regions_of

@@ -55,12 +55,16 @@ made_at p x tagged = made_found p (region_at p x) x tagged
 
 -- ---- by granule
 
-granules_there : (p : PartsRow) (x n k : ℕ) → k < n → slice_index_or (granules_from p x n) k nothing ≡ boot_granule p (x + 8 * k)
+pub granules_count : (p : PartsRow) (x n : ℕ) → length (granules_from p x n) ≡ n
+granules_count p x zero = refl
+granules_count p x (suc n) = ap suc (granules_count p (x + GRANULE) n)
+
+pub granules_there : (p : PartsRow) (x n k : ℕ) → k < n → slice_index_or (granules_from p x n) k nothing ≡ boot_granule p (x + 8 * k)
 granules_there p x zero k lt = absurd (omega (arith, lt))
 granules_there p x (suc n) zero lt = ap (λ y. boot_granule p y) (let same : x ≡ x + 8 * 0 = omega arith in same)
 granules_there p x (suc n) (suc k) lt = granules_there p (x + GRANULE) n k (omega (arith, lt)) ∙ ap (λ y. boot_granule p y) (let same : x + GRANULE + 8 * k ≡ x + 8 * suc k = omega arith in same)
 
-granules_past : (p : PartsRow) (x n k : ℕ) → n ≤ k → slice_index_or (granules_from p x n) k nothing ≡ nothing
+pub granules_past : (p : PartsRow) (x n k : ℕ) → n ≤ k → slice_index_or (granules_from p x n) k nothing ≡ nothing
 granules_past p x zero k past = refl
 granules_past p x (suc n) zero past = absurd (omega (arith, past))
 granules_past p x (suc n) (suc k) past = granules_past p (x + GRANULE) n k (omega (arith, past))

@@ -31,15 +31,17 @@ use Rattle.def_boot.specs.Gates.{entries_of}
 use Rattle.def_boot.specs.Boot.{image_of}
 use Rattle.law_listed.specs.Rows.{HasRow, EntryIs, is_nothing, is_trusted, is_code, is_globals, is_slot, is_export, is_library, is_library_slot, is_library_export, is_stack}
 use Rattle.law_listed.proofs.Listing.{entry_of}
-use Rattle.law_listed.proofs.Standing.{compartment_of, library_of}
+use Rattle.law_listed.proofs.Standing.{compartment_of, library_of, slot_owner}
 use Rattle.law_listed.proofs.Blocks.{present}
+use Rattle.law_listed.proofs.Regions.{Among}
 use Rattle.law_grants.proofs.Sets.{clash_of, no_way}
 use Rattle.law_grants.proofs.Making.{device_base_is}
 use Rattle.law_grants.proofs.Own.{stack_entry_is}
 use Rattle.law_grants.proofs.Imports.{reach}
-use Rattle.law_laid.proofs.Lists.{Among, shared_there, sealed_there, globals_there, stack_there}
+use Rattle.law_laid.proofs.Lists.{shared_there, sealed_there, globals_there, stack_there}
 use Rattle.law_laid.proofs.Found.{found}
 use Rattle.law_laid.proofs.Granules.{of_address, past_address, at_region, whole}
+use Rattle.law_laid.proofs.Storing.{Part}
 use Rattle.law_booted.proofs.Codes.{code_there, library_there}
 use Rattle.law_booted.proofs.Contents.{booted_in}
 use Rattle.law_booted.proofs.Rooting.{faithful, boot_made, no_object}
@@ -66,19 +68,6 @@ slot_no_stack p o at r slot.Call = refl
 slot_no_stack p o at r slot.Library = refl
 slot_no_stack p o at r slot.Quota = refl
 slot_no_stack p o at r slot.Key = refl
-
-slot_owner : (p : PartsRow) (o : Owner) (at : ℕ) (r : ImportRow) (k : SlotKind) → (slot_row p o at r k).owner ≡ o
-slot_owner p o at r slot.Service = refl
-slot_owner p o at r slot.Device = refl
-slot_owner p o at r slot.Shared = refl
-slot_owner p o at r slot.Sealed = refl
-slot_owner p o at r slot.Call = refl
-slot_owner p o at r slot.Library = refl
-slot_owner p o at r slot.Quota = refl
-slot_owner p o at r slot.Key = refl
-
-abbrev Part : PartsRow → ℕ → Region
-Part p x = image.region (image_of p) (granule_of (image_of p) x)
 
 abbrev Held : PartsRow → ℕ → Cap
 Held p x = (booted (image_of p) (granule_of (image_of p) x)).cap

@@ -19,7 +19,7 @@ use Rattle.def_board.specs.Wired.{Wired}
 use Rattle.def_confined.specs.Confined.{Confined}
 use Rattle.def_confined.specs.Partitioned.{Partitioned}
 use Rattle.def_confined.specs.Licensed.{Licensed, OffLicensed}
-use Rattle.law_places.proofs.Turns.{clock_of}
+use Rattle.law_places.proofs.Turns.{beside_confined, clock_of}
 use Rattle.law_turns.proofs.Moves.{pick_confined, clock_confined}
 use Rattle.law_licensed.proofs.Deeds.{off_licensed}
 use Rattle.def_confined.specs.Holding.{EndedOn, EndsFit}
@@ -33,25 +33,6 @@ use Rattle.law_events.proofs.Steps.{executed_fair}
 -- ---- who runs, and the clockwork
 
 -- none runs that didn't
-stops_confined : (i : Image) (s : State) (run : Option ℕ) (w : Clockwork) → ((u : ℕ) → run ≡ Some u → s.running ≡ Some u) → Confined i s
-    → Confined i (record s { running = run; pending = w.pending; devices = w.devices; time = w.time; picks = w.picks; counts = w.counts })
-stops_confined i s run w stays h = record {
-  granules = h.granules;
-  pcc = h.pcc;
-  registers = h.registers;
-  frames = h.frames;
-  postures = h.postures;
-  runs = h.runs;
-  kept = record { granules = h.kept.granules; registers = h.kept.registers; frames = h.kept.frames };
-  live = λ t is n. h.live t (stays t is) n;
-  apart = h.apart;
-  numbered = h.numbered;
-  fits = h.fits;
-  marks = h.marks;
-  limits = h.limits;
-  size = h.size;
-}
-
 none_runs : (s : State) (u : ℕ) → None ≡ Some u → s.running ≡ Some u
 none_runs s u e = absurd (let clash : None ≡ Some u = e in cc)
 
@@ -64,7 +45,7 @@ clock_kept : (b : Board) (s : State) (w : Clockwork) → Confined b.image s → 
 clock_kept b s w h = record { confined = clock_confined b.image s w h; beside = clock_beside b.image s w }
 
 stops_kept : (b : Board) (s : State) (w : Clockwork) → Confined b.image s → Kept b s (record s { running = None; pending = w.pending; devices = w.devices; time = w.time; picks = w.picks; counts = w.counts })
-stops_kept b s w h = record { confined = stops_confined b.image s None w (none_runs s) h; beside = stopped_beside b.image s w h }
+stops_kept b s w h = record { confined = beside_confined b.image s s.tokens None w (none_runs s) h; beside = stopped_beside b.image s w h }
 
 same_kept : (b : Board) (s : State) → Confined b.image s → Kept b s s
 same_kept b s h = record { confined = h; beside = λ e. e }

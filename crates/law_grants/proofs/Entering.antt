@@ -1,6 +1,6 @@
 -- A compartment's code is tagged at each word of it: a capability that was made stays tagged where its address moves within.
-use Rattle.std.proofs.Common.{ℕ, ◌≡◌, ◌/◌, ◌%◌, ◌^◌, ◌<◌, ◌==◌, ◌&&◌, Bool, true, refl, sym, ap, ◌∙◌}
-use Rattle.std.proofs.lemmas.Bool.{eq-eqb}
+use Rattle.std.proofs.Common.{ℕ, ◌≡◌, ◌/◌, ◌%◌, ◌^◌, ◌<◌, ◌==◌, ◌&&◌, true, refl, sym, ap, ◌∙◌}
+use Rattle.std.proofs.lemmas.Bool.{eq-eqb, and_from}
 use Rattle.def_words.specs.declared.Cap.{Cap}
 use Rattle.def_words.specs.declared.Shadow.{Shadow}
 use Rattle.def_words.specs.Authority.{word_of, cap_high, cap_base, cap_top, cap_bounds, bounds_of}
@@ -9,9 +9,6 @@ use Rattle.def_words.specs.Derive.{derive, root_cap}
 use Rattle.def_words.specs.Seals.{cap_seal, is_unsealed}
 use Rattle.law_words.proofs.Words.{high_is}
 use Rattle.law_words.proofs.Narrowing.{Addressed, addressed}
-
-both : (a b : Bool) → a ≡ true → b ≡ true → (a && b) ≡ true
-both a b h k = rw (h, k) refl
 
 same_word : (c d : Cap) → c.word ≡ d.word → cap_bounds c ≡ cap_bounds d
 unfolding cap_bounds
@@ -25,9 +22,9 @@ moved_again c a x small small_x first second =
     let g : Addressed c x = addressed c x small_x second in
     let there : cap_bounds (record (with_address c a) { word = word_at (with_address c a) x }) ≡ cap_bounds (with_address c x) = same_word (record (with_address c a) { word = word_at (with_address c a) x }) (with_address c x) (ap (λ h. word_of h x) (high_is (with_address c a) (cap_high c) a small refl)) in
     let same : cap_bounds (record (with_address c a) { word = word_at (with_address c a) x }) ≡ cap_bounds (with_address c a) = there ∙ g.bounds ∙ sym f.bounds in
-    both ((with_address c a).tag && is_unsealed (with_address c a)) (is_representable (with_address c a) x)
-    (both (with_address c a).tag (is_unsealed (with_address c a)) first (eq-eqb (cap_seal (with_address c a)) 0 f.after))
-    (both (cap_base (record (with_address c a) { word = word_at (with_address c a) x }) == cap_base (with_address c a)) (cap_top (record (with_address c a) { word = word_at (with_address c a) x }) == cap_top (with_address c a))
+    and_from ((with_address c a).tag && is_unsealed (with_address c a)) (is_representable (with_address c a) x)
+    (and_from (with_address c a).tag (is_unsealed (with_address c a)) first (eq-eqb (cap_seal (with_address c a)) 0 f.after))
+    (and_from (cap_base (record (with_address c a) { word = word_at (with_address c a) x }) == cap_base (with_address c a)) (cap_top (record (with_address c a) { word = word_at (with_address c a) x }) == cap_top (with_address c a))
     (eq-eqb (cap_base (record (with_address c a) { word = word_at (with_address c a) x })) (cap_base (with_address c a)) (ap (λ b. b.base) same))
     (eq-eqb (cap_top (record (with_address c a) { word = word_at (with_address c a) x })) (cap_top (with_address c a)) (ap (λ b. b.top) same)))
 

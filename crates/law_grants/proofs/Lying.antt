@@ -9,6 +9,7 @@ use Rattle.def_image.specs.Spelling.{raw_of, raw_sealed, raw_compartment, raw_co
 use Rattle.def_image.specs.Laid.{IsLaid}
 use Rattle.def_image.specs.Sound.{Sound}
 use Rattle.law_listed.proofs.Blocks.{before, further}
+use Rattle.law_listed.proofs.Regions.{shared_part, sealed_part, own_part, library_part, stack_part, objects, with_own, with_libraries}
 use Rattle.law_grants.specs.Fits.{Lies}
 
 -- each region of a list is laid
@@ -79,31 +80,6 @@ stack_lies p at t (y ∷ ys) all zero x is =
 stack_lies p at t (y ∷ ys) all (suc k) x is = stack_lies p (at + THREAD) (t + 1) ys (all_rest p _ _ all) k x is
 
 -- ---- of a sound image
-
-abbrev shared_part : PartsRow → List RegionRow
-shared_part p = shared_regions (shared_at (raw_of p)) 0 p.shared
-
-abbrev sealed_part : PartsRow → List RegionRow
-sealed_part p = sealed_regions (sealed_at (raw_of p)) 0 p.sealed
-
-abbrev own_part : PartsRow → List RegionRow
-own_part p = compartment_regions (compartments_at (raw_of p)) 0 p.compartments
-
-abbrev library_part : PartsRow → List RegionRow
-library_part p = library_regions (libraries_at (raw_of p)) 0 p.libraries
-
-abbrev stack_part : PartsRow → List RegionRow
-stack_part p = stack_regions (threads_at (raw_of p)) 0 p.threads
-
--- the objects', and with the compartments', and with the libraries'
-abbrev objects : PartsRow → List RegionRow
-objects p = shared_part p ++ sealed_part p
-
-abbrev with_own : PartsRow → List RegionRow
-with_own p = objects p ++ own_part p
-
-abbrev with_libraries : PartsRow → List RegionRow
-with_libraries p = with_own p ++ library_part p
 
 module _ (p : PartsRow) (s : Sound p) where
   every : All p (trusted_region p ∷ later_regions p)

@@ -14,8 +14,6 @@ use Rattle.def_words.specs.Seals.{cap_seal}
 use Rattle.def_reach.specs.Roots.{Root, TrustedPart, Listing, root_of, gate_for, is_stack}
 use Rattle.def_machine.specs.Image.{root, made_cap, code_entry, globals_entry, stack_entry}
 use Rattle.def_confined.specs.Partitioned.{IsOwnEntry}
-use Rattle.def_image.specs.declared.ImportRow.{ImportRow}
-use Rattle.def_image.specs.declared.SlotKind.{SlotKind}
 use Rattle.def_image.specs.declared.SlotKind.TheVariants as slot
 use Rattle.def_image.specs.Parts.{SlotRow, CodeRow, CompartmentRow, ThreadRow, PartsRow}
 use Rattle.def_image.specs.Members.{number_in, text_base, code_number, globals_number, stack_number, first_stack}
@@ -26,7 +24,7 @@ use Rattle.def_boot.specs.Made.{made_caps}
 use Rattle.def_boot.specs.Boot.{image_of, numbered_from}
 use Rattle.law_listed.specs.Rows.{HasRow, EntryIs, is_nothing, is_trusted, is_code, is_globals, is_slot, is_export, is_library, is_library_slot, is_library_export, is_stack as of_stack, slot_row_at, slot_number, library_slot_number}
 use Rattle.law_listed.proofs.Listing.{entry_of}
-use Rattle.law_listed.proofs.Standing.{compartment_of, library_of, stack_of}
+use Rattle.law_listed.proofs.Standing.{compartment_of, library_of, stack_of, slot_owner}
 use Rattle.law_grants.specs.Fits.{Lies, MadeFor, MadeAs, address_for, type_for}
 use Rattle.law_grants.proofs.Lying.{own_there, library_there}
 use Rattle.law_grants.proofs.Sets.{code_set, no_way}
@@ -48,16 +46,6 @@ ones : (n : ℕ) (xs : List ThreadRow) (t : ℕ) → t < length xs → number_in
 ones n [] t lt = absurd (omega (arith, lt))
 ones n (x ∷ xs) zero lt = omega arith
 ones n (x ∷ xs) (suc t) lt = let more = ones (n + 1) xs t (omega (arith, lt)) in omega (arith, more)
-
-slot_owner : (p : PartsRow) (o : Owner) (at : ℕ) (r : ImportRow) (k : SlotKind) → (slot_row p o at r k).owner ≡ o
-slot_owner p o at r slot.Service = refl
-slot_owner p o at r slot.Device = refl
-slot_owner p o at r slot.Shared = refl
-slot_owner p o at r slot.Sealed = refl
-slot_owner p o at r slot.Call = refl
-slot_owner p o at r slot.Library = refl
-slot_owner p o at r slot.Quota = refl
-slot_owner p o at r slot.Key = refl
 
 -- ---- whose an entry is
 
@@ -173,7 +161,7 @@ module _ (p : PartsRow) (s : Sound p) where
   unfolding root_of
   trusted_number = refl
 
-  few : (t : ℕ) → (root (image_of p) (stack_entry (image_of p) t)).origin ≡ Listing kind.Stack → t < length p.threads
+  pub few : (t : ℕ) → (root (image_of p) (stack_entry (image_of p) t)).origin ≡ Listing kind.Stack → t < length p.threads
   few t is = elim (lt_tells t (length p.threads)) [
     | inl lt ↦ lt.1
     | inr past ↦ no_way (sym (ap is_stack trusted_number) ∙ ap is_stack (subst (λ n. (root (image_of p) n).origin ≡ Listing kind.Stack) (no_stack_entry p t past.1) is))

@@ -1,5 +1,6 @@
 -- A sound image's board: devices are away from RAM and from the native routines, and reached by imports alone.
-use Rattle.std.proofs.Common.{ℕ, suc, ◌≡◌, ◌+◌, ◌*◌, ◌%◌, ◌≤◌, ◌<◌, ◌⊎◌, inl, inr, true, false, nat_le, nat_lt, List, [], ◌∷◌, map, Some, is_some, slice_get, refl, sym, ◌∙◌, subst, arith, eq-eqb}
+use Rattle.std.proofs.Common.{ℕ, suc, ◌≡◌, ◌+◌, ◌*◌, ◌%◌, ◌≤◌, ◌<◌, ◌⊎◌, inl, inr, true, false, List, [], ◌∷◌, map, Some, is_some, slice_get, refl, sym, ◌∙◌, subst, arith, eq-eqb}
+use Rattle.std.proofs.lemmas.Bool.{le-leb, lt-ltb}
 use Rattle.law_lists.proofs.Tests.{le_tells, lt_tells}
 use Rattle.ct_entry.specs.Listed.{DeviceRow}
 use Rattle.ct_entry.specs.declared.rows.Kind.TheVariants as kind
@@ -33,15 +34,9 @@ none_from : (n x : ℕ) (ds : List DeviceRow) → ((i : ℕ) (d : DeviceRow) →
 none_from n x [] out = refl
 none_from n x (d ∷ ds) out = rw (not_of d.base x (out 0 d refl)) (none_from (n + 1) x ds (λ i e is. out (suc i) e is))
 
-le_yes : (a b : ℕ) → a ≤ b → nat_le a b ≡ true
-le_yes a b le = elim (le_tells a b) [ inl t ↦ t.0 | inr t ↦ absurd (let gt = t.1 in omega (arith, le, gt)) ]
-
-lt_yes : (a b : ℕ) → a < b → nat_lt a b ≡ true
-lt_yes a b lt = elim (lt_tells a b) [ inl t ↦ t.0 | inr t ↦ absurd (let ge = t.1 in omega (arith, lt, ge)) ]
-
 entry_there : (k : ℕ) → k ≤ LAST_NATIVE → is_native_entry (native_address k) ≡ true
 entry_there k few =
-    rw (le_yes NATIVE_BASE (native_address k) (omega arith), lt_yes (native_address k) (NATIVE_BASE + NATIVE_UNIT * (LAST_NATIVE + 1)) (omega (arith, few)), eq-eqb (native_address k % NATIVE_UNIT) 0 (omega arith)) refl
+    rw (le-leb NATIVE_BASE (native_address k) (omega arith), lt-ltb (native_address k) (NATIVE_BASE + NATIVE_UNIT * (LAST_NATIVE + 1)) (omega (arith, few)), eq-eqb (native_address k % NATIVE_UNIT) 0 (omega arith)) refl
 
 return_there : is_native_entry RETURN_ENTRY ≡ true
 return_there = refl

@@ -5,6 +5,7 @@ ghost use Rattle.def_image.specs.Parts.{PartsRow};
 ghost use Rattle.ct_entry.specs.declared.rows.Kind.TheVariants as kind;
 ghost use Rattle.ct_entry.specs.declared.rows.Owner.TheVariants as owner;
 ghost use Rattle.def_confined.specs.Partitioned.{AwayFromHeap, BootMade, IsOwnEntry};
+ghost use Rattle.def_profile.specs.declared.limits.TheConstants.{RAM_END};
 ghost use Rattle.def_profile.specs.declared.rights.TheConstants.{STACK_RIGHTS};
 ghost use Rattle.def_machine.specs.Image.{code_entry, globals_entry, made_cap, root, stack_entry};
 ghost use Rattle.def_reach.specs.Roots.{Listing, gate_for, is_code, is_root};
@@ -44,7 +45,7 @@ pub fn rows_partition()
         → AwayFromHeap (image_of p) x }
     ensures stacks_are { (p : PartsRow) → Sound p → (n : ℕ)
         → (root (image_of p) n).origin ≡ Listing kind.Stack
-        → ((root (image_of p) n).rights ≡ STACK_RIGHTS) × ((root (image_of p) n).top ≤ 4294967280) }
+        → ((root (image_of p) n).rights ≡ STACK_RIGHTS) × ((root (image_of p) n).top ≤ RAM_END) }
     ensures stacks_differ { (p : PartsRow) → Sound p → (t u : ℕ)
         → (root (image_of p) (stack_entry (image_of p) t)).origin ≡ Listing kind.Stack
         → stack_entry (image_of p) t ≡ stack_entry (image_of p) u → t ≡ u }

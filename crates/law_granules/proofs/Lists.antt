@@ -165,6 +165,12 @@ marked_is from to on old new is =
     (λ k lt. let inside : k < length old = omega (arith, lt, is.size) in
     marked_at from to on 0 old k (λ g. granule_at new k ≡ g) inside (λ a b. is.marks k inside (omega (arith, a), omega (arith, b))) (λ o. is.rest k (elim o [ inl a ↦ inl (omega (arith, a)) | inr b ↦ inr (omega (arith, b)) ])))
 
+-- past memory none is tagged
+pub past_untagged : (gs : List Granule) (k : ℕ) → length gs ≤ k → is_tagged gs k ≡ false
+past_untagged [] k le = refl
+past_untagged (g ∷ gs) zero le = absurd (omega (arith, le))
+past_untagged (g ∷ gs) (suc k) le = past_untagged gs k (omega (arith, le))
+
 -- there is one least tagged granule, or none
 pub next_one : (gs : List Granule) (from a b : ℕ) → IsNextTagged gs from a → IsNextTagged gs from b → a ≡ b
 next_one gs from a b one two = elim (lt_tells a b) [

@@ -1,6 +1,6 @@
 -- What is seen of memory as the heap's objects change.
-use Rattle.std.proofs.Common.{ℕ, ◌≡◌, ◌+◌, ◌-◌, ◌*◌, ◌≤◌, ◌<◌, ◌⊎◌, inl, inr, ◌&&◌, ◌||◌, Bool, true, false, not, cond, nat_le, nat_lt, List, [], ◌∷◌, length, refl, sym, ap, ◌∙◌, arith}
-use Rattle.std.proofs.lemmas.Bool.{leb-true, ltb-true, and_parts}
+use Rattle.std.proofs.Common.{ℕ, ◌≡◌, ◌+◌, ◌-◌, ◌*◌, ◌≤◌, ◌<◌, ◌⊎◌, inl, inr, ◌&&◌, Bool, true, false, not, cond, nat_le, nat_lt, List, [], ◌∷◌, length, refl, sym, ap, ◌∙◌, arith}
+use Rattle.std.proofs.lemmas.Bool.{or_cases, or_left, or_right}
 use Rattle.law_lists.proofs.Tests.{chosen, bool_tells, le_tells, lt_tells}
 use Rattle.law_granules.proofs.Lists.{zeroed_length, zeroed_at, marked_length, marked_at}
 use Rattle.def_words.specs.declared.Cap.{Cap}
@@ -11,50 +11,22 @@ use Rattle.def_machine.specs.State.{Object}
 use Rattle.def_machine.specs.Objects.{placed_among}
 use Rattle.def_hidden.specs.Hidden.{is_live_at}
 use Rattle.def_veil.specs.Veil.{veil, veiled}
+pub use Rattle.law_veil.proofs.Live.{covers, covers_tells, among_live}
 use Rattle.law_veil.proofs.Granules.{veiled_length, veiled_at, veiled_is, appears}
 use Rattle.law_heaped.specs.Heaped.{hides_heap}
 use Rattle.law_heaped.specs.Objects.{SeenAt, Appears, Vanishes}
 
 -- ---- what is live, with an object more
 
-abbrev pub covers : ℕ → Object → Bool
-covers x r = r.live && nat_le r.base x && nat_lt x (r.base + r.length)
-
-or_right : (a b : Bool) → b ≡ true → (a || b) ≡ true
-or_right true b h = refl
-or_right false b h = h
-
-or_left : (a b : Bool) → a ≡ true → (a || b) ≡ true
-or_left true b h = refl
-or_left false b h = absurd (let clash : false ≡ true = h in cc)
-
-or_tells : (a b : Bool) → (a || b) ≡ true → (a ≡ true) ⊎ (b ≡ true)
-or_tells true b h = inl refl
-or_tells false b h = inr h
-
-pub among_live : (r : Object) (rs : List Object) (x : ℕ) → is_live_at rs x ≡ true → is_live_at (placed_among r rs) x ≡ true
-among_live r [] x h = absurd (let clash : false ≡ true = h in cc)
-among_live r (q ∷ qs) x h = chosen (λ (zs : List Object). is_live_at zs x ≡ true) (nat_lt r.base q.base) (r ∷ q ∷ qs) (q ∷ placed_among r qs)
-    (λ first. or_right (covers x r) (is_live_at (q ∷ qs) x) h)
-    (λ later. elim (or_tells (covers x q) (is_live_at qs x) h) [
-      | inl here ↦ or_left (covers x q) (is_live_at (placed_among r qs) x) here
-      | inr there ↦ or_right (covers x q) (is_live_at (placed_among r qs) x) (among_live r qs x there)
-    ])
-
 pub placed_live : (r : Object) (rs : List Object) (x : ℕ) → is_live_at (placed_among r rs) x ≡ true → (covers x r ≡ true) ⊎ (is_live_at rs x ≡ true)
-placed_live r [] x h = or_tells (covers x r) false h
+placed_live r [] x h = or_cases (covers x r) false h
 placed_live r (q ∷ qs) x h = chosen (λ (zs : List Object). is_live_at zs x ≡ true → (covers x r ≡ true) ⊎ (is_live_at (q ∷ qs) x ≡ true)) (nat_lt r.base q.base) (r ∷ q ∷ qs) (q ∷ placed_among r qs)
-    (λ first k. or_tells (covers x r) (is_live_at (q ∷ qs) x) k)
-    (λ later k. elim (or_tells (covers x q) (is_live_at (placed_among r qs) x) k) [
+    (λ first k. or_cases (covers x r) (is_live_at (q ∷ qs) x) k)
+    (λ later k. elim (or_cases (covers x q) (is_live_at (placed_among r qs) x) k) [
       | inl here ↦ inr (or_left (covers x q) (is_live_at qs x) here)
       | inr there ↦ elim (placed_live r qs x there) [ inl e ↦ inl e | inr e ↦ inr (or_right (covers x q) (is_live_at qs x) e) ]
     ])
     h
-
-pub covers_tells : (r : Object) (x : ℕ) → covers x r ≡ true → (r.base ≤ x) × (x < r.base + r.length)
-covers_tells r x h =
-    let parts = and_parts (r.live && nat_le r.base x) (nat_lt x (r.base + r.length)) h in
-    (leb-true r.base x (and_parts r.live (nat_le r.base x) parts.0).1, ltb-true x (r.base + r.length) parts.1)
 
 -- ---- what is hidden
 

@@ -1,6 +1,6 @@
-//! Laws of a heap behind veils, over definitions alone: a veil that hides nothing of it leaves it as it is; what
-//! the heap's own veil hides tells where its heads are; and a slice of a sweep is the same before a veil and
-//! behind it.
+//! Laws of a heap behind veils, over definitions alone: a veil that hides nothing of it leaves it
+//! as it is; what the heap's own veil hides tells where its heads are; and a slice of a sweep is
+//! the same before a veil and behind it.
 #![tactic(auto)]
 
 ghost use Rattle.std.specs.Prelude.{◌≡◌, ◌-◌, ◌*◌, ℕ, Bool, List, true, length};
@@ -18,7 +18,8 @@ ghost use Rattle.ct_heap.specs.Effects.{Allocates, Refuses, Frees, Paints, Flush
 ghost use Rattle.law_heaped.specs.Objects.{Appears, Vanishes};
 ghost use Rattle.law_heaped.specs.Slices.{passed, kept_granules, kept_frames, kept_registers};
 
-/// A heap lies the same in memory and in what is seen of it, where nothing from the heap on is hidden.
+/// A heap lies the same in memory and in what is seen of it, where nothing from the heap on is
+/// hidden.
 pub fn heap_shown()
     ensures behind { (h : HeapRow) (v : ℕ → Bool) (gs : List Granule)
         → IsOpenFrom v h.range.ram h.range.base → Laid h gs → KeepsHeap h gs (veiled v gs) }
@@ -33,8 +34,9 @@ pub fn effects_shown()
         (q size number base long live : ℕ) → IsOpenFrom v h.range.ram h.range.base
         → Laid h gs → Laid n hs → Allocates h n gs hs q size number base long live
         → Allocates h n (veiled v gs) (veiled v hs) q size number base long live }
-    ensures refuses { (v : ℕ → Bool) (h : HeapRow) (gs : List Granule) (q size : ℕ) (e : HeapRefusal)
-        → IsOpenFrom v h.range.ram h.range.base → Laid h gs → Refuses h gs q size e
+    ensures refuses { (v : ℕ → Bool) (h : HeapRow) (gs : List Granule)
+        (q size : ℕ) (e : HeapRefusal) → IsOpenFrom v h.range.ram h.range.base
+        → Laid h gs → Refuses h gs q size e
         → Refuses h (veiled v gs) q size e }
     ensures frees { (v : ℕ → Bool) (h n : HeapRow) (gs hs : List Granule)
         (q base top number place long live : ℕ) → IsOpenFrom v h.range.ram h.range.base
@@ -55,8 +57,9 @@ pub fn hidden_keeps_heap()
         → KeepsHeap h gs hs }
 {}
 
-/// What is seen of memory stays as it is where an object appears: what was seen is as it was, and the object reads
-/// as zero. Where one is freed it is what was seen, with the object zeroed and its chunk marked.
+/// What is seen of memory stays as it is where an object appears: what was seen is as it was, and
+/// the object reads as zero. Where one is freed it is what was seen, with the object zeroed and its
+/// chunk marked.
 pub fn objects_veiled()
     ensures appears { (ram base end : ℕ) (old new : List Object) (gs hs : List Granule)
         (low high : ℕ) → Appears ram base end old new gs hs low high
@@ -76,10 +79,13 @@ pub fn slice_behind()
         ≡ veiled v (kept_granules (λ n c. passed ram gs low high n c) 0 gs) }
 {}
 
-/// A slice over memory is the slice over the frames and the registers that stand in a thread's area.
+/// A slice over memory is the slice over the frames and the registers that stand in a thread's
+/// area.
 pub fn areas_sliced()
-    ensures frames { (ram : ℕ) (gs : List Granule) (low high area actor top : ℕ) (handling : Bool) (j : ℕ)
-        → frames_from (kept_granules (λ n c. passed ram gs low high n c) 0 gs) area actor top handling j
+    ensures frames { (ram : ℕ) (gs : List Granule) (low high area actor top : ℕ)
+        (handling : Bool) (j : ℕ)
+        → frames_from (kept_granules (λ n c. passed ram gs low high n c) 0 gs)
+        area actor top handling j
         ≡ kept_frames (λ n c. passed ram gs low high n c) (8 * area)
         (frames_from gs area actor top handling j) }
     ensures registers { (ram : ℕ) (gs : List Granule) (low high k n : ℕ)

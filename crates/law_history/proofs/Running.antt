@@ -22,7 +22,7 @@ use Rattle.law_history.specs.Each.{EachEvent}
 use Rattle.law_history.specs.Clean.{CleanEvent}
 use Rattle.law_history.specs.Accesses.{UsesReach}
 use Rattle.law_history.specs.Temporal.{UsesLive, AllocatesFresh}
-use Rattle.law_history.specs.Chunks.{ChunksMeet}
+use Rattle.law_history.specs.Chunks.{ChunksMeet, SweptBeforeReuse}
 use Rattle.law_history.proofs.Steps.{each_event}
 use Rattle.law_history.proofs.Cleaning.{clean_event}
 use Rattle.law_history.proofs.Safety.{uses_live, uses_reach, allocates_fresh}
@@ -58,3 +58,6 @@ module _ (b : Board) (parts : Partitioned b.image) (facts : Facts b.image) (wire
       free_then_allocate b (run b s es) fs d n base long live c number from size left
       (record { parts = parts; facts = facts; wired = wired; shut = shut; keeps = kept; blank = hidden })
       (record { parts = parts; facts = facts; wired = wired; shut = shut; keeps = next_keeps (run b s es) Step kept; blank = event_blank b (run b s es) Step parts wired shut kept hidden })
+
+  pub run_swept : (s : State) → Shut b.image → Keeps b.image s → Blank b.image s → SweptBeforeReuse b s
+  run_swept s shut k blank = λ es fs d n base long live c number from size left. run_reuses s es fs d n base long live c number from size left shut k blank

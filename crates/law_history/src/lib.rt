@@ -1,12 +1,9 @@
 //! Laws of what events do one after another, whatever list of them comes: calls are clean, what is accessed is
-//! licensed, no freed object is used,
-//! what is handed out is fresh and comes after a whole sweep, and no quota is exceeded. They speak of the written
-//! machine alone.
+//! licensed, no freed object is used, what is handed out is fresh and comes after a whole sweep, and no quota is
+//! exceeded. They speak of the written machine alone.
 #![tactic(auto)]
 
-ghost use Rattle.std.specs.Prelude.{◌≡◌, ◌≤◌, ℕ, List, Some};
-ghost use Rattle.ct_entry.specs.declared.acts.Act.TheVariants.{Allocate, Free};
-ghost use Rattle.ct_entry.specs.declared.acts.Deed.{Deed};
+ghost use Rattle.std.specs.Prelude.{◌≤◌, ℕ, List};
 ghost use Rattle.def_board.specs.Wired.{Wired};
 ghost use Rattle.def_confined.specs.Keeps.{Keeps};
 ghost use Rattle.def_confined.specs.Partitioned.{Partitioned};
@@ -16,15 +13,13 @@ ghost use Rattle.def_machine.specs.Image.{root};
 ghost use Rattle.def_machine.specs.Objects.{charges};
 ghost use Rattle.def_machine.specs.State.{State};
 ghost use Rattle.def_step.specs.declared.Event.{Event};
-ghost use Rattle.def_step.specs.declared.Event.TheVariants.{Step};
-ghost use Rattle.def_step.specs.Events.{happens, run};
+ghost use Rattle.def_step.specs.Events.{run};
 ghost use Rattle.def_step.specs.Instructions.{Board};
 ghost use Rattle.law_history.specs.Accesses.{UsesReach};
-ghost use Rattle.law_history.specs.Chunks.{ChunksMeet};
+ghost use Rattle.law_history.specs.Chunks.{SweptBeforeReuse};
 ghost use Rattle.law_history.specs.Clean.{CleanEvent};
 ghost use Rattle.law_history.specs.Each.{EachEvent};
 ghost use Rattle.law_history.specs.Temporal.{AllocatesFresh, UsesLive};
-ghost use Rattle.law_reuse.specs.Reuse.{SweepsWhole};
 
 /// Clean calls. On entry through an export that passes plain values the tagged registers are exactly the
 /// program counter, c1, c2 and c3, as the switcher gives them, and the callee's stack is zero and untagged.
@@ -64,14 +59,9 @@ pub fn allocations_fresh()
 /// Sweep before reuse. Where a free is told after some events, and after more an allocation whose chunk
 /// meets the chunk of the freed object, there was a whole sweep among these, which began after the free.
 pub fn chunks_swept()
-    ensures { (b : Board) (s : State) (es fs : List Event) (d : Deed) (n base long live : ℕ)
-        (c : Deed) (number from size left : ℕ)
+    ensures { (b : Board) (s : State)
         → Partitioned b.image → Facts b.image → Wired b → Shut b.image → Keeps b.image s
-        → Blank b.image s
-        → (happens b (run b s es) Step).1.deed ≡ Some d → d.act ≡ Free n base long live
-        → (happens b (run b (happens b (run b s es) Step).0 fs) Step).1.deed ≡ Some c
-        → c.act ≡ Allocate number from size left → ChunksMeet from size base long
-        → SweepsWhole b (happens b (run b s es) Step).0 fs }
+        → Blank b.image s → SweptBeforeReuse b s }
 {}
 
 /// Quotas hold. After any list of events the live charges on each quota are at most its limit.

@@ -46,7 +46,7 @@ list_cut P spell one (x ∷ xs) (y ∷ ys) s t hx hy n e =
 
 -- ---- parts with their fields one after another
 
-abbrev same_entry : RawEntry → RawEntry
+abbrev pub same_entry : RawEntry → RawEntry
 same_entry x = record { row = x.row; name = x.name }
 
 pub entry_cut : (x y : RawEntry) (s t : List ℕ) → IsEntry x → IsEntry y → entry_spelled x ++ s ≡ entry_spelled y ++ t → Cut x y s t
@@ -59,7 +59,7 @@ entry_cut x y s t hx hy e =
     let all : same_entry x ≡ same_entry y = cc in
     record { front = all; rest = a1.rest }
 
-abbrev same_device : RawDevice → RawDevice
+abbrev pub same_device : RawDevice → RawDevice
 same_device x = record { name = x.name; kind = x.kind; base = x.base }
 
 pub device_cut : (x y : RawDevice) (s t : List ℕ) → IsDevice x → IsDevice y → device_spelled x ++ s ≡ device_spelled y ++ t → Cut x y s t
@@ -74,7 +74,7 @@ device_cut x y s t hx hy e =
     let all : same_device x ≡ same_device y = cc in
     record { front = all; rest = a2.rest }
 
-abbrev same_shared : RawShared → RawShared
+abbrev pub same_shared : RawShared → RawShared
 same_shared x = record { name = x.name; base = x.base; length = x.length }
 
 pub shared_cut : (x y : RawShared) (s t : List ℕ) → IsShared x → IsShared y → shared_spelled x ++ s ≡ shared_spelled y ++ t → Cut x y s t
@@ -89,7 +89,7 @@ shared_cut x y s t hx hy e =
     let all : same_shared x ≡ same_shared y = cc in
     record { front = all; rest = a2.rest }
 
-abbrev same_sealed : RawSealed → RawSealed
+abbrev pub same_sealed : RawSealed → RawSealed
 same_sealed x = record { name = x.name; base = x.base; length = x.length; seal = x.seal; bytes = x.bytes; padding = x.padding }
 
 pub sealed_cut : (x y : RawSealed) (s t : List ℕ) → IsSealed x → IsSealed y → sealed_spelled x ++ s ≡ sealed_spelled y ++ t → Cut x y s t
@@ -112,8 +112,8 @@ sealed_cut x y s t hx hy e =
     let all : same_sealed x ≡ same_sealed y = cc in
     record { front = all; rest = a6.rest }
 
-abbrev same_library : RawCode → RawCode
-same_library x = record { name = x.name; base = x.base; length = x.length; slots = x.slots; exports = x.exports; text = x.text }
+abbrev pub same_code : RawCode → RawCode
+same_code x = record { name = x.name; base = x.base; length = x.length; slots = x.slots; exports = x.exports; text = x.text }
 
 pub library_cut : (x y : RawCode) (s t : List ℕ) → IsCode x → IsCode y → library_spelled x ++ s ≡ library_spelled y ++ t → Cut x y s t
 library_cut x y s t hx hy e =
@@ -136,10 +136,10 @@ library_cut x y s t hx hy e =
     let f6 : x.slots ≡ y.slots = a6.front in
     let f7 : x.exports ≡ y.exports = a7.front in
     let f8 : x.text ≡ y.text = a8.front in
-    let all : same_library x ≡ same_library y = cc in
+    let all : same_code x ≡ same_code y = cc in
     record { front = all; rest = a8.rest }
 
-abbrev same_compartment : RawCompartment → RawCompartment
+abbrev pub same_compartment : RawCompartment → RawCompartment
 same_compartment x = record { code = record { name = x.code.name; base = x.code.base; length = x.code.length; slots = x.code.slots; exports = x.code.exports; text = x.code.text }; table = x.table; globals = x.globals; globals_length = x.globals_length; initial = x.initial; padding = x.padding }
 
 pub compartment_cut : (x y : RawCompartment) (s t : List ℕ) → IsCompartment x → IsCompartment y → compartment_spelled x ++ s ≡ compartment_spelled y ++ t → Cut x y s t
@@ -178,7 +178,7 @@ compartment_cut x y s t hx hy e =
     let all : same_compartment x ≡ same_compartment y = cc in
     record { front = all; rest = a14.rest }
 
-abbrev same_thread : RawThread → RawThread
+abbrev pub same_thread : RawThread → RawThread
 same_thread x = record { name = x.name; stack = x.stack; stack_length = x.stack_length; compartment = x.compartment; export = x.export; priority = x.priority; frames = x.frames }
 
 pub thread_cut : (x y : RawThread) (s t : List ℕ) → IsThread x → IsThread y → thread_spelled x ++ s ≡ thread_spelled y ++ t → Cut x y s t

@@ -1,18 +1,17 @@
 -- Bytes have one answer: an image, or one fault at one place.
-use Rattle.std.proofs.Common.{ℕ, suc, ◌≡◌, ◌<◌, ◌^◌, ◌⊎◌, inl, inr, Bool, true, false, nat_le, List, [], ◌∷◌, ◌++◌, length, take, drop, Option, Some, None, refl, sym, ap, ◌∙◌, subst, arith}
+use Rattle.std.proofs.Common.{ℕ, suc, ◌≡◌, ◌<◌, ◌^◌, ◌⊎◌, inl, inr, Bool, true, false, nat_le, List, ◌∷◌, length, take, drop, Option, Some, None, refl, sym, ap, ◌∙◌, subst, arith}
 use Rattle.std.specs.Prelude.{bytes_eq, ◌&&◌}
 use Rattle.std.specs.Int.{w32, from_le_bytes}
 use Rattle.def_image.specs.Raw.{RawImage}
 use Rattle.def_image.specs.Parts.{PartsRow}
 use Rattle.def_image.specs.Profile.{is_within, last_version}
 use Rattle.def_image.specs.Spelling.{magic, number, spelled, raw_of, image_bytes}
-use Rattle.def_image.specs.Shapes.{IsSpellable}
 use Rattle.def_image.specs.Checks.{first}
 use Rattle.def_image.specs.Limits.{limit_checks}
 use Rattle.def_image.specs.Lying.{region_checks}
 use Rattle.def_image.specs.Indexes.{index_checks}
 use Rattle.def_image.specs.Rights.{right_checks}
-use Rattle.def_image.specs.Accepted.{is_begun, Spells, IsFaultless, IsImage, IsCut, BreaksLimit, Stands, BreaksRegion, BreaksIndex, BreaksRight, FaultAt}
+use Rattle.def_image.specs.Accepted.{is_begun, Spells, IsImage, IsCut, BreaksLimit, Stands, BreaksRegion, BreaksIndex, BreaksRight}
 use Rattle.law_lists.proofs.Tests.{le_tells}
 use Rattle.law_image.specs.Answers.{ImagesHaveNoFault, OneFault}
 use Rattle.law_image.proofs.Rows.{number_back}
@@ -21,10 +20,10 @@ use Rattle.law_image.proofs.Backs.{one_reading}
 
 -- ---- an image's bytes begin as one
 
-eight : (n : ℕ) → nat_le 8 (suc (suc (suc (suc (suc (suc (suc (suc n)))))))) ≡ true
+pub eight : (n : ℕ) → nat_le 8 (suc (suc (suc (suc (suc (suc (suc (suc n)))))))) ≡ true
 eight n = elim (le_tells 8 (suc (suc (suc (suc (suc (suc (suc (suc n))))))))) [ inl h ↦ h.0 | inr h ↦ absurd (let less = h.1 in omega (arith, less)) ]
 
-all_three : (a b c : Bool) → a ≡ true → b ≡ true → c ≡ true → (a && b && c) ≡ true
+pub all_three : (a b c : Bool) → a ≡ true → b ≡ true → c ≡ true → (a && b && c) ≡ true
 all_three a b c e f g = rw (e, f, g) refl
 
 begun : (r : RawImage) → r.version < 2 ^ 32 → is_within 1 last_version r.version ≡ true → is_begun (spelled r) ≡ true

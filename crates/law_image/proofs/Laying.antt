@@ -1,6 +1,7 @@
 -- The regions and devices of an image whose checks of regions pass.
 use Rattle.std.proofs.Common.{ℕ, zero, suc, ◌≡◌, ◌+◌, ◌%◌, ◌<◌, ◌≤◌, ◌&&◌, not, true, false, nat_le, List, [], ◌∷◌, ◌++◌, take, Some, None, slice_get, refl, sym, ap, ◌∙◌, subst, arith, inl, inr}
 use Rattle.std.specs.List.{list_any}
+use Rattle.std.proofs.lemmas.Bool.{leb-true, lt-ltb, eqb-true, not-true, not-false}
 use Rattle.ct_entry.specs.Listed.{DeviceRow}
 use Rattle.law_lists.proofs.Tests.{le_tells, lt_tells, both_left, both_right}
 use Rattle.def_words.specs.LeastBounds.{rounded_of}
@@ -13,13 +14,13 @@ use Rattle.def_image.specs.Lying.{region_checks, device_asked, region_asked, is_
 use Rattle.def_image.specs.Sizes.{header_size}
 use Rattle.def_image.specs.Laid.{IsLaid, AreLaid, IsIn}
 use Rattle.def_image.specs.Sound.{IsAway, DeviceFits}
-use Rattle.law_image.proofs.Tells.{le_is, lt_so, eq_is, not_true, not_false, any_not, among_taken}
+use Rattle.law_image.proofs.Tells.{any_not, among_taken}
 use Rattle.law_image.proofs.Passing.{left_none, right_none, head_none, passes}
 
 -- ---- ranges that don't meet
 
 meet : (a m b n : ℕ) → 0 < m → 0 < n → a < b + n → b < a + m → meets a m b n ≡ true
-meet a m b n some any low high = rw (lt_so 0 m some, lt_so 0 n any, lt_so a (b + n) low, lt_so b (a + m) high) refl
+meet a m b n some any low high = rw (lt-ltb 0 m some, lt-ltb 0 n any, lt-ltb a (b + n) low, lt-ltb b (a + m) high) refl
 
 pub away : (a m b n : ℕ) → 0 < m → 0 < n → meets a m b n ≡ false → IsAway a m b (b + n)
 away a m b n some any e = elim (le_tells (b + n) a) [
@@ -53,13 +54,13 @@ stands p earlier r e heap =
     let f1 = both_left c1 (is_even r.base) f2 in
     record {
       laid = record {
-        low = le_is p.ram r.base (both_left low high f1);
+        low = leb-true p.ram r.base (both_left low high f1);
         high = heap;
-        even = eq_is (r.base % 16) 0 (both_right c1 (is_even r.base) f2);
-        whole = eq_is (r.length % 16) 0 (both_right c2 (is_even r.length) f3);
+        even = eqb-true (r.base % 16) 0 (both_right c1 (is_even r.base) f2);
+        whole = eqb-true (r.length % 16) 0 (both_right c2 (is_even r.length) f3);
         exact = both_right c3 exact f4;
       };
-      apart = λ i q is. any_not (meets_region r) earlier i q (not_true (list_any (meets_region r) earlier) (both_right c4 alone e)) is;
+      apart = λ i q is. any_not (meets_region r) earlier i q (not-true (list_any (meets_region r) earlier) (both_right c4 alone e)) is;
     }
 
 -- what doesn't meet has no address in common
@@ -75,7 +76,7 @@ no_address r q x apart a b = absurd (let no : true ≡ false = sym all ∙ apart
         let a1 = a.1 in
         let b0 = b.0 in
         let b1 = b.1 in
-        rw (lt_so 0 r.length (some r.base r.length a0 a1), lt_so 0 q.length (some q.base q.length b0 b1), lt_so r.base (q.base + q.length) (omega (arith, a0, b1)), lt_so q.base (r.base + r.length) (omega (arith, b0, a1))) refl
+        rw (lt-ltb 0 r.length (some r.base r.length a0 a1), lt-ltb 0 q.length (some q.base q.length b0 b1), lt-ltb r.base (q.base + q.length) (omega (arith, a0, b1)), lt-ltb q.base (r.base + r.length) (omega (arith, b0, a1))) refl
 
 -- ---- all of them
 
@@ -100,30 +101,30 @@ checked p e =
     let c = head_none (check 48 (not (is_heap_laid p))) (devices_walk p ++ regions_walk p) b.1 in
     record {
       ram = a.0;
-      trusted = not_false (is_laid p [] (trusted_region p)) b.0;
-      heap = not_false (is_heap_laid p) c.0;
+      trusted = not-false (is_laid p [] (trusted_region p)) b.0;
+      heap = not-false (is_heap_laid p) c.0;
       devices = left_none (devices_walk p) (regions_walk p) c.1;
       regions = right_none (devices_walk p) (regions_walk p) c.1;
     }
 
 module _ (p : PartsRow) (h : Checked p) where
   pub trusted_below : trusted_end p ≤ p.heap
-  trusted_below = le_is (trusted_end p) p.heap (both_right (is_even p.heap && nat_le p.heap (p.ram + p.size)) (nat_le (trusted_end p) p.heap) h.heap)
+  trusted_below = leb-true (trusted_end p) p.heap (both_right (is_even p.heap && nat_le p.heap (p.ram + p.size)) (nat_le (trusted_end p) p.heap) h.heap)
 
   pub heap_even : p.heap % 16 ≡ 0
-  heap_even = eq_is (p.heap % 16) 0 (both_left (is_even p.heap) (nat_le p.heap (p.ram + p.size)) (both_left (is_even p.heap && nat_le p.heap (p.ram + p.size)) (nat_le (trusted_end p) p.heap) h.heap))
+  heap_even = eqb-true (p.heap % 16) 0 (both_left (is_even p.heap) (nat_le p.heap (p.ram + p.size)) (both_left (is_even p.heap && nat_le p.heap (p.ram + p.size)) (nat_le (trusted_end p) p.heap) h.heap))
 
   pub heap_inside : p.heap ≤ p.ram + p.size
-  heap_inside = le_is p.heap (p.ram + p.size) (both_right (is_even p.heap) (nat_le p.heap (p.ram + p.size)) (both_left (is_even p.heap && nat_le p.heap (p.ram + p.size)) (nat_le (trusted_end p) p.heap) h.heap))
+  heap_inside = leb-true p.heap (p.ram + p.size) (both_right (is_even p.heap) (nat_le p.heap (p.ram + p.size)) (both_left (is_even p.heap && nat_le p.heap (p.ram + p.size)) (nat_le (trusted_end p) p.heap) h.heap))
 
   later_stand : (i : ℕ) (r : RegionRow) → slice_get (later_regions p) i ≡ Some r → Stands p (trusted_region p ∷ take i (later_regions p)) r
   later_stand i r is =
       let asked = passes (region_asked p) (λ r. 0) 0 (later_regions p) h.regions i r is in
       let one = (head_none (check r.place (not (is_laid_below p (take i (later_regions p)) r))) [] asked.1).0 in
-      let both = not_false (is_laid_below p (take i (later_regions p)) r) one in
+      let both = not-false (is_laid_below p (take i (later_regions p)) r) one in
       let laid = is_laid p (trusted_region p ∷ take i (later_regions p)) r in
       let below = nat_le (r.base + r.length) p.heap in
-      stands p (trusted_region p ∷ take i (later_regions p)) r (both_left laid below both) (le_is (r.base + r.length) p.heap (both_right laid below both))
+      stands p (trusted_region p ∷ take i (later_regions p)) r (both_left laid below both) (leb-true (r.base + r.length) p.heap (both_right laid below both))
 
   region_stands : (i : ℕ) (r : RegionRow) → slice_get (trusted_region p ∷ later_regions p) i ≡ Some r → Stands p (take i (trusted_region p ∷ later_regions p)) r
   region_stands zero r is =
@@ -159,7 +160,7 @@ module _ (p : PartsRow) (h : Checked p) where
   alone i d is =
       let asked = passes (device_asked p) (λ d. DEVICE) (header_size p.version) p.devices h.devices i d is in
       let one = (head_none (check (asked.0 + 36) (not (is_device_laid p (take i p.devices) d))) [] asked.1).0 in
-      let all = not_false (is_device_laid p (take i p.devices) d) one in
+      let all = not-false (is_device_laid p (take i p.devices) d) one in
       let c1 = is_even d.base in
       let c2 = not (meets d.base 16 p.ram p.size) in
       let c3 = not (meets_native d.base 16) in
@@ -167,10 +168,10 @@ module _ (p : PartsRow) (h : Checked p) where
       let f3 = both_left (c1 && c2 && c3) c4 all in
       let f2 = both_left (c1 && c2) c3 f3 in
       record {
-        even = eq_is (d.base % 16) 0 (both_left c1 c2 f2);
-        ram = not_true (meets d.base 16 p.ram p.size) (both_right c1 c2 f2);
-        native = not_true (meets_native d.base 16) (both_right (c1 && c2) c3 f3);
-        others = not_true (list_any (meets_device d.base) (take i p.devices)) (both_right (c1 && c2 && c3) c4 all);
+        even = eqb-true (d.base % 16) 0 (both_left c1 c2 f2);
+        ram = not-true (meets d.base 16 p.ram p.size) (both_right c1 c2 f2);
+        native = not-true (meets_native d.base 16) (both_right (c1 && c2) c3 f3);
+        others = not-true (list_any (meets_device d.base) (take i p.devices)) (both_right (c1 && c2 && c3) c4 all);
       }
 
   pub device_fits : 0 < p.size → (i : ℕ) (d : DeviceRow) → d.base < 4294967296 → slice_get p.devices i ≡ Some d → DeviceFits p d
@@ -185,7 +186,7 @@ module _ (p : PartsRow) (h : Checked p) where
       }
 
   same_meets : (b : ℕ) → meets b 16 b 16 ≡ true
-  same_meets b = rw (lt_so b (b + 16) (omega arith)) refl
+  same_meets b = rw (lt-ltb b (b + 16) (omega arith)) refl
 
   pub devices_apart : (i j : ℕ) (d e : DeviceRow) → slice_get p.devices i ≡ Some d → slice_get p.devices j ≡ Some e → d.base ≡ e.base → i ≡ j
   devices_apart i j d e at_i at_j same = elim (lt_tells i j) [

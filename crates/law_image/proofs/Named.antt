@@ -3,6 +3,7 @@ use Rattle.std.proofs.Common.{ℕ, zero, suc, ◌≡◌, ◌+◌, ◌==◌, ◌&
 use Rattle.std.specs.List.{list_any}
 use Rattle.std.specs.Prelude.{option_map}
 use Rattle.std.proofs.lemmas.Option.{slice_get-map}
+use Rattle.std.proofs.lemmas.Bool.{ltb-true, ltb-false, eqb-true, not-false}
 use Rattle.law_lists.proofs.Tests.{eq_tells, both_left, both_right}
 use Rattle.def_image.specs.declared.ImportRow.{ImportRow}
 use Rattle.def_image.specs.declared.SlotKind.{SlotKind}
@@ -17,7 +18,7 @@ use Rattle.def_image.specs.Limits.{misnumbered}
 use Rattle.def_image.specs.Indexes.{index_checks, compartment_asked, library_asked, thread_asked, own_slot_asked, slot_asked, part_size, code_size, is_own_astray, is_astray, is_named, is_reserved, is_switch, is_service, comes_before, enters, exports_of, code_in}
 use Rattle.def_image.specs.Rights.{right_checks, compartment_rights, library_rights, right_asked, library_right_asked, fits_kind, rights_of, is_library}
 use Rattle.def_image.specs.Sound.{Names, IsInPlace, OwnSlotFits, LibrarySlotFits}
-use Rattle.law_image.proofs.Tells.{lt_is, lt_not, eq_is, not_false, or_left, or_right, within_is}
+use Rattle.law_image.proofs.Tells.{or_left, or_right, within_is}
 use Rattle.law_image.proofs.Passing.{left_none, right_none, head_none, passes}
 use Rattle.law_image.proofs.Members.{some_in}
 
@@ -51,7 +52,7 @@ righted p e =
 -- ---- what is there
 
 pub export_there : (c : CodeRow) (j : ℕ) → nat_lt j (length c.exports) ≡ true → (x : GateRow) × (slice_get c.exports j ≡ Some x)
-export_there c j e = some_in c.exports j (lt_is j (length c.exports) e)
+export_there c j e = some_in c.exports j (ltb-true j (length c.exports) e)
 
 pub record Called (cs : List CompartmentRow) (b j : ℕ) : Type 0 where
   pub compartment : CompartmentRow
@@ -63,7 +64,7 @@ pub called : (cs : List CompartmentRow) (b j : ℕ) → nat_lt j (exports_of (co
 called cs b j e = by (slice_get cs b) refl (subst (λ o. nat_lt j (exports_of o) ≡ true) (slice_get-map (λ (c : CompartmentRow). c.code) cs b) e)
   where
     by : (o : Option CompartmentRow) → slice_get cs b ≡ o → nat_lt j (exports_of (option_map (λ (c : CompartmentRow). c.code) o)) ≡ true → Called cs b j
-    by None is h = absurd (let lt = lt_is j 0 h in omega (arith, lt))
+    by None is h = absurd (let lt = ltb-true j 0 h in omega (arith, lt))
     by (Some c) is h = let x = export_there c.code j h in record { compartment = c; gate = x.0; at = is; in_it = x.1 }
 
 pub record Linked (ls : List CodeRow) (l j : ℕ) : Type 0 where
@@ -76,24 +77,24 @@ pub linked : (ls : List CodeRow) (l j : ℕ) → nat_lt j (exports_of (slice_get
 linked ls l j e = by (slice_get ls l) refl e
   where
     by : (o : Option CodeRow) → slice_get ls l ≡ o → nat_lt j (exports_of o) ≡ true → Linked ls l j
-    by None is h = absurd (let lt = lt_is j 0 h in omega (arith, lt))
+    by None is h = absurd (let lt = ltb-true j 0 h in omega (arith, lt))
     by (Some c) is h = let x = export_there c j h in record { library = c; gate = x.0; at = is; in_it = x.1 }
 
 -- ---- slots
 
 pub names_of : (p : PartsRow) (r : ImportRow) (k : SlotKind) → is_named p r k ≡ true → misnumbered (kind_byte k) r.first ≡ false → Names p r k
-names_of p r Service e m = let le = lt_not last_service r.first m in omega (arith, le)
-names_of p r Device e m = some_in p.devices r.first (lt_is r.first (length p.devices) e)
-names_of p r Shared e m = some_in p.shared r.first (lt_is r.first (length p.shared) e)
-names_of p r Sealed e m = some_in p.sealed r.first (lt_is r.first (length p.sealed) e)
+names_of p r Service e m = let le = ltb-false last_service r.first m in omega (arith, le)
+names_of p r Device e m = some_in p.devices r.first (ltb-true r.first (length p.devices) e)
+names_of p r Shared e m = some_in p.shared r.first (ltb-true r.first (length p.shared) e)
+names_of p r Sealed e m = some_in p.sealed r.first (ltb-true r.first (length p.sealed) e)
 names_of p r Call e m = let h = called p.compartments r.first r.second e in (h.compartment, h.gate, h.at, h.in_it)
 names_of p r Library e m = let h = linked p.libraries r.first r.second e in (h.library, h.gate, h.at, h.in_it)
-names_of p r Quota e m = lt_not 2147483647 r.first m
+names_of p r Quota e m = ltb-false 2147483647 r.first m
 names_of p r Key e m = within_is 13 15 r.first m
 
 -- the switch names what is there
 switch_names : (p : PartsRow) (r : ImportRow) (k : SlotKind) → (is_service k && (r.first == 0)) ≡ true → Names p r k
-switch_names p r Service e = let zero_is = eq_is r.first 0 (both_right true (nat_eq r.first 0) e) in omega (arith, zero_is)
+switch_names p r Service e = let zero_is = eqb-true r.first 0 (both_right true (nat_eq r.first 0) e) in omega (arith, zero_is)
 switch_names p r Device e = absurd (let clash : false ≡ true = e in cc)
 switch_names p r Shared e = absurd (let clash : false ≡ true = e in cc)
 switch_names p r Sealed e = absurd (let clash : false ≡ true = e in cc)
@@ -111,7 +112,7 @@ not_astray p earlier r e =
     let a = not (is_named p r r.kind) in
     let b = is_reserved r in
     let ab = or_left (a || b) (list_any (comes_before r) earlier) e in
-    record { named = not_false (is_named p r r.kind) (or_left a b ab); free = or_right a b ab }
+    record { named = not-false (is_named p r r.kind) (or_left a b ab); free = or_right a b ab }
 
 -- the test of slot j of a compartment
 own_test : (p : PartsRow) → Indexed p → (b : ℕ) (c : CompartmentRow) → slice_get p.compartments b ≡ Some c → (j : ℕ) (s : SlotRow) → slice_get c.code.slots j ≡ Some s
@@ -124,7 +125,7 @@ own_test p h b c is j s at =
 pub own_fits : (p : PartsRow) (slots : List SlotRow) (j : ℕ) (s : SlotRow) → slice_get slots j ≡ Some s → is_own_astray p (take j slots) s.row ≡ false → misnumbered (kind_byte s.row.kind) s.row.first ≡ false
     → Names p s.row s.row.kind × IsInPlace j s.row
 own_fits p [] j s at e m = cc
-own_fits p (y ∷ ys) zero s at e m = let sw = not_false (is_switch s.row) e in (switch_names p s.row s.row.kind sw, sw)
+own_fits p (y ∷ ys) zero s at e m = let sw = not-false (is_switch s.row) e in (switch_names p s.row s.row.kind sw, sw)
 own_fits p (y ∷ ys) (suc j) s at e m =
     let more : nat_eq (length (y ∷ take j ys)) 0 ≡ false = some_more (length (take j ys)) in
     let h = not_astray p (y ∷ take j ys) s.row (subst (λ b. cond b (not (is_switch s.row)) (is_astray p (y ∷ take j ys) s.row) ≡ false) more e) in
@@ -140,7 +141,7 @@ own_slot_fits p h r b c is j s at m =
     let a = passes compartment_rights part_size (compartments_at (raw_of p)) p.compartments r.compartments b c is in
     let one = passes right_asked (λ s. ENTRY) (a.0 + 68) c.code.slots a.1 j s at in
     record {
-      fits = record { names = both.0; rights = not_false (fits_kind s.row.kind (rights_of s.row)) (head_none (check one.0 (not (fits_kind s.row.kind (rights_of s.row)))) [] one.1).0 };
+      fits = record { names = both.0; rights = not-false (fits_kind s.row.kind (rights_of s.row)) (head_none (check one.0 (not (fits_kind s.row.kind (rights_of s.row)))) [] one.1).0 };
       place = both.1;
     }
 
@@ -164,7 +165,7 @@ library_slot_fits p h r l c is j s at m =
     let two = passes library_right_asked (λ s. ENTRY) (b.0 + 52) c.slots b.1 j s at in
     let fits = fits_kind s.row.kind (rights_of s.row) in
     let own = is_library s.row.kind in
-    let both = not_false (fits && own) (head_none (check two.0 (not (fits && own))) [] two.1).0 in
+    let both = not-false (fits && own) (head_none (check two.0 (not (fits && own))) [] two.1).0 in
     record {
       fits = record { names = names_of p s.row s.row.kind (not_astray p (take j c.slots) s.row test).named m; rights = both_left fits own both };
       kind = library_is s.row.kind (both_right fits own both);
@@ -175,4 +176,4 @@ library_slot_fits p h r l c is j s at m =
 pub thread_enters : (p : PartsRow) → Indexed p → (i : ℕ) (t : ThreadRow) → slice_get p.threads i ≡ Some t → Called p.compartments t.compartment t.export
 thread_enters p h i t is =
     let a = passes (thread_asked p) (λ t. THREAD) (threads_at (raw_of p)) p.threads h.threads i t is in
-    called p.compartments t.compartment t.export (not_false (enters p t) (head_none (check (a.0 + 40) (not (enters p t))) [] a.1).0)
+    called p.compartments t.compartment t.export (not-false (enters p t) (head_none (check (a.0 + 40) (not (enters p t))) [] a.1).0)

@@ -1,6 +1,7 @@
 -- A walk on which nothing fails: each member passes, with those before it known.
 use Rattle.std.proofs.Common.{ℕ, zero, suc, ◌≡◌, ◌+◌, Bool, true, false, cond, List, [], ◌∷◌, ◌++◌, take, Some, None, slice_get, refl, sym, ap, subst, append_assoc}
 use Rattle.std.specs.List.{AllByRecursion}
+use Rattle.std.proofs.lemmas.List.{append-nil}
 use Rattle.def_image.specs.declared.Check.{Check}
 use Rattle.def_image.specs.Checks.{first, walked}
 
@@ -37,12 +38,8 @@ passes_from asked size at earlier [] e i x is = cc
 passes_from asked size at earlier (y ∷ ys) e zero x is =
     let same : y ≡ x = cc in
     let here : first (asked at earlier y) ≡ None = left_none (asked at earlier y) (walked asked size (at + size y) (earlier ++ y ∷ []) ys) e in
-    let none : earlier ≡ earlier ++ [] = sym (append_nil earlier) in
+    let none : earlier ≡ earlier ++ [] = sym (append-nil earlier) in
     (at, subst (λ z. first (asked at (earlier ++ []) z) ≡ None) same (subst (λ l. first (asked at l y) ≡ None) none here))
-  where
-    append_nil : {A : Type 0} (l : List A) → l ++ [] ≡ l
-    append_nil [] = refl
-    append_nil (z ∷ zs) = ap (λ l. z ∷ l) (append_nil zs)
 passes_from asked size at earlier (y ∷ ys) e (suc i) x is =
     let later = passes_from asked size (at + size y) (earlier ++ y ∷ []) ys (right_none (asked at earlier y) (walked asked size (at + size y) (earlier ++ y ∷ []) ys) e) i x is in
     (later.0, subst (λ l. first (asked later.0 l x) ≡ None) (append_assoc earlier (y ∷ []) (take i ys)) later.1)
@@ -56,3 +53,12 @@ passes asked size at xs e i x is = passes_from asked size at [] xs e i x is
 pub all_pass : (cs : List Check) → first cs ≡ None → AllByRecursion (λ (c : Check). c.fails ≡ false) cs
 all_pass [] e = tt
 all_pass (c ∷ cs) e = let h = head_none c cs e in (h.0, all_pass cs h.1)
+
+-- what holds of each member on which nothing fails
+pub every : {A : Type 0} (asked : ℕ → List A → A → List Check) (size : A → ℕ) (P : A → Type 0) → ((at : ℕ) (earlier : List A) (x : A) → first (asked at earlier x) ≡ None → P x)
+    → (at : ℕ) (earlier xs : List A) → first (walked asked size at earlier xs) ≡ None → AllByRecursion P xs
+unfolding walked
+every asked size P one at earlier [] e = tt
+every asked size P one at earlier (x ∷ xs) e =
+    let later = walked asked size (at + size x) (earlier ++ x ∷ []) xs in
+    (one at earlier x (left_none (asked at earlier x) later e), every asked size P one (at + size x) (earlier ++ x ∷ []) xs (right_none (asked at earlier x) later e))

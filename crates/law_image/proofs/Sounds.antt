@@ -1,6 +1,7 @@
 -- An image on which no check fails is sound.
 use Rattle.std.proofs.Common.{ℕ, ◌≡◌, ◌+◌, ◌<◌, ◌≤◌, Option, Some, slice_get, length, nat_le, sym, ap, subst, arith}
 use Rattle.std.specs.Prelude.{unwrap_or}
+use Rattle.std.proofs.lemmas.Bool.{leb-true}
 use Rattle.ct_entry.specs.Listed.{DeviceRow}
 use Rattle.def_words.specs.LeastBounds.{exponent_for}
 use Rattle.law_words.proofs.Leasts.{ceil_above}
@@ -13,7 +14,6 @@ use Rattle.def_image.specs.Members.{code_number, library_number, gate_number, li
 use Rattle.def_image.specs.Profile.{last_version}
 use Rattle.def_image.specs.Accepted.{IsFaultless}
 use Rattle.def_image.specs.Sound.{IsWithin, Sound, RamFits, HeapFits, CompartmentFits, LibraryFits, ThreadFits}
-use Rattle.law_image.proofs.Tells.{le_is}
 use Rattle.law_lists.proofs.Tests.{both_left, both_right}
 use Rattle.law_image.proofs.Members.{all_at, all_back}
 use Rattle.law_image.proofs.Laying.{Checked, checked, are_laid, heap_even, heap_inside, trusted_below, trusted_low, device_fits, devices_apart, away}
@@ -29,10 +29,10 @@ some_trusted size =
     let up = ceil_above (whole_size size) (exponent_for 0 (whole_size size)) in
     omega (arith, unit, up)
 
-compartment_is : (p : PartsRow) (b : ℕ) (c : CompartmentRow) → slice_get p.compartments b ≡ Some c → compartment p b ≡ c
+pub compartment_is : (p : PartsRow) (b : ℕ) (c : CompartmentRow) → slice_get p.compartments b ≡ Some c → compartment p b ≡ c
 compartment_is p b c is = ap (λ (o : Option CompartmentRow). unwrap_or o no_compartment) is
 
-library_is : (p : PartsRow) (l : ℕ) (c : CodeRow) → slice_get p.libraries l ≡ Some c → library p l ≡ c
+pub library_is : (p : PartsRow) (l : ℕ) (c : CodeRow) → slice_get p.libraries l ≡ Some c → library p l ≡ c
 library_is p l c is = ap (λ (o : Option CodeRow). unwrap_or o no_code) is
 
 module _ (p : PartsRow) (f : IsFaultless p) where
@@ -111,8 +111,8 @@ module _ (p : PartsRow) (f : IsFaultless p) where
 
   version_within : IsWithin 1 2 p.version
   version_within =
-      let low = le_is 1 p.version (both_left (nat_le 1 p.version) (nat_le p.version last_version) f.version) in
-      let high = le_is p.version last_version (both_right (nat_le 1 p.version) (nat_le p.version last_version) f.version) in
+      let low = leb-true 1 p.version (both_left (nat_le 1 p.version) (nat_le p.version last_version) f.version) in
+      let high = leb-true p.version last_version (both_right (nat_le 1 p.version) (nat_le p.version last_version) f.version) in
       (low, omega (arith, high))
 
   pub sound : Sound p

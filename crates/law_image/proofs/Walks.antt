@@ -15,6 +15,10 @@ unfolding first
 first_both [] ys = refl
 first_both (x ∷ xs) ys = ap (λ z. cond x.fails (Some x.place) z) (first_both xs ys) ∙ first_by x.fails x.place (first xs) (first ys)
 
+pub or_later : (a b c : Option ℕ) → or_else (or_else a b) c ≡ or_else a (or_else b c)
+or_later None b c = refl
+or_later (Some n) b c = refl
+
 pub first_here : (xs ys : List Check) (a : ℕ) → first xs ≡ Some a → first (xs ++ ys) ≡ Some a
 first_here xs ys a e = first_both xs ys ∙ ap (λ z. or_else z (first ys)) e
 

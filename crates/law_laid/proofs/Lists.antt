@@ -1,14 +1,13 @@
 -- The regions of an image's list, by what each is of: both ways.
 use Rattle.std.proofs.Common.{ℕ, zero, suc, ◌≡◌, ◌+◌, List, [], ◌∷◌, ◌++◌, length, Some, slice_get, refl, ap, ◌∙◌, subst, arith}
-use Rattle.std.proofs.lemmas.Option.{slice_get_within}
 use Rattle.ct_entry.specs.declared.rows.Owner.TheVariants.{Compartment}
 use Rattle.def_image.specs.declared.format.TheConstants.{SHARED, THREAD}
 use Rattle.def_image.specs.Parts.{SharedRow, SealedRow, CodeRow, CompartmentRow, ThreadRow, PartsRow}
-use Rattle.def_image.specs.Sizes.{shared_at, sealed_at, sealed_size, compartments_at, compartment_size, libraries_at, library_size, threads_at}
+use Rattle.def_image.specs.Sizes.{shared_at, sealed_at, sealed_size, compartments_at, compartment_size, library_size, threads_at}
 use Rattle.def_image.specs.Spelling.{raw_of, raw_sealed, raw_compartment, raw_code}
 use Rattle.def_image.specs.Regions.{Holder, CodeOf, TableOf, GlobalsOf, SharedOf, SealedOf, StackOf, RegionRow, region, shared_regions, sealed_regions, compartment_regions, library_regions, stack_regions, trusted_region, later_regions, regions_of, table_length}
 use Rattle.def_image.specs.Laid.{IsRegion}
-use Rattle.law_listed.proofs.Blocks.{before, further}
+use Rattle.law_listed.proofs.Regions.{shared_part, sealed_part, own_part, library_part, stack_part, objects, with_own, with_libraries, Among, left, right, next}
 use Rattle.law_laid.specs.Held.{IsOf, Spans}
 
 -- ---- each region of a list
@@ -75,30 +74,6 @@ stack_are p at n (x ∷ xs) rest = all_cons p _ (stack_regions (at + THREAD) (n 
 
 -- ---- of an image
 
-abbrev shared_part : PartsRow → List RegionRow
-shared_part p = shared_regions (shared_at (raw_of p)) 0 p.shared
-
-abbrev sealed_part : PartsRow → List RegionRow
-sealed_part p = sealed_regions (sealed_at (raw_of p)) 0 p.sealed
-
-abbrev own_part : PartsRow → List RegionRow
-own_part p = compartment_regions (compartments_at (raw_of p)) 0 p.compartments
-
-abbrev library_part : PartsRow → List RegionRow
-library_part p = library_regions (libraries_at (raw_of p)) 0 p.libraries
-
-abbrev stack_part : PartsRow → List RegionRow
-stack_part p = stack_regions (threads_at (raw_of p)) 0 p.threads
-
-abbrev objects : PartsRow → List RegionRow
-objects p = shared_part p ++ sealed_part p
-
-abbrev with_own : PartsRow → List RegionRow
-with_own p = objects p ++ own_part p
-
-abbrev with_libraries : PartsRow → List RegionRow
-with_libraries p = with_own p ++ library_part p
-
 pub held : (p : PartsRow) (i : ℕ) (r : RegionRow) → IsRegion p i r → IsOf p r r.holder
 unfolding regions_of
 held p =
@@ -112,21 +87,6 @@ held p =
     (stack_are p _ 0 p.threads (rest_all p.threads)))
 
 -- ---- the region of each member
-
--- a region of this holder, base and length is among these
-pub record Among (rs : List RegionRow) (h : Holder) (base size : ℕ) : Type 0 where
-  pub index : ℕ
-  pub place : ℕ
-  pub is : slice_get rs index ≡ Some (region h place base size)
-
-left : (xs ys : List RegionRow) (h : Holder) (base size : ℕ) → Among xs h base size → Among (xs ++ ys) h base size
-left xs ys h base size a = record { index = a.index; place = a.place; is = before xs ys a.index (slice_get_within xs a.index (region h a.place base size) a.is) ∙ a.is }
-
-right : (xs ys : List RegionRow) (h : Holder) (base size : ℕ) → Among ys h base size → Among (xs ++ ys) h base size
-right xs ys h base size a = record { index = length xs + a.index; place = a.place; is = further xs ys a.index ∙ a.is }
-
-next : (x : RegionRow) (xs : List RegionRow) (h : Holder) (base size : ℕ) → Among xs h base size → Among (x ∷ xs) h base size
-next x xs h base size a = record { index = suc a.index; place = a.place; is = a.is }
 
 globals_in : (at n : ℕ) (cs : List CompartmentRow) (k : ℕ) (c : CompartmentRow) → slice_get cs k ≡ Some c → Among (compartment_regions at n cs) (GlobalsOf (n + k)) c.globals c.globals_length
 globals_in at n [] k c is = cc

@@ -16,7 +16,7 @@ use Rattle.def_boot.specs.Boot.{image_of}
 use Rattle.law_listed.proofs.Blocks.{present}
 use Rattle.law_listed.proofs.Standing.{stack_of}
 use Rattle.law_grants.proofs.Sets.{no_way}
-use Rattle.law_grants.proofs.Own.{stack_entry_is, no_stack_entry}
+use Rattle.law_grants.proofs.Own.{stack_entry_is, few}
 use Rattle.law_laid.specs.Held.{IsOf}
 use Rattle.law_laid.proofs.Lists.{held, stack_there}
 use Rattle.law_laid.proofs.Found.{none_there, back}
@@ -79,20 +79,10 @@ module _ (p : PartsRow) (s : Sound p) where
     | inr past ↦ no_way (ap is_stack_part (sym (past_ram p k past.1) ∙ is))
   ]
 
-  trusted_number : (root (image_of p) 0).origin ≡ TrustedPart
-  unfolding root_of
-  trusted_number = refl
-
-  few : (t : ℕ) → (root (image_of p) (stack_entry (image_of p) t)).origin ≡ Listing kind.Stack → t < length p.threads
-  few t is = elim (lt_tells t (length p.threads)) [
-    | inl lt ↦ lt.1
-    | inr past ↦ no_way (sym (ap is_stack trusted_number) ∙ ap is_stack (subst (λ n. (root (image_of p) n).origin ≡ Listing kind.Stack) (no_stack_entry p t past.1) is))
-  ]
-
   pub stack_span : (k t : ℕ) → (root (image_of p) (stack_entry (image_of p) t)).origin ≡ Listing kind.Stack → stack_base (image_of p) t ≤ address_of (image_of p) k → address_of (image_of p) k < stack_top (image_of p) t
       → image.region (image_of p) k ≡ Stack t
   stack_span k t is low high =
-      let found = present p.threads t (few t is) in
+      let found = present p.threads t (few p s t is) in
       let among = stack_there p t found.0 found.1 in
       let ends = root_there t found.0 found.1 in
       let base = ends.0 in

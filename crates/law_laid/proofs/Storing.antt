@@ -10,7 +10,7 @@ use Rattle.ct_entry.specs.declared.rows.Gate.{Gate}
 use Rattle.def_profile.specs.declared.rights.TheConstants.{CODE_RIGHTS, SERVICE_RIGHTS, SEALED_RIGHTS, EXPORT_RIGHTS, QUOTA_RIGHTS, KEY_RIGHTS}
 use Rattle.def_words.specs.Permissions.{bit, store_data, memory_capability}
 use Rattle.def_reach.specs.Roots.{Root, root_of, no_gate}
-use Rattle.def_machine.specs.Image.{Region, Globals, Shared, Stack, Bare, root, granule_of, stack_entry}
+use Rattle.def_machine.specs.Image.{Region, Globals, Shared, Stack, root, granule_of, stack_entry}
 use Rattle.def_machine.specs.Image as image
 use Rattle.def_confined.specs.Partitioned.{Open, Carries}
 use Rattle.def_image.specs.declared.ImportRow.{ImportRow}
@@ -27,10 +27,11 @@ use Rattle.def_boot.specs.Gates.{entries_of}
 use Rattle.def_boot.specs.Boot.{image_of}
 use Rattle.law_listed.specs.Rows.{HasRow, EntryIs, is_nothing, is_trusted, is_code, is_globals, is_slot, is_export, is_library, is_library_slot, is_library_export, is_stack}
 use Rattle.law_listed.proofs.Listing.{entry_of}
+use Rattle.law_listed.proofs.Regions.{Among}
 use Rattle.law_grants.proofs.Sets.{clash_of, no_way}
 use Rattle.law_grants.proofs.Making.{device_base_is}
 use Rattle.law_grants.proofs.Own.{stack_entry_is}
-use Rattle.law_laid.proofs.Lists.{Among, shared_there, sealed_there, globals_there, stack_there}
+use Rattle.law_laid.proofs.Lists.{shared_there, sealed_there, globals_there, stack_there}
 use Rattle.law_laid.proofs.Granules.{of_address, past_address}
 
 -- ---- rights
@@ -85,7 +86,7 @@ device_carries a is =
 
 -- ---- what an entry stores to
 
-abbrev Part : PartsRow → ℕ → Region
+abbrev pub Part : PartsRow → ℕ → Region
 Part p x = image.region (image_of p) (granule_of (image_of p) x)
 
 pub record Stores (p : PartsRow) (n : ℕ) (z : Root) : Type 0 where

@@ -33,16 +33,13 @@ Granted s = fits_kind s.row.kind (rights_of s.row) ≡ true
 
 -- ---- imports
 
-same_text : (a b : List ℕ) → bytes_eq a b ≡ true → a ≡ b
-same_text a b e = (bytes_eq-Decides a b).0 e
-
 -- one of the texts of a list
 pub one_of : (P : List ℕ → Type 0) (text : List ℕ) (texts : List (List ℕ)) → AllByRecursion P texts → among text texts ≡ true → P text
 one_of P text [] h e = absurd (let no : false ≡ true = e in cc)
 one_of P text (t ∷ ts) h e = by (bytes_eq text t) refl e (λ k. one_of P text ts h.1 k)
   where
     by : (b : Bool) → bytes_eq text t ≡ b → (b || among text ts) ≡ true → (among text ts ≡ true → P text) → P text
-    by true is k rest = subst P (sym (same_text text t is)) h.0
+    by true is k rest = subst P (sym ((bytes_eq-Decides text t).0 is)) h.0
     by false is k rest = rest k
 
 device_fits : (d : DescRow) (x : ImportRow) (name : List ℕ) → among (unwrap_or x.rights []) device_rights ≡ true

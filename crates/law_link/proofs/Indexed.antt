@@ -1,9 +1,9 @@
 -- What slots and threads name is there, and slots stand in their order.
-use Rattle.std.proofs.Common.{ℕ, zero, suc, ◌≡◌, ◌+◌, ◌*◌, ◌<◌, ◌≤◌, ◌||◌, not, true, false, cond, nat_lt, nat_eq, List, [], ◌∷◌, ◌++◌, length, map, drop, Option, Some, None, slice_get, refl, sym, ap, ap₂, ◌∙◌, subst, arith, inl, inr}
+use Rattle.std.proofs.Common.{ℕ, zero, suc, ◌≡◌, ◌+◌, ◌*◌, ◌<◌, ◌≤◌, ◌||◌, not, true, false, cond, nat_lt, nat_eq, List, [], ◌∷◌, ◌++◌, length, map, drop, Option, Some, None, slice_get, refl, sym, ap, ap₂, ◌∙◌, subst, arith}
 use Rattle.std.specs.Prelude.{codes, unwrap_or}
 use Rattle.std.specs.List.{AllByRecursion, list_any}
 use Rattle.std.proofs.lemmas.List.{length-map}
-use Rattle.law_lists.proofs.Tests.{lt_tells, eq_tells}
+use Rattle.std.proofs.lemmas.Bool.{lt-ltb, le-ltb, ne_eqb}
 use Rattle.def_layout.specs.declared.Region.{Region}
 use Rattle.def_layout.specs.Placement.{placed, last_end}
 use Rattle.def_image.specs.declared.ImportRow.{ImportRow as SlotImport}
@@ -29,15 +29,6 @@ use Rattle.law_link.proofs.Linkeds.{Parts, parts, GoodCompartment, GoodLibrary, 
 use Rattle.law_link.proofs.Found.{exporter_of, library_exporter_of, index_less, call_found, lent_found}
 
 -- ---- tests
-
-lt_so : (a b : ℕ) → a < b → nat_lt a b ≡ true
-lt_so a b lt = elim (lt_tells a b) [ inl h ↦ h.0 | inr h ↦ absurd (let le = h.1 in omega (arith, le, lt)) ]
-
-lt_not : (a b : ℕ) → b ≤ a → nat_lt a b ≡ false
-lt_not a b le = elim (lt_tells a b) [ inl h ↦ absurd (let lt = h.1 in omega (arith, le, lt)) | inr h ↦ h.0 ]
-
-eq_not : (a b : ℕ) → (a ≡ b → ⊥) → nat_eq a b ≡ false
-eq_not a b unlike = elim (eq_tells a b) [ inl h ↦ absurd (unlike h.1) | inr h ↦ h.0 ]
 
 -- ---- lengths of the parts
 
@@ -85,7 +76,7 @@ pub record Targets (d : DescRow) (p : PartsRow) : Type 0 where
   pub lent : (text : List ℕ) → IsLent d text → nat_lt (lent d text).export (exports_of (slice_get p.libraries (lent d text).owner)) ≡ true
 
 below : (e n : ℕ) (k : ℕ) → e < n → k ≡ n → nat_lt e k ≡ true
-below e n k lt is = lt_so e k (rw is lt)
+below e n k lt is = lt-ltb e k (rw is lt)
 
 pub targets : (d : DescRow) (p : PartsRow) → Parts d p → Targets d p
 unfolding parts_of exporter_of library_exporter_of
@@ -125,21 +116,21 @@ pub record IsSlot (p : PartsRow) (n : ℕ) (s : SlotRow) : Type 0 where
 served : (text : List ℕ) (n : ℕ) → service_of text ≡ Some n → 2 ≤ n → (nat_eq (unwrap_or (service_of text) 0) 0 || nat_eq (unwrap_or (service_of text) 0) 1) ≡ false
 served text n is low =
     let value : unwrap_or (service_of text) 0 ≡ n = ap (λ o. unwrap_or o 0) is in
-    rw value (ap₂ (λ a b. a || b) (eq_not n 0 (λ e. omega (arith, e, low))) (eq_not n 1 (λ e. omega (arith, e, low))))
+    rw value (ap₂ (λ a b. a || b) (ne_eqb n 0 (λ e. omega (arith, e, low))) (ne_eqb n 1 (λ e. omega (arith, e, low))))
 
 form_slot : (d : DescRow) (p : PartsRow) → Targets d p → (x : ImportRow) (f : Form) (text : List ℕ) → Resolves d f text → IsSlot p 0 (slot x.alias (form_row d (claimed x) f text))
 form_slot d p t x form.Device text h = record {
-  named = (let lt = index_less text (device_names d) h in let count : length (device_names d) ≡ length d.devices = length-map d.devices (λ (v : DeviceRow). v.name) in let all = t.devices in lt_so (index_of text (device_names d)) (length p.devices) (omega (arith, lt, count, all)));
+  named = (let lt = index_less text (device_names d) h in let count : length (device_names d) ≡ length d.devices = length-map d.devices (λ (v : DeviceRow). v.name) in let all = t.devices in lt-ltb (index_of text (device_names d)) (length p.devices) (omega (arith, lt, count, all)));
   free = refl;
   class = refl;
 }
 form_slot d p t x form.Shared text h = record {
-  named = (let lt = index_less text (shared_names d) h in let count : length (shared_names d) ≡ length d.shared = length-map d.shared (λ (v : SharedRow). v.name) in let all = t.shared in lt_so (index_of text (shared_names d)) (length p.shared) (omega (arith, lt, count, all)));
+  named = (let lt = index_less text (shared_names d) h in let count : length (shared_names d) ≡ length d.shared = length-map d.shared (λ (v : SharedRow). v.name) in let all = t.shared in lt-ltb (index_of text (shared_names d)) (length p.shared) (omega (arith, lt, count, all)));
   free = refl;
   class = refl;
 }
 form_slot d p t x form.Sealed text h = record {
-  named = (let lt = index_less text (sealed_names d) h in let count : length (sealed_names d) ≡ length d.sealed = length-map d.sealed (λ (v : SealedRow). v.name) in let all = t.sealed in lt_so (index_of text (sealed_names d)) (length p.sealed) (omega (arith, lt, count, all)));
+  named = (let lt = index_less text (sealed_names d) h in let count : length (sealed_names d) ≡ length d.sealed = length-map d.sealed (λ (v : SealedRow). v.name) in let all = t.sealed in lt-ltb (index_of text (sealed_names d)) (length p.sealed) (omega (arith, lt, count, all)));
   free = refl;
   class = refl;
 }
@@ -171,7 +162,7 @@ unfolding AtMost
 none_later n r [] is h = refl
 none_later n r (s ∷ ss) is h =
     let le = h.0 in
-    ap₂ (λ a b. a || b) (lt_not (class_of r.kind) (class_of s.row.kind) (omega (arith, is, le))) (none_later n r ss is h.1)
+    ap₂ (λ a b. a || b) (le-ltb (class_of r.kind) (class_of s.row.kind) (omega (arith, is, le))) (none_later n r ss is h.1)
 
 not_astray : (p : PartsRow) (n : ℕ) (earlier : List SlotRow) (s : SlotRow) → AtMost n earlier → IsSlot p n s → is_astray p earlier s.row ≡ false
 not_astray p n earlier s before h = rw (h.named, h.free, none_later n s.row earlier h.class before) refl
@@ -186,7 +177,7 @@ HasMore n earlier = (nat_eq (length earlier) 0 ≡ false) × AtMost n earlier
 
 more_length : (earlier : List SlotRow) (s : SlotRow) → nat_eq (length (earlier ++ s ∷ [])) 0 ≡ false
 more_length [] s = refl
-more_length (e ∷ es) s = eq_not (suc (length (es ++ s ∷ []))) 0 (λ e. omega (arith, e))
+more_length (e ∷ es) s = ne_eqb (suc (length (es ++ s ∷ []))) 0 (λ e. omega (arith, e))
 
 own_passes : (p : PartsRow) (n at : ℕ) (earlier : List SlotRow) (s : SlotRow) → HasMore n earlier → IsSlot p n s → first (own_slot_asked p at earlier s) ≡ None
 unfolding HasMore
@@ -212,7 +203,7 @@ stretch_more p n m earlier xs le h k = (
   where
     long : (earlier xs : List SlotRow) → nat_eq (length earlier) 0 ≡ false → nat_eq (length (earlier ++ xs)) 0 ≡ false
     long [] xs e = absurd (let no : true ≡ false = e in cc)
-    long (y ∷ ys) xs e = eq_not (suc (length (ys ++ xs))) 0 (λ e. omega (arith, e))
+    long (y ∷ ys) xs e = ne_eqb (suc (length (ys ++ xs))) 0 (λ e. omega (arith, e))
 
 -- ---- compartments
 

@@ -100,3 +100,9 @@ all_so P Q (x ∷ xs) f h = (f x h.0, all_so P Q xs f h.1)
 pub all_both : {A : Type 0} (P Q : A → Type 0) (xs : List A) → AllByRecursion P xs → AllByRecursion Q xs → AllByRecursion (λ x. P x × Q x) xs
 all_both P Q [] h k = tt
 all_both P Q (x ∷ xs) h k = ((h.0, k.0), all_both P Q xs h.1 k.1)
+
+-- an element of a list is there where the list goes on
+pub still_there : {A : Type 0} (xs ys : List A) (i : ℕ) (x : A) → slice_get xs i ≡ Some x → slice_get (xs ++ ys) i ≡ Some x
+still_there [] ys i x is = absurd (let no : None ≡ Some x = is in cc)
+still_there (z ∷ zs) ys zero x is = is
+still_there (z ∷ zs) ys (suc i) x is = still_there zs ys i x is

@@ -13,6 +13,7 @@ use Rattle.def_link.specs.Slots.{compartment_gates, library_gates}
 use Rattle.def_link.specs.Linked.{BuiltCompartment, BuiltLibrary, compartments_with, libraries_with, sizes_of, compartment_slot_count, compartment_part, library_part, compartment_parts, compartment_entries, library_parts, library_entries, parts_of, linked_with, linked}
 use Rattle.law_link.specs.Links.{Links}
 use Rattle.law_link.proofs.Indexed.{numbered_length}
+use Rattle.law_link.proofs.Walks.{still_there}
 use Rattle.law_link_code.specs.Code.{source_in, CompartmentCode, LibraryCode}
 
 -- ---- lists by index
@@ -26,11 +27,6 @@ numbered_at f n (y ∷ ys) zero x is =
 numbered_at f n (y ∷ ys) (suc i) x is =
     let on : n + 1 + i ≡ n + suc i = omega arith in
     subst (λ m. slice_get (numbered f (n + 1) ys) i ≡ Some (f m x)) on (numbered_at f (n + 1) ys i x is)
-
-left_at : {A : Type 0} (xs ys : List A) (i : ℕ) (x : A) → slice_get xs i ≡ Some x → slice_get (xs ++ ys) i ≡ Some x
-left_at [] ys i x is = absurd (let no : None ≡ Some x = is in cc)
-left_at (y ∷ xs) ys zero x is = is
-left_at (y ∷ xs) ys (suc i) x is = left_at xs ys i x is
 
 right_at : {A : Type 0} (xs ys : List A) (j k : ℕ) (y : A) → k ≡ length xs + j → slice_get ys j ≡ Some y → slice_get (xs ++ ys) k ≡ Some y
 right_at [] ys j k y at is = let same : j ≡ k = omega (arith, at) in subst (λ m. slice_get ys m ≡ Some y) same is
@@ -179,7 +175,7 @@ compartment_built d sources p i row c h at there =
     let w = whole d sources p h.linked in
     let none : 0 + i ≡ i = omega arith in
     let here : slice_get (units_of d) i ≡ Some (compartment_unit i row) =
-    left_at (numbered compartment_unit 0 d.compartments) (numbered library_unit 0 d.libraries) i (compartment_unit i row)
+    still_there (numbered compartment_unit 0 d.compartments) (numbered library_unit 0 d.libraries) i (compartment_unit i row)
     (subst (λ m. slice_get (numbered compartment_unit 0 d.compartments) i ≡ Some (compartment_unit m row)) none (numbered_at compartment_unit 0 d.compartments i row at)) in
     let o = owned (units_of d) sources w.bs i (compartment_unit i row) w.built here in
     let x : BuiltCompartment = record { row = row; built = o.built } in

@@ -4,7 +4,9 @@ use Rattle.std.proofs.lemmas.List.{length-append}
 use Rattle.std.specs.Prelude.{⊤, bytes_eq}
 use Rattle.std.specs.List.{AllByRecursion, list_all}
 use Rattle.std.proofs.lemmas.Slice.Eq.{bytes_eq-Decides}
-use Rattle.law_lists.proofs.Tests.{le_tells, lt_tells, eq_tells, both_left, both_right}
+use Rattle.std.proofs.lemmas.Bool.{le-leb, leb-true, ltb-true, eqb-true}
+use Rattle.std.proofs.Math.Seq.{drop_at}
+use Rattle.law_lists.proofs.Tests.{eq_tells, both_left, both_right}
 use Rattle.def_names.specs.Names.{is_name, is_name_byte, is_lower, is_digit, among}
 use Rattle.def_image.specs.Spelling.{zeros, name_field, padding_after}
 use Rattle.def_image.specs.Shapes.{IsField}
@@ -12,33 +14,12 @@ use Rattle.def_image.specs.Profile.{outside}
 use Rattle.def_image.specs.Sound.{IsWithin}
 use Rattle.def_image.specs.Checks.{first, check}
 use Rattle.def_image.specs.Limits.{name_of, are_zeros, name_checks}
-use Rattle.law_link.proofs.Walks.{next_none, one_none}
+use Rattle.law_link.proofs.Walks.{next_none, one_none, all_joined, still_there}
 
 -- ---- tests
 
-pub le_so : (a b : ℕ) → a ≤ b → nat_le a b ≡ true
-le_so a b le = elim (le_tells a b) [ inl h ↦ h.0 | inr h ↦ absurd (let lt = h.1 in omega (arith, le, lt)) ]
-
-pub le_is : (a b : ℕ) → nat_le a b ≡ true → a ≤ b
-le_is a b e = elim (le_tells a b) [ inl h ↦ h.1 | inr h ↦ absurd (let no : true ≡ false = sym e ∙ h.0 in cc) ]
-
-pub le_not : (a b : ℕ) → b < a → nat_le a b ≡ false
-le_not a b lt = elim (le_tells a b) [ inl h ↦ absurd (let le = h.1 in omega (arith, le, lt)) | inr h ↦ h.0 ]
-
-pub lt_not : (a b : ℕ) → b ≤ a → nat_lt a b ≡ false
-lt_not a b le = elim (lt_tells a b) [ inl h ↦ absurd (let lt = h.1 in omega (arith, le, lt)) | inr h ↦ h.0 ]
-
-pub lt_is : (a b : ℕ) → nat_lt a b ≡ true → a < b
-lt_is a b e = elim (lt_tells a b) [ inl h ↦ h.1 | inr h ↦ absurd (let no : true ≡ false = sym e ∙ h.0 in cc) ]
-
-pub eq_so : (a b : ℕ) → a ≡ b → nat_eq a b ≡ true
-eq_so a b is = elim (eq_tells a b) [ inl h ↦ h.0 | inr h ↦ absurd (h.1 is) ]
-
-pub eq_is : (a b : ℕ) → nat_eq a b ≡ true → a ≡ b
-eq_is a b e = elim (eq_tells a b) [ inl h ↦ h.1 | inr h ↦ absurd (let no : true ≡ false = sym e ∙ h.0 in cc) ]
-
 pub inside : (low high n : ℕ) → IsWithin low high n → outside low high n ≡ false
-inside low high n w = rw (le_so low n w.0, le_so n high w.1) refl
+inside low high n w = rw (le-leb low n w.0, le-leb n high w.1) refl
 
 -- ---- bytes of a name
 
@@ -46,17 +27,17 @@ byte_small : (b : ℕ) → is_name_byte b ≡ true → (0 < b) × (b < 256)
 byte_small b e = by (is_lower b) (is_digit b) refl refl e
   where
     in_range : (low high : ℕ) → (nat_le low b && nat_le b high) ≡ true → (low ≤ b) × (b ≤ high)
-    in_range low high h = (le_is low b (both_left (nat_le low b) (nat_le b high) h), le_is b high (both_right (nat_le low b) (nat_le b high) h))
+    in_range low high h = (leb-true low b (both_left (nat_le low b) (nat_le b high) h), leb-true b high (both_right (nat_le low b) (nat_le b high) h))
 
     by : (x y : Bool) → is_lower b ≡ x → is_digit b ≡ y → (x || y || nat_eq b 95) ≡ true → (0 < b) × (b < 256)
     by true y lower digit h = let r = in_range 97 122 lower in let low = r.0 in let high = r.1 in (omega (arith, low), omega (arith, high))
     by false true lower digit h = let r = in_range 48 57 digit in let low = r.0 in let high = r.1 in (omega (arith, low), omega (arith, high))
-    by false false lower digit h = let is = eq_is b 95 h in (omega (arith, is), omega (arith, is))
+    by false false lower digit h = let is = eqb-true b 95 h in (omega (arith, is), omega (arith, is))
 
 lower_small : (b : ℕ) → is_lower b ≡ true → (0 < b) × (b < 256)
 lower_small b e =
-    let low = le_is 97 b (both_left (nat_le 97 b) (nat_le b 122) e) in
-    let high = le_is b 122 (both_right (nat_le 97 b) (nat_le b 122) e) in
+    let low = leb-true 97 b (both_left (nat_le 97 b) (nat_le b 122) e) in
+    let high = leb-true b 122 (both_right (nat_le 97 b) (nat_le b 122) e) in
     (omega (arith, low), omega (arith, high))
 
 -- what the form of a name says
@@ -80,7 +61,7 @@ name_is (b ∷ bs) e =
     let rest = list_all is_name_byte bs in
     let short = nat_lt (length bs) 32 in
     let two = both_left (first && rest) short e in
-    let lt = lt_is (length bs) 32 (both_right (first && rest) short e) in
+    let lt = ltb-true (length bs) 32 (both_right (first && rest) short e) in
     let head = lower_small b (both_left first rest two) in
     let tail = both_right first rest two in
     record { few = omega (arith, lt); clean = (head.0, rest_clean bs tail); bytes = (head.1, rest_bytes bs tail) }
@@ -98,10 +79,6 @@ zeros_bytes (suc n) = (omega arith, zeros_bytes n)
 pub zeros_are : (n : ℕ) → are_zeros (zeros n) ≡ true
 zeros_are zero = refl
 zeros_are (suc n) = zeros_are n
-
-pub all_joined : {A : Type 0} (P : A → Type 0) (xs ys : List A) → AllByRecursion P xs → AllByRecursion P ys → AllByRecursion P (xs ++ ys)
-all_joined P [] ys h k = k
-all_joined P (x ∷ xs) ys h k = (h.0, all_joined P xs ys h.1 k)
 
 pub padded : (n : ℕ) → IsField (padding_after n) (zeros (padding_after n))
 padded n = record { size = zeros_length (padding_after n); each = zeros_bytes (padding_after n) }
@@ -133,10 +110,6 @@ name_is_field n h =
       each = all_joined (λ b. b < 256) n (zeros (32 - length n)) h.bytes (zeros_bytes (32 - length n));
     }
 
-after_name : (n pad : List ℕ) → drop (length n) (n ++ pad) ≡ pad
-after_name [] pad = refl
-after_name (b ∷ bs) pad = after_name bs pad
-
 pub name_passes : (at : ℕ) (unwanted : Bool) (seen : List (List ℕ)) (n : List ℕ) → is_name n ≡ true → among n seen ≡ false → unwanted ≡ false
     → first (name_checks at unwanted seen (name_field n)) ≡ None
 unfolding name_checks
@@ -145,7 +118,7 @@ name_passes at unwanted seen n formed new wanted =
     let back = name_back n h in
     let first_is : (not (is_name (name_of (name_field n))) || among (name_of (name_field n)) seen || unwanted) ≡ false = rw back (rw (formed, new, wanted) refl) in
     let second_is : not (are_zeros (drop (length (name_of (name_field n))) (name_field n))) ≡ false =
-    rw back (ap (λ l. not (are_zeros l)) (after_name n (zeros (32 - length n))) ∙ ap not (zeros_are (32 - length n))) in
+    rw back (ap (λ l. not (are_zeros l)) (drop_at n (zeros (32 - length n)) (length n) refl) ∙ ap not (zeros_are (32 - length n))) in
     next_none (check at (not (is_name (name_of (name_field n))) || among (name_of (name_field n)) seen || unwanted))
     (check (at + length (name_of (name_field n))) (not (are_zeros (drop (length (name_of (name_field n))) (name_field n)))) ∷ []) first_is
     (one_none (at + length (name_of (name_field n))) (not (are_zeros (drop (length (name_of (name_field n))) (name_field n)))) second_is)
@@ -165,11 +138,6 @@ found_at n (m ∷ ms) e = by (bytes_eq n m) refl e (λ h. found_at n ms h)
         → (k : ℕ) × (k < suc (length ms)) × (slice_get (m ∷ ms) k ≡ Some n)
     by true is h rest = (zero, omega arith, ap Some (sym ((bytes_eq-Decides n m).0 is)))
     by false is h rest = let r = rest h in let lt = r.1 in (suc r.0, omega (arith, lt), r.2)
-
-stays : {A : Type 0} (xs ys : List A) (k : ℕ) (x : A) → slice_get xs k ≡ Some x → slice_get (xs ++ ys) k ≡ Some x
-stays [] ys k x is = absurd (let no : None ≡ Some x = is in cc)
-stays (z ∷ zs) ys zero x is = is
-stays (z ∷ zs) ys (suc k) x is = stays zs ys k x is
 
 at_length : {A : Type 0} (xs : List A) (x : A) (ys : List A) → slice_get (xs ++ x ∷ ys) (length xs) ≡ Some x
 at_length [] x ys = refl
@@ -191,7 +159,7 @@ new_from seen (n ∷ ns) h = (
     by true is = absurd (
         let k = found_at n seen is in
         let lt = k.1 in
-        let same = h k.0 (length seen) n (stays seen (n ∷ ns) k.0 n k.2) (at_length seen n ns) in
+        let same = h k.0 (length seen) n (still_there seen (n ∷ ns) k.0 n k.2) (at_length seen n ns) in
         omega (arith, lt, same))
 
 pub all_new : (names : List (List ℕ)) → ((i j : ℕ) (n : List ℕ) → slice_get names i ≡ Some n → slice_get names j ≡ Some n → i ≡ j) → New [] names

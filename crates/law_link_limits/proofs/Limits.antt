@@ -2,6 +2,7 @@
 use Rattle.std.proofs.Common.{ℕ, suc, ◌≡◌, ◌+◌, ◌*◌, ◌%◌, ◌≤◌, ◌==◌, not, true, false, nat_lt, List, [], ◌∷◌, ◌++◌, length, map, drop, None, refl, sym, ap, ap₂, ◌∙◌, subst, append-nil, arith}
 use Rattle.std.specs.List.{AllByRecursion}
 use Rattle.std.proofs.lemmas.List.{length-map}
+use Rattle.std.proofs.lemmas.Bool.{le-ltb, eq-eqb}
 use Rattle.ct_entry.specs.Listed.{DeviceRow}
 use Rattle.def_profile.specs.Versions as version
 use Rattle.def_names.specs.Names.{is_name, among}
@@ -15,7 +16,7 @@ use Rattle.def_image.specs.Sizes.{sum_of, rate_size, sealed_size, compartment_si
 use Rattle.def_image.specs.Profile.{outside, most_threads}
 use Rattle.def_image.specs.Checks.{first, walked, check}
 use Rattle.def_image.specs.Limits as lim
-use Rattle.def_image.specs.Limits.{name_checks, is_missized, header_limits, device_limits, shared_limits, sealed_limits, compartment_name, compartment_limits, library_name, first_library_entry, library_limits, owner_names, thread_limits, limit_checks}
+use Rattle.def_image.specs.Limits.{name_checks, is_missized, header_limits, device_limits, shared_limits, sealed_limits, compartment_name, compartment_limits, library_name, first_library_entry, library_limits, thread_limits, limit_checks}
 use Rattle.def_description.specs.Rows.{CompartmentRow, LibraryRow, SharedRow, SealedRow, ThreadRow, DescRow}
 use Rattle.def_description.specs.Named.{device_names, shared_names, sealed_names}
 use Rattle.def_description.specs.Named as rows
@@ -26,7 +27,7 @@ use Rattle.law_link.proofs.Walks.{joined_none, next_none, all_unmapped}
 use Rattle.law_link.proofs.Linkeds.{parts, GoodCompartment, GoodLibrary, compartments_good, libraries_good}
 use Rattle.law_link.proofs.Indexed.{shared_length, sealed_length}
 use Rattle.law_link_regions.proofs.Lying.{Ends, ends, shared_sizes, sealed_sizes, stack_sizes, trusted_size}
-use Rattle.law_link_limits.proofs.Fields.{lt_not, eq_so, inside, name_is, name_back, name_passes, New, all_new, new_left, new_right}
+use Rattle.law_link_limits.proofs.Fields.{inside, name_is, name_back, name_passes, New, all_new, new_left, new_right}
 use Rattle.law_link_limits.proofs.Along.{Along, walk_along, along_both, along_new, along_after}
 use Rattle.law_link_limits.proofs.Owners.{compartment_passes, library_passes}
 use Rattle.law_link_limits.proofs.Makings.{Numbered, compartments_along, NumberedAfter, libraries_along, entries_most, entries_same}
@@ -39,10 +40,6 @@ owner_title c = c.code.name
 
 unfoldable pub library_title : CodePart → List ℕ
 library_title c = c.name
-
-map_twice : {A B C : Type 0} (g : B → C) (f : A → B) (xs : List A) → map g (map f xs) ≡ map (λ x. g (f x)) xs
-map_twice g f [] = refl
-map_twice g f (x ∷ xs) = ap (λ l. g (f x) ∷ l) (map_twice g f xs)
 
 owner_titles : (d : DescRow) (entry : ℕ) (regions : List Region) (cs : List BuiltCompartment) → map owner_title (compartment_parts d entry regions cs) ≡ map (λ (c : CompartmentRow). c.name) (map (λ (x : BuiltCompartment). x.row) cs)
 unfolding compartment_parts owner_title
@@ -111,7 +108,7 @@ pub record HeaderGood (p : PartsRow) : Type 0 where
   pub named : is_name p.name ≡ true
 
 few : {A B : Type 0} (f : A → B) (xs : List A) (n : ℕ) → length xs ≤ n → nat_lt n (length (map f xs)) ≡ false
-few f xs n le = subst (λ k. nat_lt n k ≡ false) (sym (length-map xs f)) (lt_not n (length xs) le)
+few f xs n le = subst (λ k. nat_lt n k ≡ false) (sym (length-map xs f)) (le-ltb n (length xs) le)
 
 header_pass : (p : PartsRow) → HeaderGood p → first (header_limits (raw_of p)) ≡ None
 unfolding header_limits raw_of
@@ -128,7 +125,7 @@ header_pass p h =
     let c9 = check 40 (is_missized r) in
     let c10 = check 52 (outside (version.least_sweep p.version) (version.most_sweep p.version) p.sweep) in
     let n = name_checks (52 + rate_size p.version) false [] (name_field p.name) in
-    let missized : is_missized r ≡ false = rw (h.sized, eq_so (p.size % 16) 0 h.size, lt_not 4294967280 (p.ram + p.size) h.end) refl in
+    let missized : is_missized r ≡ false = rw (h.sized, eq-eqb (p.size % 16) 0 h.size, le-ltb 4294967280 (p.ram + p.size) h.end) refl in
     next_none c1 (c2 ∷ c3 ∷ c4 ∷ c5 ∷ c6 ∷ c7 ∷ c8 ∷ c9 ∷ c10 ∷ n) (few raw_device p.devices 16 h.devices)
     (next_none c2 (c3 ∷ c4 ∷ c5 ∷ c6 ∷ c7 ∷ c8 ∷ c9 ∷ c10 ∷ n) (few raw_shared p.shared 64 h.shared)
     (next_none c3 (c4 ∷ c5 ∷ c6 ∷ c7 ∷ c8 ∷ c9 ∷ c10 ∷ n) (few raw_sealed p.sealed 64 h.sealed)
@@ -136,7 +133,7 @@ header_pass p h =
     (next_none c5 (c6 ∷ c7 ∷ c8 ∷ c9 ∷ c10 ∷ n) (few raw_code p.libraries 32 h.libraries)
     (next_none c6 (c7 ∷ c8 ∷ c9 ∷ c10 ∷ n) (few raw_thread p.threads (most_threads p.version) h.threads)
     (next_none c7 (c8 ∷ c9 ∷ c10 ∷ n) h.quantum
-    (next_none c8 (c9 ∷ c10 ∷ n) (ap not (eq_so (p.ram % 16) 0 h.ram))
+    (next_none c8 (c9 ∷ c10 ∷ n) (ap not (eq-eqb (p.ram % 16) 0 h.ram))
     (next_none c9 (c10 ∷ n) missized
     (next_none c10 n h.sweep (name_passes (52 + rate_size p.version) false [] p.name h.named refl refl))))))))))
 

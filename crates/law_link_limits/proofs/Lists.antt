@@ -1,6 +1,7 @@
 -- Devices, objects and threads of what is linked keep the limits of an image.
 use Rattle.std.proofs.Common.{ℕ, ◌≡◌, ◌+◌, ◌<◌, ◌≤◌, ◌||◌, not, true, false, nat_lt, List, [], ◌∷◌, ◌++◌, length, map, drop, None, refl, sym, ap, ap₂, subst, append-nil, arith}
 use Rattle.std.specs.List.{AllByRecursion}
+use Rattle.std.proofs.lemmas.Bool.{le-ltb}
 use Rattle.ct_entry.specs.Listed.{DeviceRow}
 use Rattle.ct_entry.specs.declared.hardware.DeviceKind.{DeviceKind}
 use Rattle.ct_entry.specs.declared.hardware.DeviceKind.TheVariants.{Uart, Timer, Gpio}
@@ -20,7 +21,7 @@ use Rattle.def_description.specs.Rows.{SharedRow, SealedRow, ThreadRow, DescRow}
 use Rattle.def_description.specs.Lawful.{IsLawfulShared, IsLawfulSealed, IsLawfulThread}
 use Rattle.def_link.specs.Linked.{shared_parts, sealed_parts, thread_parts}
 use Rattle.law_link.proofs.Walks.{joined_none, next_none, one_none}
-use Rattle.law_link_limits.proofs.Fields.{lt_not, inside, zeros_are, name_is, name_back, name_passes, New}
+use Rattle.law_link_limits.proofs.Fields.{inside, zeros_are, name_is, name_back, name_passes, New}
 use Rattle.law_link_limits.proofs.Lengths.{size_fits, bytes_kept, stack_kept}
 use Rattle.law_link_limits.proofs.Along.{walk_along, along_both, along_all, along_new, along_after}
 
@@ -149,7 +150,7 @@ sealed_passes at earlier s h new =
     (name_passes at false (map sealed_name earlier) s.name h.named new refl)
     (next_none c1 (c2 ∷ c3 ∷ c4 ∷ []) (inside 1 1048576 s.length h.sized)
     (next_none c2 (c3 ∷ c4 ∷ []) (inside 13 15 s.seal h.seal)
-    (next_none c3 (c4 ∷ []) (ap₂ (λ a b. a || b) (inside 1 1048576 (length s.bytes) h.few) (lt_not s.length (length s.bytes) h.fits))
+    (next_none c3 (c4 ∷ []) (ap₂ (λ a b. a || b) (inside 1 1048576 (length s.bytes) h.few) (le-ltb s.length (length s.bytes) h.fits))
     (one_none (at + 48 + length s.bytes) (not (are_zeros r.padding)) (ap not (zeros_are (padding_after (length s.bytes))))))))
 
 pub sealed_pass : (at : ℕ) (ss : List SealedPart) → AllByRecursion SealedGood ss → New [] (map sealed_title ss) → first (walked sealed_limits sealed_size at [] (map raw_sealed ss)) ≡ None
@@ -203,7 +204,7 @@ thread_passes r at earlier t h new =
     joined_none (name_checks at false seen (raw_thread t).name) (c1 ∷ c2 ∷ c3 ∷ [])
     (name_passes at false seen t.name h.named new refl)
     (next_none c1 (c2 ∷ c3 ∷ []) (inside 256 32768 t.stack_length h.stack)
-    (next_none c2 (c3 ∷ []) (lt_not 15 t.priority h.priority)
+    (next_none c2 (c3 ∷ []) (le-ltb 15 t.priority h.priority)
     (one_none (at + 52) (outside 1 96 t.frames) (inside 1 96 t.frames h.frames))))
 
 pub threads_pass : (r : RawImage) (at : ℕ) (ts : List ThreadPart) → AllByRecursion ThreadGood ts → New (owner_names r) (map thread_title ts) → first (walked (thread_limits r) (λ t. THREAD) at [] (map raw_thread ts)) ≡ None

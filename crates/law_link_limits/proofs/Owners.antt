@@ -2,6 +2,7 @@
 use Rattle.std.proofs.Common.{ℕ, suc, ◌≡◌, ◌+◌, ◌*◌, ◌%◌, ◌<◌, ◌≤◌, ◌==◌, ◌||◌, not, true, false, nat_lt, List, [], ◌∷◌, ◌++◌, length, map, None, refl, sym, ap, ap₂, ◌∙◌, subst, arith}
 use Rattle.std.specs.List.{AllByRecursion}
 use Rattle.std.proofs.lemmas.List.{length-map}
+use Rattle.std.proofs.lemmas.Bool.{le-ltb, eq-eqb}
 use Rattle.def_names.specs.Names.{is_name, among}
 use Rattle.def_image.specs.declared.format.TheConstants.{ENTRY, COMPARTMENT_HEAD, LIBRARY_HEAD}
 use Rattle.def_image.specs.Parts.{SlotRow, GateRow, CodeRow as CodePart, CompartmentRow as CompartmentPart}
@@ -12,7 +13,7 @@ use Rattle.def_image.specs.Checks.{first, walked, check}
 use Rattle.def_image.specs.Limits.{name_checks, code_limits, own_slot_limits, slot_limits, export_limits, own_slots_limits, slots_limits, exports_limits, compartment_limits_by, library_limits_by, Bounds, compartment_bounds, library_bounds, entry_name, are_zeros, switch_name}
 use Rattle.def_image.specs.Sound.{IsWithin}
 use Rattle.law_link.proofs.Walks.{joined_none, next_none, one_none}
-use Rattle.law_link_limits.proofs.Fields.{lt_not, eq_so, inside, zeros_are, name_passes}
+use Rattle.law_link_limits.proofs.Fields.{inside, zeros_are, name_passes}
 use Rattle.law_link_limits.proofs.Along.{walk_along, along_both, along_all, along_new, along_more}
 use Rattle.law_link_limits.proofs.Rows.{SlotGood, GateGood, slot_name_back, gate_name_back, first_slot_passes, own_slot_passes, slot_passes, gate_passes}
 use Rattle.law_link_limits.proofs.Slots.{title, OwnSlots, LibrarySlots}
@@ -80,8 +81,8 @@ code_passes at c h =
     let count : length (map raw_slot c.slots) ≡ length c.slots = length-map c.slots raw_slot in
     let fits = h.fits in
     next_none (check (at + 36) (nat_lt c.length (8 * length (map raw_slot c.slots) + length c.text))) (check (at + 40) (nat_lt 1048576 (length c.text) || not (length c.text % 4 == 0)) ∷ [])
-    (lt_not c.length (8 * length (map raw_slot c.slots) + length c.text) (omega (arith, fits, count)))
-    (one_none (at + 40) (nat_lt 1048576 (length c.text) || not (length c.text % 4 == 0)) (ap₂ (λ a b. a || not b) (lt_not 1048576 (length c.text) h.few) (eq_so (length c.text % 4) 0 h.words)))
+    (le-ltb c.length (8 * length (map raw_slot c.slots) + length c.text) (omega (arith, fits, count)))
+    (one_none (at + 40) (nat_lt 1048576 (length c.text) || not (length c.text % 4 == 0)) (ap₂ (λ a b. a || not b) (le-ltb 1048576 (length c.text) h.few) (eq-eqb (length c.text % 4) 0 h.words)))
 
 pub record CompartmentGood (entry : ℕ) (c : CompartmentPart) : Type 0 where
   pub code : CodeGood c.code
@@ -122,9 +123,9 @@ compartment_passes entry at seen c h new =
     (joined_none (n ++ k) m
     (joined_none n k (name_passes at false seen c.code.name h.code.named new refl) (code_passes at c.code h.code))
     (next_none c1 (c2 ∷ c3 ∷ c4 ∷ own) (inside 16 1048576 c.globals_length h.globals)
-    (next_none c2 (c3 ∷ c4 ∷ own) (ap₂ (λ a b. a || b) (lt_not 1048576 (length c.initial) h.initial_few) (lt_not c.globals_length (length c.initial) h.initial))
+    (next_none c2 (c3 ∷ c4 ∷ own) (ap₂ (λ a b. a || b) (le-ltb 1048576 (length c.initial) h.initial_few) (le-ltb c.globals_length (length c.initial) h.initial))
     (next_none c3 (c4 ∷ own) (subst (λ n. outside 1 148 n ≡ false) (sym slots) (inside 1 148 (length c.code.slots) (some, h.slots_few)))
-    (next_none c4 own (subst (λ n. nat_lt 64 n ≡ false) (sym exports) (lt_not 64 (length c.code.exports) h.code.exports)) own_none)))))
+    (next_none c4 own (subst (λ n. nat_lt 64 n ≡ false) (sym exports) (le-ltb 64 (length c.code.exports) h.code.exports)) own_none)))))
     gates_none)
     (one_none (at + COMPARTMENT_HEAD + tables_size r.code + length r.initial) (not (are_zeros r.padding)) (ap not (zeros_are (padding_after (length c.initial)))))
 
@@ -154,6 +155,6 @@ library_passes entry at seen c h new =
     joined_none (n ++ k ++ m) x
     (joined_none (n ++ k) m
     (joined_none n k (name_passes at false seen c.name h.code.named new refl) (code_passes at c h.code))
-    (next_none c1 (c2 ∷ own) (subst (λ n. nat_lt 128 n ≡ false) (sym slots) (lt_not 128 (length c.slots) h.few))
-    (next_none c2 own (subst (λ n. nat_lt 64 n ≡ false) (sym exports) (lt_not 64 (length c.exports) h.code.exports)) (library_slots_pass (at + LIBRARY_HEAD) c.slots h.slots))))
+    (next_none c1 (c2 ∷ own) (subst (λ n. nat_lt 128 n ≡ false) (sym slots) (le-ltb 128 (length c.slots) h.few))
+    (next_none c2 own (subst (λ n. nat_lt 64 n ≡ false) (sym exports) (le-ltb 64 (length c.exports) h.code.exports)) (library_slots_pass (at + LIBRARY_HEAD) c.slots h.slots))))
     gates_none

@@ -2,6 +2,7 @@
 use Rattle.std.proofs.Common.{ℕ, suc, ◌≡◌, ◌+◌, ◌%◌, ◌^◌, ◌<◌, ◌≤◌, ◌==◌, ◌&&◌, ◌||◌, not, true, false, cond, nat_le, nat_lt, nat_eq, List, [], ◌∷◌, length, map, take, drop, None, refl, ap, ap₂, ◌∙◌, arith, inl, inr}
 use Rattle.std.specs.Prelude.{bytes_eq}
 use Rattle.std.proofs.lemmas.Slice.Eq.{bytes_eq-Decides}
+use Rattle.std.proofs.lemmas.Bool.{lt-leb, le-ltb, eq-eqb}
 use Rattle.law_lists.proofs.Tests.{eq_tells}
 use Rattle.def_names.specs.Names.{is_name, among}
 use Rattle.def_image.specs.declared.ImportRow.{ImportRow as SlotImport}
@@ -16,7 +17,7 @@ use Rattle.def_image.specs.Checks.{first, check}
 use Rattle.def_image.specs.Limits.{name_checks, are_zeros, byte_at, number_at, misnumbered, has_second, row_limits, Bounds, gate_limits, entry_name, key_name, is_unnamed_key, switch_name, is_misnamed, own_slot_limits, slot_limits, export_limits}
 use Rattle.law_image.proofs.Rows.{number_back, first_at, offset_at, stack_at, entry_at}
 use Rattle.law_link.proofs.Walks.{joined_none, next_none, one_none}
-use Rattle.law_link_limits.proofs.Fields.{le_not, lt_not, eq_so, name_is, name_back, name_passes}
+use Rattle.law_link_limits.proofs.Fields.{name_is, name_back, name_passes}
 
 -- ---- rows of slots
 
@@ -56,7 +57,7 @@ row_passes at s h =
     let c5 = check (at + 8) (not (has_second (byte_at row 0)) && not (number_at row 8 == 0)) in
     let c6 = check (at + 12) (not (number_at row 12 == 0)) in
     next_none c1 (c2 ∷ c3 ∷ c4 ∷ c5 ∷ c6 ∷ []) (kind_within s.row.kind)
-    (next_none c2 (c3 ∷ c4 ∷ c5 ∷ c6 ∷ []) (lt_not 63 s.row.rights h.rights)
+    (next_none c2 (c3 ∷ c4 ∷ c5 ∷ c6 ∷ []) (le-ltb 63 s.row.rights h.rights)
     (next_none c3 (c4 ∷ c5 ∷ c6 ∷ []) refl
     (next_none c4 (c5 ∷ c6 ∷ []) (ap (misnumbered (kind_byte s.row.kind)) (first_at s.row h.first_small) ∙ h.numbered)
     (next_none c5 (c6 ∷ []) (ap (λ n. not (has_second (kind_byte s.row.kind)) && not (n == 0)) (second_at s.row h.second_small) ∙ h.second)
@@ -129,13 +130,13 @@ gate_row_passes b text entry at x h is =
     let c6 = check (at + 11) (not (byte_at row 11 == 0)) in
     let c7 = check (at + 12) (not (number_at row 12 == entry)) in
     next_none c1 (c2 ∷ c3 ∷ c4 ∷ c5 ∷ c6 ∷ c7 ∷ [])
-    (ap (λ n. not (n % 4 == 0) || nat_le text n) o ∙ ap₂ (λ p q. not p || q) (eq_so (x.row.offset % 4) 0 h.even) (le_not text x.row.offset inside))
-    (next_none c2 (c3 ∷ c4 ∷ c5 ∷ c6 ∷ c7 ∷ []) (ap (nat_lt b.stack) s ∙ lt_not b.stack x.row.stack stack)
-    (next_none c3 (c4 ∷ c5 ∷ c6 ∷ c7 ∷ []) (lt_not b.args x.row.args h.args)
+    (ap (λ n. not (n % 4 == 0) || nat_le text n) o ∙ ap₂ (λ p q. not p || q) (eq-eqb (x.row.offset % 4) 0 h.even) (lt-leb text x.row.offset inside))
+    (next_none c2 (c3 ∷ c4 ∷ c5 ∷ c6 ∷ c7 ∷ []) (ap (nat_lt b.stack) s ∙ le-ltb b.stack x.row.stack stack)
+    (next_none c3 (c4 ∷ c5 ∷ c6 ∷ c7 ∷ []) (le-ltb b.args x.row.args h.args)
     (next_none c4 (c5 ∷ c6 ∷ c7 ∷ []) h.posture
     (next_none c5 (c6 ∷ c7 ∷ []) h.passes
     (next_none c6 (c7 ∷ []) refl
-    (one_none (at + 12) (not (number_at row 12 == entry)) (ap (λ n. not (n == entry)) e ∙ ap not (eq_so x.row.entry entry is))))))))
+    (one_none (at + 12) (not (number_at row 12 == entry)) (ap (λ n. not (n == entry)) e ∙ ap not (eq-eqb x.row.entry entry is))))))))
 
 pub gate_name_back : (x : GateRow) → is_name x.name ≡ true → entry_name (raw_gate x) ≡ x.name
 gate_name_back x e = name_back x.name (name_is x.name e)

@@ -13,8 +13,9 @@ use Rattle.def_image.specs.Parts.{SlotRow, GateRow}
 use Rattle.def_image.specs.Limits.{Bounds}
 use Rattle.def_image.specs.Spelling.{number, kind_byte, posture_byte, passes_byte, device_number, raw_slot, raw_gate, raw_device}
 use Rattle.def_image.specs.Shapes.{IsEntry, IsDevice, SpellableSlot, SpellableGate}
-use Rattle.law_link_limits.proofs.Fields.{all_joined, name_is, name_is_field}
+use Rattle.law_link_limits.proofs.Fields.{name_is, name_is_field}
 use Rattle.law_link_limits.proofs.Rows.{SlotGood, GateGood}
+use Rattle.law_link.proofs.Walks.{all_joined}
 
 -- the bytes of a number
 number_bytes : (n : ℕ) → AllByRecursion (λ b. b < 256) (number n)

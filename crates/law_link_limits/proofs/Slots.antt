@@ -3,9 +3,10 @@ use Rattle.std.proofs.Common.{ℕ, ◌≡◌, ◌+◌, ◌^◌, ◌<◌, ◌≤�
 use Rattle.std.specs.Prelude.{codes, bytes_eq, unwrap_or}
 use Rattle.std.specs.List.{AllByRecursion}
 use Rattle.std.specs.Fmt.{digits}
-use Rattle.std.proofs.lemmas.List.{length-append, length-map}
+use Rattle.std.proofs.lemmas.List.{length-append, length-map, map-append}
 use Rattle.std.proofs.lemmas.Option.{slice_get_within}
 use Rattle.std.proofs.lemmas.Slice.Eq.{bytes_eq-Decides}
+use Rattle.std.proofs.lemmas.Bool.{le-ltb}
 use Rattle.law_lists.proofs.Tests.{le_tells}
 use Rattle.ct_entry.specs.Listed.{DeviceRow}
 use Rattle.def_words.specs.Permissions.{bit, set_where, form_of, packed}
@@ -28,7 +29,7 @@ use Rattle.def_link.specs.Slots.{Exporter, granted, claimed, slot, switch_row, t
 use Rattle.law_link.proofs.Granted.{one_of}
 use Rattle.law_link.proofs.Found.{exporter_of, library_exporter_of, index_less, call_found, lent_found}
 use Rattle.law_link.proofs.Walks.{all_joined, all_mapped, all_so}
-use Rattle.law_link_limits.proofs.Fields.{lt_not, inside, New, all_new}
+use Rattle.law_link_limits.proofs.Fields.{inside, New, all_new}
 use Rattle.law_link_limits.proofs.Rows.{SlotGood}
 
 -- what is asked of a row, beside the form of its name
@@ -114,7 +115,7 @@ form_sized d law x form.Service text h e =
       rights = omega arith;
       first_small = omega (arith, value, le);
       second_small = omega arith;
-      numbered = lt_not 12 (unwrap_or (service_of text) 0) (omega (arith, value, le));
+      numbered = le-ltb 12 (unwrap_or (service_of text) 0) (omega (arith, value, le));
       second = refl;
       key = refl;
     }
@@ -142,7 +143,7 @@ switch_sized = record { rights = omega arith; first_small = omega arith; second_
 
 quota_sized : (q : QuotaRow) → q.limit ≤ 2147483647 → SlotSized (quota_slot q)
 unfolding packed set_where bit form_of
-quota_sized q le = record { rights = omega arith; first_small = omega (arith, le); second_small = omega arith; numbered = lt_not 2147483647 q.limit le; second = refl; key = refl }
+quota_sized q le = record { rights = omega arith; first_small = omega (arith, le); second_small = omega arith; numbered = le-ltb 2147483647 q.limit le; second = refl; key = refl }
 
 -- a key's name is the one that its slot must have
 key_same : (n : ℕ) → IsWithin 13 15 n → own_key_name n ≡ key_name n
@@ -181,11 +182,7 @@ rest_sized d law c h =
 unfoldable pub title : SlotRow → List ℕ
 title s = s.name
 
-map_joined : {A B : Type 0} (f : A → B) (xs ys : List A) → map f (xs ++ ys) ≡ map f xs ++ map f ys
-map_joined f [] ys = refl
-map_joined f (x ∷ xs) ys = ap (λ l. f x ∷ l) (map_joined f xs ys)
-
-map_twice : {A B C : Type 0} (g : B → C) (f : A → B) (xs : List A) → map g (map f xs) ≡ map (λ x. g (f x)) xs
+pub map_twice : {A B C : Type 0} (g : B → C) (f : A → B) (xs : List A) → map g (map f xs) ≡ map (λ x. g (f x)) xs
 map_twice g f [] = refl
 map_twice g f (x ∷ xs) = ap (λ l. g (f x) ∷ l) (map_twice g f xs)
 
@@ -197,8 +194,8 @@ rest_names d c =
     let a = map (import_slot d) c.imports in
     let b = map quota_slot c.quotas in
     let k = map key_slot c.keys in
-    map_joined title (a ++ b) k
-    ∙ ap₂ (λ x y. x ++ y) (map_joined title a b ∙ ap₂ (λ x y. x ++ y) (map_twice title (import_slot d) c.imports) (map_twice title quota_slot c.quotas)) (map_twice title key_slot c.keys)
+    map-append title (a ++ b) k
+    ∙ ap₂ (λ x y. x ++ y) (map-append title a b ∙ ap₂ (λ x y. x ++ y) (map_twice title (import_slot d) c.imports) (map_twice title quota_slot c.quotas)) (map_twice title key_slot c.keys)
 
 good_slots : (slots : List SlotRow) → AllByRecursion SlotSized slots → AllByRecursion (λ n. is_name n ≡ true) (map title slots) → AllByRecursion SlotGood slots
 unfolding title

@@ -2,6 +2,7 @@
 use Rattle.std.proofs.Common.{ℕ, ◌≡◌, ◌+◌, ◌*◌, ◌^◌, ◌<◌, ◌≤◌, ◌&&◌, Bool, true, false, cond, nat_eq, List, [], ◌∷◌, length, map, drop, sym, ap₂, subst, arith, inl, inr, refl}
 use Rattle.std.specs.List.{AllByRecursion}
 use Rattle.std.proofs.lemmas.List.{length-map}
+use Rattle.std.proofs.lemmas.Bool.{le-leb}
 use Rattle.law_lists.proofs.Tests.{eq_tells}
 use Rattle.ct_entry.specs.Listed.{DeviceRow}
 use Rattle.def_names.specs.Names.{is_name}
@@ -33,7 +34,7 @@ use Rattle.law_link.proofs.Granted.{rights_pass}
 use Rattle.law_link.proofs.Indexed.{indexes_pass}
 use Rattle.law_link_regions.proofs.Orders.{all_to}
 use Rattle.law_link_regions.proofs.Lying.{ends, Stretches, stretches, orders, threads_most, regions_pass}
-use Rattle.law_link_limits.proofs.Fields.{le_so, name_is, name_is_field, padded}
+use Rattle.law_link_limits.proofs.Fields.{name_is, name_is_field, padded}
 use Rattle.law_link_limits.proofs.Along.{along_each}
 use Rattle.law_link_limits.proofs.Rows.{SlotGood}
 use Rattle.law_link_limits.proofs.Slots.{call_small}
@@ -310,7 +311,7 @@ unfolding parts_of
 version_taken d sources p h =
     let s = parts d sources p h.linked in
     let v = h.lawful.version in
-    subst (λ (q : PartsRow). is_within 1 last_version q.version ≡ true) (sym s.parts) (ap₂ (λ a b. a && b) (le_so 1 d.version v.0) (le_so d.version last_version v.1))
+    subst (λ (q : PartsRow). is_within 1 last_version q.version ≡ true) (sym s.parts) (ap₂ (λ a b. a && b) (le-leb 1 d.version v.0) (le-leb d.version last_version v.1))
 
 pub faultless : (d : DescRow) (sources : List (List ℕ)) (p : PartsRow) → Links d sources p → IsFaultless p
 faultless d sources p h = record {

@@ -2,6 +2,7 @@
 use Rattle.std.proofs.Common.{ℕ, zero, suc, ◌≡◌, ◌+◌, ◌*◌, ◌%◌, ◌<◌, ◌≤◌, ◌||◌, not, Bool, true, false, cond, nat_le, nat_lt, nat_eq, List, [], ◌∷◌, ◌++◌, length, map, take, drop, Some, None, slice_get, refl, sym, ap, ap₂, ◌∙◌, subst, append_assoc, arith, inl, inr}
 use Rattle.std.specs.List.{AllByRecursion, list_any}
 use Rattle.std.proofs.lemmas.List.{length-append, length-map}
+use Rattle.std.proofs.lemmas.Bool.{le-leb, le-ltb, eq-eqb}
 use Rattle.ct_entry.specs.Listed.{DeviceRow}
 use Rattle.law_lists.proofs.Tests.{lt_tells}
 use Rattle.def_layout.specs.Placement.{region, region_length, region_base, placed, last_end}
@@ -26,7 +27,7 @@ use Rattle.law_link.specs.Links.{Links}
 use Rattle.law_link.proofs.Walks.{joined_none, next_none, one_none, walk_each, walk_joined, all_joined, all_so}
 use Rattle.law_link.proofs.Linkeds.{parts, GoodCompartment, GoodLibrary, compartments_good, libraries_good}
 use Rattle.law_link_regions.proofs.Builts.{unit_sound}
-use Rattle.law_link_regions.proofs.Orders.{le_so, lt_not, eq_so, third_false, fourth_false, last_joined, left_after, last_base, Stands, stands, Between, grows, all_from, all_to, clear_after, clear_before, clear_joined, laid_so, stretch_passes}
+use Rattle.law_link_regions.proofs.Orders.{third_false, fourth_false, last_joined, left_after, last_base, Stands, stands, Between, grows, all_from, all_to, clear_after, clear_before, clear_joined, laid_so, stretch_passes}
 use Rattle.law_link_regions.proofs.Placings.{AreSized, compartments_between, libraries_between, shared_between, sealed_between, stacks_between, compartment_count, areas, few_areas}
 
 -- ---- sizes that regions may have
@@ -289,8 +290,8 @@ later_pass p s top =
 -- ---- devices
 
 away_meets : (a m b n : ℕ) → IsAway a m b (b + n) → meets a m b n ≡ false
-away_meets a m b n (inl le) = rw (lt_not b (a + m) le) (fourth_false (nat_lt 0 m) (nat_lt 0 n) (nat_lt a (b + n)))
-away_meets a m b n (inr le) = rw (lt_not a (b + n) le) (third_false (nat_lt 0 m) (nat_lt 0 n) (nat_lt b (a + m)))
+away_meets a m b n (inl le) = rw (le-ltb b (a + m) le) (fourth_false (nat_lt 0 m) (nat_lt 0 n) (nat_lt a (b + n)))
+away_meets a m b n (inr le) = rw (le-ltb a (b + n) le) (third_false (nat_lt 0 m) (nat_lt 0 n) (nat_lt b (a + m)))
 
 -- two bases of whole units that differ
 units_apart : (a b : ℕ) → a % 16 ≡ 0 → b % 16 ≡ 0 → (b ≡ a → ⊥) → meets a 16 b 16 ≡ false
@@ -314,7 +315,7 @@ device_passes q r ds base size each apart i x is =
     let h = all_at (IsLawfulDevice r) ds i x each is in
     let away : IsAway x.base 16 q.ram (q.ram + q.size) = subst (λ m. IsAway x.base 16 m (m + q.size)) (sym base) (subst (λ n. IsAway x.base 16 r.base (r.base + n)) (sym size) h.ram) in
     rw (
-      eq_so (x.base % 16) 0 h.even,
+      eq-eqb (x.base % 16) 0 h.even,
       away_meets x.base 16 q.ram q.size away,
       away_meets x.base 16 65536 4096 h.native,
       none_taken (meets_device x.base) ds i (λ k y lt at.
@@ -344,7 +345,7 @@ all_pass p r s base size top native each apart =
     let even = s.trusted.even in
     let whole = s.trusted.whole in
     let laid : is_laid p [] (trusted_region p) ≡ true = laid_so p [] s.e5 (trusted_region p) s.trusted (omega (arith, o0, o1, o2, o3, o4)) (omega (arith, heap, top)) refl in
-    let heap_laid : is_heap_laid p ≡ true = rw (eq_so (p.heap % 16) 0 (omega (arith, heap, even, whole)), le_so p.heap (p.ram + p.size) top, le_so (p.trusted + trusted_length p) p.heap (omega (arith, heap))) refl in
+    let heap_laid : is_heap_laid p ≡ true = rw (eq-eqb (p.heap % 16) 0 (omega (arith, heap, even, whole)), le-leb p.heap (p.ram + p.size) top, le-leb (p.trusted + trusted_length p) p.heap (omega (arith, heap))) refl in
     let v = walked (device_asked p) (λ d. DEVICE) (header_size p.version) [] p.devices in
     let w = walked (region_asked p) (λ r. 0) 0 [] (later_regions p) in
     next_none (check 36 (meets_native p.ram p.size)) (check 44 (not (is_laid p [] (trusted_region p))) ∷ check 48 (not (is_heap_laid p)) ∷ v ++ w) (away_meets p.ram p.size 65536 4096 native)

@@ -1,7 +1,7 @@
 -- Regions one after another, and walks over stretches of them.
-use Rattle.std.proofs.Common.{ℕ, ◌≡◌, ◌+◌, ◌%◌, ◌≤◌, ◌&&◌, ◌||◌, not, Bool, true, false, nat_le, nat_lt, nat_eq, List, [], ◌∷◌, ◌++◌, length, drop, get_or, refl, sym, ap, ap₂, subst, arith, ◌⊎◌, inl, inr, None}
+use Rattle.std.proofs.Common.{ℕ, ◌≡◌, ◌+◌, ◌%◌, ◌≤◌, ◌&&◌, ◌||◌, not, Bool, true, false, nat_lt, List, [], ◌∷◌, ◌++◌, length, drop, get_or, refl, sym, ap, ap₂, subst, arith, ◌⊎◌, inl, inr, None}
 use Rattle.std.specs.List.{AllByRecursion, list_any}
-use Rattle.law_lists.proofs.Tests.{le_tells, lt_tells, eq_tells}
+use Rattle.std.proofs.lemmas.Bool.{le-leb, le-ltb, eq-eqb}
 use Rattle.def_words.specs.LeastBounds.{rounded_of}
 use Rattle.def_layout.specs.declared.Region.{Region}
 use Rattle.def_layout.specs.Placement.{region_length, region_base, placed, last_end}
@@ -14,15 +14,6 @@ use Rattle.def_image.specs.Lying.{meets_region, is_laid, is_laid_below, region_a
 use Rattle.law_link.proofs.Walks.{joined_none, one_none, all_joined}
 
 -- ---- tests
-
-pub le_so : (a b : ℕ) → a ≤ b → nat_le a b ≡ true
-le_so a b le = elim (le_tells a b) [ inl h ↦ h.0 | inr h ↦ absurd (let lt = h.1 in omega (arith, le, lt)) ]
-
-pub lt_not : (a b : ℕ) → b ≤ a → nat_lt a b ≡ false
-lt_not a b le = elim (lt_tells a b) [ inl h ↦ absurd (let lt = h.1 in omega (arith, le, lt)) | inr h ↦ h.0 ]
-
-pub eq_so : (a b : ℕ) → a ≡ b → nat_eq a b ≡ true
-eq_so a b is = elim (eq_tells a b) [ inl h ↦ h.0 | inr h ↦ absurd (h.1 is) ]
 
 -- ---- placement in two stretches
 
@@ -128,8 +119,8 @@ fourth_false true false z = refl
 fourth_false false y z = refl
 
 pub none_meets : (r q : RegionRow) → (q.base + q.length ≤ r.base) ⊎ (r.base + r.length ≤ q.base) → meets_region r q ≡ false
-none_meets r q (inl le) = rw (lt_not r.base (q.base + q.length) le) (third_false (nat_lt 0 r.length) (nat_lt 0 q.length) (nat_lt q.base (r.base + r.length)))
-none_meets r q (inr le) = rw (lt_not q.base (r.base + r.length) le) (fourth_false (nat_lt 0 r.length) (nat_lt 0 q.length) (nat_lt r.base (q.base + q.length)))
+none_meets r q (inl le) = rw (le-ltb r.base (q.base + q.length) le) (third_false (nat_lt 0 r.length) (nat_lt 0 q.length) (nat_lt q.base (r.base + r.length)))
+none_meets r q (inr le) = rw (le-ltb q.base (r.base + r.length) le) (fourth_false (nat_lt 0 r.length) (nat_lt 0 q.length) (nat_lt r.base (q.base + q.length)))
 
 apart_meets : (low high : ℕ) (r q : RegionRow) → low ≤ r.base → r.base + r.length ≤ high → Apart low high q → meets_region r q ≡ false
 unfolding Apart
@@ -156,7 +147,7 @@ pub record Lies (p : PartsRow) (low high : ℕ) : Type 0 where
 pub laid_so : (p : PartsRow) (earlier : List RegionRow) (low : ℕ) (r : RegionRow) → Stands low r → p.ram ≤ low → r.base + r.length ≤ p.ram + p.size → list_any (meets_region r) earlier ≡ false → is_laid p earlier r ≡ true
 laid_so p earlier low r s ram top apart =
     let lo = s.low in
-    rw (le_so p.ram r.base (omega (arith, ram, lo)), le_so (r.base + r.length) (p.ram + p.size) top, eq_so (r.base % 16) 0 s.even, eq_so (r.length % 16) 0 s.whole, s.exact, apart) refl
+    rw (le-leb p.ram r.base (omega (arith, ram, lo)), le-leb (r.base + r.length) (p.ram + p.size) top, eq-eqb (r.base % 16) 0 s.even, eq-eqb (r.length % 16) 0 s.whole, s.exact, apart) refl
 
 region_passes : (p : PartsRow) (low high at : ℕ) (earlier : List RegionRow) (r : RegionRow) → Lies p low high → Stands low r → r.base + r.length ≤ high → Clear low high earlier
     → first (region_asked p at earlier r) ≡ None
@@ -168,7 +159,7 @@ region_passes p low high at earlier r l s top c =
     let below : r.base + r.length ≤ p.heap = omega (arith, top, heap) in
     let apart : list_any (meets_region r) (trusted_region p ∷ earlier) ≡ false = ap₂ (λ x y. x || y) (none_meets r (trusted_region p) (inr (omega (arith, top, trusted)))) (clear_meets low high r earlier lo top c) in
     let laid : is_laid p (trusted_region p ∷ earlier) r ≡ true = laid_so p (trusted_region p ∷ earlier) low r s l.ram (omega (arith, below, inside)) apart in
-    let both : is_laid_below p earlier r ≡ true = ap₂ (λ x y. x && y) laid (le_so (r.base + r.length) p.heap below) in
+    let both : is_laid_below p earlier r ≡ true = ap₂ (λ x y. x && y) laid (le-leb (r.base + r.length) p.heap below) in
     one_none r.place (not (is_laid_below p earlier r)) (ap not both)
 
 pub stretch_passes : (p : PartsRow) (low high at : ℕ) (earlier rs : List RegionRow) → Lies p low high → Between low rs high → Clear low high earlier

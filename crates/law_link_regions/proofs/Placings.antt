@@ -22,7 +22,7 @@ pub record AreSized (x : BuiltCompartment) : Type 0 where
   pub table : 16 + 16 * length x.row.exports ≤ 2097152
   pub globals : max x.row.globals (length x.built.initial) ≤ 2097152
 
-table_is : (d : DescRow) (entry : ℕ) (regions : List Region) (x : BuiltCompartment) → table_length (compartment_part d entry regions x) ≡ region_length (16 + 16 * length x.row.exports)
+pub table_is : (d : DescRow) (entry : ℕ) (regions : List Region) (x : BuiltCompartment) → table_length (compartment_part d entry regions x) ≡ region_length (16 + 16 * length x.row.exports)
 table_is d entry regions x =
     ap (λ n. region_length (16 + 16 * n)) (numbered_length (export_gate x.built) (entry + 2 + compartment_slot_count x.row) x.row.exports)
 

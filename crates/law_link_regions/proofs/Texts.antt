@@ -1,8 +1,9 @@
 -- What is built of an owner's code: a text of words, and initial bytes, both within their limits.
-use Rattle.std.proofs.Common.{ℕ, zero, suc, ◌≡◌, ◌+◌, ◌*◌, ◌%◌, ◌<◌, ◌≤◌, ◌&&◌, not, Bool, true, false, cond, List, [], ◌∷◌, ◌++◌, length, Option, Some, None, refl, sym, ap, ap₂, ◌∙◌, subst, arith, inl, inr, append_assoc, add-zero}
-use Rattle.std.proofs.lemmas.List.{length-append}
+use Rattle.std.proofs.Common.{ℕ, zero, suc, ◌≡◌, ◌+◌, ◌*◌, ◌%◌, ◌<◌, ◌≤◌, ◌&&◌, not, Bool, true, false, cond, List, [], ◌∷◌, ◌++◌, length, Option, Some, None, refl, sym, ap, ◌∙◌, subst, arith, inl, inr, append_assoc, add-zero}
+use Rattle.std.proofs.lemmas.List.{length-append, length-replicate}
 use Rattle.std.specs.Prelude.{⊤, Result, Ok, Err, replicate}
 use Rattle.std.specs.List.{AllByRecursion, flat_map}
+use Rattle.std.proofs.lemmas.Bool.{and_from}
 use Rattle.law_lists.proofs.Tests.{lt_tells, both_left, both_right}
 use Rattle.def_instr.specs.declared.Instr.{Instr}
 use Rattle.def_instr.specs.declared.Instr.TheVariants as instr
@@ -22,6 +23,7 @@ use Rattle.def_source.specs.Source.{with_front as with_statements}
 use Rattle.def_object.specs.declared.Place.{Place}
 use Rattle.def_object.specs.declared.Fault.{Fault}
 use Rattle.def_object.specs.Object.{Labels, size_at, offset, advanced, start, label_in, size_fault, reference_fault, statement_fault, on_line, lesser, is_least, fault_from, fault_in, number_word, is_short, upper_part, rest_part, padding, same_section, instructions_at, word_bytes, instruction_bytes, bytes_at, section_bytes, bytes_from, text_of, initial_of}
+use Rattle.law_link.proofs.Walks.{all_joined}
 
 Bytes : List ℕ → Type 0
 Bytes bs = AllByRecursion (λ b. b < 256) bs
@@ -90,13 +92,10 @@ line_fine s bytes l e = by (line_tokens bytes) e
     by None h = absurd (not_ok 1 l h)
     by (Some ts) h = row_fine s ts l h
 
-both_true : (a b : Bool) → a ≡ true → b ≡ true → (a && b) ≡ true
-both_true a b x y = ap₂ (λ p q. p && q) x y
-
 part_lawful : (s : Section) (n : ℕ) (o : Option (Part Name)) (rest : Statements) → IsFine s o → lawful_from (section_after s o) rest ≡ true → lawful_from s (part_statements n o ++ rest) ≡ true
 unfolding IsFine
 part_lawful s n None rest f h = h
-part_lawful s n (Some p) rest f h = both_true (is_lawful s p) (lawful_from (section_after s (Some p)) rest) f h
+part_lawful s n (Some p) rest f h = and_from (is_lawful s p) (lawful_from (section_after s (Some p)) rest) f h
 
 label_lawful : (s : Section) (n : ℕ) (o : Option Name) (rest : Statements) → lawful_from s rest ≡ true → lawful_from s (label_statements n o ++ rest) ≡ true
 label_lawful s n None rest h = h
@@ -129,11 +128,6 @@ source_lawful text ss e = program_lawful section.Text 1 (lines_of text) ss e
 
 -- ---- bytes of a statement
 
-joined_bytes : (xs ys : List ℕ) → Bytes xs → Bytes ys → Bytes (xs ++ ys)
-unfolding Bytes
-joined_bytes [] ys h k = k
-joined_bytes (x ∷ xs) ys h k = (h.0, joined_bytes xs ys h.1 k)
-
 zero_bytes : (n : ℕ) → Bytes (replicate n 0)
 unfolding Bytes
 zero_bytes zero = tt
@@ -145,7 +139,7 @@ word_is_bytes w = (omega arith, (omega arith, (omega arith, (omega arith, tt))))
 instructions_bytes : (is : List Instr) → Bytes (instruction_bytes is)
 unfolding Bytes
 instructions_bytes [] = tt
-instructions_bytes (i ∷ is) = joined_bytes (word_bytes (word_of i)) (instruction_bytes is) (word_is_bytes (word_of i)) (instructions_bytes is)
+instructions_bytes (i ∷ is) = all_joined (λ b. b < 256) (word_bytes (word_of i)) (instruction_bytes is) (word_is_bytes (word_of i)) (instructions_bytes is)
 
 statement_bytes : (labels : Labels) (slots : List Name) (at : ℕ) (q : Part Name) → Bytes (bytes_at labels slots at q)
 unfolding Bytes
@@ -155,13 +149,9 @@ statement_bytes labels slots at (part.Zero number) = zero_bytes number.magnitude
 statement_bytes labels slots at (part.Align number) = zero_bytes (padding number.magnitude at)
 statement_bytes labels slots at q = instructions_bytes (instructions_at labels slots at q)
 
-zeros_length : (n : ℕ) → length {A = ℕ} (replicate n 0) ≡ n
-zeros_length zero = refl
-zeros_length (suc n) = ap suc (zeros_length n)
-
 statement_length : (labels : Labels) (slots : List Name) (at : ℕ) (q : Part Name) → length (bytes_at labels slots at q) ≡ size_at q at
-statement_length labels slots at (part.Zero number) = zeros_length number.magnitude
-statement_length labels slots at (part.Align number) = zeros_length (padding number.magnitude at)
+statement_length labels slots at (part.Zero number) = length-replicate number.magnitude 0
+statement_length labels slots at (part.Align number) = length-replicate (padding number.magnitude at) 0
 statement_length labels slots at (part.LoadImmediate rd number) = by (is_short (number_word number))
   where
     by : (b : Bool) → length (instruction_bytes (cond b (instr.Addi rd 0 (number_word number) ∷ []) (instr.Lui rd (upper_part (number_word number)) ∷ instr.Addi rd rd (rest_part (number_word number)) ∷ []))) ≡ cond b 4 8
@@ -183,7 +173,7 @@ pub section_all_bytes : (w : Section) (labels : Labels) (slots : List Name) (p :
 unfolding Bytes
 section_all_bytes w labels slots p [] = tt
 section_all_bytes w labels slots p (s ∷ ss) =
-    joined_bytes (section_bytes w labels slots p s.part) (bytes_from w labels slots (advanced p s.part) ss)
+    all_joined (λ b. b < 256) (section_bytes w labels slots p s.part) (bytes_from w labels slots (advanced p s.part) ss)
     (section_is_bytes w labels slots p s.part) (section_all_bytes w labels slots (advanced p s.part) ss)
 
 -- a place, field by field
@@ -333,7 +323,7 @@ object_text ss slots l f = record {
 words_all : (ws : List ℕ) → AllByRecursion (λ b. b < 256) (flat_map word_bytes ws)
 unfolding Bytes
 words_all [] = tt
-words_all (w ∷ ws) = joined_bytes (word_bytes w) (flat_map word_bytes ws) (word_is_bytes w) (words_all ws)
+words_all (w ∷ ws) = all_joined (λ b. b < 256) (word_bytes w) (flat_map word_bytes ws) (word_is_bytes w) (words_all ws)
 
 words_length : (ws : List ℕ) → length (flat_map word_bytes ws) ≡ 4 * length ws
 words_length [] = refl

@@ -10,6 +10,9 @@ use Rattle.def_profile.specs.declared.layout.TheConstants.{SLOT_SIZE, TABLE_HEAD
 use Rattle.def_words.specs.declared.Cap.{Cap}
 use Rattle.def_memory.specs.Granules.{plain}
 use Rattle.def_reach.specs.Roots.{root_of, gate_for, listed_root, no_gate}
+use Rattle.def_image.specs.declared.ImportRow.{ImportRow}
+use Rattle.def_image.specs.declared.SlotKind.{SlotKind}
+use Rattle.def_image.specs.declared.SlotKind.TheVariants as slot
 use Rattle.def_image.specs.Parts.{SlotRow, GateRow, CodeRow, CompartmentRow, ThreadRow, PartsRow}
 use Rattle.def_image.specs.Sizes.{sum_of}
 use Rattle.def_image.specs.Members.{no_code, no_compartment, compartment, library, compartment_entries, library_entries, first_library, first_stack, code_number, globals_number, library_number, stack_number, gate_address, gate_number, library_gate_number}
@@ -22,7 +25,17 @@ use Rattle.law_listed.proofs.Gates.{own_none, own_gate, shared_none, shared_gate
 
 -- ---- slots and exports
 
-slots_count : (p : PartsRow) (o : Owner) (at : ℕ) (ss : List SlotRow) → length (slot_rows p o at ss) ≡ length ss
+pub slot_owner : (p : PartsRow) (o : Owner) (at : ℕ) (r : ImportRow) (k : SlotKind) → (slot_row p o at r k).owner ≡ o
+slot_owner p o at r slot.Service = refl
+slot_owner p o at r slot.Device = refl
+slot_owner p o at r slot.Shared = refl
+slot_owner p o at r slot.Sealed = refl
+slot_owner p o at r slot.Call = refl
+slot_owner p o at r slot.Library = refl
+slot_owner p o at r slot.Quota = refl
+slot_owner p o at r slot.Key = refl
+
+pub slots_count : (p : PartsRow) (o : Owner) (at : ℕ) (ss : List SlotRow) → length (slot_rows p o at ss) ≡ length ss
 slots_count p o at [] = refl
 slots_count p o at (s ∷ ss) = ap suc (slots_count p o (at + SLOT_SIZE) ss)
 
@@ -37,7 +50,7 @@ slots_there p o at (r ∷ rs) (suc j) s is =
     let place : at + SLOT_SIZE + SLOT_SIZE * j ≡ at + SLOT_SIZE * suc j = omega arith in
     slots_there p o (at + SLOT_SIZE) rs j s is ∙ ap (λ q. Some (slot_row p o q s.row s.row.kind)) place
 
-exports_count : (b at : ℕ) (xs : List GateRow) → length (export_rows b at xs) ≡ length xs
+pub exports_count : (b at : ℕ) (xs : List GateRow) → length (export_rows b at xs) ≡ length xs
 exports_count b at [] = refl
 exports_count b at (x ∷ xs) = ap suc (exports_count b (at + TABLE_ROW) xs)
 

@@ -3,17 +3,18 @@ use Rattle.std.proofs.Common.{ℕ, ◌≡◌, ◌+◌, ◌%◌, ◌≤◌, ◌<�
 use Rattle.law_lists.proofs.Tests.{both_left}
 use Rattle.def_words.specs.declared.Cap.{Cap}
 use Rattle.def_words.specs.Authority.{cap_base, cap_top}
+use Rattle.def_words.specs.Permissions.{has, memory_capability}
 use Rattle.ct_entry.specs.declared.rows.Owner.{Owner}
 use Rattle.ct_entry.specs.declared.rows.Owner.TheVariants.{Compartment}
 use Rattle.ct_entry.specs.declared.rows.Kind.TheVariants.{Code, Globals, Stack, Device, Shared, Sealed, Call, Library, Service, Quota, Key, Export}
 use Rattle.def_reach.specs.Roots.{Origin, Unknown, TrustedPart, Listing, is_quota, is_stack, is_owned}
 use Rattle.def_reach.specs.Sharing.{Joined, Reaches, SharesC}
 use Rattle.def_machine.specs.Image.{Image, root, granule_of, address_of}
-use Rattle.def_machine.specs.State.{Frame, Object}
+use Rattle.def_machine.specs.State.{State, Frame, Object, thread}
 use Rattle.def_machine.specs.Objects.{Any}
 use Rattle.def_confined.specs.Capabilities.{heap_cap, stack_cap}
-use Rattle.def_confined.specs.Places.{Placed, LiveCovers, LiveAt, HeapDomain, InFrames}
-use Rattle.def_confined.specs.Confined.{AllApart}
+use Rattle.def_confined.specs.Places.{Placed, LiveCovers, LiveAt, HeapDomain, InFrames, OwnStack}
+use Rattle.def_confined.specs.Confined.{AllApart, Confined}
 use Rattle.def_confined.specs.Partitioned.{Partitioned}
 use Rattle.law_reach.proofs.Joins.{own_joined, joined_sym, joined_trans, joined_edge}
 use Rattle.law_places.proofs.Rows.{any_map, one_at}
@@ -90,3 +91,16 @@ share_joined i object a b f x y j = joined_trans i.entries f a b (joined_sym i.e
 pub headed : (i : Image) (objects : List Object) (t : ℕ) (fs : List Frame) (c : Cap) → InFrames i objects t fs c → c.tag ≡ true → (f : Frame) × ((gs : List Frame) × (fs ≡ f ∷ gs))
 headed i objects t [] c h tagged = absurd (let clash : true ≡ false = sym tagged ∙ h in cc)
 headed i objects t (f ∷ gs) c h tagged = (f, (gs, refl))
+
+-- what is known of a register of the running thread through which a tagged granule is reached
+pub record Reaching (i : Image) (s : State) (t : ℕ) (f : Frame) (gs : List Frame) (by : Cap) (x : ℕ) : Type 0 where
+  pub parts : Partitioned i
+  pub held : Confined i s
+  pub frames : (thread s t).frames ≡ f ∷ gs
+  pub authority : Placed i s.objects (λ d. d ≡ f.actor) (OwnStack i t (f ∷ gs)) by
+  pub live : heap_cap i by ≡ true → cap_base by < cap_top by → Any (LiveCovers by) s.objects
+  pub carries : has by memory_capability ≡ true
+  pub inside : i.ram ≤ x
+  pub low : cap_base by ≤ x
+  pub high : x < cap_top by
+  pub aligned : x % 8 ≡ 0

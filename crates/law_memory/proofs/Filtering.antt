@@ -1,6 +1,6 @@
 -- Marks stand in the heap alone, so the load filter needn't look elsewhere.
 use Rattle.std.proofs.Common.{ℕ, ◌≡◌, ◌+◌, ◌-◌, ◌*◌, ◌/◌, ◌≤◌, ◌<◌, ◌&&◌, Bool, true, false, cond, nat_le, nat_lt, refl, ap, sym, ◌∙◌, arith}
-use Rattle.std.proofs.lemmas.Bool.{and_parts, leb-true, le-leb, lt-ltb}
+use Rattle.std.proofs.lemmas.Bool.{and_parts, and_right, leb-true, le-leb, lt-ltb}
 use Rattle.def_words.specs.declared.Cap.{Cap}
 use Rattle.def_words.specs.Authority.{cap_base}
 use Rattle.def_words.specs.Capability.{untagged}
@@ -12,14 +12,10 @@ use Rattle.def_confined.specs.Partitioned.{Partitioned}
 use Rattle.law_places.proofs.Rows.{each_take}
 use Rattle.law_memory.specs.Filters.{heap_filtered}
 
-and_false : (x : Bool) → (x && false) ≡ false
-and_false true = refl
-and_false false = refl
-
 same_test : (t a b m : Bool) → (m ≡ true → (a ≡ true) × (b ≡ true)) → (t && m) ≡ (t && a && b && m)
 same_test true a b true h = rw ((h refl).0, (h refl).1) refl
 same_test false a b true h = refl
-same_test t a b false h = and_false t ∙ sym (and_false (t && a && b))
+same_test t a b false h = and_right t false refl ∙ sym (and_right (t && a && b) false refl)
 
 marked_inside : (i : Image) (s : State) (x : ℕ) → Partitioned i → Confined i s → is_marked i s x ≡ true → (i.heap_base ≤ x) × (x < i.heap_end)
 marked_inside i s x p h marked =

@@ -10,11 +10,10 @@ use Rattle.def_reach.specs.Roots.{Listing, is_stack, is_owned}
 use Rattle.def_reach.specs.Sharing.{Joined, SharesC, Reaches}
 use Rattle.def_machine.specs.Image.{Image, Region, Fixed, Globals, Shared, HeapRam, Stack, Bare, root, region, booted, granule_of, address_of, stack_entry}
 use Rattle.def_machine.specs.State.{State, Frame, Object, thread, register, granule}
-use Rattle.def_machine.specs.Objects.{Any}
 use Rattle.def_machine.specs.Memory.{filtered}
 use Rattle.def_confined.specs.Capabilities.{heap_cap}
 use Rattle.def_confined.specs.Changes.{Puts}
-use Rattle.def_confined.specs.Places.{Placed, InFrames, InRegion, OwnStack, NoStack, HeapDomain, LiveCovers, outer}
+use Rattle.def_confined.specs.Places.{Placed, InFrames, InRegion, OwnStack, NoStack, HeapDomain, outer}
 use Rattle.def_confined.specs.Confined.{Confined}
 use Rattle.def_confined.specs.Partitioned.{Partitioned, Loads}
 use Rattle.def_confined.specs.Made.{Derived}
@@ -22,7 +21,7 @@ use Rattle.law_reach.proofs.Joins.{reaches_on}
 use Rattle.law_places.proofs.Places.{carry, tops_back, plain_in}
 use Rattle.law_registers.proofs.Derives.{kept_bound, derived_in, derived_kept}
 use Rattle.law_registers.proofs.Filters.{filter_in, filter_kept, filter_live, in_object}
-use Rattle.law_memory.proofs.Authorities.{owner_joined, whole_granule, domain_joined, headed}
+use Rattle.law_memory.proofs.Authorities.{Reaching, owner_joined, whole_granule, domain_joined, headed}
 
 -- from one compartment of a domain to one that it is joined to
 given_from : (i : Image) (objects : List Object) (D : ℕ → Type 0) (S : Cap → Type 0) (f d : ℕ) (c : Cap) → D d → Joined i.entries d f → (S c → ⊥) → (T : Cap → Type 0) → Placed i objects D S c → Placed i objects (λ y. y ≡ f) T c
@@ -35,35 +34,26 @@ given_from i objects D S f d c there joined none T h = record {
 }
 
 pub record Loading (i : Image) (s : State) (t : ℕ) (f : Frame) (gs : List Frame) (by : Cap) (x : ℕ) : Type 0 where
-  pub parts : Partitioned i
-  pub held : Confined i s
-  pub frames : (thread s t).frames ≡ f ∷ gs
-  pub authority : Placed i s.objects (λ d. d ≡ f.actor) (OwnStack i t (f ∷ gs)) by
-  pub live : heap_cap i by ≡ true → cap_base by < cap_top by → Any (LiveCovers by) s.objects
+  pub to : Reaching i s t f gs by x
   pub loads : has by load_data ≡ true
-  pub carries : has by memory_capability ≡ true
-  pub inside : i.ram ≤ x
-  pub low : cap_base by ≤ x
-  pub high : x < cap_top by
-  pub aligned : x % 8 ≡ 0
 
 from_heap : (i : Image) (s : State) (t : ℕ) (f : Frame) (gs : List Frame) (by : Cap) (x : ℕ) (g : Granule) → Loading i s t f gs by x → heap_cap i by ≡ true → InRegion i s (granule_of i x) HeapRam g → InFrames i s.objects t (f ∷ gs) g.cap
 from_heap i s t f gs by x g w heap h = λ tagged.
-    let at : address_of i (granule_of i x) ≡ x = whole_granule i x w.parts w.inside w.aligned in
-    let some : cap_base by < cap_top by = omega (arith, w.low, w.high) in
+    let at : address_of i (granule_of i x) ≡ x = whole_granule i x w.to.parts w.to.inside w.to.aligned in
+    let some : cap_base by < cap_top by = omega (arith, w.to.low, w.to.high) in
     let P : ℕ → Type 0 = λ n. ((d : ℕ) × HeapDomain i s.objects n d) × Placed i s.objects (HeapDomain i s.objects n) NoStack g.cap in
     let here : ((d : ℕ) × HeapDomain i s.objects x d) × Placed i s.objects (HeapDomain i s.objects x) NoStack g.cap = subst P at (h tagged) in
     given_from i s.objects (HeapDomain i s.objects x) NoStack f.actor here.0.0 g.cap here.0.1
-    (domain_joined i s.objects f.actor x here.0.0 (OwnStack i t (f ∷ gs)) by w.parts w.held.apart heap w.low w.high (w.live heap some) w.authority here.0.1)
+    (domain_joined i s.objects f.actor x here.0.0 (OwnStack i t (f ∷ gs)) by w.to.parts w.to.held.apart heap w.to.low w.to.high (w.to.live heap some) w.to.authority here.0.1)
     (λ none. none) (OwnStack i t (f ∷ gs)) here.1
 
 from_region : (i : Image) (s : State) (t : ℕ) (f : Frame) (gs : List Frame) (by : Cap) (x : ℕ) (r : Region) (g : Granule) → Loading i s t f gs by x → region i (granule_of i x) ≡ r → Loads i by.shadow.root (booted i (granule_of i x)).cap r → InRegion i s (granule_of i x) r g → InFrames i s.objects t (f ∷ gs) g.cap
 from_region i s t f gs by x Fixed g w is l h = λ tagged.
     let boot : (booted i (granule_of i x)).cap.tag ≡ true = sym (ap (λ (c : Cap). c.tag) h) ∙ tagged in
     let held = l.1 boot in
-    let reach : Reaches i.entries (root i by.shadow.root).owner f.actor = w.authority.owner l.0 f.actor refl in
+    let reach : Reaches i.entries (root i by.shadow.root).owner f.actor = w.to.authority.owner l.0 f.actor refl in
     let placed : Placed i s.objects (λ d. d ≡ f.actor) (OwnStack i t (f ∷ gs)) (booted i (granule_of i x)).cap = record {
-      rooted = w.parts.boot_rooted (granule_of i x) is boot;
+      rooted = w.to.parts.boot_rooted (granule_of i x) is boot;
       object = λ heap. absurd (let clash : true ≡ false = sym heap ∙ held.no_heap in cc);
       owner = λ owned y e. let P : ℕ → Type 0 = λ n. Reaches i.entries (root i (booted i (granule_of i x)).cap.shadow.root).owner n in subst P (sym e) (held.owner owned f.actor reach);
       own = λ stack. absurd (let clash : true ≡ false = sym stack ∙ held.no_stack in cc);
@@ -72,37 +62,37 @@ from_region i s t f gs by x Fixed g w is l h = λ tagged.
     subst (λ (c : Cap). Placed i s.objects (λ d. d ≡ f.actor) (OwnStack i t (f ∷ gs)) c) (sym h) placed
 from_region i s t f gs by x (Globals o) g w is l h = λ tagged.
     given_from i s.objects (λ d. d ≡ o) NoStack f.actor o g.cap refl
-    (owner_joined i s.objects f.actor o (OwnStack i t (f ∷ gs)) by w.parts w.authority (ap is_owned l.0) l.1)
+    (owner_joined i s.objects f.actor o (OwnStack i t (f ∷ gs)) by w.to.parts w.to.authority (ap is_owned l.0) l.1)
     (λ none. none) (OwnStack i t (f ∷ gs)) (h tagged)
 from_region i s t f gs by x (Shared m) g w is l h = λ tagged.
     given_from i s.objects (SharesC i.entries m) NoStack f.actor l.1.0 g.cap l.1.2
-    (owner_joined i s.objects f.actor l.1.0 (OwnStack i t (f ∷ gs)) by w.parts w.authority (ap is_owned l.0) l.1.1)
+    (owner_joined i s.objects f.actor l.1.0 (OwnStack i t (f ∷ gs)) by w.to.parts w.to.authority (ap is_owned l.0) l.1.1)
     (λ none. none) (OwnStack i t (f ∷ gs)) (h tagged).1
 from_region i s t f gs by x HeapRam g w is l h = absurd l
 from_region i s t f gs by x (Stack u) g w is l h =
-    let own : OwnStack i t (f ∷ gs) by = w.authority.own (ap is_stack l.0) in
-    let at : address_of i (granule_of i x) ≡ x = whole_granule i x w.parts w.inside w.aligned in
+    let own : OwnStack i t (f ∷ gs) by = w.to.authority.own (ap is_stack l.0) in
+    let at : address_of i (granule_of i x) ≡ x = whole_granule i x w.to.parts w.to.inside w.to.aligned in
     let kind_is : (root i (stack_entry i t)).origin ≡ Listing kind.Stack = let P : ℕ → Type 0 = λ n. (root i n).origin ≡ Listing kind.Stack in subst P own.0 l.0 in
-    let same : t ≡ u = w.parts.stacks_differ t u kind_is (sym own.0 ∙ l.1) in
+    let same : t ≡ u = w.to.parts.stacks_differ t u kind_is (sym own.0 ∙ l.1) in
     let P : ℕ → Type 0 = λ n. InFrames i s.objects n (outer (thread s n).frames (address_of i (granule_of i x))) g.cap in
     let Q : List Frame → Type 0 = λ fs. InFrames i s.objects t (outer fs (address_of i (granule_of i x))) g.cap in
     let R : ℕ → Type 0 = λ n. InFrames i s.objects t (outer (f ∷ gs) n) g.cap in
-    let there : InFrames i s.objects t (outer (f ∷ gs) x) g.cap = subst R at (subst Q w.frames (subst P (sym same) h)) in
-    carry i s.objects t (outer (f ∷ gs) x) (f ∷ gs) g.cap (tops_back i (f ∷ gs) (cap_top by) x own.1 w.high) there
+    let there : InFrames i s.objects t (outer (f ∷ gs) x) g.cap = subst R at (subst Q w.to.frames (subst P (sym same) h)) in
+    carry i s.objects t (outer (f ∷ gs) x) (f ∷ gs) g.cap (tops_back i (f ∷ gs) (cap_top by) x own.1 w.to.high) there
 from_region i s t f gs by x Bare g w is l h = λ tagged. absurd (let clash : true ≡ false = sym tagged ∙ h in cc)
 
 load_in : (i : Image) (s : State) (t : ℕ) (f : Frame) (gs : List Frame) (by : Cap) (x : ℕ) → Loading i s t f gs by x → InFrames i s.objects t (f ∷ gs) (granule s (granule_of i x)).cap
 load_in i s t f gs by x w = elim (bool_tells (heap_cap i by)) [
   | inl heap ↦
-      let place = w.authority.rooted.heap heap in
-      let is : region i (granule_of i x) ≡ HeapRam = (w.parts.heap x (omega (arith, place, w.low)) (omega (arith, place, w.high))).1 in
+      let place = w.to.authority.rooted.heap heap in
+      let is : region i (granule_of i x) ≡ HeapRam = (w.to.parts.heap x (omega (arith, place, w.to.low)) (omega (arith, place, w.to.high))).1 in
       let P : Region → Type 0 = λ r. InRegion i s (granule_of i x) r (granule s (granule_of i x)) in
-      from_heap i s t f gs by x (granule s (granule_of i x)) w heap (subst P is (w.held.granules (granule_of i x)))
+      from_heap i s t f gs by x (granule s (granule_of i x)) w heap (subst P is (w.to.held.granules (granule_of i x)))
   | inr other ↦
-      let range = w.authority.rooted.range other in
+      let range = w.to.authority.rooted.range other in
       from_region i s t f gs by x (region i (granule_of i x)) (granule s (granule_of i x)) w refl
-      (w.parts.loads by.shadow.root x w.inside (w.authority.rooted.rights other load_data w.loads) (w.authority.rooted.rights other memory_capability w.carries) (omega (arith, range, w.low)) (omega (arith, range, w.high)))
-      (w.held.granules (granule_of i x))
+      (w.to.parts.loads by.shadow.root x w.to.inside (w.to.authority.rooted.rights other load_data w.loads) (w.to.authority.rooted.rights other memory_capability w.to.carries) (omega (arith, range, w.to.low)) (omega (arith, range, w.to.high)))
+      (w.to.held.granules (granule_of i x))
 ]
 
 -- what a register of the running thread gets by such a load may stand there
@@ -116,17 +106,19 @@ load_stands i s t at x d p h runs inside tagged loads low high aligned derived c
       let authority : Placed i s.objects (λ y. y ≡ head.0.actor) (OwnStack i t (head.0 ∷ head.1.0)) (register (thread s t) at) =
       (subst (λ (fs : List Frame). InFrames i s.objects t fs (register (thread s t) at)) frames (h.registers t at)) tagged in
       let found : InFrames i s.objects t (head.0 ∷ head.1.0) (granule s (granule_of i x)).cap = load_in i s t head.0 head.1.0 (register (thread s t) at) x (record {
-        parts = p;
-        held = h;
-        frames = frames;
-        authority = authority;
-        live = h.live t runs at tagged;
+        to = record {
+          parts = p;
+          held = h;
+          frames = frames;
+          authority = authority;
+          live = h.live t runs at tagged;
+          carries = carries there;
+          inside = inside;
+          low = low;
+          high = high;
+          aligned = aligned;
+        };
         loads = loads;
-        carries = carries there;
-        inside = inside;
-        low = low;
-        high = high;
-        aligned = aligned;
       }) in
       let mine : InFrames i s.objects t (thread s t).frames (granule s (granule_of i x)).cap = subst (λ (fs : List Frame). InFrames i s.objects t fs (granule s (granule_of i x)).cap) (sym frames) found in
       let bound = λ (is : (granule s (granule_of i x)).cap.tag ≡ true). kept_bound i (granule s (granule_of i x)).cap is (h.kept.granules (granule_of i x)) in

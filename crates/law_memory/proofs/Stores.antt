@@ -13,42 +13,32 @@ use Rattle.def_reach.specs.Roots.{Listing, is_stack, is_owned}
 use Rattle.def_reach.specs.Sharing.{Joined, SharesC}
 use Rattle.def_machine.specs.Image.{Image, Region, Fixed, Globals, Shared, HeapRam, Stack, Bare, root, region, granule_of, address_of, stack_entry}
 use Rattle.def_machine.specs.State.{State, Frame, Object, thread, register, granule}
-use Rattle.def_machine.specs.Objects.{Any}
 use Rattle.def_machine.specs.Memory.{cap_stored, bytes_stored}
 use Rattle.def_confined.specs.Capabilities.{Kept, heap_cap, stack_cap}
-use Rattle.def_confined.specs.Places.{Placed, InFrames, InRegion, OwnStack, NoStack, HeapDomain, LiveCovers, outer}
+use Rattle.def_confined.specs.Places.{Placed, InFrames, InRegion, OwnStack, NoStack, HeapDomain, outer}
 use Rattle.def_confined.specs.Confined.{Confined, FramesHold}
 use Rattle.def_confined.specs.Partitioned.{Partitioned, Open, Carries}
 use Rattle.law_reach.proofs.Joins.{joined_sym}
 use Rattle.law_places.proofs.Places.{given, carry, outer_joins}
 use Rattle.law_places.proofs.Puts.{plain_kept, plain_region, put_confined}
-use Rattle.law_memory.proofs.Authorities.{heap_quota, no_stack_of, owner_joined, whole_granule, domain_there, domain_joined, share_joined, headed}
+use Rattle.law_memory.proofs.Authorities.{Reaching, heap_quota, no_stack_of, owner_joined, whole_granule, domain_there, domain_joined, share_joined, headed}
 
 -- what is known of a store's two registers, where the value is tagged
 pub record Storing (i : Image) (s : State) (t : ℕ) (f : Frame) (gs : List Frame) (by v : Cap) (x : ℕ) : Type 0 where
-  pub parts : Partitioned i
-  pub held : Confined i s
-  pub frames : (thread s t).frames ≡ f ∷ gs
-  pub authority : Placed i s.objects (λ d. d ≡ f.actor) (OwnStack i t (f ∷ gs)) by
-  pub live : heap_cap i by ≡ true → cap_base by < cap_top by → Any (LiveCovers by) s.objects
+  pub to : Reaching i s t f gs by x
   pub value : Placed i s.objects (λ d. d ≡ f.actor) (OwnStack i t (f ∷ gs)) v
   pub stacks : stack_cap i v ≡ true → stack_cap i by ≡ true
   pub stores : has by store_data ≡ true
-  pub carries : has by memory_capability ≡ true
-  pub inside : i.ram ≤ x
-  pub low : cap_base by ≤ x
-  pub high : x < cap_top by
-  pub aligned : x % 8 ≡ 0
 
 in_heap : (i : Image) (s : State) (t : ℕ) (f : Frame) (gs : List Frame) (by v : Cap) (x : ℕ) (mark : Bool) → Storing i s t f gs by v x → heap_cap i by ≡ true → InRegion i s (granule_of i x) HeapRam (record { cap = v; mark = mark })
 in_heap i s t f gs by v x mark w heap = λ tagged.
-    let at : address_of i (granule_of i x) ≡ x = whole_granule i x w.parts w.inside w.aligned in
-    let some : cap_base by < cap_top by = omega (arith, w.low, w.high) in
+    let at : address_of i (granule_of i x) ≡ x = whole_granule i x w.to.parts w.to.inside w.to.aligned in
+    let some : cap_base by < cap_top by = omega (arith, w.to.low, w.to.high) in
     let P : ℕ → Type 0 = λ n. ((d : ℕ) × HeapDomain i s.objects n d) × Placed i s.objects (HeapDomain i s.objects n) NoStack v in
     subst P (sym at) (
-      domain_there i s.objects f.actor x (OwnStack i t (f ∷ gs)) by w.parts heap w.low w.high (w.live heap some),
+      domain_there i s.objects f.actor x (OwnStack i t (f ∷ gs)) by w.to.parts heap w.to.low w.to.high (w.to.live heap some),
       given i s.objects f.actor (HeapDomain i s.objects x) (OwnStack i t (f ∷ gs)) NoStack v
-          (λ d there. joined_sym i.entries d f.actor (domain_joined i s.objects f.actor x d (OwnStack i t (f ∷ gs)) by w.parts w.held.apart heap w.low w.high (w.live heap some) w.authority there))
+          (λ d there. joined_sym i.entries d f.actor (domain_joined i s.objects f.actor x d (OwnStack i t (f ∷ gs)) by w.to.parts w.to.held.apart heap w.to.low w.to.high (w.to.live heap some) w.to.authority there))
           (λ stack own. no_stack_of i by (Listing kind.Quota) (heap_quota i by heap) refl (w.stacks stack))
           w.value,
     )
@@ -57,14 +47,14 @@ carried : (i : Image) (s : State) (t : ℕ) (f : Frame) (gs : List Frame) (by v 
 carried i s t f gs by v x mark Fixed w h = absurd h
 carried i s t f gs by v x mark (Globals o) w h = λ tagged.
     let owned : is_owned (root i by.shadow.root).origin ≡ true = ap is_owned h.0 in
-    let joined : Joined i.entries o f.actor = owner_joined i s.objects f.actor o (OwnStack i t (f ∷ gs)) by w.parts w.authority owned h.1 in
+    let joined : Joined i.entries o f.actor = owner_joined i s.objects f.actor o (OwnStack i t (f ∷ gs)) by w.to.parts w.to.authority owned h.1 in
     given i s.objects f.actor (λ d. d ≡ o) (OwnStack i t (f ∷ gs)) NoStack v
     (λ d e. let P : ℕ → Type 0 = λ n. Joined i.entries f.actor n in subst P (sym e) (joined_sym i.entries o f.actor joined))
     (λ stack own. no_stack_of i by (Listing kind.Globals) h.0 refl (w.stacks stack))
     w.value
 carried i s t f gs by v x mark (Shared m) w h = λ tagged.
     let owned : is_owned (root i by.shadow.root).origin ≡ true = ap is_owned h.0 in
-    let joined : Joined i.entries h.1.0 f.actor = owner_joined i s.objects f.actor h.1.0 (OwnStack i t (f ∷ gs)) by w.parts w.authority owned h.1.1 in (
+    let joined : Joined i.entries h.1.0 f.actor = owner_joined i s.objects f.actor h.1.0 (OwnStack i t (f ∷ gs)) by w.to.parts w.to.authority owned h.1.1 in (
       (h.1.0, h.1.2),
       given i s.objects f.actor (SharesC i.entries m) (OwnStack i t (f ∷ gs)) NoStack v
           (λ d shares. share_joined i m h.1.0 d f.actor h.1.2 shares joined)
@@ -73,30 +63,30 @@ carried i s t f gs by v x mark (Shared m) w h = λ tagged.
     )
 carried i s t f gs by v x mark HeapRam w h = absurd h
 carried i s t f gs by v x mark (Stack u) w h =
-    let own : OwnStack i t (f ∷ gs) by = w.authority.own (ap is_stack h.0) in
-    let at : address_of i (granule_of i x) ≡ x = whole_granule i x w.parts w.inside w.aligned in
+    let own : OwnStack i t (f ∷ gs) by = w.to.authority.own (ap is_stack h.0) in
+    let at : address_of i (granule_of i x) ≡ x = whole_granule i x w.to.parts w.to.inside w.to.aligned in
     let kind_is : (root i (stack_entry i t)).origin ≡ Listing kind.Stack = let P : ℕ → Type 0 = λ n. (root i n).origin ≡ Listing kind.Stack in subst P own.0 h.0 in
-    let same : t ≡ u = w.parts.stacks_differ t u kind_is (sym own.0 ∙ h.1) in
+    let same : t ≡ u = w.to.parts.stacks_differ t u kind_is (sym own.0 ∙ h.1) in
     let whole : InFrames i s.objects t (outer (f ∷ gs) x) v = carry i s.objects t (f ∷ gs) (outer (f ∷ gs) x) v
-    (outer_joins i s.objects t (f ∷ gs) (cap_top by) x (subst (λ (fs : List Frame). FramesHold i s.objects t fs) w.frames (w.held.frames t)) own.1 w.high)
+    (outer_joins i s.objects t (f ∷ gs) (cap_top by) x (subst (λ (fs : List Frame). FramesHold i s.objects t fs) w.to.frames (w.to.held.frames t)) own.1 w.to.high)
     (λ tagged. w.value) in
     let P : ℕ → Type 0 = λ n. InFrames i s.objects n (outer (thread s n).frames (address_of i (granule_of i x))) v in
     let Q : List Frame → Type 0 = λ fs. InFrames i s.objects t (outer fs (address_of i (granule_of i x))) v in
     let R : ℕ → Type 0 = λ n. InFrames i s.objects t (outer (f ∷ gs) n) v in
-    subst P same (subst Q (sym w.frames) (subst R (sym at) whole))
+    subst P same (subst Q (sym w.to.frames) (subst R (sym at) whole))
 carried i s t f gs by v x mark Bare w h = absurd h
 
 store_in : (i : Image) (s : State) (t : ℕ) (f : Frame) (gs : List Frame) (by v : Cap) (x : ℕ) (mark : Bool) → Storing i s t f gs by v x → InRegion i s (granule_of i x) (region i (granule_of i x)) (record { cap = v; mark = mark })
 store_in i s t f gs by v x mark w = elim (bool_tells (heap_cap i by)) [
   | inl heap ↦
-      let place = w.authority.rooted.heap heap in
-      let is : region i (granule_of i x) ≡ HeapRam = (w.parts.heap x (omega (arith, place, w.low)) (omega (arith, place, w.high))).1 in
+      let place = w.to.authority.rooted.heap heap in
+      let is : region i (granule_of i x) ≡ HeapRam = (w.to.parts.heap x (omega (arith, place, w.to.low)) (omega (arith, place, w.to.high))).1 in
       let P : Region → Type 0 = λ r. InRegion i s (granule_of i x) r (record { cap = v; mark = mark }) in
       subst P (sym is) (in_heap i s t f gs by v x mark w heap)
   | inr other ↦
-      let range = w.authority.rooted.range other in
+      let range = w.to.authority.rooted.range other in
       carried i s t f gs by v x mark (region i (granule_of i x)) w
-      (w.parts.carries by.shadow.root x (w.authority.rooted.rights other store_data w.stores) (w.authority.rooted.rights other memory_capability w.carries) (omega (arith, range, w.low)) (omega (arith, range, w.high))).1
+      (w.to.parts.carries by.shadow.root x (w.to.authority.rooted.rights other store_data w.stores) (w.to.authority.rooted.rights other memory_capability w.to.carries) (omega (arith, range, w.to.low)) (omega (arith, range, w.to.high))).1
 ]
 
 -- what is stored to isn't as boot made it
@@ -143,19 +133,21 @@ store_cap_confined i s t at from x p h runs inside tagged stores carries low hig
           let value : Placed i s.objects (λ d. d ≡ head.0.actor) (OwnStack i t (head.0 ∷ head.1.0)) (register (thread s t) from) =
           (subst (λ (fs : List Frame). InFrames i s.objects t fs (register (thread s t) from)) frames (h.registers t from)) there in
           store_in i s t head.0 head.1.0 (register (thread s t) at) (register (thread s t) from) x (granule s (granule_of i x)).mark (record {
-            parts = p;
-            held = h;
-            frames = frames;
-            authority = authority;
-            live = h.live t runs at tagged;
+            to = record {
+              parts = p;
+              held = h;
+              frames = frames;
+              authority = authority;
+              live = h.live t runs at tagged;
+              carries = carries there;
+              inside = inside;
+              low = low;
+              high = high;
+              aligned = aligned;
+            };
             value = value;
             stacks = λ stack. authority.rooted.local (local there (value.rooted.held stack));
             stores = stores;
-            carries = carries there;
-            inside = inside;
-            low = low;
-            high = high;
-            aligned = aligned;
           })
       | inr none ↦ plain_region i s (granule_of i x) (region i (granule_of i x)) (record { cap = register (thread s t) from; mark = (granule s (granule_of i x)).mark }) closed none
     ]))

@@ -21,6 +21,7 @@ use Rattle.def_confined.specs.Keeps.{Keeps}
 use Rattle.def_confined.specs.Partitioned.{Partitioned, AwayFromHeap}
 use Rattle.def_step.specs.Routines.{answers, code}
 use Rattle.def_step.specs.Quotas.{quota_in, whole_of, without_row, let_go, freed_as, free}
+use Rattle.law_places.proofs.Turns.{beside_confined, clock_of}
 use Rattle.law_registers.proofs.Moves.{untagged_puts}
 use Rattle.law_jumps.proofs.Moves.{in_rooted}
 use Rattle.law_memory.proofs.Authorities.{headed}
@@ -40,25 +41,9 @@ use Rattle.law_natives.proofs.Charging.{Charging, quota_stands, quota_licensed}
 
 tokens_keeps : (i : Image) (s : State) (ts : List Token) → Keeps i s → Keeps i (record s { tokens = ts })
 tokens_keeps i s ts k =
-    let h = k.confined in
     let b = k.beside in
     record {
-      confined = record {
-        granules = h.granules;
-        pcc = h.pcc;
-        registers = h.registers;
-        frames = h.frames;
-        postures = h.postures;
-        runs = h.runs;
-        kept = record { granules = h.kept.granules; registers = h.kept.registers; frames = h.kept.frames };
-        live = h.live;
-        apart = h.apart;
-        numbered = h.numbered;
-        fits = h.fits;
-        marks = h.marks;
-        limits = h.limits;
-        size = h.size;
-      };
+      confined = beside_confined i s ts s.running (clock_of s) (λ u runs. runs) k.confined;
       beside = record {
         swept = record { granules = b.swept.granules; registers = b.swept.registers; frames = b.swept.frames; idle = b.swept.idle };
         bounded = record { deep = b.bounded.deep; few = b.bounded.few; many = b.bounded.many; areas = b.bounded.areas; fits = b.bounded.fits };

@@ -6,7 +6,7 @@ use Rattle.def_words.specs.declared.Cap.{Cap}
 use Rattle.def_memory.specs.declared.Granule.{Granule}
 use Rattle.def_memory.specs.Granules.{plain}
 use Rattle.def_machine.specs.Image.{Image, Region, Fixed, Globals, Shared, HeapRam, Stack, Bare, region, address_of, root}
-use Rattle.def_machine.specs.State.{State, Thread, Frame, granule, thread, register, nobody}
+use Rattle.def_machine.specs.State.{State, Thread, Frame, Token, granule, thread, register, nobody}
 use Rattle.def_machine.specs.Registers.{written, with_registers, put_register}
 use Rattle.def_machine.specs.Threads.{Clockwork, changed}
 use Rattle.def_machine.specs.Objects.{Each}
@@ -64,6 +64,26 @@ changed_confined i s t new run w h c = record {
 -- the clockwork as it stands
 abbrev pub clock_of : State → Clockwork
 clock_of s = record { pending = s.pending; devices = s.devices; time = s.time; picks = s.picks; counts = s.counts }
+
+-- what a confined state doesn't hang on changes: tokens, who runs where it ran before or none does, and the clockwork
+pub beside_confined : (i : Image) (s : State) (tokens : List Token) (run : Option ℕ) (w : Clockwork) → ((u : ℕ) → run ≡ Some u → s.running ≡ Some u) → Confined i s
+    → Confined i (record s { tokens = tokens; running = run; pending = w.pending; devices = w.devices; time = w.time; picks = w.picks; counts = w.counts })
+beside_confined i s tokens run w stays h = record {
+  granules = h.granules;
+  pcc = h.pcc;
+  registers = h.registers;
+  frames = h.frames;
+  postures = h.postures;
+  runs = h.runs;
+  kept = record { granules = h.kept.granules; registers = h.kept.registers; frames = h.kept.frames };
+  live = λ t is n. h.live t (stays t is) n;
+  apart = h.apart;
+  numbered = h.numbered;
+  fits = h.fits;
+  marks = h.marks;
+  limits = h.limits;
+  size = h.size;
+}
 
 -- one thread's registers change
 pub registers_confined : (i : Image) (s : State) (t : ℕ) (rs : List Cap) → Confined i s → ((n : ℕ) → InFrames i s.objects t (thread s t).frames (get_or rs n (plain 0))) → ((n : ℕ) → Kept i (get_or rs n (plain 0)))

@@ -3,6 +3,7 @@
 #![tactic(auto)]
 
 ghost use Rattle.std.specs.Prelude.{◌≡◌, ◌≤◌, ◌⊎◌, ℕ, Some, true, false};
+ghost use Rattle.def_profile.specs.declared.seals.TheConstants.{FIRST_KEY_TYPE};
 ghost use Rattle.def_words.specs.declared.Cap.{Cap};
 ghost use Rattle.def_words.specs.Authority.{cap_base};
 ghost use Rattle.def_words.specs.Permissions.{has, sealing, unsealing};
@@ -40,9 +41,9 @@ pub fn values_put()
         → Derived (thread s t).pcc d → Puts i s t d }
 {}
 
-/// A key that seals or opens has no type below 13 in its bounds.
+/// A key that seals or opens has no type below the first of keys in its bounds.
 pub fn keys()
     ensures { (i : Image) (key : Cap)
         → Partitioned i → Rooted i key → (has key sealing ≡ true) ⊎ (has key unsealing ≡ true)
-        → 13 ≤ cap_base key }
+        → FIRST_KEY_TYPE ≤ cap_base key }
 {}

@@ -1,7 +1,7 @@
 -- The object of an allocation, and the object that a free finds.
 use Rattle.std.proofs.Common.{ℕ, ◌≡◌, ◌+◌, ◌-◌, ◌==◌, ◌≤◌, ◌&&◌, ◌||◌, Bool, true, false, inl, inr, nat_lt, List, [], ◌∷◌, Option, Some, None, refl, sym, ap, subst, if◌then◌else◌}
 use Rattle.std.specs.Prelude.{find}
-use Rattle.std.proofs.lemmas.Bool.{eqb-true, eqb-false, ltb-false, and_parts}
+use Rattle.std.proofs.lemmas.Bool.{eqb-true, eqb-false, ltb-false, and_parts, or_parts}
 use Rattle.law_lists.proofs.Tests.{chosen}
 use Rattle.def_words.specs.declared.Cap.{Cap}
 use Rattle.def_words.specs.Authority.{cap_base, cap_top}
@@ -32,17 +32,13 @@ is_made (Made q) = true
 not_made : (n : ℕ) (r : Object) → Refused n ≡ Made r → ⊥
 not_made n r e = let clash : false ≡ true = ap is_made e in cc
 
-or_false : (a b : Bool) → (a || b) ≡ false → a ≡ false
-or_false true b h = h
-or_false false b h = refl
-
 pub made_says : (i : Image) (s : State) (quota size : ℕ) (r : Object) → allocation i s quota size ≡ Made r → Makes i s quota size r
 made_says i s quota size r = chosen (λ (a : Allocation). a ≡ Made r → Makes i s quota size r) ((size == 0) || nat_lt (i.heap_end - i.heap_base) size) (Refused 4) (if nat_lt (root i quota).limit (charges quota s.objects + charge_for size) then Refused 2 else at_place s quota size (place_of i s.objects (length_for size)))
     (λ is e. absurd (not_made 4 r e))
     (λ sized. chosen (λ (a : Allocation). a ≡ Made r → Makes i s quota size r) (nat_lt (root i quota).limit (charges quota s.objects + charge_for size)) (Refused 2) (at_place s quota size (place_of i s.objects (length_for size)))
     (λ is e. absurd (not_made 2 r e))
     (λ within e. at (place_of i s.objects (length_for size)) refl
-    (eqb-false size 0 (or_false (size == 0) (nat_lt (i.heap_end - i.heap_base) size) sized))
+    (eqb-false size 0 (or_parts (size == 0) (nat_lt (i.heap_end - i.heap_base) size) sized).0)
     (ltb-false (root i quota).limit (charges quota s.objects + charge_for size) within)
     e))
   where

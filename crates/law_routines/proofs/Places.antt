@@ -2,7 +2,8 @@
 use Rattle.std.proofs.Common.{ℕ, zero, suc, ◌≡◌, ◌+◌, ◌-◌, ◌%◌, ◌≤◌, ◌<◌, ◌==◌, ◌&&◌, ◌||◌, inl, inr, Bool, true, false, cond, nat_le, List, [], ◌∷◌, Some, None, refl, sym, ap, ◌∙◌, arith}
 use Rattle.std.specs.Prelude.{find}
 use Rattle.std.specs.List.{range_with_len, list_all}
-use Rattle.law_lists.proofs.Tests.{bool_tells, both_left, both_right, le_tells, eq_tells}
+use Rattle.std.proofs.lemmas.Bool.{eq-eqb, eqb-true, le-leb, leb-true}
+use Rattle.law_lists.proofs.Tests.{bool_tells, both_left, both_right, le_tells}
 use Rattle.def_words.specs.LeastBounds.{alignment_of}
 use Rattle.def_machine.specs.Image.{Image}
 use Rattle.def_machine.specs.State.{Object}
@@ -50,29 +51,17 @@ never P low (suc n) x e from to = elim (bool_tells (P low)) [
 abbrev new_at : ℕ → ℕ → Object
 new_at length base = record { number = 0; quota = 0; base = base; length = length; charge = 0; live = true; painted = false }
 
-le_true : (a b : ℕ) → nat_le a b ≡ true → a ≤ b
-le_true a b e = elim (le_tells a b) [ inl is ↦ is.1 | inr not ↦ absurd (let clash : true ≡ false = sym e ∙ not.0 in cc) ]
-
-le_is : (a b : ℕ) → a ≤ b → nat_le a b ≡ true
-le_is a b le = elim (le_tells a b) [ inl is ↦ is.0 | inr not ↦ absurd (let lt = not.1 in omega (arith, le, lt)) ]
-
-eq_true : (a b : ℕ) → (a == b) ≡ true → a ≡ b
-eq_true a b e = elim (eq_tells a b) [ inl is ↦ is.1 | inr not ↦ absurd (let clash : true ≡ false = sym e ∙ not.0 in cc) ]
-
-eq_is : (a b : ℕ) → a ≡ b → (a == b) ≡ true
-eq_is a b e = elim (eq_tells a b) [ inl is ↦ is.0 | inr not ↦ absurd (not.1 e) ]
-
 apart_says : (length base : ℕ) (q : Object) → is_apart length base q ≡ true → ApartFrom (new_at length base) q
 apart_says length base q e = elim (bool_tells (nat_le (base + length + 8) q.base)) [
-  | inl is ↦ inl (le_true (base + length + 8) q.base is)
-  | inr not ↦ inr (le_true (q.base + q.length + 8) base (sym (ap (λ b. b || nat_le (q.base + q.length + 8) base) not) ∙ e))
+  | inl is ↦ inl (leb-true (base + length + 8) q.base is)
+  | inr not ↦ inr (leb-true (q.base + q.length + 8) base (sym (ap (λ b. b || nat_le (q.base + q.length + 8) base) not) ∙ e))
 ]
 
 apart_is : (length base : ℕ) (q : Object) → ApartFrom (new_at length base) q → is_apart length base q ≡ true
-apart_is length base q (inl le) = ap (λ b. b || nat_le (q.base + q.length + 8) base) (le_is (base + length + 8) q.base le)
+apart_is length base q (inl le) = ap (λ b. b || nat_le (q.base + q.length + 8) base) (le-leb (base + length + 8) q.base le)
 apart_is length base q (inr le) = elim (bool_tells (nat_le (base + length + 8) q.base)) [
   | inl is ↦ ap (λ b. b || nat_le (q.base + q.length + 8) base) is
-  | inr not ↦ ap (λ b. b || nat_le (q.base + q.length + 8) base) not ∙ le_is (q.base + q.length + 8) base le
+  | inr not ↦ ap (λ b. b || nat_le (q.base + q.length + 8) base) not ∙ le-leb (q.base + q.length + 8) base le
 ]
 
 all_says : (length base : ℕ) (qs : List Object) → list_all (is_apart length base) qs ≡ true → Each (λ q. ApartFrom (new_at length base) q) qs
@@ -93,15 +82,15 @@ place_says i qs length base e =
     let three : ((base % 8 == 0) && (base % alignment_of length == 0) && nat_le (i.heap_base + 8) base) ≡ true = both_left _ _ four in
     let two : ((base % 8 == 0) && (base % alignment_of length == 0)) ≡ true = both_left _ _ three in
     record {
-      eight = eq_true (base % 8) 0 (both_left _ _ two);
-      aligned = eq_true (base % alignment_of length) 0 (both_right _ _ two);
-      low = le_true (i.heap_base + 8) base (both_right _ _ three);
-      high = le_true (base + length) i.heap_end (both_right _ _ four);
+      eight = eqb-true (base % 8) 0 (both_left _ _ two);
+      aligned = eqb-true (base % alignment_of length) 0 (both_right _ _ two);
+      low = leb-true (i.heap_base + 8) base (both_right _ _ three);
+      high = leb-true (base + length) i.heap_end (both_right _ _ four);
       apart = all_says length base qs (both_right _ _ e);
     }
 
 place_is : (i : Image) (qs : List Object) (length base : ℕ) → Fits i qs length base → is_place i qs length base ≡ true
-place_is i qs length base f = rw (eq_is (base % 8) 0 f.eight, eq_is (base % alignment_of length) 0 f.aligned, le_is (i.heap_base + 8) base f.low, le_is (base + length) i.heap_end f.high) (all_is length base qs f.apart)
+place_is i qs length base f = rw (eq-eqb (base % 8) 0 f.eight, eq-eqb (base % alignment_of length) 0 f.aligned, le-leb (i.heap_base + 8) base f.low, le-leb (base + length) i.heap_end f.high) (all_is length base qs f.apart)
 
 -- ---- places
 

@@ -6,11 +6,9 @@ use Rattle.std.specs.Char.{is_ascii_digit}
 use Rattle.std.proofs.lemmas.List.Folds.{list_all-append}
 use Rattle.std.proofs.lemmas.Str.Parse.{IsNumeralModel, numerals_by_fold}
 use Rattle.std.proofs.lemmas.Fmt.{digits_decimal, decimal_injective}
+use Rattle.std.proofs.lemmas.Bool.{both_ways}
 use Rattle.law_lists.proofs.Tests.{both_left, both_right}
 use Rattle.def_script.specs.Script.{is_inner}
-
-clash : (b : Bool) → b ≡ true → b ≡ false → ⊥
-clash b one_way other_way = let bad : true ≡ false = sym one_way ∙ other_way in absurd (cc)
 
 -- two runs that the same text begins with are the same, and what follows them is
 pub same_run : (p : ℕ → Bool) (xs ys : List ℕ) (a b : ℕ) (r s : List ℕ)
@@ -19,10 +17,10 @@ pub same_run : (p : ℕ → Bool) (xs ys : List ℕ) (a b : ℕ) (r s : List ℕ
 same_run p [] [] a b r s hx hy na nb e = (refl, cc, cc)
 same_run p [] (y ∷ ys) a b r s hx hy na nb e =
     let here : a ≡ y = cc in
-    absurd (clash (p y) (both_left (p y) (list_all p ys) hy) (ap p (sym here) ∙ na))
+    absurd (both_ways (p y) (ap p (sym here) ∙ na) (both_left (p y) (list_all p ys) hy))
 same_run p (x ∷ xs) [] a b r s hx hy na nb e =
     let here : x ≡ b = cc in
-    absurd (clash (p x) (both_left (p x) (list_all p xs) hx) (ap p here ∙ nb))
+    absurd (both_ways (p x) (ap p here ∙ nb) (both_left (p x) (list_all p xs) hx))
 same_run p (x ∷ xs) (y ∷ ys) a b r s hx hy na nb e =
     let here : x ≡ y = cc in
     let later : xs ++ a ∷ r ≡ ys ++ b ∷ s = cc in

@@ -17,17 +17,8 @@ use Rattle.def_boot.specs.Boot.{image_of, boot_state}
 use Rattle.law_places.proofs.Puts.{plain_region}
 use Rattle.law_grants.proofs.Sets.{no_way}
 use Rattle.law_laid.proofs.Granules.{in_ram}
-use Rattle.law_booted.proofs.Contents.{booted_in, booted_made}
+use Rattle.law_booted.proofs.Contents.{booted_in, booted_made, granules_count, granules_past}
 use Rattle.law_started.proofs.Tags.{tagged_fixed, kept_made}
-
-how_many : (p : PartsRow) (x n : ℕ) → length (granules_from p x n) ≡ n
-how_many p x zero = refl
-how_many p x (suc n) = ap suc (how_many p (x + GRANULE) n)
-
-past_plain : (p : PartsRow) (x n k : ℕ) → n ≤ k → slice_index_or (granules_from p x n) k nothing ≡ nothing
-past_plain p x zero k past = refl
-past_plain p x (suc n) zero past = absurd (omega (arith, past))
-past_plain p x (suc n) (suc k) past = past_plain p (x + GRANULE) n k (omega (arith, past))
 
 none_marked : (p : PartsRow) (x n k : ℕ) → (slice_index_or (granules_from p x n) k nothing).mark ≡ false
 none_marked p x zero k = refl
@@ -37,7 +28,7 @@ none_marked p x (suc n) (suc k) = none_marked p (x + GRANULE) n k
 module _ (p : PartsRow) (s : Sound p) where
   pub past_none : (k : ℕ) → granules_in p ≤ k → booted (image_of p) k ≡ nothing
   unfolding image_of boot_granules
-  past_none k past = past_plain p p.ram (granules_in p) k past
+  past_none k past = granules_past p p.ram (granules_in p) k past
 
   fixed_there : (k : ℕ) → (booted (image_of p) k).cap.tag ≡ true → image.region (image_of p) k ≡ Fixed
   fixed_there k tagged = elim (lt_tells k (granules_in p)) [
@@ -82,6 +73,6 @@ module _ (p : PartsRow) (s : Sound p) where
   pub granules_end : (image_of p).ram + 8 * length (boot_state p).granules ≡ p.ram + p.size
   unfolding image_of boot_state boot_granules
   granules_end =
-      let many = how_many p p.ram (granules_in p) in
+      let many = granules_count p p.ram (granules_in p) in
       let whole = s.ram.size in
       omega (arith, many, whole)

@@ -1,5 +1,5 @@
 -- No entry of a sound image reaches the threads' areas or the heap.
-use Rattle.std.proofs.Common.{ℕ, zero, suc, ◌≡◌, ◌+◌, ◌%◌, ◌<◌, ◌≤◌, ◌⊎◌, inl, inr, Bool, true, false, List, [], ◌∷◌, ◌++◌, map, length, Some, unwrap_or, slice_get, refl, sym, ap, ◌∙◌, subst, arith}
+use Rattle.std.proofs.Common.{ℕ, ◌≡◌, ◌+◌, ◌%◌, ◌<◌, ◌≤◌, ◌⊎◌, inl, inr, Bool, true, false, List, [], ◌∷◌, map, Some, unwrap_or, slice_get, refl, sym, ap, ◌∙◌, subst, arith}
 use Rattle.std.proofs.lemmas.Option.{slice_get_within}
 use Rattle.law_lists.proofs.Tests.{lt_tells}
 use Rattle.ct_entry.specs.declared.rows.Owner.{Owner}
@@ -13,9 +13,7 @@ use Rattle.def_image.specs.declared.SlotKind.{SlotKind}
 use Rattle.def_image.specs.declared.SlotKind.TheVariants as slot
 use Rattle.def_image.specs.Parts.{SharedRow, SealedRow, CodeRow, CompartmentRow, ThreadRow, PartsRow}
 use Rattle.def_image.specs.Members.{no_code, no_compartment, no_shared, no_sealed, compartment, library, shared, sealed}
-use Rattle.def_image.specs.Sizes.{shared_at, sealed_at, compartments_at, compartment_size, libraries_at, threads_at}
-use Rattle.def_image.specs.Spelling.{raw_of, raw_compartment}
-use Rattle.def_image.specs.Regions.{Holder, CodeOf, TableOf, GlobalsOf, SharedOf, SealedOf, StackOf, RegionRow, region, trusted_region, trusted_size, table_length, table_size, shared_regions, sealed_regions, compartment_regions, library_regions, stack_regions, regions_of}
+use Rattle.def_image.specs.Regions.{Holder, CodeOf, TableOf, GlobalsOf, SharedOf, SealedOf, StackOf, RegionRow, region, trusted_region, trusted_size, table_size, regions_of}
 use Rattle.def_image.specs.Regions as regions
 use Rattle.def_image.specs.Laid.{IsRegion}
 use Rattle.def_image.specs.Sound.{Sound, Names}
@@ -23,60 +21,15 @@ use Rattle.def_boot.specs.Entries.{slot_row}
 use Rattle.def_boot.specs.Gates.{entries_of}
 use Rattle.def_boot.specs.Boot.{image_of}
 use Rattle.law_listed.specs.Rows.{EntryIs, is_nothing, is_trusted, is_code, is_globals, is_slot, is_export, is_library, is_library_slot, is_library_export, is_stack}
-use Rattle.law_listed.proofs.Blocks.{before, further}
 use Rattle.law_listed.proofs.Listing.{entry_of}
+use Rattle.law_listed.proofs.Regions.{Among, table_there}
 use Rattle.law_grants.proofs.Lying.{trusted_there}
 use Rattle.law_grants.proofs.Making.{length_above, device_base_is}
 use Rattle.law_grants.proofs.Sets.{no_way}
 use Rattle.law_grants.proofs.Clauses.{told_at, away_of}
-use Rattle.law_laid.proofs.Lists.{Among, shared_there, sealed_there, globals_there, stack_there}
+use Rattle.law_laid.proofs.Lists.{shared_there, sealed_there, globals_there, stack_there}
 use Rattle.law_booted.proofs.Codes.{code_there, library_there}
 use Rattle.law_started.proofs.Whole.{areas_are, areas_fit}
-
--- ---- the export tables among the regions
-
-table_in : (at n : ℕ) (cs : List CompartmentRow) (k : ℕ) (c : CompartmentRow) → slice_get cs k ≡ Some c → Among (compartment_regions at n cs) (TableOf (n + k)) c.table (table_length c)
-table_in at n [] k c is = cc
-table_in at n (d ∷ ds) zero c is =
-    let same : d ≡ c = cc in
-    let index : n ≡ n + 0 = omega arith in
-    let one : Among (compartment_regions at n (d ∷ ds)) (TableOf n) d.table (table_length d) = record { index = 1; place = at + 44; is = refl } in
-    subst (λ (z : CompartmentRow). Among (compartment_regions at n (d ∷ ds)) (TableOf (n + 0)) z.table (table_length z)) same
-    (subst (λ m. Among (compartment_regions at n (d ∷ ds)) (TableOf m) d.table (table_length d)) index one)
-table_in at n (d ∷ ds) (suc k) c is =
-    let index : n + 1 + k ≡ n + suc k = omega arith in
-    let more = table_in (at + compartment_size (raw_compartment d)) (n + 1) ds k c is in
-    subst (λ m. Among (compartment_regions at n (d ∷ ds)) (TableOf m) c.table (table_length c)) index
-    (record { index = suc (suc (suc more.index)); place = more.place; is = more.is })
-
-left : (xs ys : List RegionRow) (h : Holder) (base size : ℕ) → Among xs h base size → Among (xs ++ ys) h base size
-left xs ys h base size a = record { index = a.index; place = a.place; is = before xs ys a.index (slice_get_within xs a.index (region h a.place base size) a.is) ∙ a.is }
-
-right : (xs ys : List RegionRow) (h : Holder) (base size : ℕ) → Among ys h base size → Among (xs ++ ys) h base size
-right xs ys h base size a = record { index = length xs + a.index; place = a.place; is = further xs ys a.index ∙ a.is }
-
-next : (x : RegionRow) (xs : List RegionRow) (h : Holder) (base size : ℕ) → Among xs h base size → Among (x ∷ xs) h base size
-next x xs h base size a = record { index = suc a.index; place = a.place; is = a.is }
-
-abbrev objects : PartsRow → List RegionRow
-objects p = shared_regions (shared_at (raw_of p)) 0 p.shared ++ sealed_regions (sealed_at (raw_of p)) 0 p.sealed
-
-abbrev own_part : PartsRow → List RegionRow
-own_part p = compartment_regions (compartments_at (raw_of p)) 0 p.compartments
-
-abbrev library_part : PartsRow → List RegionRow
-library_part p = library_regions (libraries_at (raw_of p)) 0 p.libraries
-
-abbrev stack_part : PartsRow → List RegionRow
-stack_part p = stack_regions (threads_at (raw_of p)) 0 p.threads
-
-table_there : (p : PartsRow) (b : ℕ) (c : CompartmentRow) → slice_get p.compartments b ≡ Some c → Among (regions_of p) (TableOf b) c.table (table_length c)
-unfolding regions_of
-table_there p b c is =
-    let same : 0 + b ≡ b = omega arith in
-    let one = subst (λ m. Among (own_part p) (TableOf m) c.table (table_length c)) same (table_in (compartments_at (raw_of p)) 0 p.compartments b c is) in
-    next _ (objects p ++ own_part p ++ library_part p ++ stack_part p) _ _ _
-    (left (objects p ++ own_part p ++ library_part p) (stack_part p) _ _ _ (left (objects p ++ own_part p) (library_part p) _ _ _ (right (objects p) (own_part p) _ _ _ one)))
 
 -- ---- apart from the areas
 

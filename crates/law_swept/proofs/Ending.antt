@@ -1,13 +1,12 @@
 -- A slice that comes to RAM's end has passed every place; and what it has passed is of no painted object.
-use Rattle.std.proofs.Common.{ℕ, zero, suc, ◌≡◌, ◌+◌, ◌-◌, ◌*◌, ◌≤◌, ◌<◌, ◌⊎◌, inl, inr, ◌&&◌, ◌||◌, Bool, true, false, nat_le, nat_lt, take, slice_index_or, length, List, [], ◌∷◌, Option, Some, None, refl, sym, ap, ◌∙◌, subst, arith}
+use Rattle.std.proofs.Common.{ℕ, ◌≡◌, ◌+◌, ◌-◌, ◌*◌, ◌≤◌, ◌<◌, ◌⊎◌, inl, inr, ◌&&◌, true, false, nat_le, nat_lt, length, List, [], ◌∷◌, Option, Some, None, refl, sym, ap, ◌∙◌, subst, arith}
 use Rattle.std.proofs.Math.ListN.{get_or}
+use Rattle.std.proofs.lemmas.Bool.{leb-true, ltb-true, or_cases}
 use Rattle.std.proofs.lemmas.List.{get_or_past}
-use Rattle.law_lists.proofs.Tests.{bool_tells, both_left, both_right, chosen, le_tells, lt_tells}
+use Rattle.law_lists.proofs.Tests.{bool_tells, both_left, both_right, chosen, lt_tells}
 use Rattle.def_words.specs.declared.Cap.{Cap}
 use Rattle.def_words.specs.Authority.{cap_base, cap_top}
-use Rattle.def_memory.specs.declared.Granule.{Granule}
-use Rattle.def_memory.specs.Granules.{plain, nothing}
-use Rattle.def_machine.specs.Image.{Image, Region, Fixed, Globals, Shared, HeapRam, Stack, Bare, region, address_of, area_of, areas_size, frames_most}
+use Rattle.def_machine.specs.Image.{Image, Region, Fixed, Globals, Shared, HeapRam, Stack, Bare, region, address_of, area_of}
 use Rattle.def_machine.specs.State.{State, Thread, Frame, Object, thread, register, granule, nobody}
 use Rattle.def_machine.specs.Objects.{Any, Each, InChunk, has_quarantined, painted, is_painted_at}
 use Rattle.def_machine.specs.Heap.{begun_sweep, sweep_began, with_slice, slice_end, ram_size}
@@ -16,44 +15,35 @@ use Rattle.def_confined.specs.Places.{InRegion, outer}
 use Rattle.def_confined.specs.Confined.{Confined, FramesHold, Apart, ObjectFits}
 use Rattle.def_confined.specs.Keeps.{Keeps}
 use Rattle.def_confined.specs.Partitioned.{Partitioned, AwayFromHeap}
-use Rattle.def_confined.specs.Swept.{UnpaintedCovers, HasUnpainted, IsPassed, FramesSwept, Swept, Bounded}
+use Rattle.def_confined.specs.Swept.{UnpaintedCovers, HasUnpainted, FramesSwept}
 use Rattle.def_facts.specs.Facts.{RootsAway}
 use Rattle.law_places.proofs.Rows.{each_take, one_row}
 use Rattle.law_registers.proofs.Derives.{code_no_heap}
 use Rattle.law_jumps.proofs.Moves.{in_rooted}
 use Rattle.law_sweeps.proofs.Slices.{slice_confined, slice_length}
 use Rattle.law_sweeps.proofs.Passes.{slice_swept, slice_bounded}
-use Rattle.law_sweeps.proofs.Begins.{begun_confined, begun_swept, begun_bounded}
+use Rattle.law_sweeps.proofs.Ends.{Held, Passed, began_held, granule_stays, idle_stays, is_passed, thread_ends}
 use Rattle.law_swept.specs.Clean.{NotStale, SavedClean, IsClean}
 
 -- ---- painted chunks
-
-or_cases : (a b : Bool) (G : Type 0) → (a || b) ≡ true → (a ≡ true → G) → (b ≡ true → G) → G
-or_cases true b G is f g = f refl
-or_cases false b G is f g = g is
-
-tells_le : (a b : ℕ) → nat_le a b ≡ true → a ≤ b
-tells_le a b is = elim (le_tells a b) [ inl e ↦ e.1 | inr e ↦ absurd (let clash : true ≡ false = sym is ∙ e.0 in cc) ]
-
-tells_lt : (a b : ℕ) → nat_lt a b ≡ true → a < b
-tells_lt a b is = elim (lt_tells a b) [ inl e ↦ e.1 | inr e ↦ absurd (let clash : true ≡ false = sym is ∙ e.0 in cc) ]
 
 abbrev Painted : ℕ → Object → Type 0
 Painted x r = (r.painted ≡ true) × InChunk r x
 
 painted_there : (rows : List Object) (x : ℕ) → is_painted_at rows x ≡ true → Any (Painted x) rows
 painted_there [] x h = absurd (let clash : false ≡ true = h in cc)
-painted_there (r ∷ rs) x h = or_cases (r.painted && nat_le r.base (x + 8) && nat_lt x (r.base + r.length)) (is_painted_at rs x) (Painted x r ⊎ Any (Painted x) rs) h
-    (λ is.
-    let two : (r.painted && nat_le r.base (x + 8)) ≡ true = both_left (r.painted && nat_le r.base (x + 8)) (nat_lt x (r.base + r.length)) is in
-    inl (
-      both_left r.painted (nat_le r.base (x + 8)) two,
-      (
-        tells_le r.base (x + 8) (both_right r.painted (nat_le r.base (x + 8)) two),
-        tells_lt x (r.base + r.length) (both_right (r.painted && nat_le r.base (x + 8)) (nat_lt x (r.base + r.length)) is),
-      ),
-    ))
-    (λ more. inr (painted_there rs x more))
+painted_there (r ∷ rs) x h = elim (or_cases (r.painted && nat_le r.base (x + 8) && nat_lt x (r.base + r.length)) (is_painted_at rs x) h) [
+  | inl is ↦
+      let two : (r.painted && nat_le r.base (x + 8)) ≡ true = both_left (r.painted && nat_le r.base (x + 8)) (nat_lt x (r.base + r.length)) is in
+      inl (
+        both_left r.painted (nat_le r.base (x + 8)) two,
+        (
+          leb-true r.base (x + 8) (both_right r.painted (nat_le r.base (x + 8)) two),
+          ltb-true x (r.base + r.length) (both_right (r.painted && nat_le r.base (x + 8)) (nat_lt x (r.base + r.length)) is),
+        ),
+      )
+  | inr more ↦ inr (painted_there rs x more)
+]
 
 -- away from the heap no chunk is
 away_clear : (i : Image) (next x : ℕ) (rows : List Object) → Each (ObjectFits i next) rows → AwayFromHeap i x → is_painted_at rows x ≡ false
@@ -100,43 +90,9 @@ by_root i s c away h rooted has = not_stale i s c away h (λ tagged. ((λ heap. 
 
 -- ---- every place has been passed
 
-area_there : (ns : List ℕ) (t : ℕ) → t < length ns → areas_size (take t ns) + 160 + 64 * slice_index_or ns t 0 ≤ areas_size ns
-area_there [] t lt = absurd (omega (arith, lt))
-area_there (n ∷ ns) zero lt = omega arith
-area_there (n ∷ ns) (suc t) lt = let rest = area_there ns t (omega (arith, lt)) in omega (arith, rest)
-
 -- a confined state whose sweep has passed all of RAM
-record Passed (i : Image) (s : State) (front : ℕ) : Type 0 where
-  pub parts : Partitioned i
-  pub away : RootsAway i
-  pub held : Confined i s
-  pub done : Swept i s
-  pub bound : Bounded i s
-  pub on : s.front ≡ Some front
-  pub all : 8 * length s.granules ≤ front
-
-module _ (i : Image) (s : State) (front : ℕ) (w : Passed i s front) where
-  is_passed : (x : ℕ) → x < front → IsPassed s.front x
-  is_passed x lt = subst (λ o. IsPassed o x) (sym w.on) lt
-
-  thread_ends : (t : ℕ) → t < length s.threads → area_of i t - i.ram + 160 + 64 * frames_most i t ≤ front
-  thread_ends t lt =
-      let there = area_there i.frames t (let many = w.bound.many in omega (arith, lt, many)) in
-      let fits = w.bound.fits in
-      let areas = w.bound.areas in
-      let all = w.all in
-      sums (areas_size (take t i.frames)) (64 * frames_most i t) (areas_size i.frames) i.trusted i.ram (length s.granules) there fits areas all
-    where
-      sums : (a b c trusted ram n : ℕ) → a + 160 + b ≤ c → trusted + c ≤ ram + 8 * n → ram ≤ trusted → 8 * n ≤ front → trusted + a - ram + 160 + b ≤ front
-      sums a b c trusted ram n one two three four = omega (arith, one, two, three, four)
-
+module _ (i : Image) (s : State) (front : ℕ) (away : RootsAway i) (w : Passed i s front) where
   -- ---- granules
-
-  granule_has : (k : ℕ) → HasUnpainted i s.objects (granule s k).cap
-  granule_has k = elim (lt_tells k (length s.granules)) [
-    | inl e ↦ w.done.granules k (is_passed (8 * k) (let lt = e.1 in let all = w.all in omega (arith, lt, all)))
-    | inr e ↦ λ tagged. absurd (let clash : true ≡ false = sym tagged ∙ ap (λ (g : Granule). g.cap.tag) (get_or_past s.granules k nothing e.1) in cc)
-  ]
 
   fixed_clean : (k : ℕ) → region i k ≡ Fixed → InRegion i s k Fixed (granule s k) → NotStale s.objects (granule s k).cap
   fixed_clean k is here tagged some =
@@ -145,10 +101,10 @@ module _ (i : Image) (s : State) (front : ℕ) (w : Passed i s front) where
 
   granule_clean : (k : ℕ) (r : Region) → region i k ≡ r → InRegion i s k r (granule s k) → NotStale s.objects (granule s k).cap
   granule_clean k Fixed is here = fixed_clean k is here
-  granule_clean k (Globals o) is here = by_root i s (granule s k).cap w.away w.held (λ tagged. (here tagged).rooted) (granule_has k)
-  granule_clean k (Shared m) is here = by_root i s (granule s k).cap w.away w.held (λ tagged. (here tagged).1.rooted) (granule_has k)
-  granule_clean k HeapRam is here = by_root i s (granule s k).cap w.away w.held (λ tagged. (here tagged).1.rooted) (granule_has k)
-  granule_clean k (Stack t) is here = by_root i s (granule s k).cap w.away w.held (λ tagged. in_rooted i s.objects t (outer (thread s t).frames (address_of i k)) (granule s k).cap here tagged) (granule_has k)
+  granule_clean k (Globals o) is here = by_root i s (granule s k).cap away w.held (λ tagged. (here tagged).rooted) (granule_stays i s front k w)
+  granule_clean k (Shared m) is here = by_root i s (granule s k).cap away w.held (λ tagged. (here tagged).1.rooted) (granule_stays i s front k w)
+  granule_clean k HeapRam is here = by_root i s (granule s k).cap away w.held (λ tagged. (here tagged).1.rooted) (granule_stays i s front k w)
+  granule_clean k (Stack t) is here = by_root i s (granule s k).cap away w.held (λ tagged. in_rooted i s.objects t (outer (thread s t).frames (address_of i k)) (granule s k).cap here tagged) (granule_stays i s front k w)
   granule_clean k Bare is here = λ tagged. absurd (let clash : true ≡ false = sym tagged ∙ here in cc)
 
   -- ---- frames
@@ -157,11 +113,11 @@ module _ (i : Image) (s : State) (front : ℕ) (w : Passed i s front) where
   frames_clean t area [] le h f = tt
   frames_clean t area (x ∷ xs) le h f = (
     record {
-      c1 = by_root i s x.c1 w.away w.held (in_rooted i s.objects t xs x.c1 h.0.c1) (f.0.c1 (is_passed _ (omega (arith, le))));
-      c2 = by_root i s x.c2 w.away w.held (in_rooted i s.objects t xs x.c2 h.0.c2) (f.0.c2 (is_passed _ (omega (arith, le))));
-      c3 = by_root i s x.c3 w.away w.held (in_rooted i s.objects t xs x.c3 h.0.c3) (f.0.c3 (is_passed _ (omega (arith, le))));
-      c8 = by_root i s x.c8 w.away w.held (in_rooted i s.objects t xs x.c8 h.0.c8) (f.0.c8 (is_passed _ (omega (arith, le))));
-      c9 = by_root i s x.c9 w.away w.held (in_rooted i s.objects t xs x.c9 h.0.c9) (f.0.c9 (is_passed _ (omega (arith, le))));
+      c1 = by_root i s x.c1 away w.held (in_rooted i s.objects t xs x.c1 h.0.c1) (f.0.c1 (is_passed i s front _ w.on (omega (arith, le))));
+      c2 = by_root i s x.c2 away w.held (in_rooted i s.objects t xs x.c2 h.0.c2) (f.0.c2 (is_passed i s front _ w.on (omega (arith, le))));
+      c3 = by_root i s x.c3 away w.held (in_rooted i s.objects t xs x.c3 h.0.c3) (f.0.c3 (is_passed i s front _ w.on (omega (arith, le))));
+      c8 = by_root i s x.c8 away w.held (in_rooted i s.objects t xs x.c8 h.0.c8) (f.0.c8 (is_passed i s front _ w.on (omega (arith, le))));
+      c9 = by_root i s x.c9 away w.held (in_rooted i s.objects t xs x.c9 h.0.c9) (f.0.c9 (is_passed i s front _ w.on (omega (arith, le))));
     },
     frames_clean t area xs (omega (arith, le)) h.1 f.1,
   )
@@ -169,27 +125,17 @@ module _ (i : Image) (s : State) (front : ℕ) (w : Passed i s front) where
   thread_frames : (t : ℕ) → Each (SavedClean s.objects) (thread s t).frames
   thread_frames t = elim (lt_tells t (length s.threads)) [
     | inl e ↦ frames_clean t (area_of i t - i.ram) (thread s t).frames
-        (let ends = thread_ends t e.1 in let deep = w.bound.deep t in omega (arith, ends, deep)) (w.held.frames t) (w.done.frames t)
+        (let ends = thread_ends i s front t w e.1 in let deep = w.bound.deep t in omega (arith, ends, deep)) (w.held.frames t) (w.done.frames t)
     | inr e ↦ subst (λ (x : Thread). Each (SavedClean s.objects) x.frames) (sym (get_or_past s.threads t nobody e.1)) tt
   ]
 
   -- ---- threads that don't run
 
-  register_has : (t n : ℕ) → (s.running ≡ Some t → ⊥) → HasUnpainted i s.objects (register (thread s t) n)
-  register_has t n stops = elim (lt_tells t (length s.threads)) [
-    | inl e ↦ elim (lt_tells n (length (thread s t).registers)) [
-      | inl f ↦ w.done.registers t n stops
-          (is_passed (area_of i t - i.ram + 8 * n) (let ends = thread_ends t e.1 in let few = w.bound.few t in let lt = f.1 in omega (arith, ends, few, lt)))
-      | inr f ↦ λ tagged. absurd (let clash : true ≡ false = sym tagged ∙ ap (λ (c : Cap). c.tag) (get_or_past (thread s t).registers n (plain 0) f.1) in cc)
-    ]
-    | inr e ↦ λ tagged. absurd (let clash : true ≡ false = sym tagged ∙ ap (λ (x : Thread). (register x n).tag) (get_or_past s.threads t nobody e.1) in cc)
-  ]
-
   -- a program counter is of code
   pcc_clean : (t : ℕ) → NotStale s.objects (thread s t).pcc
-  pcc_clean t = not_stale i s (thread s t).pcc w.away w.held (λ tagged. (
+  pcc_clean t = not_stale i s (thread s t).pcc away w.held (λ tagged. (
     (λ heap. absurd (let clash : true ≡ false = sym heap ∙ code_no_heap i (thread s t).pcc (w.held.runs t tagged).code in cc)),
-    rooted_away i (thread s t).pcc w.away (in_rooted i s.objects t (thread s t).frames (thread s t).pcc (w.held.pcc t) tagged),
+    rooted_away i (thread s t).pcc away (in_rooted i s.objects t (thread s t).frames (thread s t).pcc (w.held.pcc t) tagged),
   ))
 
   all_clean : IsClean s
@@ -198,20 +144,11 @@ module _ (i : Image) (s : State) (front : ℕ) (w : Passed i s front) where
     frames = thread_frames;
     stopped = λ t stops. record {
       pcc = pcc_clean t;
-      registers = λ n. by_root i s (register (thread s t) n) w.away w.held (in_rooted i s.objects t (thread s t).frames (register (thread s t) n) (w.held.registers t n)) (register_has t n stops);
+      registers = λ n. by_root i s (register (thread s t) n) away w.held (in_rooted i s.objects t (thread s t).frames (register (thread s t) n) (w.held.registers t n)) (idle_stays i s front t n w stops);
     };
   }
 
 -- ---- one Sweep event
-
-record Held (i : Image) (s : State) : Type 0 where
-  pub held : Confined i s
-  pub done : Swept i s
-  pub bound : Bounded i s
-
-began_held : (i : Image) (s : State) (front : Option ℕ) → Held i s → Held i (sweep_began s front)
-began_held i s None k = record { held = begun_confined i s k.held; done = begun_swept i s k.done; bound = begun_bounded i s k.bound }
-began_held i s (Some front) k = k
 
 begun_size : (s : State) → ram_size (begun_sweep s) ≡ ram_size s
 begun_size s = chosen (λ z. ram_size z ≡ ram_size s) (has_quarantined s.objects) (record s { objects = painted s.objects; front = Some 0 }) s (λ is. refl) (λ not. refl)
@@ -221,9 +158,8 @@ began_size s None = begun_size s
 began_size s (Some front) = refl
 
 slice_clean : (i : Image) (s : State) (low high : ℕ) → Partitioned i → RootsAway i → Held i s → s.front ≡ Some low → ram_size s ≤ high → IsClean (with_slice i s low high)
-slice_clean i s low high p away k on all = all_clean i (with_slice i s low high) high (record {
+slice_clean i s low high p away k on all = all_clean i (with_slice i s low high) high away (record {
   parts = p;
-  away = away;
   held = slice_confined i s low high p k.held;
   done = slice_swept i s low high on p k.held k.done;
   bound = slice_bounded i s low high k.bound;

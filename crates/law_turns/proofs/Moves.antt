@@ -14,7 +14,7 @@ use Rattle.def_confined.specs.Confined.{Confined, IsPcc}
 use Rattle.def_confined.specs.Partitioned.{Partitioned}
 use Rattle.law_places.proofs.Places.{plain_in}
 use Rattle.law_places.proofs.Puts.{plain_kept}
-use Rattle.law_places.proofs.Turns.{changed_confined, fits_as}
+use Rattle.law_places.proofs.Turns.{changed_confined, fits_as, beside_confined}
 use Rattle.law_registers.proofs.Filters.{filter_case, filter_in, filter_kept, filter_live, in_object}
 use Rattle.law_lists.proofs.Maps.{at_map}
 
@@ -45,19 +45,4 @@ turn_confined i s t status run w h stays = changed_confined i s t (with_status (
 })
 
 pub clock_confined : (i : Image) (s : State) (w : Clockwork) → Confined i s → Confined i (record s { pending = w.pending; devices = w.devices; time = w.time; picks = w.picks; counts = w.counts })
-clock_confined i s w h = record {
-  granules = h.granules;
-  pcc = h.pcc;
-  registers = h.registers;
-  frames = h.frames;
-  postures = h.postures;
-  runs = h.runs;
-  kept = record { granules = h.kept.granules; registers = h.kept.registers; frames = h.kept.frames };
-  live = h.live;
-  apart = h.apart;
-  numbered = h.numbered;
-  fits = h.fits;
-  marks = h.marks;
-  limits = h.limits;
-  size = h.size;
-}
+clock_confined i s w h = beside_confined i s s.tokens s.running w (λ u runs. runs) h

@@ -1,6 +1,7 @@
 -- F10: what the addresses of devices and RAM say.
 use Rattle.std.proofs.Common.{ℕ, zero, suc, ◌≡◌, ◌+◌, ◌%◌, ◌==◌, ◌&&◌, ◌||◌, not, Bool, true, false, cond, nat_eq, List, [], ◌∷◌, ◌++◌, length, Some, None, slice_get, refl, sym, ap, ap₂, ◌∙◌, subst, arith, inl, inr}
 use Rattle.std.specs.List.{AllByRecursion, list_any}
+use Rattle.std.proofs.lemmas.Bool.{eqb-true, not-false}
 use Rattle.ct_entry.specs.Listed.{DeviceRow}
 use Rattle.law_lists.proofs.Tests.{lt_tells}
 use Rattle.def_image.specs.Sound.{IsAway}
@@ -11,7 +12,6 @@ use Rattle.def_description.specs.Walk.{place}
 use Rattle.def_description.specs.Addresses.{meets, meets_native, meets_device, is_astray, first_astray, address_fault}
 use Rattle.def_description.specs.Lawful.{AreApart}
 use Rattle.law_wellformed.proofs.Lists.{or_left, or_right, any_not, still_there, at_the_end}
-use Rattle.law_wellformed.proofs.Members.{eq_is}
 
 away : (a m b n : ℕ) → meets a m b n ≡ false → IsAway a m b (b + n)
 away a m b n e = elim (lt_tells a (b + n)) [
@@ -33,10 +33,6 @@ pub record Placed (r : Ram) (x : DeviceRow) : Type 0 where
   pub ram : IsAway x.base 16 r.base (r.base + r.size)
   pub native : IsAway x.base 16 65536 69632
 
-not_false : (b : Bool) → not b ≡ false → b ≡ true
-not_false true e = refl
-not_false false e = absurd (let no : true ≡ false = e in cc)
-
 head_placed : (r : Ram) (earlier xs : List DeviceRow) (x : DeviceRow) → first_astray r earlier (x ∷ xs) ≡ None
     → (is_astray r earlier x ≡ false) × (first_astray r (earlier ++ x ∷ []) xs ≡ None)
 head_placed r earlier xs x e = by (is_astray r earlier x) refl e
@@ -55,7 +51,7 @@ placed_one r earlier x e =
     let abc = or_left (a || b || c) d e in
     let ab = or_left (a || b) c abc in
     record {
-      even = eq_is (x.base % 16) 0 (not_false (nat_eq (x.base % 16) 0) (or_left a b ab));
+      even = eqb-true (x.base % 16) 0 (not-false (nat_eq (x.base % 16) 0) (or_left a b ab));
       ram = away x.base 16 r.base r.size (or_right a b ab);
       native = away x.base 16 65536 4096 (or_right (a || b || c) d e);
     }

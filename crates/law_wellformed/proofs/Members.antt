@@ -3,9 +3,10 @@ use Rattle.std.proofs.Common.{ℕ, ◌≡◌, ◌-◌, ◌/◌, ◌%◌, ◌^◌
 use Rattle.std.specs.Prelude.{option_and_then, unwrap_or, is_some}
 use Rattle.std.specs.List.{AllByRecursion}
 use Rattle.std.proofs.lemmas.List.{length-map}
+use Rattle.std.proofs.lemmas.Bool.{leb-true, eqb-true}
 use Rattle.serde_json.specs.Data.{Data}
 use Rattle.serde_json.specs.Find.{as_array}
-use Rattle.law_lists.proofs.Tests.{le_tells, lt_tells, eq_tells, both_left, both_right}
+use Rattle.law_lists.proofs.Tests.{le_tells, lt_tells, both_left, both_right}
 use Rattle.def_image.specs.Sound.{IsWithin}
 use Rattle.def_description.specs.declared.tables.Shape.TheVariants as shape
 use Rattle.def_description.specs.Members.{number_of, list_in}
@@ -16,14 +17,8 @@ use Rattle.def_description.specs.Reading.{cut, digit_of, word_of, bytes_of}
 
 -- ---- tests
 
-pub le_is : (a b : ℕ) → nat_le a b ≡ true → a ≤ b
-le_is a b e = elim (le_tells a b) [ inl h ↦ h.1 | inr h ↦ absurd (let no : true ≡ false = sym e ∙ h.0 in cc) ]
-
-pub eq_is : (a b : ℕ) → nat_eq a b ≡ true → a ≡ b
-eq_is a b e = elim (eq_tells a b) [ inl h ↦ h.1 | inr h ↦ absurd (let no : true ≡ false = sym e ∙ h.0 in cc) ]
-
 pub within_is : (low high n : ℕ) → is_within low high n ≡ true → IsWithin low high n
-within_is low high n e = (le_is low n (both_left (nat_le low n) (nat_le n high) e), le_is n high (both_right (nat_le low n) (nat_le n high) e))
+within_is low high n e = (leb-true low n (both_left (nat_le low n) (nat_le n high) e), leb-true n high (both_right (nat_le low n) (nat_le n high) e))
 
 -- ---- numbers
 
@@ -73,7 +68,7 @@ multiple_kept : (low high : ℕ) (n : Option ℕ) → high < 2 ^ 32 → is_some 
 multiple_kept low high None small there kept = absurd (let no : false ≡ true = there in cc)
 multiple_kept low high (Some k) small there kept =
     let w = within_is low high k (both_left (is_within low high k) (nat_eq (k % 16) 0) kept) in
-    let even = eq_is (k % 16) 0 (both_right (is_within low high k) (nat_eq (k % 16) 0) kept) in
+    let even = eqb-true (k % 16) 0 (both_right (is_within low high k) (nat_eq (k % 16) 0) kept) in
     let top = w.1 in
     let same : cut k ≡ k = cut_small k (omega (arith, top, small)) in
     rw same (w, even)
@@ -88,7 +83,7 @@ needed_multiple name low high (Some v) small there kept = multiple_kept low high
 
 pub few : (name : List ℕ) (most : ℕ) (needed : Bool) (o : Option Data) → keeps_there (row name (shape.List most) needed) o ≡ true → length (list_in (option_and_then as_array o)) ≤ most
 few name most needed None kept = omega arith
-few name most needed (Some v) kept = le_is (length (list_in (as_array v))) most kept
+few name most needed (Some v) kept = leb-true (length (list_in (as_array v))) most kept
 
 pub few_rows : {A : Type 0} (f : Data → A) (name : List ℕ) (most : ℕ) (needed : Bool) (o : Option Data)
     → keeps_there (row name (shape.List most) needed) o ≡ true → length (map f (list_in (option_and_then as_array o))) ≤ most
@@ -114,7 +109,7 @@ digit_small b = elim (le_tells 97 b) [
     letter_is p q = rw (p, q) refl
 
     decimal_small : (c d : Bool) → nat_le 48 b ≡ c → nat_le b 57 ≡ d → cond (c && d) (b - 48) 0 < 16
-    decimal_small true true p q = let lt = le_is b 57 q in omega (arith, lt)
+    decimal_small true true p q = let lt = leb-true b 57 q in omega (arith, lt)
     decimal_small true false p q = omega arith
     decimal_small false true p q = omega arith
     decimal_small false false p q = omega arith

@@ -3,6 +3,7 @@ use Rattle.std.proofs.Common.{ℕ, ◌≡◌, ◌+◌, ◌/◌, ◌%◌, ◌^◌
 use Rattle.std.specs.Prelude.{codes, option_and_then, unwrap_or, is_some}
 use Rattle.std.specs.List.{AllByRecursion, list_all}
 use Rattle.std.proofs.lemmas.List.{length-map}
+use Rattle.std.proofs.lemmas.Bool.{leb-true}
 use Rattle.serde_json.specs.Data.{Data, null}
 use Rattle.serde_json.specs.Find.{get, as_str}
 use Rattle.law_lists.proofs.Tests.{both_left, both_right}
@@ -23,7 +24,7 @@ use Rattle.def_description.specs.Reading.{cut, code_of, word_of, ram_of, device_
 use Rattle.def_description.specs.Rows.{Target}
 use Rattle.def_description.specs.Lawful.{IsLawfulCode, IsLawfulShared, IsLawfulSealed, IsLawfulExport, IsLawfulImport, IsLawfulThread, IsLent}
 use Rattle.law_wellformed.proofs.Lists.{all_mapped}
-use Rattle.law_wellformed.proofs.Members.{le_is, within_is, read_or, needed, given_or, needed_multiple, cut_small, cut_below, few_rows, word_small, bytes_small, bytes_half}
+use Rattle.law_wellformed.proofs.Members.{within_is, read_or, needed, given_or, needed_multiple, cut_small, cut_below, few_rows, word_small, bytes_small, bytes_half}
 use Rattle.law_wellformed.proofs.Referring.{posture_set, resolved, lent_there, call_there, counted}
 use Rattle.law_wellformed.proofs.Walked.{Good}
 
@@ -90,7 +91,7 @@ code_lawful (Some c) there kept =
     let file = keeps_file (text_at (codes "file") c) in
     record {
       words = all_mapped (λ w. w < 2 ^ 32) (λ w. word_of (text_of w)) ws (all_words ws);
-      few = subst (λ n. n ≤ 262144) (sym (length-map ws (λ w. word_of (text_of w)))) (le_is (length ws) 262144 (both_left few file kept));
+      few = subst (λ n. n ≤ 262144) (sym (length-map ws (λ w. word_of (text_of w)))) (leb-true (length ws) 262144 (both_left few file kept));
       file = λ name is. within_is 1 255 (characters name) (subst (λ z. keeps_file z ≡ true) is (both_right few file kept));
     }
   where
@@ -194,9 +195,9 @@ firmware_good d g =
     let b = is_within (least_sweep (version_of d)) (most_sweep (version_of d)) (number_or 64 (codes "sweep") d) in
     let c = nat_le (length (list_at (codes "threads") d)) (most_threads (version_of d)) in
     let ab = both_left (a && b) c p.more_kept in
-    let threads = le_is (length (list_at (codes "threads") d)) (most_threads (version_of d)) (both_right (a && b) c p.more_kept) in
+    let threads = leb-true (length (list_at (codes "threads") d)) (most_threads (version_of d)) (both_right (a && b) c p.more_kept) in
     record {
-      version = (version.0, subst (λ v. v ≤ last_version) (sym same) (le_is (version_of d) last_version (both_left a b ab)));
+      version = (version.0, subst (λ v. v ≤ last_version) (sym same) (leb-true (version_of d) last_version (both_left a b ab)));
       sweep = rw (same, rate) (within_is (least_sweep (version_of d)) (most_sweep (version_of d)) (number_or 64 (codes "sweep") d) (both_right a b ab));
       quantum = given_or (codes "quantum") 1 1000000 100 (get (codes "quantum") d) (omega arith) (omega arith, omega arith) m.1.1.1.1.0.there m.1.1.1.1.0.kept;
       devices = few_rows device_of (codes "devices") 16 false (get (codes "devices") d) m.1.1.1.1.1.0.kept;
@@ -232,8 +233,8 @@ ram_by d x g =
     record {
       base = base.1;
       size = size.1;
-      sized = (size.0.0, subst (λ n. n ≤ most_ram (version_of d)) (sym s_is) (le_is (number_or 0 (codes "size") x) (most_ram (version_of d)) (both_left a b p.more_kept)));
-      end = rw (b_is, s_is) (le_is (number_or 0 (codes "base") x + number_or 0 (codes "size") x) 4294967280 (both_right a b p.more_kept));
+      sized = (size.0.0, subst (λ n. n ≤ most_ram (version_of d)) (sym s_is) (leb-true (number_or 0 (codes "size") x) (most_ram (version_of d)) (both_left a b p.more_kept)));
+      end = rw (b_is, s_is) (leb-true (number_or 0 (codes "base") x + number_or 0 (codes "size") x) 4294967280 (both_right a b p.more_kept));
     }
   where
     uncut_multiple : (high : ℕ) (o : Option Data) (name : List ℕ) (low : ℕ) → high < 2 ^ 32

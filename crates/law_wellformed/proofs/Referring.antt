@@ -2,6 +2,7 @@
 use Rattle.std.proofs.Common.{ℕ, ◌≡◌, ◌+◌, ◌≤◌, ◌==◌, Bool, true, false, cond, List, [], ◌∷◌, map, Option, Some, None, refl, sym, ap, subst, arith}
 use Rattle.std.specs.Prelude.{codes, bytes_eq, option_and_then, is_some, unwrap_or}
 use Rattle.std.specs.List.{AllByRecursion}
+use Rattle.std.proofs.lemmas.Bool.{leb-true}
 use Rattle.serde_json.specs.Data.{Data}
 use Rattle.serde_json.specs.Find.{as_str}
 use Rattle.ct_entry.specs.Listed.{DeviceRow}
@@ -22,7 +23,6 @@ use Rattle.def_description.specs.Rows.{Target, SharedRow, SealedRow}
 use Rattle.def_description.specs.Named.{device_names, shared_names, sealed_names}
 use Rattle.def_description.specs.Lawful.{Has, IsCall, IsLent, IsServed, Resolves}
 use Rattle.law_wellformed.proofs.Lists.{map_twice, has_mapped, among_maps, among_flat}
-use Rattle.law_wellformed.proofs.Members.{le_is}
 
 -- ---- tables
 
@@ -118,7 +118,7 @@ served_there name e = by (service_of name) refl e
   where
     by : (o : Option ℕ) → service_of name ≡ o → is_taken o ≡ true → IsServed name
     by None is h = absurd (let no : false ≡ true = h in cc)
-    by (Some n) is h = (n, is, (service_least name n is, le_is n last_service h))
+    by (Some n) is h = (n, is, (service_least name n is, leb-true n last_service h))
 
 pub resolved : (d : Data) (f : Form) (name : List ℕ) → resolves d f name ≡ true → is_served f name ≡ true → Resolves (rows_of d) f name
 resolved d form.Device name e s = device_there d name e

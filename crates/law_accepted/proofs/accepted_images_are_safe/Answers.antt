@@ -7,6 +7,6 @@ returns g = record {
   accesses = λ bytes p es i. accesses p es i.0;
   uses = λ bytes p es i. uses p es i.0;
   fresh = λ bytes p es i. fresh p es i.0;
-  swept = λ bytes p es fs d n base long live c number from size left i. swept p es fs d n base long live c number from size left i.0;
+  swept = λ bytes p i es fs d n base long live c number from size left. swept p es fs d n base long live c number from size left i.0;
   quotas = λ bytes p es q i. quotas p es q i.0;
 }

@@ -1,5 +1,6 @@
+use Rattle.std.proofs.Common.{◌∙◌}
 use Rattle.ct_heaped.proofs.Moves.{move_size}
-use Rattle.ct_heaped.proofs.Quietly.{store_by, store_holds, store_is, store_kept}
+use Rattle.ct_heaped.proofs.Quietly.{store_by, store_holds, store_is, store_kept, store_when}
 use Rattle.ct_heaped.proofs.engine.Engine.store_register.Goals as goal
 
 pub store_register-requires-clause-seen : goal.store_register-requires-clause-seen
@@ -17,6 +18,11 @@ invariant_of-self g c =
       kept = c.store_register.ensures.kept;
       size = c.store_register.ensures.size;
     })
+
+pub returns-clause-when : goal.returns-clause-when
+returns-clause-when g c =
+    c.store_register.ensures.when
+    ∙ store_when c.self.inside.threads c.self.inside.heap c.self.inside.front c.args.self.now c.args.access.now c.args.t c.args.number c.args.stored c.self.view_is
 
 pub returns-clause-is : goal.returns-clause-is
 returns-clause-is g c =

@@ -1,9 +1,10 @@
-use Rattle.std.proofs.Common.{sym, subst, ap, ◌∙◌}
+use Rattle.std.proofs.Common.{true, false, sym, subst, ap, ◌∙◌}
 use Rattle.def_board.specs.Guarded.{Guarded}
 use Rattle.def_step.specs.declared.Event.TheVariants.{Step}
 use Rattle.def_step.specs.Events.{MachineRow, happens}
 use Rattle.ct_machine.proofs.Opened.{is_open}
-use Rattle.ct_machine.proofs.Quietly.{quietly_kept, quietly_is}
+use Rattle.ct_machine.specs.Going.{steps_quietly}
+use Rattle.ct_machine.proofs.Quietly.{quietly_kept, quietly_is, when_late, when_idle, when_runs}
 use Rattle.ct_machine.proofs.engine.Engine.step_quietly.Goals as goal
 
 pub execute_quietly-requires-clause-opened : goal.execute_quietly-requires-clause-opened
@@ -25,3 +26,25 @@ returns-else-not-execute_quietly-clause-is g c told =
     (c.execute_quietly.ensures.quiet c.if-not-execute_quietly.false i.plan.entries i.bus i.time) c.execute_quietly.ensures.kept c.execute_quietly.ensures.stays
     c.count_step.new.self.state c.if-self.false c.count_step.ensures.state
     ∙ ap (λ (m : MachineRow). happens m.board m.state Step) c.self.view_is
+
+pub returns-then-self-clause-when : goal.returns-then-self-clause-when
+returns-then-self-clause-when g c =
+    let i = c.self.inside in
+    when_late i.plan i.threads i.sched i.bus i.pending i.time i.counts c.if-self.true ∙ ap steps_quietly c.self.view_is
+
+pub returns-in-None-clause-when : goal.returns-in-None-clause-when
+returns-in-None-clause-when g c =
+    let i = c.self.inside in
+    when_idle i.plan i.threads i.sched i.bus i.pending i.time i.counts c.if-self.false c.in-None.ensures ∙ ap steps_quietly c.self.view_is
+
+pub returns-then-not-execute_quietly-clause-when : goal.returns-then-not-execute_quietly-clause-when
+returns-then-not-execute_quietly-clause-when g c =
+    let i = c.self.inside in
+    when_runs i.plan i.threads i.sched i.bus i.pending i.time i.counts c.in-Some.t false c.self.invariant.0 c.if-self.false c.in-Some.ensures
+    (sym c.if-not-execute_quietly.true ∙ c.execute_quietly.ensures.when) ∙ ap steps_quietly c.self.view_is
+
+pub returns-else-not-execute_quietly-clause-when : goal.returns-else-not-execute_quietly-clause-when
+returns-else-not-execute_quietly-clause-when g c =
+    let i = c.self.inside in
+    when_runs i.plan i.threads i.sched i.bus i.pending i.time i.counts c.in-Some.t true c.self.invariant.0 c.if-self.false c.in-Some.ensures
+    (sym c.if-not-execute_quietly.false ∙ c.execute_quietly.ensures.when) ∙ ap steps_quietly c.self.view_is

@@ -10,7 +10,7 @@ use Rattle.law_history.specs.Clean.{CleanEvent}
 use Rattle.law_history.specs.Each.{EachEvent}
 use Rattle.law_history.specs.Temporal.{AllocatesFresh, UsesLive}
 use Rattle.law_history.proofs.Running.{run_clean, run_uses_reach, run_uses_live, run_fresh, run_reuses, run_charges}
-use Rattle.ct_machine.specs.Coming.{SweptBeforeReuse}
+use Rattle.law_history.specs.Chunks.{SweptBeforeReuse}
 use Rattle.ct_machine.proofs.machine.Machine.whatever_comes.Goals as goal
 
 pub returns-clause-calls : goal.returns-clause-calls

@@ -1,0 +1,12 @@
+use Rattle.def_words.specs.declared.Cap.{Cap}
+use Rattle.def_words.specs.Capability.{integer, with_address}
+use Rattle.ct_engine.proofs.Goes.{own_holds, own_seen}
+use Rattle.ct_engine.proofs.steps.branch_to.Goals as goal
+
+pub returns-clause-holds : goal.returns-clause-holds
+returns-clause-holds c = λ gs holds.
+    own_holds gs c.args.rows.now c.args.t c.index_mut.result.now c.branch_row.new.t (λ (p : Cap). with_address p c.args.target) 0 (integer 0) holds c.requires.runs c.index_mut.ensures.value c.branch_row.ensures
+
+pub returns-clause-seen : goal.returns-clause-seen
+returns-clause-seen c = λ gs holds.
+    own_seen gs c.args.rows.now c.args.t c.index_mut.result.now c.branch_row.new.t (λ (p : Cap). with_address p c.args.target) 0 (integer 0) holds c.requires.runs c.index_mut.ensures.value c.branch_row.ensures

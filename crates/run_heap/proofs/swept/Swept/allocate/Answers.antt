@@ -1,6 +1,0 @@
-use Rattle.run_heap.specs.Swept.{SweptRow}
-use Rattle.run_heap.proofs.Keeping.{after_allocate}
-use Rattle.run_heap.proofs.swept.Swept.allocate.Goals as goal
-
-pub invariant_of-self : goal.invariant_of-self
-invariant_of-self c = after_allocate (let s : SweptRow = record { heap = c.self.inside.heap; granules = c.self.inside.mem; front = c.self.inside.front; low = c.self.inside.low; quotas = c.self.inside.quotas; made = c.self.inside.made } in s) c.allocate.new.self c.allocate.new.mem c.args.quota c.args.size c.allocate.result c.self.invariant c.allocate.ensures.laid c.allocate.ensures.answer c.allocate.ensures.refused

@@ -1,0 +1,207 @@
+//! Random calls, and what each is answered.
+
+ghost use Rattle.std.specs.Prelude.{◌<◌};
+
+use crate::common::add;
+use crate::heap::swept::{Slice, Swept};
+use crate::heap::told::{add_allocated, add_found, add_freed};
+use def_refusals::NoMemory;
+use std::alloc::{AllocError, Global};
+
+/// Bytes of RAM below the heap, and of the heap; what each quota may take.
+const LOW: u32 = 256;
+
+const LENGTH: u32 = 32768;
+
+const LIMIT: u32 = 12000;
+/// Slots for capabilities below the heap.
+const SLOTS: u32 = 32;
+
+/// The next random number.
+fn next(seed: u64) -> u64 {
+    let a = seed ^ seed.wrapping_shl(13);
+    let b = a ^ a.wrapping_shr(7);
+    b ^ b.wrapping_shl(17)
+}
+
+/// Some bits of a random number, below a bound that isn't 0.
+fn part(seed: u64, shift: u32, bound: u32) -> u32
+    requires { 0 < bound }
+    ensures { result < bound }
+{
+    (seed.wrapping_shr(shift) % bound as u64) as u32
+}
+
+/// An object's bounds and its quota.
+#[derive(Clone, Copy, Drop)]
+struct Made {
+    base: u32,
+    top: u64,
+    quota: u32,
+}
+
+/// One of the last 24 objects that were made, or none.
+fn some_made(made: &[Made], seed: u64) -> Made {
+    let none = Made {
+        base: 0,
+        top: 0,
+        quota: 0,
+    };
+    let last = (made.len() as u64).min(24);
+    let back = match seed.wrapping_shr(16).checked_rem(last) {
+        Some(back) => back as usize,
+        None => return none,
+    };
+    match made.get(made.len().saturating_sub(1).saturating_sub(back)) {
+        Some(object) => *object,
+        None => none,
+    }
+}
+
+/// Its bounds and its quota, of sixteen times thirteen as they are.
+fn some_bounds(made: &[Made], seed: u64) -> Made {
+    let mut object = some_made(made, seed);
+    if made.len() == 0 {
+        return object;
+    }
+    match part(seed, 48, 16) {
+        0 => object.base = object.base.wrapping_add(8),
+        1 => object.top = object.top.saturating_sub(8),
+        2 => object.top = object.top.saturating_add(8),
+        3 => object.quota = part(seed, 8, 3),
+        _ => {}
+    }
+    object
+}
+
+/// An allocation, whose capability goes into a slot.
+fn allocate(
+    alloc: Global,
+    swept: &mut Swept,
+    made: &mut Vec<Made>,
+    seed: u64,
+    out: &mut String,
+) -> Result<(), AllocError> {
+    let quota = part(seed, 8, 3);
+    let most = if seed % 16 == 4 { 9000 } else { 1000 };
+    let size = part(seed, 16, most);
+    let answer = swept.allocate(quota, size);
+    if let Ok(object) = answer {
+        made.push(Made {
+            base: object.base,
+            top: object.base as u64 + object.length as u64,
+            quota,
+        })?;
+        swept.keep(part(seed, 40, SLOTS), object);
+    }
+    add(format!(in alloc; "allocate {quota} {size}: "), out)?;
+    add_allocated(alloc, answer, out)
+}
+
+/// A free.
+fn free(
+    alloc: Global,
+    swept: &mut Swept,
+    made: &[Made],
+    seed: u64,
+    out: &mut String,
+) -> Result<(), AllocError> {
+    let Made { base, top, quota } = some_bounds(made, seed);
+    let answer = swept.free(quota, base, top);
+    add(format!(in alloc; "free {quota} {base} {top}: "), out)?;
+    add_freed(alloc, answer, out)
+}
+
+/// A look-up.
+fn find(
+    alloc: Global,
+    swept: &Swept,
+    made: &[Made],
+    seed: u64,
+    out: &mut String,
+) -> Result<(), AllocError> {
+    let Made { base, top, .. } = some_bounds(made, seed);
+    let answer = swept.find(base, top);
+    add(format!(in alloc; "find {base} {top}: "), out)?;
+    add_found(alloc, answer, out)
+}
+
+/// What is left to each quota, and whether an object is quarantined.
+fn state(alloc: Global, swept: &Swept, out: &mut String) -> Result<(), AllocError> {
+    let waits = swept.quarantined();
+    let (a, b, c) = (swept.remaining(0), swept.remaining(1), swept.remaining(2));
+    add(
+        format!(in alloc; "left {a} {b} {c}, quarantined {waits}\n"),
+        out,
+    )
+}
+
+/// A capability goes from one slot to another.
+fn move_one(
+    alloc: Global,
+    swept: &mut Swept,
+    seed: u64,
+    out: &mut String,
+) -> Result<(), AllocError> {
+    let (from, to) = (part(seed, 16, SLOTS), part(seed, 40, SLOTS));
+    swept.move_to(from, to);
+    let tagged = swept.is_tagged(to);
+    add(format!(in alloc; "move {from} {to}: {tagged}\n"), out)
+}
+
+/// Where a sweep has come to RAM's end, which slots are still tagged; then the painted objects leave.
+fn end(alloc: Global, swept: &mut Swept, out: &mut String) -> Result<(), AllocError> {
+    out.push_str("ended, tagged")?;
+    for slot in 0..SLOTS {
+        if swept.is_tagged(slot) {
+            add(format!(in alloc; " {slot}"), out)?;
+        }
+    }
+    let flushed = swept.flush();
+    add(format!(in alloc; ", flushed {flushed}\n"), out)
+}
+
+/// A slice of a sweep.
+fn slice(alloc: Global, swept: &mut Swept, seed: u64, out: &mut String) -> Result<(), AllocError> {
+    let count = part(seed, 16, 1500);
+    add(format!(in alloc; "slice {count}: "), out)?;
+    match swept.slice(count) {
+        Slice::Idle => out.push_str("none runs\n"),
+        Slice::To(at) => add(format!(in alloc; "{at}\n"), out),
+        Slice::Ended => end(alloc, swept, out),
+    }
+}
+
+/// One random call.
+fn call(
+    alloc: Global,
+    swept: &mut Swept,
+    made: &mut Vec<Made>,
+    seed: u64,
+    out: &mut String,
+) -> Result<(), AllocError> {
+    match seed % 16 {
+        0 => {
+            let begun = swept.begin();
+            add(format!(in alloc; "begin: {begun}\n"), out)
+        }
+        1 | 2 | 3 => slice(alloc, swept, seed, out),
+        4 | 5 | 6 | 7 | 8 => allocate(alloc, swept, made, seed, out),
+        9 | 10 | 11 | 12 => free(alloc, swept, made.as_slice(), seed, out),
+        13 => move_one(alloc, swept, seed, out),
+        14 => state(alloc, swept, out),
+        _ => find(alloc, swept, made.as_slice(), seed, out),
+    }
+}
+
+/// Adds the lines of so many random calls of a heap that is empty.
+pub fn calls(alloc: Global, first: u64, count: u32, out: &mut String) -> Result<(), NoMemory> {
+    let mut swept = Swept::new(alloc, LOW + LENGTH, LOW, LENGTH, LIMIT)?;
+    let mut made = Vec::new(alloc);
+    let mut seed = first.wrapping_add(0x9E37_79B9_7F4A_7C15);
+    for _ in 0..count {
+        seed = next(seed);
+        call(alloc, &mut swept, &mut made, seed, out)?;
+    }
+    Ok(())
+}
