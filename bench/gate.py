@@ -5,9 +5,10 @@
     bench/gate.py --anew       the same from nothing
     bench/gate.py --session N  watches a gate that runs already, in the session N, until it ends
 
-Columns: the crate's own proof, its tests' proofs and runs, its must-fail edits, all. A process is counted by what it
-had used when it was last seen, twice a second, so the sum is a little too small."""
-import os, re, subprocess, sys, time
+Columns: the crate's own proof, its tests' proofs and runs, its must-fail edits, all. A process is seen twice a second,
+and counts in its crate's row by what it had used when it was last seen. What processes used after that, and what works
+for no crate, is the row `rest`, so that the sum is what the gate took; without it where another session is watched."""
+import os, re, resource, subprocess, sys, time
 from collections import defaultdict
 
 TICKS = os.sysconf("SC_CLK_TCK")
@@ -51,16 +52,19 @@ def watch(session, is_over):
     return seen
 
 
-def table(seen):
+def table(seen, whole=None):
     cost = defaultdict(lambda: defaultdict(float))
     for (_, (crate, column)), seconds in seen.items():
         cost[crate][column] += seconds / 60
+    if whole is not None:
+        cost["rest"]["rest"] = whole / 60 - sum(seen.values()) / 60
     rows = sorted(((sum(it.values()), crate, it) for crate, it in cost.items()), reverse=True)
     print("crate                 proof  tests  edits    all")
-    for whole, crate, it in rows:
-        print(f"{crate:20} {it['proof']:6.1f} {it['tests']:6.1f} {it['edits']:6.1f} {whole:6.1f}")
+    for every, crate, it in rows:
+        print(f"{crate:20} {it['proof']:6.1f} {it['tests']:6.1f} {it['edits']:6.1f} {every:6.1f}")
     sums = {column: sum(it[column] for _, _, it in rows) for column in ("proof", "tests", "edits")}
-    print(f"{'all':20} {sums['proof']:6.1f} {sums['tests']:6.1f} {sums['edits']:6.1f} {sum(sums.values()):6.1f}")
+    total = sum(every for every, _, _ in rows)
+    print(f"{'all':20} {sums['proof']:6.1f} {sums['tests']:6.1f} {sums['edits']:6.1f} {total:6.1f}")
 
 
 def main():
@@ -71,7 +75,9 @@ def main():
         return 0
     os.chdir(os.path.join(os.path.dirname(os.path.abspath(__file__)), ".."))
     gate = subprocess.Popen(["rt", "ci", *words], start_new_session=True)
-    table(watch(gate.pid, lambda: gate.poll() is not None))
+    seen = watch(gate.pid, lambda: gate.poll() is not None)
+    used = resource.getrusage(resource.RUSAGE_CHILDREN)
+    table(seen, used.ru_utime + used.ru_stime)
     return gate.returncode
 
 

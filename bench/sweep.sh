@@ -4,19 +4,15 @@
 # a thousandth of them where no granule of `Plain` is tagged, since each slice then walks the rest of RAM.
 # Build first: (cd crates/bench_parts && rt run -- decode 1000)
 cd "$(dirname "$0")/../crates/bench_parts" || exit 1
-python3 - "${1:-200000}" <<'PYTHON'
-import resource, subprocess, sys
-
-def run(kind, share, count):
-    """Processor seconds of a run."""
-    before = resource.getrusage(resource.RUSAGE_CHILDREN).ru_utime
-    subprocess.run(["out/bench_parts", "sweep", kind, str(share), str(count)], check=True, stdout=subprocess.DEVNULL)
-    return resource.getrusage(resource.RUSAGE_CHILDREN).ru_utime - before
+python3 -B - "${1:-200000}" <<'PYTHON'
+import sys
+sys.path.insert(0, "../../bench")
+from measure import least
 
 count = int(sys.argv[1])
 for share, what in ((0, "none tagged"), (64, "every 64th tagged"), (1, "each tagged")):
     for kind in ("plain", "planes"):
         slices = count // 1000 if (kind, share) == ("plain", 0) else count
-        seconds = min(run(kind, share, slices) for _ in range(3)) - min(run(kind, share, 0) for _ in range(3))
+        seconds = least("sweep", kind, share, slices) - least("sweep", kind, share, 0)
         print(f"{what:18} {kind:6} {seconds / slices * 1e9:10.1f} ns a slice")
 PYTHON

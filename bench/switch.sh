@@ -4,19 +4,16 @@
 # measured by itself and taken off. The word is the number of rounds, one million by default.
 # Build first: (cd crates/bench_parts && rt run -- decode 1000)
 cd "$(dirname "$0")/../crates/bench_parts" || exit 1
-python3 - "${1:-1000000}" <<'PYTHON'
-import resource, subprocess, sys
-
-def seconds(task, room, count):
-    """Processor seconds of a run in which all rounds were done."""
-    before = resource.getrusage(resource.RUSAGE_CHILDREN).ru_utime
-    words = ["out/bench_parts", "switch", task, str(room), str(count)]
-    told = subprocess.run(words, capture_output=True, check=True, text=True)
-    assert told.stdout.split()[-1] == str(count), told.stdout
-    return resource.getrusage(resource.RUSAGE_CHILDREN).ru_utime - before
+python3 -B - "${1:-1000000}" <<'PYTHON'
+import sys
+sys.path.insert(0, "../../bench")
+from measure import run
 
 def best(task, room, count):
-    return min(seconds(task, room, count) for _ in range(3))
+    """The least seconds of three runs in which all rounds were done."""
+    runs = [run("switch", task, room, count) for _ in range(3)]
+    assert all(line.split()[-1] == str(count) for _, line in runs), runs
+    return min(seconds for seconds, _ in runs)
 
 count = int(sys.argv[1])
 for room in (16, 256, 4096):

@@ -6,7 +6,7 @@
 import copy
 import json
 
-from cases import case, ended, image, lines, report, run, sample, source
+from cases import case, ended, image, lines, report, run, sample, source, stored
 
 TINY = sample("tiny")
 BOARD = sample("board")
@@ -79,6 +79,15 @@ run("threads_in_turns", tiny(threads=twins, quantum=2), 100, f"6 store t0 c0 e4 
     ended("finished", 12, ticks=5, devices=2))
 run("turns_cut_short", tiny(threads=twins, quantum=2), 7, f"6 store t0 c0 e4 {ALSO}",
     ended("limit", 7, ticks=3, devices=1))
+# The stack's capability lacks GL, so that it is stored untagged in the globals, where SL is missing, and loaded back: its
+# tag, its address and its high word; and of its high word the second highest byte but one, with its sign.
+KEPT = SLOT + ["0021b423"]  # and csc c2, 8(c3)
+BACK = KEPT + ["0081b303"]  # and clc c6, 8(c3)
+for name, words, told in (("tag_and_address", BACK + ["fe43055b", "00a2a023", "0062a023"], ((6, 0), (7, 0x80000160))),
+                          ("high_word", BACK + ["ff73055b", "00a2a023"], ((6, 0x3E00C160),)),
+                          ("signed_byte", KEPT + ["00b18503", "00a2a023"], ((5, 0xFFFFFF80),))):
+    run("stack_kept_" + name, tiny(words + ["00008067"]), 100, *[stored(step, 0, 0, 4, word) for step, word in told],
+        ended("finished", told[-1][0] + 2, devices=len(told)))
 case("room", ["audit", "{}"], json.dumps(tiny(size=656)), lines(report(tiny(size=656))))
 case("no_room", ["audit", "{}"], json.dumps(tiny(size=640)), "refused 6 link L2 656 640\n")
 case("no_steps", ["run", "{}", "0"], json.dumps(TINY), "refused 1 usage\n")

@@ -70,6 +70,22 @@ run("two_devices", ["main: cimport ct0, uart0", "cimport ct1, pins", "clw a0, 0(
                     "clw a0, 4(ct1)", "cret"], [UART, PINS], 100, "1 pins 3\n1 uart0 5\n6 pins 1\n7 pins 2\n",
     loaded(5, 0x10000000, 5), loaded(6, 0x10000024, 1, 5), loaded(7, 0x10000024, 2, 5),
     ended("finished", 9, devices=3))
+# Bytes that come in one step to two devices, and one that never comes.
+run("two_in_a_step", ["main: cimport ct0, uart0", "cimport ct1, pins", "clw a0, 4(ct1)", "nop", "clw a0, 0(ct0)",
+                      "clw a0, 4(ct1)", "cret"], [UART, PINS], 100,
+    "3 pins 0\n7 uart0 1\n7 pins 255\n4000000000 uart0 9\n", loaded(5, 0x10000024, 0, 5), loaded(7, 0x10000000, 1),
+    loaded(8, 0x10000024, 255, 5), ended("finished", 10, devices=3))
+# An access of eight bytes takes a byte and then tells how many are left. A byte's store writes zeros above, and one
+# that isn't at a multiple of 4 is ignored; it loads what is shifted down.
+APART = dict(PINS, base=0x20000000)
+run("three_devices", ["main: cimport ct0, uart0", "clc ca0, 0(ct0)", "clbu a0, 0(ct0)", "clw a0, 0(ct0)",
+                      "cimport ct1, pins", "li a0, 0x12345678", "csw a0, 0(ct1)", "li a1, 0xFF", "csb a1, 1(ct1)",
+                      "clbu a2, 1(ct1)", "csb a1, 0(ct1)", "clw a2, 0(ct1)", "clw a2, 4(ct1)", "cret"],
+    [UART, TIMER, APART], 100, "1 uart0 65\n1 uart0 66\n14 pins 7\n",
+    "3 load t0 c0 e4 10000000 8 0000000100000041", "4 load t0 c0 e4 10000000 1 42", loaded(5, 0x10000000, 0),
+    "10 store t0 c0 e6 20000000 4 12345678", "12 store t0 c0 e6 20000001 1 ff", "13 load t0 c0 e6 20000001 1 56",
+    "14 store t0 c0 e6 20000000 1 ff", loaded(15, 0x20000000, 0xFF, 6), loaded(16, 0x20000004, 7, 6),
+    ended("finished", 18, devices=9))
 # With a tick before every step from the second on bytes still come once.
 run("with_ticks", loads(2), [UART], 100, "2 uart0 1\n3 uart0 2\n", loaded(3, 0x10000000, 1), loaded(4, 0x10000000, 2),
     ended("finished", 6, ticks=5, devices=2), quantum=1)
@@ -93,7 +109,13 @@ for name, text, wanted in (
         ("steps_fall", "5 uart0 1\n4 uart0 1\n", "S2 2"), ("timer_named", "2 clock 65\n", "S3 1"),
         ("nobody_named", "2 uart1 65\n", "S3 1"), ("falls_and_nobody", "5 uart0 1\n4 uart1 1\n", "S2 2"),
         ("no_form_and_falls", "5 uart0 1\n4 uart0 256\n", "S1 2"), ("least_line", "2 uart1 1\n1\n", "S3 1"),
-        ("greatest_step", "4000000000 pins 255\n5 pins 1\n", "S2 2")):
+        ("greatest_step", "4000000000 pins 255\n5 pins 1\n", "S2 2"),
+        ("byte_with_a_zero", "1 uart0 01\n", "S1 1"), ("step_0_of_1", "0 uart0 1\n", "S1 1"),
+        ("step_past_4000000000", "4000000001 uart0 1\n", "S1 1"), ("byte_256_of_1", "1 uart0 256\n", "S1 1"),
+        ("line_that_ends", "1 uart0 1", "S1 1"), ("two_spaces_behind", "1 uart0  1\n", "S1 1"),
+        ("empty_line_of_1", "2 uart0 1\n\n", "S1 2"), ("timer_on_line_2", "1 uart0 1\n1 clock 1\n", "S3 2"),
+        ("falls_at_nobody", "2 uart0 1\n1 nobody 1\n1\n", "S2 2"),
+        ("nobody_and_no_form", "1 nobody 1\n1\n", "S3 1")):
     refused("script_" + name, text, "8 script " + wanted)
 
 # Of an image too; and what is wrong with the files before it comes first.

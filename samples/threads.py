@@ -121,6 +121,19 @@ row("sleeper_first", [
     [thread("a.main", priority=2), thread("a.spin", "u")], 20, stored(13, 0, 0, 4, 0),
     ended("limit", 20, ticks=1, devices=1), quantum=10)
 
+# Two threads of one priority take turns, and one of lower priority runs while both sleep; the one that woke first goes on
+# until the tick at which the other wakes, and when both have ended the third goes on.
+row("three_take_turns", [
+    compartment("a", [UART, service("yield"), service("sleep")], ["low", "one", "two"],
+                "low: cmove cs0, cra", PORT, "li a2, 3", shows("a2"), "spin: j spin",
+                "one: cmove cs0, cra", PORT, "li a2, 1", shows("a2"), served("yield"), shows("a2"), "li a0, 1",
+                served("sleep"), shows("a2"), "li a3, 19", "loop: addi a3, a3, -1", "bnez a3, loop", BACK,
+                "two: cmove cs0, cra", PORT, "li a2, 2", shows("a2"), served("yield"), shows("a2"), "li a0, 2",
+                served("sleep"), shows("a2"), BACK)],
+    [thread("a.low"), thread("a.one", "u", priority=2), thread("a.two", "v", priority=2)], 90,
+    *[stored(step, t, 0, 4, t or 3) for step, t in ((5, 1), (14, 2), (19, 1), (25, 2), (35, 0), (41, 1), (81, 2))],
+    ended("limit", 90, ticks=2, devices=7), quantum=40)
+
 # ---- wait and wake
 
 WAITS = ["waits: cmove cs0, cra", "cmove ca0, cgp", "li a1, 0", *served("wait"), PORT, *shows("a0"), *BACK]
@@ -162,6 +175,11 @@ waiting("wake_by_counts", ["wakes: cmove cs0, cra", PORT, wakes(0), wakes(2), se
 # A word that nobody waits for; then the one that somebody does.
 waiting("wake_of_another_word", ["wakes: cmove cs0, cra", PORT, wakes(1, 4), wakes(1), BACK],
         WAITERS[:1] + [thread("a.wakes", "k")], 100, stored(17, 1, 0, 4, 0), stored(24, 1, 0, 4, 1),
+        stored(30, 0, 0, 4, 0), ended("finished", 33, devices=3))
+
+# One waits: it is woken once.
+waiting("wake_twice", ["wakes: cmove cs0, cra", PORT, wakes(1), wakes(1), BACK],
+        WAITERS[:1] + [thread("a.wakes", "k")], 100, stored(17, 1, 0, 4, 1), stored(24, 1, 0, 4, 0),
         stored(30, 0, 0, 4, 0), ended("finished", 33, devices=3))
 
 # Fifteen wait: four are woken, then all the others, by a count of 2^32 - 1.

@@ -2,9 +2,10 @@
 # Runs every sample through the program, unproved, and compares what it writes with what stands beside
 # the sample: report.json (audit), run.txt after it (run, at most 200 steps), and each line of why.txt
 # (an owner, a compartment, and what why writes of them). The kit builds the program once for all of
-# them, in about a minute. The worked rows are run with them: rows.py (commands, sources, images),
-# calls.py (calls between compartments), threads.py (turns and services), heap.py (the heap), freed.py (what was
-# freed, and sweeps), scripts.py (bytes that come to devices). Of each run the status is compared too (statuses.py).
+# them, in about a minute. The worked rows are run with them: rows.py (commands, images), descriptions.py and
+# sources.py (their faults; integer instructions), calls.py (calls between compartments), threads.py (turns and
+# services), heap.py (the heap), freed.py (what was freed, and sweeps), scripts.py (bytes that come to devices). Of each
+# run the status is compared too (statuses.py).
 here=$(cd "$(dirname "$0")" && pwd) || exit 1
 cases=$(mktemp -d) || exit 1
 trap 'rm -rf "$cases" "$cases"-*' EXIT
@@ -29,7 +30,7 @@ for report in "$here"/*/report.json; do
         [ ! -f "$source" ] || sources+=(--data "${source##*/}=$source")
     done
 done
-for table in rows calls threads heap freed scripts; do
+for table in rows descriptions sources calls threads heap freed scripts; do
     rows=$(python3 "$here/$table.py" "$cases") || exit 1
     while IFS= read -r row; do
         sources+=(--data "$row")

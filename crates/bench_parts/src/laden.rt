@@ -9,7 +9,7 @@ use std::alloc::Global;
 use std::marker::Model;
 
 /// RAM's first address, which is the heap's.
-pub const RAM: u32 = 0x8000_0000;
+const RAM: u32 = 0x8000_0000;
 
 /// A heap and its memory, in which nothing is tagged, how many quotas it has, and how many objects it has made at
 /// most.

@@ -14,7 +14,6 @@ mod laden;
 mod link;
 mod planes;
 mod report;
-mod rows;
 mod sweep;
 mod switch;
 

@@ -3,6 +3,7 @@
 //! cleared twice, as a call and its return clear it.
 
 ghost use Rattle.std.specs.Prelude.{◌≡◌, ◌*◌, ◌+◌, ◌≤◌, ◌<◌, ◌%◌, length, replicate};
+ghost use Rattle.def_profile.specs.declared.limits.TheConstants.{RAM_END};
 ghost use Rattle.def_memory.specs.Granules.{nothing};
 ghost use Rattle.ct_areas.specs.Threads.{HasArea};
 
@@ -141,7 +142,7 @@ fn cleared(mem: &mut Plain, room: u32) -> bool {
 /// Where the thread's area and its stack lie.
 fn area() -> Area
     ensures area { HasArea 16384 result }
-    ensures end { result.stack + result.stack_length ≤ 4294967280 }
+    ensures end { result.stack + result.stack_length ≤ RAM_END }
 {
     Area {
         ram: RAM,

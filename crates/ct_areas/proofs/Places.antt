@@ -1,5 +1,6 @@
 -- Where an area's parts lie, and a thread by how many frames it has.
 use Rattle.std.proofs.Common.{ℕ, zero, suc, ◌≡◌, ◌+◌, ◌-◌, ◌*◌, ◌/◌, ◌%◌, ◌==◌, ◌<◌, ◌≤◌, ◌⊎◌, inl, inr, Bool, false, List, refl, sym, arith}
+use Rattle.def_profile.specs.Areas.{area_length, frame_after}
 use Rattle.law_lists.proofs.Tests.{eq_tells}
 use Rattle.def_memory.specs.declared.Granule.{Granule}
 use Rattle.def_areas.specs.Areas.{frame_place, frames_in}
@@ -9,7 +10,7 @@ use Rattle.ct_areas.specs.declared.thread.Thread as row
 use Rattle.ct_areas.specs.Threads.{HasArea, area_begin, area_end, frames_most, living, thread_of}
 use Rattle.ct_areas.specs.Parts.{frame_address}
 
-long_numbers : (ram trusted len most : ℕ) → ram % 16 ≡ 0 → trusted % 16 ≡ 0 → ram ≤ trusted → len ≡ 160 + 64 * most
+long_numbers : (ram trusted len most : ℕ) → ram % 16 ≡ 0 → trusted % 16 ≡ 0 → ram ≤ trusted → len ≡ area_length most
     → (trusted + len - ram) / 8 ≡ (trusted - ram) / 8 + 20 + 8 * most
 long_numbers ram trusted len most r t low is = omega (arith, r, t, low, is)
 
@@ -31,14 +32,14 @@ begin_numbers ram trusted r t low = omega (arith, r, t, low)
 pub area_even : (size : ℕ) (a : Area) → HasArea size a → a.trusted - a.ram ≡ 8 * area_begin a
 area_even size a has = begin_numbers a.ram a.trusted has.ram has.even has.low
 
-place_numbers : (ram trusted n begin : ℕ) → ram ≤ trusted → trusted - ram ≡ 8 * begin → (trusted + 160 + 64 * n - ram) / 8 ≡ begin + 20 + 8 * n
+place_numbers : (ram trusted n begin : ℕ) → ram ≤ trusted → trusted - ram ≡ 8 * begin → (frame_after trusted n - ram) / 8 ≡ begin + 20 + 8 * n
 place_numbers ram trusted n begin low is = omega (arith, low, is)
 
 -- a frame's address as a granule
 pub frame_granule : (size : ℕ) (a : Area) (n : ℕ) → HasArea size a → (frame_address a n - a.ram) / 8 ≡ frame_place (area_begin a) n
 frame_granule size a n has = place_numbers a.ram a.trusted n (area_begin a) has.low (area_even size a has)
 
-offset_numbers : (ram trusted n begin : ℕ) → ram ≤ trusted → trusted - ram ≡ 8 * begin → trusted + 160 + 64 * n - ram ≡ 8 * (begin + 20 + 8 * n)
+offset_numbers : (ram trusted n begin : ℕ) → ram ≤ trusted → trusted - ram ≡ 8 * begin → frame_after trusted n - ram ≡ 8 * (begin + 20 + 8 * n)
 offset_numbers ram trusted n begin low is = omega (arith, low, is)
 
 -- and as an offset

@@ -1,10 +1,12 @@
 -- A start, a frame more and a frame less, as threads.
 use Rattle.std.proofs.Common.{ℕ, suc, ◌≡◌, ◌+◌, ◌-◌, ◌*◌, ◌/◌, ◌%◌, ◌^◌, ◌==◌, ◌<◌, ◌≤◌, inl, Bool, true, false, List, [], ◌∷◌, length, refl, ap, ◌∙◌, arith}
+use Rattle.def_profile.specs.declared.layout.TheConstants.{FRAME_SIZE}
+use Rattle.def_profile.specs.Areas.{frame_after}
 use Rattle.def_words.specs.declared.Cap.{Cap}
 use Rattle.def_memory.specs.declared.Granule.{Granule}
 use Rattle.def_memory.specs.Granules.{plain}
 use Rattle.def_memory.specs.Accesses.{loaded_cap}
-use Rattle.def_machine.specs.State.{Thread, Frame}
+use Rattle.def_machine.specs.State.{Thread, Frame, outermost}
 use Rattle.def_machine.specs.Frames.{pushed_frame}
 use Rattle.def_areas.specs.Areas.{held, holding, holding_all, frame_place, frame_at, frames_in, frame_words, low_word, caller_actor, caller_top, caller_handling}
 use Rattle.def_areas.specs.Touches.{Touches}
@@ -13,7 +15,7 @@ use Rattle.law_areas.proofs.Frames.{frames_same, frames_next, frames_none, frame
 use Rattle.law_areas.proofs.Changes.{all_touches, zeroed_touches, touches_more}
 use Rattle.ct_areas.specs.declared.thread.Area.{Area}
 use Rattle.ct_areas.specs.declared.thread.Thread as row
-use Rattle.ct_areas.specs.Threads.{HasArea, area_begin, area_end, frames_most, living, thread_of, outermost, first}
+use Rattle.ct_areas.specs.Threads.{HasArea, area_begin, area_end, frames_most, living, thread_of, first}
 use Rattle.ct_areas.specs.Parts.{saved_of, register_in, with_frame, deeper, pushed, inner_place, inner_frame, outer_frames, frame_address, frame_cleared, without_frame, shallower}
 use Rattle.ct_areas.proofs.Places.{area_long, area_inside, frame_granule, some_depth, frames_of}
 
@@ -38,6 +40,13 @@ first_frames gs a actor top export small inside clear =
     frames_next hs a actor top false 0
     ∙ ap (λ fs. frame_at hs k actor top false ∷ fs) (frames_none hs a (caller_actor hs k) (caller_top hs k) (caller_handling hs k))
     ∙ ap (λ g. g ∷ []) f
+
+-- what the start writes into its first frame, by the addresses of the code
+pub first_wrote : (gs hs : List Granule) (at export : ℕ) (a : Area) (c : Cap) → at ≡ 8 * frame_place (area_begin a) 0 → c ≡ plain export
+    → hs ≡ holding gs ((at + 40) / 8) c → hs ≡ holding gs (frame_place (area_begin a) 0 + 5) (plain export)
+first_wrote gs hs at export a c place word wrote =
+    let here : (at + 40) / 8 ≡ frame_place (area_begin a) 0 + 5 = omega (arith, place) in
+    wrote ∙ ap (λ k. holding gs k c) here ∙ ap (λ x. holding gs (frame_place (area_begin a) 0 + 5) x) word
 
 pub first_is : (gs : List Granule) (t : row.Thread) (export : ℕ) → HasArea (8 * length gs) t.area → t.depth ≡ 1 → t.handling ≡ false → export < 2 ^ 32
     → ((k : ℕ) → area_begin t.area ≤ k → k < area_end t.area → held gs k ≡ plain 0)
@@ -106,21 +115,21 @@ pub cleared_touches : (size : ℕ) (gs : List Granule) (a : Area) (n : ℕ) → 
     → Touches (frame_place (area_begin a) n) (frame_place (area_begin a) n + 8) gs (frame_cleared gs a n)
 cleared_touches size gs a n has =
     let from = frame_granule size a n has in
-    let to : (frame_address a n + 64 - a.ram) / 8 ≡ frame_place (area_begin a) n + 8 = next a.ram (frame_address a n) (frame_place (area_begin a) n) (low a.ram a.trusted n has.low) from in
-    let touches = zeroed_touches gs a.ram (frame_address a n) (frame_address a n + 64) (low a.ram a.trusted n has.low)
+    let to : (frame_address a n + FRAME_SIZE - a.ram) / 8 ≡ frame_place (area_begin a) n + 8 = next a.ram (frame_address a n) (frame_place (area_begin a) n) (low a.ram a.trusted n has.low) from in
+    let touches = zeroed_touches gs a.ram (frame_address a n) (frame_address a n + FRAME_SIZE) (low a.ram a.trusted n has.low)
     (even a.ram a.trusted n has.ram has.even) (whole a.ram a.trusted n has.ram has.even) in
     rw (from, to) at touches
   where
-    low : (ram trusted n : ℕ) → ram ≤ trusted → ram ≤ trusted + 160 + 64 * n
+    low : (ram trusted n : ℕ) → ram ≤ trusted → ram ≤ frame_after trusted n
     low ram trusted n le = omega (arith, le)
 
-    even : (ram trusted n : ℕ) → ram % 16 ≡ 0 → trusted % 16 ≡ 0 → (trusted + 160 + 64 * n) % 8 ≡ ram % 8
+    even : (ram trusted n : ℕ) → ram % 16 ≡ 0 → trusted % 16 ≡ 0 → frame_after trusted n % 8 ≡ ram % 8
     even ram trusted n r t = omega (arith, r, t)
 
-    whole : (ram trusted n : ℕ) → ram % 16 ≡ 0 → trusted % 16 ≡ 0 → (trusted + 160 + 64 * n + 64) % 8 ≡ ram % 8
+    whole : (ram trusted n : ℕ) → ram % 16 ≡ 0 → trusted % 16 ≡ 0 → (frame_after trusted n + FRAME_SIZE) % 8 ≡ ram % 8
     whole ram trusted n r t = omega (arith, r, t)
 
-    next : (ram from place : ℕ) → ram ≤ from → (from - ram) / 8 ≡ place → (from + 64 - ram) / 8 ≡ place + 8
+    next : (ram from place : ℕ) → ram ≤ from → (from - ram) / 8 ≡ place → (from + FRAME_SIZE - ram) / 8 ≡ place + 8
     next ram from place le is = omega (arith, le, is)
 
 pub popped_frames : (gs hs : List Granule) (t q : row.Thread) (size : ℕ) → HasArea size t.area → 0 < t.depth

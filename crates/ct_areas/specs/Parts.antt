@@ -1,6 +1,7 @@
 -- What calls and their ends read, write and leave of a thread's row and its area.
-use Rattle.std.specs.Prelude.{ℕ, ◌+◌, ◌-◌, ◌*◌, ◌%◌, ◌≡◌, ◌≤◌, false, List, [], ◌∷◌, drop, slice_index_or}
-use Rattle.def_profile.specs.declared.layout.TheConstants.{AREA_HEAD, FRAME_SIZE, SAVED_SIZE}
+use Rattle.std.specs.Prelude.{ℕ, ◌+◌, ◌-◌, ◌%◌, ◌≡◌, ◌≤◌, false, List, [], ◌∷◌, drop, slice_index_or}
+use Rattle.def_profile.specs.Areas.{frame_after}
+use Rattle.def_profile.specs.declared.layout.TheConstants.{FRAME_SIZE, SAVED_SIZE}
 use Rattle.def_words.specs.declared.Cap.{Cap}
 use Rattle.def_memory.specs.declared.Granule.{Granule}
 use Rattle.def_memory.specs.Granules.{plain}
@@ -65,7 +66,7 @@ saved_in f = record { export = f.export; c1 = f.c1; c2 = f.c2; c3 = f.c3; c8 = f
 
 -- where frame n of an area begins, as an address
 abbrev pub frame_address : Area → ℕ → ℕ
-frame_address a n = a.trusted + AREA_HEAD + FRAME_SIZE * n
+frame_address a n = frame_after a.trusted n
 
 abbrev pub frame_cleared : List Granule → Area → ℕ → List Granule
 frame_cleared gs a n = zeroed_from (frame_address a n) (frame_address a n + FRAME_SIZE) a.ram gs

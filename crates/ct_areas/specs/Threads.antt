@@ -1,11 +1,12 @@
 -- A thread as the machine's state has it, from what its row keeps and what stands in its area.
-use Rattle.std.specs.Prelude.{ℕ, ◌+◌, ◌-◌, ◌*◌, ◌/◌, ◌%◌, ◌==◌, ◌≡◌, ◌≤◌, ◌⊎◌, Bool, false, cond, List, [], ◌∷◌}
+use Rattle.std.specs.Prelude.{ℕ, ◌+◌, ◌-◌, ◌/◌, ◌%◌, ◌==◌, ◌≡◌, ◌≤◌, ◌⊎◌, Bool, cond, List, [], ◌∷◌}
+use Rattle.def_profile.specs.Areas.{area_length}
 use Rattle.def_profile.specs.declared.layout.TheConstants.{GRANULE, AREA_HEAD, FRAME_SIZE}
 use Rattle.def_words.specs.declared.Cap.{Cap}
 use Rattle.def_words.specs.declared.Posture.{Posture}
 use Rattle.def_memory.specs.declared.Granule.{Granule}
 use Rattle.def_memory.specs.Granules.{plain}
-use Rattle.def_machine.specs.State.{Thread, Frame, Ready, nobody}
+use Rattle.def_machine.specs.State.{Thread, Ready, nobody, outermost}
 use Rattle.def_areas.specs.Areas.{held, held_from, frames_in}
 use Rattle.ct_areas.specs.declared.thread.Area.{Area}
 use Rattle.ct_areas.specs.declared.thread.Thread as row
@@ -29,7 +30,7 @@ pub record HasArea (size : ℕ) (a : Area) : Type 0 where
   pub even : a.trusted % 16 ≡ 0
   pub low : a.ram ≤ a.trusted
   pub high : a.trusted + a.trusted_length ≤ a.ram + size
-  pub whole : a.trusted_length ≡ AREA_HEAD + FRAME_SIZE * frames_most a
+  pub whole : a.trusted_length ≡ area_length (frames_most a)
   pub some : 1 ≤ frames_most a
 
 -- a range of granules that meets no granule of the area
@@ -52,20 +53,6 @@ living gs runs t = record {
 -- one without frames has ended
 abbrev pub thread_of : List Granule → Bool → row.Thread → Thread
 thread_of gs runs t = cond (t.depth == 0) nobody (living gs runs t)
-
--- the outermost frame, which has no caller
-abbrev pub outermost : ℕ → ℕ → ℕ → Frame
-outermost actor export top = record {
-  actor = actor;
-  export = export;
-  top = top;
-  handling = false;
-  c1 = plain 0;
-  c2 = plain 0;
-  c3 = plain 0;
-  c8 = plain 0;
-  c9 = plain 0;
-}
 
 -- a thread at its start
 abbrev pub first : Cap → List Cap → Posture → ℕ → ℕ → ℕ → Thread

@@ -1,6 +1,8 @@
 //! Places in an area, and what of memory leaves an area as it is.
 
 ghost use Rattle.std.specs.Prelude.{◌≡◌, ◌+◌, ◌-◌, ◌*◌, ◌/◌, ◌%◌, ◌^◌, ◌≤◌, ◌<◌, ℕ, Bool, List, length};
+ghost use Rattle.def_profile.specs.Areas.{frame_after};
+ghost use Rattle.def_profile.specs.declared.layout.TheConstants as layout;
 ghost use Rattle.def_words.specs.declared.Cap.{Cap};
 ghost use Rattle.def_memory.specs.declared.Granule.{Granule};
 ghost use Rattle.def_memory.specs.Accesses.{stored, stored_cap};
@@ -33,8 +35,8 @@ pub(crate) fn plain(word: u64) -> Cap
 pub(crate) fn area_offset<M: Memory>(area: &Area, mem: &M) -> u32
     requires { HasArea (8 * length (M.granules mem.now)) area.now }
     ensures is { result ≡ 8 * area_begin area.now }
-    ensures inside { result + 160 + 64 * frames_most area.now ≤ 8 * length (M.granules mem.now) }
-    ensures small { result + 160 + 64 * frames_most area.now < 2 ^ 32 }
+    ensures inside { frame_after result (frames_most area.now) ≤ 8 * length (M.granules mem.now) }
+    ensures small { frame_after result (frames_most area.now) < 2 ^ 32 }
 {
     let _size = mem.size();
     area.trusted - area.ram
@@ -45,8 +47,8 @@ pub(crate) fn frame_offset<M: Memory>(area: &Area, number: u32, mem: &M) -> u32
     requires area { HasArea (8 * length (M.granules mem.now)) area.now }
     requires room { number < frames_most area.now }
     ensures is { result ≡ 8 * frame_place (area_begin area.now) number }
-    ensures inside { result + 64 ≤ 8 * length (M.granules mem.now) }
-    ensures small { result + 64 < 2 ^ 32 }
+    ensures inside { result + layout.FRAME_SIZE ≤ 8 * length (M.granules mem.now) }
+    ensures small { result + layout.FRAME_SIZE < 2 ^ 32 }
 {
     area_offset(area, mem) + AREA_HEAD + FRAME_SIZE * number
 }

@@ -1,6 +1,7 @@
 //! A frame more, and a frame less.
 
 ghost use Rattle.std.specs.Prelude.{◌≡◌, ◌+◌, ◌-◌, ◌*◌, ◌/◌, ◌%◌, ◌^◌, ◌≤◌, ◌<◌, true, length, drop};
+ghost use Rattle.def_profile.specs.declared.layout.TheConstants.{FRAME_SIZE};
 ghost use Rattle.def_memory.specs.Granules.{plain};
 ghost use Rattle.def_areas.specs.Areas.{frame_place, frame_words, holding_all, low_word, high_word, caller_actor, caller_top, caller_handling, mark_word};
 ghost use Rattle.def_areas.specs.Touches.{Touches};
@@ -14,6 +15,7 @@ use ct_mem::Memory;
 use def_profile::layout::FRAME_SIZE;
 
 /// What a frame keeps of its caller, and the entry number of its own export.
+#[derive(Drop)]
 pub struct Saved {
     pub export: u32,
     pub c1: Live,
@@ -41,7 +43,7 @@ fn mark_of(handling: bool) -> u64
 /// Writes the frame at an offset.
 fn write_frame<M: Memory>(t: &Thread, mem: &mut M, at: u32, export: u32)
     requires even { at % 8 ≡ 0 }
-    requires inside { at + 64 ≤ 8 * length (M.granules mem.old) }
+    requires inside { at + FRAME_SIZE ≤ 8 * length (M.granules mem.old) }
     ensures is { M.granules mem.new ≡ holding_all (M.granules mem.old) (at / 8)
         (frame_words (saved_of t.now) export t.now.actor t.now.top t.now.handling) }
 {

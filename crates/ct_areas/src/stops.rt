@@ -53,7 +53,8 @@ fn take_registers<M: Memory>(registers: &mut [Live; 16], mem: &M, ram: u32, at: 
     requires even { at % 8 ≡ 0 }
     requires inside { at + 120 ≤ 8 * length (M.granules mem.now) }
     ensures { registers.new
-        ≡ plain 0 ∷ map (filtered_in ram (M.granules mem.now)) (held_from (M.granules mem.now) (at / 8) 15) }
+        ≡ plain 0 ∷ map (filtered_in ram (M.granules mem.now))
+        (held_from (M.granules mem.now) (at / 8) 15) }
 {
     let _size = mem.size();
     registers[0] = Live::integer(0);
@@ -68,7 +69,8 @@ pub fn resume<M: Memory>(t: &mut Thread, mem: &mut M)
     requires area { HasArea (8 * length (M.granules mem.old)) t.old.area }
     requires room { t.old.depth ≤ frames_most t.old.area }
     ensures thread { thread_of (M.granules mem.new) true t.new
-        ≡ picked_with (filtered_in t.old.area.ram (M.granules mem.old)) (thread_of (M.granules mem.old) false t.old) }
+        ≡ picked_with (filtered_in t.old.area.ram (M.granules mem.old))
+        (thread_of (M.granules mem.old) false t.old) }
     ensures memory { M.granules mem.new ≡ without_saved (M.granules mem.old) t.old }
     ensures touches { Touches (area_begin t.old.area) (area_end t.old.area) (M.granules mem.old)
         (M.granules mem.new) }

@@ -1,6 +1,7 @@
 //! A thread's row, and how a thread starts.
 
 ghost use Rattle.std.specs.Prelude.{◌≡◌, ◌+◌, ◌*◌, ◌<◌, ◌≤◌, ℕ, true, false, length};
+ghost use Rattle.def_profile.specs.declared.limits.TheConstants.{RAM_END};
 ghost use Rattle.def_memory.specs.Granules.{plain};
 ghost use Rattle.def_areas.specs.Areas.{held, holding, frame_place};
 ghost use Rattle.def_areas.specs.Touches.{Touches};
@@ -54,7 +55,7 @@ impl Thread {
         requires area { HasArea (8 * length (M.granules mem.old)) area }
         requires clear { (k : ℕ) → area_begin area ≤ k → k < area_end area
             → held (M.granules mem.old) k ≡ plain 0 }
-        requires end { area.stack + area.stack_length ≤ 4294967280 }
+        requires end { area.stack + area.stack_length ≤ RAM_END }
         ensures thread { thread_of (M.granules mem.new) true result
             ≡ first pcc regs posture actor export (area.stack + area.stack_length) }
         ensures memory { M.granules mem.new

@@ -1,7 +1,7 @@
 -- The labels that a table holds, and the first of a name.
 use Rattle.std.specs.Prelude.{◌≡◌, ◌≤◌, ℕ, List, [], ◌∷◌, Option, Some, None, is_some, ◌++◌, if◌then◌else◌}
 use Rattle.std.specs.Str.{bytes_eq}
-use Rattle.def_source.specs.Source.{Name, Statements, is_text}
+use Rattle.def_source.specs.Source.{Name, Statements}
 use Rattle.def_object.specs.declared.Label.{Label}
 use Rattle.def_object.specs.declared.Place.{Place}
 use Rattle.def_object.specs.Object.{offset, limit, fault_in, label_in, text_of, initial_of}
@@ -26,11 +26,6 @@ pub record Assembled : Type 0 where
   pub text : List ℕ
   pub init : List ℕ
   pub labels : List (Name × Label)
-
--- the offset of a label of the text
-abbrev pub text_offset : Option Label → Option ℕ
-text_offset None = None
-text_offset (Some l) = if is_text l.section then Some l.offset else None
 
 abbrev pub WithinLimit : Option Label → Type 0
 WithinLimit None = Unit {0}

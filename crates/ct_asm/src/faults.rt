@@ -104,27 +104,7 @@ fn reference_fault(labels: &Labels, k: u64, at: u128, part: Part<&[u8]>) -> Opti
         }
         Part::TextAddress { label, .. } => text_fault(labels.get(label)),
         Part::GlobalAddress { label, .. } => data_fault(labels.get(label)),
-        Part::Text
-        | Part::Data
-        | Part::Word { .. }
-        | Part::Byte { .. }
-        | Part::Zero { .. }
-        | Part::Align { .. }
-        | Part::Registers { .. }
-        | Part::Immediate { .. }
-        | Part::Upper { .. }
-        | Part::Load { .. }
-        | Part::RegisterJump { .. }
-        | Part::JumpCapability { .. }
-        | Part::Store { .. }
-        | Part::Source { .. }
-        | Part::Bare { .. }
-        | Part::Nop
-        | Part::Move { .. }
-        | Part::Return
-        | Part::JumpRegister { .. }
-        | Part::LoadImmediate { .. }
-        | Part::Import { .. } => None,
+        _ => None,
     }
 }
 

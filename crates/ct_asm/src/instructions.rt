@@ -18,7 +18,7 @@ use crate::ways::{
     branch_target, high_piece, jump_target, label_offset, low_piece, rest_part, upper_part,
 };
 use ct_isa::{Instr, instruction};
-use def_instr::shapes::{BranchOperation, ImmediateOperation, Shape};
+use def_instr::shapes::{BranchOperation, ImmediateOperation, RegisterOperation, Shape};
 use def_source::parts::{BareOperation, Number, Part};
 
 /// The instructions that a statement stands for.
@@ -241,12 +241,7 @@ fn shape(part: Part<&[u8]>) -> Shape
             rd,
             rs1,
             rs2,
-        } => Shape::Registers {
-            operation,
-            rd,
-            rs1,
-            rs2,
-        },
+        } => registers(operation, rd, rs1, rs2),
         Part::Immediate {
             operation,
             rd,
@@ -347,13 +342,7 @@ pub(crate) fn instructions(labels: &Labels, slots: &Names, at: u128, part: Part<
         Part::Import { rd, name } => load_slot(slots, at, rd, name),
         Part::TextAddress { rd, label } => text_address(at, rd, label_offset(labels.get(label))),
         Part::GlobalAddress { rd, label } => global_address(rd, label_offset(labels.get(label))),
-        Part::Label { .. }
-        | Part::Text
-        | Part::Data
-        | Part::Word { .. }
-        | Part::Byte { .. }
-        | Part::Zero { .. }
-        | Part::Align { .. } => Emitted::Nothing,
+        _ => Emitted::Nothing,
     }
 }
 
@@ -366,5 +355,17 @@ fn branch(operation: BranchOperation, rs1: u32, rs2: u32, offset: u32) -> Shape
         rs1,
         rs2,
         offset,
+    }
+}
+
+/// The shape of two sources and a result.
+fn registers(operation: RegisterOperation, rd: u32, rs1: u32, rs2: u32) -> Shape
+    ensures { result ≡ shapes.Registers operation rd rs1 rs2 }
+{
+    Shape::Registers {
+        operation,
+        rd,
+        rs1,
+        rs2,
     }
 }

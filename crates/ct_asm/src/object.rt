@@ -3,7 +3,8 @@
 ghost use Rattle.std.specs.Prelude.{◌≡◌, ◌<◌, ◌^◌, IfOk, IfErr};
 ghost use Rattle.def_source.specs.Source.{IsLawful};
 ghost use Rattle.ct_source.specs.Views.{statements_view};
-ghost use Rattle.ct_asm.specs.Labels.{label_named, text_offset, Stands, Refuses};
+ghost use Rattle.def_object.specs.Object.{text_offset};
+ghost use Rattle.ct_asm.specs.Labels.{label_named, Stands, Refuses};
 
 use crate::bytes::section_bytes;
 use crate::faults::least_fault;

@@ -1,9 +1,11 @@
 //! From a word to its bounds.
 
 ghost use Rattle.std.specs.Prelude.{◌%◌, ◌/◌, ◌<◌, ◌^◌, ◌≡◌, ◌≤◌};
+ghost use Rattle.def_profile.specs.declared.bounds.TheConstants as bounds;
 ghost use Rattle.def_words.specs.Authority.{bounds_of, corner_of, exponent_of, one_if_less};
 
 use ct_bits::field;
+use def_profile::bounds::{WIDEST_EXPONENT, WIDEST_FIELD};
 use def_words::Bounds;
 
 /// The bounds that a high word gives at an address: exponent, base below 2^32 and top below 2^33.
@@ -29,15 +31,19 @@ pub fn decode(high: u32, address: u32) -> Bounds
 /// The exponent that E stands for.
 fn exponent(high: u32) -> u32
     ensures value { result ≡ exponent_of high }
-    ensures small { result ≤ 24 }
+    ensures small { result ≤ bounds.WIDEST_EXPONENT }
 {
     let coded = field(high, 18, 4);
-    if coded == 15 { 24 } else { coded }
+    if coded == WIDEST_FIELD {
+        WIDEST_EXPONENT
+    } else {
+        coded
+    }
 }
 
 /// The nine bits of an address that stand where B and T stand.
 fn field_at(address: u32, exponent: u32) -> u32
-    requires { exponent ≤ 24 }
+    requires { exponent ≤ bounds.WIDEST_EXPONENT }
     ensures { result ≡ address / 2 ^ exponent % 512 }
 {
     (address >> exponent) % 512
@@ -56,7 +62,7 @@ fn borrow(a: u32, b: u32) -> u64
 /// 2^24 blocks more are a multiple of 2^33 and keep the difference from falling below zero.
 #[tactic(auto, using(crate::proofs::Corners::block_fits, crate::proofs::Corners::unit_fits, crate::proofs::Corners::power))]
 fn corner(address: u32, exponent: u32, field: u32, up: u64, down: u64) -> u64
-    requires exponent { exponent ≤ 24 }
+    requires exponent { exponent ≤ bounds.WIDEST_EXPONENT }
     requires field { field < 512 }
     requires up { up ≤ 1 }
     requires down { down ≤ 1 }

@@ -1,15 +1,11 @@
 //! From a range to the least bounds around it.
 
 ghost use Rattle.std.specs.Prelude.{◌%◌, ◌*◌, ◌+◌, ◌-◌, ◌<◌, ◌^◌, ◌≡◌, ◌≤◌};
+ghost use Rattle.def_profile.specs.declared.bounds.TheConstants as bounds;
 ghost use Rattle.def_words.specs.LeastBounds.{align_mask_of, ceil_units, exponent_for, floor_units, round_length_of, rounded_at, rounded_of};
 
+use def_profile::bounds::{LAST_EXPONENT, MOST_UNITS, WIDEST_EXPONENT, WIDEST_FIELD};
 use def_words::Rounded;
-
-/// B and T tell at most this many units apart.
-const MOST_UNITS: u64 = 511;
-
-/// The greatest exponent that E spells by itself.
-const GREATEST_SMALL: u32 = 14;
 
 /// The bounds with the least exponent that hold `[base, base + length)`, with their fields E, B and T
 /// in place.
@@ -47,12 +43,16 @@ pub fn align_mask(n: u32) -> u32
 fn rounded(base: u64, top: u64, exponent: u32) -> Rounded
     requires order { base ≤ top }
     requires fits { top ≤ 2 ^ 32 }
-    requires small { exponent ≤ 24 }
+    requires small { exponent ≤ bounds.WIDEST_EXPONENT }
     ensures { result ≡ rounded_at base top exponent }
 {
     let low = base >> exponent;
     let high = ceil(top, exponent);
-    let coded = if exponent == 24 { 15 } else { exponent };
+    let coded = if exponent == WIDEST_EXPONENT {
+        WIDEST_FIELD
+    } else {
+        exponent
+    };
     let rounded_base = low << exponent;
     let rounded_top = high << exponent;
     Rounded {
@@ -66,7 +66,7 @@ fn rounded(base: u64, top: u64, exponent: u32) -> Rounded
 /// How many units of 2 to the exponent reach up to `top`.
 fn ceil(top: u64, exponent: u32) -> u64
     requires fits { top ≤ 2 ^ 32 }
-    requires small { exponent ≤ 24 }
+    requires small { exponent ≤ bounds.WIDEST_EXPONENT }
     ensures value { result ≡ ceil_units top exponent }
     ensures scaled { result * 2 ^ exponent < 2 ^ 33 }
 {
@@ -80,18 +80,18 @@ fn least_exponent(base: u64, top: u64) -> u32
     requires order { base ≤ top }
     requires fits { top ≤ 2 ^ 32 }
     ensures value { result ≡ exponent_for base top }
-    ensures small { result ≤ 24 }
+    ensures small { result ≤ bounds.WIDEST_EXPONENT }
 {
     let first = first_candidate(top - base);
-    let exponent = if ceil(top, first) - (base >> first) <= MOST_UNITS {
+    let exponent = if ceil(top, first) - (base >> first) <= MOST_UNITS as u64 {
         first
     } else {
         first + 1
     };
-    if exponent <= GREATEST_SMALL {
+    if exponent <= LAST_EXPONENT {
         exponent
     } else {
-        24
+        WIDEST_EXPONENT
     }
 }
 
@@ -100,7 +100,7 @@ fn first_candidate(length: u64) -> u32
     requires { length ≤ 2 ^ 32 }
     ensures above { length < 2 ^ (result + 9) }
     ensures below { 1 ≤ result → 2 ^ (result + 9) ≤ 2 * length + 1 }
-    ensures small { result ≤ 24 }
+    ensures small { result ≤ bounds.WIDEST_EXPONENT }
 {
     let bits = 64 - length.leading_zeros();
     bits.saturating_sub(9)

@@ -37,6 +37,9 @@ tells r gs at s h =
       number = λ used. ap (λ (x : Head). x.rest) same ∙ told.rest ∙ rw used refl;
     }
 
+pub size_told : (r : Range) (gs : List Granule) (at : ℕ) (x : Head) (s : Stands r gs at) → Tiled r gs → x ≡ head_in (head_at gs r.ram at) → x.size ≡ s.chunk.size
+size_told r gs at x s h is = ap (λ (y : Head). y.size) is ∙ (tells r gs at s h).size
+
 -- a used chunk's head is written
 pub state_keeps : (r : Range) (gs hs : List Granule) (at size number word : ℕ) → Tiled r gs → UsedStands r gs at size number → hs ≡ stored_cap gs (at - r.ram) (plain word) → Keeps r (chunks r gs) gs hs
 state_keeps r gs hs at size number word h u is =

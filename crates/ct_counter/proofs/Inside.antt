@@ -2,11 +2,12 @@
 use Rattle.std.proofs.Common.{ℕ, ◌+◌, ◌-◌, ◌*◌, ◌/◌, ◌%◌, ◌^◌, ◌<◌, ◌≤◌, ◌≡◌, ◌⊎◌, refl, sym, ◌∙◌, inl, inr, arith, subst}
 use Rattle.std.proofs.Common.{lit<}
 use Rattle.std.proofs.lemmas.Nat.{pow_pos, mul-le, mod-mul-add}
-use Rattle.std.proofs.Math.Nat.{div-mul-le_self, pow-le-pow_right}
+use Rattle.def_profile.specs.declared.bounds.TheConstants.{LAST_EXPONENT, WIDEST_EXPONENT, MOST_UNITS}
+use Rattle.std.proofs.Math.Nat.{pow-le-pow_right}
 use Rattle.law_lists.proofs.Tests.{lt_tells}
 use Rattle.def_words.specs.Authority.{one_if_less, corner_of, middle, base_of, top_of, exponent_of, base_field, top_field}
-use Rattle.law_words.proofs.Back.{exponent_kinds}
-use Rattle.law_words.proofs.Fields.{corner_sum, unit_low, unit_high, wrap_32, wrap_33, base_back, top_back}
+use Rattle.law_words.proofs.Back.{Units, apart, at_most_one, block_units, exponent_kinds}
+use Rattle.law_words.proofs.Fields.{corner_sum, unit_low, unit_high, wrap_33, base_back, top_back}
 
 -- of a word with these fields at an address
 abbrev base_at : ℕ → ℕ → ℕ → ℕ
@@ -18,18 +19,7 @@ top_at e B T a = corner_of a e T (one_if_less T B) (one_if_less (middle a e) B) 
 abbrev Same : ℕ → ℕ → ℕ → ℕ → ℕ → Type 0
 Same e B T a x = (base_at e B x ≡ base_at e B a) × (top_at e B T x ≡ top_at e B T a)
 
--- the bounds as multiples of the unit, whose fields these are
-record Units (e B T a : ℕ) : Type 0 where
-  low : ℕ
-  high : ℕ
-  base_is : base_at e B a ≡ low * 2 ^ e
-  top_is : top_at e B T a ≡ high * 2 ^ e
-  base_field_is : low % 512 ≡ B
-  top_field_is : high % 512 ≡ T
-  near : high ≤ low + 511
-  fits : low * 2 ^ e < 2 ^ 32
-
-from_units : (e B T a x : ℕ) → Units e B T a → base_at e B a ≤ x → x ≤ top_at e B T a → top_at e B T a ≤ 2 ^ 32 → Same e B T a x
+from_units : (e B T a x : ℕ) → Units e B T (base_at e B a) (top_at e B T a) → base_at e B a ≤ x → x ≤ top_at e B T a → top_at e B T a ≤ 2 ^ 32 → Same e B T a x
 from_units e B T a x u low high fits =
     let from : u.low * 2 ^ e ≤ x = rw (← u.base_is) low in
     let to : x ≤ u.high * 2 ^ e = rw (← u.top_is) high in
@@ -44,40 +34,16 @@ from_units e B T a x u low high fits =
     )
 
 -- the address's block, or the one below it
-block_units : (e B T a up down : ℕ) → e ≤ 14 → a < 2 ^ 32 → B < 512 → T < 512
+its_block : (e B T a up down : ℕ) → e ≤ LAST_EXPONENT → a < 2 ^ 32 → B < 512 → T < 512
     → one_if_less T B ≡ up → one_if_less (middle a e) B ≡ down
-    → down ≤ a / 2 ^ e / 512 → (a / 2 ^ e / 512 - down) * 512 + B ≤ a / 2 ^ e → T + up * 512 ≤ B + 511 → Units e B T a
-block_units e B T a up down small a_small hb ht is_up is_down has under apart =
-    let p_small : 2 ^ e ≤ 2 ^ 14 = pow-le-pow_right (lit< tt) small in
-    let unit : a / 2 ^ e * 2 ^ e ≤ a = div-mul-le_self a (2 ^ e) in
-    let lo : ℕ = (a / 2 ^ e / 512 - down) * 512 + B in
-    let hi : ℕ = (a / 2 ^ e / 512 + up - down) * 512 + T in
-    let scaled : ((a / 2 ^ e / 512 - down) * 512 + B) * 2 ^ e ≤ a / 2 ^ e * 2 ^ e = mul-le ((a / 2 ^ e / 512 - down) * 512 + B) (2 ^ e) (a / 2 ^ e) (2 ^ e) under (omega arith) in
-    let low_fits : ((a / 2 ^ e / 512 - down) * 512 + B) * 2 ^ e < 2 ^ 32 = omega (arith, scaled, unit, a_small) in
-    let near : (a / 2 ^ e / 512 + up - down) * 512 + T ≤ (a / 2 ^ e / 512 - down) * 512 + B + 511 = omega (arith, has, apart) in
-    let scaled_high : ((a / 2 ^ e / 512 + up - down) * 512 + T) * 2 ^ e ≤ ((a / 2 ^ e / 512 - down) * 512 + B + 511) * 2 ^ e = mul-le ((a / 2 ^ e / 512 + up - down) * 512 + T) (2 ^ e) ((a / 2 ^ e / 512 - down) * 512 + B + 511) (2 ^ e) near (omega arith) in
-    let split : ((a / 2 ^ e / 512 - down) * 512 + B + 511) * 2 ^ e ≡ ((a / 2 ^ e / 512 - down) * 512 + B) * 2 ^ e + 511 * 2 ^ e = omega arith in
-    let high_fits : ((a / 2 ^ e / 512 + up - down) * 512 + T) * 2 ^ e < 2 ^ 33 = omega (arith, scaled_high, split, low_fits, p_small) in
-    let sum_low : a / 2 ^ e / 512 + 2 ^ 24 + 0 - down ≡ (a / 2 ^ e / 512 - down) + 2 ^ 24 = omega (arith, has) in
-    let sum_high : a / 2 ^ e / 512 + 2 ^ 24 + up - down ≡ (a / 2 ^ e / 512 + up - down) + 2 ^ 24 = omega (arith, has) in
-    let corner_low : corner_of a e B 0 down ≡ (((a / 2 ^ e / 512 - down) + 2 ^ 24) * 512 + B) * 2 ^ e = corner_sum a e B 0 down ((a / 2 ^ e / 512 - down) + 2 ^ 24) sum_low in
-    let corner_high : corner_of a e T up down ≡ (((a / 2 ^ e / 512 + up - down) + 2 ^ 24) * 512 + T) * 2 ^ e = corner_sum a e T up down ((a / 2 ^ e / 512 + up - down) + 2 ^ 24) sum_high in
-    let moved_low : ((a / 2 ^ e / 512 - down) + 2 ^ 24) * 512 + B ≡ (a / 2 ^ e / 512 - down) * 512 + B + 2 ^ 33 = omega arith in
-    let moved_high : ((a / 2 ^ e / 512 + up - down) + 2 ^ 24) * 512 + T ≡ (a / 2 ^ e / 512 + up - down) * 512 + T + 2 ^ 33 = omega arith in
-    record {
-      low = (a / 2 ^ e / 512 - down) * 512 + B;
-      high = (a / 2 ^ e / 512 + up - down) * 512 + T;
-      base_is = rw (is_down, corner_low, moved_low) (wrap_32 ((a / 2 ^ e / 512 - down) * 512 + B) (2 ^ e) low_fits);
-      top_is = rw (is_up, is_down, corner_high, moved_high) (wrap_33 ((a / 2 ^ e / 512 + up - down) * 512 + T) (2 ^ e) high_fits);
-      base_field_is = omega (arith, hb);
-      top_field_is = omega (arith, ht);
-      near = near;
-      fits = low_fits;
-    }
+    → down ≤ a / 2 ^ e / 512 → (a / 2 ^ e / 512 - down) * 512 + B ≤ a / 2 ^ e → T + up * 512 ≤ B + MOST_UNITS
+    → Units e B T (base_at e B a) (top_at e B T a)
+its_block e B T a up down small a_small hb ht is_up is_down has under apart =
+    rw (is_up, is_down) (block_units a e B T up down small a_small hb ht has under apart)
 
 -- the lowest block, and an address below the unit of B: the base is at the end of the space, and the top past it or far
 -- below
-ends_apart : (e B T a x : ℕ) → e ≤ 14 → B < 512 → T < 512 → one_if_less (middle a e) B ≡ 1 → a / 2 ^ e / 512 ≡ 0
+ends_apart : (e B T a x : ℕ) → e ≤ LAST_EXPONENT → B < 512 → T < 512 → one_if_less (middle a e) B ≡ 1 → a / 2 ^ e / 512 ≡ 0
     → base_at e B a ≤ x → x ≤ top_at e B T a → top_at e B T a ≤ 2 ^ 32 → ⊥
 ends_apart e B T a x small hb ht is_down lowest low high fits =
     let p_small : 2 ^ e ≤ 2 ^ 14 = pow-le-pow_right (lit< tt) small in
@@ -107,44 +73,38 @@ ends_apart e B T a x small hb ht is_down lowest low high fits =
           omega (arith, top_is, fits, under_t, p_small, positive))
     ]
 
-apart_is : (B T : ℕ) → B < 512 → T < 512 → T + one_if_less T B * 512 ≤ B + 511
-apart_is B T hb ht = elim (lt_tells T B) [ inl t ↦ rw t.0 (omega (arith, t.1)) | inr t ↦ rw t.0 (omega (arith, ht)) ]
-
-usual : (e B T a x : ℕ) → e ≤ 14 → a < 2 ^ 32 → B < 512 → T < 512
+usual : (e B T a x : ℕ) → e ≤ LAST_EXPONENT → a < 2 ^ 32 → B < 512 → T < 512
     → base_at e B a ≤ x → x ≤ top_at e B T a → top_at e B T a ≤ 2 ^ 32 → Same e B T a x
 usual e B T a x small a_small hb ht low high fits =
-    let apart : T + one_if_less T B * 512 ≤ B + 511 = apart_is B T hb ht in
+    let close : T + one_if_less T B * 512 ≤ B + MOST_UNITS = apart T B hb ht in
     elim (lt_tells (middle a e) B) [
       | inl t ↦ (
           let down : one_if_less (middle a e) B ≡ 1 = rw t.0 refl in
           elim (lt_tells 0 (a / 2 ^ e / 512)) [
             | inl some ↦ from_units e B T a x
-                (block_units e B T a (one_if_less T B) 1 small a_small hb ht refl down (omega (arith, some.1)) (omega (arith, some.1, hb)) apart) low high fits
+                (its_block e B T a (one_if_less T B) 1 small a_small hb ht refl down (omega (arith, some.1)) (omega (arith, some.1, hb)) close) low high fits
             | inr none ↦ absurd (ends_apart e B T a x small hb ht down (omega (arith, none.1)) low high fits)
           ])
       | inr t ↦ (
           let down : one_if_less (middle a e) B ≡ 0 = rw t.0 refl in
-          from_units e B T a x (block_units e B T a (one_if_less T B) 0 small a_small hb ht refl down (omega arith) (omega (arith, t.1)) apart) low high fits)
+          from_units e B T a x (its_block e B T a (one_if_less T B) 0 small a_small hb ht refl down (omega arith) (omega (arith, t.1)) close) low high fits)
     ]
 
-at_most_one : (x y : ℕ) → one_if_less x y ≤ 1
-at_most_one x y = elim (lt_tells x y) [ inl t ↦ rw t.0 (omega arith) | inr t ↦ rw t.0 (omega arith) ]
-
 -- the widest bounds are the same at each address
-wide_base : (B a down : ℕ) → B < 512 → down ≤ 1 → corner_of a 24 B 0 down % 2 ^ 32 ≡ B % 256 * 2 ^ 24
+wide_base : (B a down : ℕ) → B < 512 → down ≤ 1 → corner_of a WIDEST_EXPONENT B 0 down % 2 ^ 32 ≡ B % 256 * 2 ^ 24
 wide_base B a down hb hd = omega (arith, hb, hd)
 
-wide_top : (T a up down : ℕ) → T < 512 → up ≤ 1 → down ≤ 1 → corner_of a 24 T up down % 2 ^ 33 ≡ T * 2 ^ 24
+wide_top : (T a up down : ℕ) → T < 512 → up ≤ 1 → down ≤ 1 → corner_of a WIDEST_EXPONENT T up down % 2 ^ 33 ≡ T * 2 ^ 24
 wide_top T a up down ht hu hd = omega (arith, ht, hu, hd)
 
-widest : (B T a x : ℕ) → B < 512 → T < 512 → Same 24 B T a x
+widest : (B T a x : ℕ) → B < 512 → T < 512 → Same WIDEST_EXPONENT B T a x
 widest B T a x hb ht = (
   wide_base B x (one_if_less (middle x 24) B) hb (at_most_one (middle x 24) B) ∙ sym (wide_base B a (one_if_less (middle a 24) B) hb (at_most_one (middle a 24) B)),
   wide_top T x (one_if_less T B) (one_if_less (middle x 24) B) ht (at_most_one T B) (at_most_one (middle x 24) B)
       ∙ sym (wide_top T a (one_if_less T B) (one_if_less (middle a 24) B) ht (at_most_one T B) (at_most_one (middle a 24) B)),
 )
 
-by_fields : (e B T a x : ℕ) → (e ≤ 14) ⊎ (e ≡ 24) → a < 2 ^ 32 → B < 512 → T < 512
+by_fields : (e B T a x : ℕ) → (e ≤ LAST_EXPONENT) ⊎ (e ≡ WIDEST_EXPONENT) → a < 2 ^ 32 → B < 512 → T < 512
     → base_at e B a ≤ x → x ≤ top_at e B T a → top_at e B T a ≤ 2 ^ 32 → Same e B T a x
 by_fields e B T a x which a_small hb ht low high fits = elim which [
   | inl small ↦ usual e B T a x small a_small hb ht low high fits

@@ -22,19 +22,19 @@ test_of rule.Rights = rights_fit_at
 test_of rule.Services = is_served_at
 
 -- the least fault of the places that were judged and of those that follow, by the rules from one on
-abbrev pub after_limits : Firsts → List Spot → Option Fault
+unfoldable pub after_limits : Firsts → List Spot → Option Fault
 after_limits f ss = fault_or 6 (option_or f.limits (first_failing keeps_limits ss)) None
 
-abbrev pub after_twice : Firsts → List Spot → Option Fault
+unfoldable pub after_twice : Firsts → List Spot → Option Fault
 after_twice f ss = fault_or 5 (option_or f.twice (first_twice f.spaces ss)) (after_limits f ss)
 
-abbrev pub after_names : Firsts → List Spot → Option Fault
+unfoldable pub after_names : Firsts → List Spot → Option Fault
 after_names f ss = fault_or 4 (option_or f.names (first_failing is_well_named ss)) (after_twice f ss)
 
-abbrev pub after_members : Firsts → List Spot → Option Fault
+unfoldable pub after_members : Firsts → List Spot → Option Fault
 after_members f ss = fault_or 3 (option_or f.members (first_failing has_only ss)) (after_names f ss)
 
-abbrev pub after_kinds : Firsts → List Spot → Option Fault
+unfoldable pub after_kinds : Firsts → List Spot → Option Fault
 after_kinds f ss = fault_or 2 (option_or f.kinds (first_failing has_kinds ss)) (after_members f ss)
 
 unfoldable pub place_faults : List Spot → Option Fault

@@ -29,7 +29,7 @@ struct Firsts {
 
 impl Firsts {
     /// Nothing is judged yet.
-    #[tactic(auto, unfolding(crate::specs::Judged::place_faults))]
+    #[tactic(auto, unfolding(crate::specs::Judged::place_faults, crate::specs::Judged::after_kinds, crate::specs::Judged::after_members, crate::specs::Judged::after_names, crate::specs::Judged::after_twice, crate::specs::Judged::after_limits))]
     fn new(alloc: Global) -> Firsts
         ensures { (ss : List SpotRow) → after_kinds result ss ≡ place_faults ss }
     {
@@ -44,7 +44,7 @@ impl Firsts {
     }
 
     /// F6.
-    #[tactic(auto, using(crate::proofs::Places::has_failed, crate::proofs::Places::passes, crate::proofs::Places::fails))]
+    #[tactic(auto, using(crate::proofs::Places::has_failed, crate::proofs::Places::passes, crate::proofs::Places::fails), unfolding(crate::specs::Judged::after_limits))]
     fn judge_limits(&mut self, spot: &Spot)
         ensures kept { self.new ≡ record self.old { limits = self.new.limits } }
         ensures judged { (ss : List SpotRow)
@@ -57,7 +57,7 @@ impl Firsts {
     }
 
     /// F5, and then F6.
-    #[tactic(auto, using(crate::proofs::Places::has_failed, crate::proofs::Places::new_name, crate::proofs::Places::known_name))]
+    #[tactic(auto, using(crate::proofs::Places::has_failed, crate::proofs::Places::new_name, crate::proofs::Places::known_name), unfolding(crate::specs::Judged::after_twice, crate::specs::Judged::after_limits))]
     fn judge_twice(&mut self, alloc: Global, spot: &Spot, name: &str) -> Result<(), AllocError>
         requires { name.now ≡ name_of (seen spot.now) }
         ensures kinds { self.new.kinds ≡ self.old.kinds }
@@ -78,7 +78,7 @@ impl Firsts {
     }
 
     /// F4, and then F5 and F6.
-    #[tactic(auto, using(crate::proofs::Places::has_failed, crate::proofs::Places::passes, crate::proofs::Places::fails))]
+    #[tactic(auto, using(crate::proofs::Places::has_failed, crate::proofs::Places::passes, crate::proofs::Places::fails), unfolding(crate::specs::Judged::after_names))]
     fn judge_names(&mut self, alloc: Global, spot: &Spot) -> Result<(), AllocError>
         ensures kinds { self.new.kinds ≡ self.old.kinds }
         ensures members { self.new.members ≡ self.old.members }
@@ -97,7 +97,7 @@ impl Firsts {
     }
 
     /// F3, and then F4 to F6.
-    #[tactic(auto, using(crate::proofs::Places::has_failed, crate::proofs::Places::passes, crate::proofs::Places::fails))]
+    #[tactic(auto, using(crate::proofs::Places::has_failed, crate::proofs::Places::passes, crate::proofs::Places::fails), unfolding(crate::specs::Judged::after_members))]
     fn judge_members(&mut self, alloc: Global, spot: &Spot) -> Result<(), AllocError>
         ensures kinds { self.new.kinds ≡ self.old.kinds }
         ensures judged { OnOk result ((ss : List SpotRow)
@@ -114,7 +114,7 @@ impl Firsts {
     }
 
     /// F2, and then F3 to F6.
-    #[tactic(auto, using(crate::proofs::Places::has_failed, crate::proofs::Places::passes, crate::proofs::Places::fails))]
+    #[tactic(auto, using(crate::proofs::Places::has_failed, crate::proofs::Places::passes, crate::proofs::Places::fails), unfolding(crate::specs::Judged::after_kinds))]
     fn judge(&mut self, alloc: Global, spot: &Spot) -> Result<(), AllocError>
         ensures { OnOk result ((ss : List SpotRow)
             → after_kinds self.new ss ≡ after_kinds self.old (seen spot.now ∷ ss)) }
@@ -130,7 +130,7 @@ impl Firsts {
     }
 
     /// The least fault, where no more places follow.
-    #[tactic(auto, using(crate::proofs::Places::no_more))]
+    #[tactic(auto, using(crate::proofs::Places::no_more), unfolding(crate::specs::Judged::after_kinds, crate::specs::Judged::after_members, crate::specs::Judged::after_names, crate::specs::Judged::after_twice, crate::specs::Judged::after_limits))]
     fn least(&self) -> Option<Fault>
         ensures { result ≡ after_kinds self.now [] }
     {

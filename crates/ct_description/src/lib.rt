@@ -25,13 +25,11 @@ use ct_rows::Desc;
 use def_description::{Fault, PartWord, Place};
 use serde_json::Value;
 use std::alloc::{AllocError, Global};
-use thiserror::Error;
 
 /// Why a description is not read.
-#[derive(Debug, Drop, PartialEq, Error)]
+#[derive(Drop)]
 pub enum DescFault {
     /// The least fault that holds anywhere, by the number after its F, and its first place.
-    #[error("not a well-formed description")]
     At {
         number: u32,
         part: PartWord,
@@ -39,7 +37,6 @@ pub enum DescFault {
         item: u32,
     },
     /// Memory was wanted.
-    #[error("out of memory")]
     NoMemory,
 }
 

@@ -1,16 +1,17 @@
 -- A frame more and a frame less of the running thread.
 use Rattle.std.proofs.Common.{ℕ, zero, suc, ◌≡◌, ◌-◌, ◌<◌, ◌≤◌, inl, inr, Bool, true, false, cond, nat_lt, List, [], ◌∷◌, length, map, Option, Some, None, refl, sym, ap, ◌∙◌, arith, subst}
 use Rattle.std.proofs.Math.ListN.{get_or, set}
+use Rattle.def_profile.specs.declared.layout.TheConstants.{AREA_HEAD}
 use Rattle.law_lists.proofs.Tests.{lt_tells}
 use Rattle.law_areas.proofs.Frames.{frames_count}
 use Rattle.def_memory.specs.declared.Granule.{Granule}
-use Rattle.def_machine.specs.State.{Thread, Frame, nobody}
+use Rattle.def_machine.specs.State.{Thread, Frame, nobody, outermost}
 use Rattle.def_machine.specs.Heap.{is_number}
 use Rattle.def_areas.specs.Areas.{caller_actor, caller_top, caller_handling}
 use Rattle.def_areas.specs.Touches.{Touches}
 use Rattle.ct_areas.specs.declared.thread.Area.{Area}
 use Rattle.ct_areas.specs.declared.thread.Thread as row
-use Rattle.ct_areas.specs.Threads.{HasArea, area_begin, area_end, frames_most, living, thread_of, outermost}
+use Rattle.ct_areas.specs.Threads.{HasArea, area_begin, area_end, frames_most, living, thread_of}
 use Rattle.ct_areas.specs.Parts.{pushed, shallower, inner_frame, outer_frames, inner_place}
 use Rattle.ct_areas.proofs.Places.{depth_tells, alive_is}
 use Rattle.ct_areas.proofs.Rows.{frames_are}
@@ -68,7 +69,7 @@ popped_thread gs hs t some frames =
 
 -- ---- room
 
-pub long_enough : (size : ℕ) (a : Area) → HasArea size a → 160 ≤ a.trusted_length
+pub long_enough : (size : ℕ) (a : Area) → HasArea size a → AREA_HEAD ≤ a.trusted_length
 long_enough size a has = let whole = has.whole in omega (arith, whole)
 
 pub area_of_row : (ts : List row.Thread) (t : ℕ) (d : Area) (r : row.Thread) → t < length ts → get_or (map (λ (u : row.Thread). u.area) ts) t d ≡ (get_or ts t r).area

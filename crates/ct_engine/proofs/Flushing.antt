@@ -2,6 +2,7 @@
 -- or a plain word.
 use Rattle.std.proofs.Common.{ℕ, zero, suc, ◌≡◌, ◌+◌, ◌-◌, ◌*◌, ◌/◌, ◌%◌, ◌<◌, ◌≤◌, inl, inr, Bool, true, false, List, [], ◌∷◌, length, Option, Some, refl, sym, ap, ◌∙◌, arith, subst}
 use Rattle.std.proofs.Math.ListN.{get_or}
+use Rattle.def_profile.specs.Areas.{area_length}
 use Rattle.law_lists.proofs.Tests.{bool_tells, lt_tells, eq_tells}
 use Rattle.def_words.specs.declared.Cap.{Cap}
 use Rattle.def_memory.specs.declared.Granule.{Granule}
@@ -18,7 +19,8 @@ use Rattle.ct_areas.proofs.Places.{alive_is, frames_of}
 use Rattle.ct_engine.specs.declared.rows.Rows.{Rows}
 use Rattle.ct_engine.specs.Seen.{Seen, hides, threads_of, seen}
 use Rattle.ct_engine.specs.Kept.{IsPlain, IsSaved, IsKept, AreasFrom, Holds}
-use Rattle.ct_engine.specs.Heaps.{NotStale, FrameClean, ThreadClean, NoneLeft}
+use Rattle.law_sweeps.specs.Clean.{NotStale, SavedClean, StoppedClean}
+use Rattle.ct_engine.specs.Heaps.{NoneLeft}
 use Rattle.ct_engine.proofs.Whole.{itself}
 use Rattle.ct_engine.proofs.Stacks.{hidden_place}
 
@@ -40,7 +42,7 @@ frame_numbers b j k some from to low =
     let r : k - (b + 20) ≡ k - (b + 20 + 8 * j) + 8 * j = omega (arith, from) in
     omega (arith, r, from, to, low)
 
-from_clean : (objects : List Object) (gs : List Granule) (a actor top : ℕ) (handling : Bool) (depth : ℕ) → Each (FrameClean objects) (frames_from gs a actor top handling depth)
+from_clean : (objects : List Object) (gs : List Granule) (a actor top : ℕ) (handling : Bool) (depth : ℕ) → Each (SavedClean objects) (frames_from gs a actor top handling depth)
     → (k : ℕ) → a + 20 ≤ k → k < frame_place a depth → (k - (a + 20)) % 8 < 5 → NotStale objects (held gs k)
 from_clean objects gs a actor top handling zero each k from to low = absurd (omega (arith, from, to))
 from_clean objects gs a actor top handling (suc j) each k from to low = elim (lt_tells k (frame_place a j)) [
@@ -62,7 +64,7 @@ from_clean objects gs a actor top handling (suc j) each k from to low = elim (lt
       ])
 ]
 
-frames_clean : (objects : List Object) (gs : List Granule) (a actor top : ℕ) (handling : Bool) (depth : ℕ) → Each (FrameClean objects) (frames_in gs a actor top handling depth)
+frames_clean : (objects : List Object) (gs : List Granule) (a actor top : ℕ) (handling : Bool) (depth : ℕ) → Each (SavedClean objects) (frames_in gs a actor top handling depth)
     → (k : ℕ) → a + 20 ≤ k → k < frame_place a depth → (k - (a + 20)) % 8 < 5 → NotStale objects (held gs k)
 unfolding frames_in
 frames_clean objects gs a actor top handling depth each = from_clean objects gs a actor top handling depth each
@@ -74,7 +76,7 @@ held_at gs k zero m lt = absurd (omega (arith, lt))
 held_at gs k (suc n) zero lt = let here : k + zero ≡ k = omega arith in rw here refl
 held_at gs k (suc n) (suc m) lt = let next : k + suc m ≡ k + 1 + m = omega arith in rw next (held_at gs (k + 1) n m (omega (arith, lt)))
 
-register_clean : (objects : List Object) (gs : List Granule) (t : row.Thread) (m : ℕ) → ThreadClean objects (living gs false t) → m < 15
+register_clean : (objects : List Object) (gs : List Granule) (t : row.Thread) (m : ℕ) → StoppedClean objects (living gs false t) → m < 15
     → NotStale objects (held gs (area_begin t.area + 1 + m))
 register_clean objects gs t m clean lt =
     same_clean objects (held gs (area_begin t.area + 1 + m)) (get_or (held_from gs (area_begin t.area + 1) 15) m (plain 0)) (sym (held_at gs (area_begin t.area + 1) 15 m lt))
@@ -82,11 +84,11 @@ register_clean objects gs t m clean lt =
 
 -- ---- a row
 
-saved_clean : (objects : List Object) (gs : List Granule) (runs : Bool) (t : row.Thread) → Each (FrameClean objects) (thread_of gs runs t).frames
-    → (runs ≡ false → ThreadClean objects (thread_of gs runs t)) → (k : ℕ) → area_begin t.area ≤ k → IsSaved runs t k → NotStale objects (held gs k)
+saved_clean : (objects : List Object) (gs : List Granule) (runs : Bool) (t : row.Thread) → Each (SavedClean objects) (thread_of gs runs t).frames
+    → (runs ≡ false → StoppedClean objects (thread_of gs runs t)) → (k : ℕ) → area_begin t.area ≤ k → IsSaved runs t k → NotStale objects (held gs k)
 saved_clean objects gs runs t frames stopped k from (inl s) =
-    let clean : ThreadClean objects (living gs false t) =
-    subst (λ b. ThreadClean objects (living gs b t)) s.0 (subst (λ (u : Thread). ThreadClean objects u) (alive_is gs runs t s.1) (stopped s.0)) in
+    let clean : StoppedClean objects (living gs false t) =
+    subst (λ b. StoppedClean objects (living gs b t)) s.0 (subst (λ (u : Thread). StoppedClean objects u) (alive_is gs runs t s.1) (stopped s.0)) in
     let to = s.2 in
     elim (eq_tells k (area_begin t.area)) [
       | inl e ↦ there objects gs k (area_begin t.area) e.1 clean.pcc
@@ -96,14 +98,14 @@ saved_clean objects gs runs t frames stopped k from (inl s) =
           (register_clean objects gs t (k - (area_begin t.area + 1)) clean (omega (arith, from, other, to))))
     ]
 saved_clean objects gs runs t frames stopped k from (inr f) =
-    frames_clean objects gs (area_begin t.area) t.actor t.top t.handling t.depth (subst (λ (fs : List Frame). Each (FrameClean objects) fs) (frames_of gs runs t) frames) k f.0 f.1 f.2
+    frames_clean objects gs (area_begin t.area) t.actor t.top t.handling t.depth (subst (λ (fs : List Frame). Each (SavedClean objects) fs) (frames_of gs runs t) frames) k f.0 f.1 f.2
 
 -- ---- all areas, and what stands between them
 
 begin_numbers : (ram trusted k : ℕ) → ram ≤ trusted → trusted ≤ ram + 8 * k → (trusted - ram) / 8 ≤ k
 begin_numbers ram trusted k low le = omega (arith, low, le)
 
-end_numbers : (ram trusted len most k : ℕ) → ram % 16 ≡ 0 → trusted % 16 ≡ 0 → ram ≤ trusted → len ≡ 160 + 64 * most → ram + 8 * k < trusted + len → k < (trusted + len - ram) / 8
+end_numbers : (ram trusted len most k : ℕ) → ram % 16 ≡ 0 → trusted % 16 ≡ 0 → ram ≤ trusted → len ≡ area_length most → ram + 8 * k < trusted + len → k < (trusted + len - ram) / 8
 end_numbers ram trusted len most k r t low is lt = omega (arith, r, t, low, is, lt)
 
 begins_by : (size : ℕ) (a : Area) (k : ℕ) → HasArea size a → a.trusted ≤ a.ram + 8 * k → area_begin a ≤ k
@@ -119,8 +121,8 @@ not_running : (run : Option ℕ) (n : ℕ) → is_number run n ≡ false → Sto
 not_running run n e = λ is. let clash : true ≡ false = sym (ap (λ o. is_number o n) is ∙ itself n) ∙ e in cc
 
 areas_clean : (objects : List Object) (ram : ℕ) (gs : List Granule) (run : Option ℕ) (n from to : ℕ) (ts : List row.Thread) → AreasFrom ram gs run n from to ts
-    → ((t : ℕ) → Each (FrameClean objects) (get_or (threads_of gs run n ts) t nobody).frames)
-    → ((t : ℕ) → Stops run (n + t) → ThreadClean objects (get_or (threads_of gs run n ts) t nobody))
+    → ((t : ℕ) → Each (SavedClean objects) (get_or (threads_of gs run n ts) t nobody).frames)
+    → ((t : ℕ) → Stops run (n + t) → StoppedClean objects (get_or (threads_of gs run n ts) t nobody))
     → (k : ℕ) → from ≤ ram + 8 * k → ram + 8 * k < to → NotStale objects (held gs k)
 areas_clean objects ram gs run n from to [] areas frames stopped k lo hi = plain_clean objects (held gs k) (areas.1 k lo hi)
 areas_clean objects ram gs run n from to (t ∷ ts) areas frames stopped k lo hi = elim (lt_tells (ram + 8 * k) t.area.trusted) [

@@ -11,7 +11,8 @@ use Rattle.def_step.specs.Devices.{Bank}
 use Rattle.def_step.specs.Accesses.{access_of, access_address, access_checks, access_result, load_checks, store_checks}
 use Rattle.def_veil.specs.Steps.{IsSeen, SeesAccess}
 use Rattle.law_veil.proofs.Granules.{veiled_length}
-use Rattle.ct_loadstore.specs.Quiet.{Quiet, is_within, is_quiet_load, is_quiet_store}
+use Rattle.def_machine.specs.Memory.{lies_in}
+use Rattle.ct_loadstore.specs.Quiet.{Quiet, is_quiet_load, is_quiet_store}
 use Rattle.ct_loadstore.specs.Shapes.{MovedRow}
 use Rattle.ct_engine.specs.declared.rows.Rows.{Rows}
 use Rattle.ct_engine.specs.Seen.{Seen, hides, seen, thread, with_granules}
@@ -24,7 +25,7 @@ given value = record { value = value; device = None }
 
 -- ---- when: by how many granules there are
 
-within_same : (ram : ℕ) (gs hs : List Granule) (at width : ℕ) → length hs ≡ length gs → is_within ram gs at width ≡ is_within ram hs at width
+within_same : (ram : ℕ) (gs hs : List Granule) (at width : ℕ) → length hs ≡ length gs → lies_in ram gs at width ≡ lies_in ram hs at width
 within_same ram gs hs at width size = ap (λ n. nat_le ram at && nat_le (at + width) (ram + 8 * n)) (sym size)
 
 pub word_same : (ram : ℕ) (gs hs : List Granule) (at : ℕ) → length hs ≡ length gs → is_word_of_ram ram gs at ≡ is_word_of_ram ram hs at

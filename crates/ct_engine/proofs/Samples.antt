@@ -1,6 +1,7 @@
 -- The threads of the tests may start.
 use Rattle.std.proofs.Common.{ℕ, zero, suc, ◌≡◌, ◌+◌, ◌*◌, ◌%◌, ◌≤◌, inr, List, [], ◌∷◌, length, replicate, refl, sym, ap, ◌∙◌, arith, subst}
 use Rattle.std.proofs.Math.ListN.{get_or}
+use Rattle.def_profile.specs.declared.limits.TheConstants.{RAM_END}
 use Rattle.def_memory.specs.declared.Granule.{Granule}
 use Rattle.def_memory.specs.Granules.{plain, nothing}
 use Rattle.def_machine.specs.Objects.{Each}
@@ -28,11 +29,11 @@ has_area : (trusted stack : ℕ) → trusted % 16 ≡ 0 → 2147483648 ≤ trust
 has_area trusted stack even low high = record { ram = refl; even = even; low = low; high = omega (arith, high); whole = refl; some = omega arith }
 
 fresh_is : (f : Fresh) (trusted stack : ℕ) → f.area ≡ sample_area trusted stack → get_or f.regs 0 (plain 0) ≡ plain 0
-    → HasArea 2048 (sample_area trusted stack) → stack + 256 ≤ 4294967280 → IsFresh 2048 f
+    → HasArea 2048 (sample_area trusted stack) → stack + 256 ≤ RAM_END → IsFresh 2048 f
 fresh_is f trusted stack is zero_ has le = record {
   area = subst (λ (a : Area). HasArea 2048 a) (sym is) has;
   zero = zero_;
-  stack = subst (λ (a : Area). a.stack + a.stack_length ≤ 4294967280) (sym is) le;
+  stack = subst (λ (a : Area). a.stack + a.stack_length ≤ RAM_END) (sym is) le;
 }
 
 abbrev sample_region : Region

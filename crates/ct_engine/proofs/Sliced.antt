@@ -1,6 +1,7 @@
 -- A slice over what is seen, as the machine's definition has it over a state.
-use Rattle.std.proofs.Common.{ℕ, suc, ◌≡◌, ◌+◌, ◌-◌, ◌*◌, ◌<◌, ◌&&◌, Bool, cond, nat_le, nat_lt, List, [], ◌∷◌, length, refl, sym, ap, ◌∙◌, arith}
+use Rattle.std.proofs.Common.{ℕ, suc, ◌≡◌, ◌+◌, ◌-◌, ◌<◌, ◌&&◌, Bool, cond, nat_le, nat_lt, List, [], ◌∷◌, length, refl, sym, ap, ◌∙◌, arith}
 use Rattle.std.proofs.Math.ListN.{get_or}
+use Rattle.def_profile.specs.Areas.{frame_after}
 use Rattle.def_words.specs.declared.Cap.{Cap}
 use Rattle.def_memory.specs.declared.Granule.{Granule}
 use Rattle.def_machine.specs.Image.{Image, area_of}
@@ -41,8 +42,8 @@ frame_alike i m low high f same at x = frame_of x _ _ _ _ _ _ _ _ _ _ (same at x
 frames_alike : (i : Image) (m : State) (low high : ℕ) (f : ℕ → Cap → Cap) → Alike i m low high f → (area : ℕ) (xs : List Frame) → sliced_frames i m low high area xs ≡ kept_frames f area xs
 frames_alike i m low high f same area [] = refl
 frames_alike i m low high f same area (x ∷ xs) =
-    ap (λ y. y ∷ sliced_frames i m low high area xs) (frame_alike i m low high f same (area + 160 + 64 * length xs) x)
-    ∙ ap (λ ys. kept_frame f (area + 160 + 64 * length xs) x ∷ ys) (frames_alike i m low high f same area xs)
+    ap (λ y. y ∷ sliced_frames i m low high area xs) (frame_alike i m low high f same (frame_after area (length xs)) x)
+    ∙ ap (λ ys. kept_frame f (frame_after area (length xs)) x ∷ ys) (frames_alike i m low high f same area xs)
 
 thread_of : (t : Thread) (p p' : Cap) (rs rs' : List Cap) (fs fs' : List Frame) (runs : Bool) → p ≡ p' → rs ≡ rs' → fs ≡ fs'
     → (let x : Thread = record t { pcc = cond runs t.pcc p; registers = cond runs t.registers rs; frames = fs } in x) ≡ record t { pcc = cond runs t.pcc p'; registers = cond runs t.registers rs'; frames = fs' }

@@ -2,7 +2,8 @@
 use Rattle.std.specs.Prelude.{ℕ, ◌+◌, ◌*◌, ◌&&◌, Bool, nat_le, nat_lt, List, [], ◌∷◌, length, Option, Some, None, map, slice_set, slice_index_or}
 use Rattle.def_profile.specs.declared.layout.TheConstants.{GRANULE}
 use Rattle.def_memory.specs.declared.Granule.{Granule}
-use Rattle.def_machine.specs.State.{Thread, Frame, nobody}
+use Rattle.def_machine.specs.Image.{Image, trusted_end}
+use Rattle.def_machine.specs.State.{Thread, Frame, nobody, outermost}
 use Rattle.def_machine.specs.Heap.{is_number}
 use Rattle.def_machine.specs.Threads.{picked_with, jumped}
 use Rattle.def_machine.specs.Registers.{written}
@@ -12,10 +13,14 @@ use Rattle.def_machine.specs.Memory.{filtered_in}
 use Rattle.def_veil.specs.Veil.{veiled}
 use Rattle.ct_areas.specs.declared.thread.Area.{Area}
 use Rattle.ct_areas.specs.declared.thread.Thread as row
-use Rattle.ct_areas.specs.Threads.{thread_of, frames_most, outermost}
+use Rattle.ct_areas.specs.Threads.{thread_of, frames_most}
 use Rattle.ct_areas.specs.Parts.{pushed}
 use Rattle.ct_engine.specs.declared.rows.Region.{Region}
 use Rattle.ct_engine.specs.declared.rows.Rows.{Rows}
+
+-- an image's trusted region, past its first granules
+abbrev pub region_of : Image → Region
+region_of i = record { ram = i.ram; trusted = i.trusted; end = trusted_end i }
 
 -- a granule of the region is hidden
 abbrev pub hides : Region → ℕ → Bool

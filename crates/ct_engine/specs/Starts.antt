@@ -1,5 +1,6 @@
 -- Threads before their first step.
 use Rattle.std.specs.Prelude.{ℕ, ◌+◌, ◌*◌, ◌≡◌, ◌≤◌, true, List, [], ◌∷◌, length, None, map, slice_index_or}
+use Rattle.def_profile.specs.declared.limits.TheConstants.{RAM_END}
 use Rattle.def_memory.specs.declared.Granule.{Granule}
 use Rattle.def_memory.specs.Granules.{plain}
 use Rattle.def_machine.specs.State.{Thread}
@@ -15,7 +16,7 @@ use Rattle.ct_engine.specs.Kept.{StackLies}
 pub record IsFresh (size : ℕ) (f : Fresh) : Type 0 where
   pub area : HasArea size f.area
   pub zero : slice_index_or f.regs 0 (plain 0) ≡ plain 0
-  pub stack : f.area.stack + f.area.stack_length ≤ 4294967280
+  pub stack : f.area.stack + f.area.stack_length ≤ RAM_END
 
 -- their areas stand one after another from one address up to another, of RAM from `ram` on
 abbrev pub AreFresh : ℕ → ℕ → ℕ → ℕ → List Fresh → Type 0

@@ -7,6 +7,7 @@ use Rattle.def_words.specs.declared.Trap.{Trap}
 use Rattle.def_memory.specs.declared.Granule.{Granule}
 use Rattle.def_instr.specs.declared.Instr.{Instr}
 use Rattle.def_instr.specs.Table.{InRange}
+use Rattle.def_machine.specs.Memory.{lies_in}
 use Rattle.def_step.specs.declared.Next.{Next}
 use Rattle.def_step.specs.declared.Next.TheVariants.{Returning, Instruction, Native, Nothing}
 use Rattle.def_step.specs.declared.TheConstants.{LAST_ROUTINE}
@@ -15,7 +16,6 @@ use Rattle.def_step.specs.Accesses.{Space, access_of, access_result}
 use Rattle.def_veil.specs.Steps.{SeesAccess}
 use Rattle.def_step.specs.Devices.{Bank}
 use Rattle.def_step.specs.Instructions.{next_at}
-use Rattle.ct_loadstore.specs.Quiet.{is_within}
 use Rattle.ct_loadstore.specs.Shapes.{MovedRow, space_of}
 use Rattle.ct_engine.specs.Seen.{Seen}
 
@@ -34,7 +34,7 @@ next_in s at = next_at (space_in s no_bank 0) at
 abbrev pub is_word_of_ram : ℕ → List Granule → ℕ → Bool
 is_word_of_ram ram gs at =
     nat_le (NATIVE_BASE + NATIVE_UNIT * (LAST_NATIVE + 1)) at
-    && (is_within ram gs at 4 && (at % 4 == 0))
+    && (lies_in ram gs at 4 && (at % 4 == 0))
 
 -- of a native routine but the return: its number is at most the last
 pub record IsRoutine (number : ℕ) : Type 0 where

@@ -31,7 +31,8 @@ fn call_row<M: Memory>(t: &mut Thread, mem: &mut M, e: &Entries) -> Called
     ensures kept { IsKept (M.granules mem.new) true t.new }
     ensures area { t.new.area ≡ t.old.area }
     ensures thread { thread_of (M.granules mem.new) true t.new
-        ≡ thread_after (M.granules mem.old) e.now t.old (switch_in (M.granules mem.old) e.now t.old) }
+        ≡ thread_after (M.granules mem.old) e.now t.old
+        (switch_in (M.granules mem.old) e.now t.old) }
     ensures touches { Touches (area_begin t.old.area) (area_end t.old.area)
         (cleared (M.granules mem.old) t.old (switch_in (M.granules mem.old) e.now t.old))
         (M.granules mem.new) }

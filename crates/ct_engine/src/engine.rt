@@ -1,10 +1,9 @@
 //! The engine.
 
-ghost use Rattle.std.specs.Prelude.{ℕ, ◌≡◌, ◌*◌, ◌/◌, ◌%◌, ◌<◌, Some, None, true, false, cond, length, nat_lt, IfOk};
+ghost use Rattle.std.specs.Prelude.{◌≡◌, ◌*◌, ◌/◌, ◌%◌, ◌<◌, Some, None, true, false, cond, length, nat_lt, IfOk};
 ghost use Rattle.def_instr.specs.Shapes.{is_access};
-ghost use Rattle.def_memory.specs.Accesses.{IsAccess, IsPlace, loaded, stored, loaded_cap, stored_cap};
-ghost use Rattle.def_memory.specs.Ranges.{IsRange, Inside, zeroed, mark_range};
-ghost use Rattle.def_machine.specs.Memory.{filtered_in};
+ghost use Rattle.def_profile.specs.declared.answers.TheConstants.{UNWOUND};
+ghost use Rattle.def_memory.specs.Accesses.{IsAccess, loaded};
 ghost use Rattle.def_machine.specs.State.{register};
 ghost use Rattle.def_step.specs.Instructions.{actor_of};
 ghost use Rattle.def_veil.specs.Steps.{IsSeen, SeesAccess};
@@ -28,13 +27,13 @@ use ct_areas::Saved;
 use ct_bus::Bus;
 use ct_cap::{Live, Posture, Trap};
 use ct_entry::Entries;
-use ct_loadstore::{Moved, filter};
+use ct_loadstore::Moved;
 use ct_mem::Memory;
 use ct_switch::Called;
 use def_instr::Instr;
+use def_profile::answers::UNWOUND;
 use def_refusals::NoMemory;
 use def_step::Next;
-use def_words::Cap;
 use std::alloc::Global;
 use std::marker::Model;
 
@@ -104,57 +103,6 @@ impl<M: Memory + Drop> Engine<M> {
         ensures { result ≡ loaded self.now.granules at width }
     {
         self.mem.load(at, width)
-    }
-
-    /// The capability of a granule that isn't hidden, as it stands there.
-    pub fn load_cap(&self, at: u32) -> Cap
-        requires place { IsPlace (8 * length self.now.granules) at }
-        requires seen { hides self.now.region (at / 8) ≡ false }
-        ensures { result ≡ loaded_cap self.now.granules at }
-    {
-        self.mem.load_cap(at)
-    }
-
-    /// A capability through the load filter: without its tag where its base lies in a marked granule.
-    pub fn filter(&self, cap: Live) -> Live
-        ensures { result ≡ filtered_in self.now.region.ram self.now.granules cap }
-    {
-        filter(&self.mem, self.rows.region.ram, cap)
-    }
-
-    /// Stores the low bytes of a value where nothing is hidden. The width is 1, 2 or 4.
-    pub fn store(&mut self, at: u32, width: u32, value: u32)
-        requires access { IsAccess (8 * length self.old.granules) at width }
-        requires seen { hides self.old.region (at / 8) ≡ false }
-        ensures { self.new ≡ with_granules self.old (stored self.old.granules at width value) }
-    {
-        self.mem.store(at, width, value);
-    }
-
-    /// Stores a whole granule that isn't hidden: word, tag and shadow.
-    pub fn store_cap(&mut self, at: u32, cap: Cap)
-        requires place { IsPlace (8 * length self.old.granules) at }
-        requires seen { hides self.old.region (at / 8) ≡ false }
-        ensures { self.new ≡ with_granules self.old (stored_cap self.old.granules at cap) }
-    {
-        self.mem.store_cap(at, cap);
-    }
-
-    /// Zeroes granules that aren't hidden, from one offset to another. Marks stay.
-    pub fn zero(&mut self, from: u32, to: u32)
-        requires range { IsRange (8 * length self.old.granules) from to }
-        requires seen { (k : ℕ) → Inside from to k → hides self.old.region k ≡ false }
-        ensures { self.new ≡ with_granules self.old (zeroed from to self.old.granules) }
-    {
-        self.mem.zero(from, to);
-    }
-
-    /// Marks granules, hidden or not, from one offset to another, or takes their marks.
-    pub fn mark(&mut self, from: u32, to: u32, on: bool)
-        requires { IsRange (8 * length self.old.granules) from to }
-        ensures { self.new ≡ with_granules self.old (mark_range from to on self.old.granules) }
-    {
-        self.mem.mark(from, to, on);
     }
 
     /// A register of the running thread.
@@ -284,9 +232,9 @@ impl<M: Memory + Drop> Engine<M> {
         requires runs { self.old.running ≡ Some t }
         requires top { TopLies self.old t }
         ensures result { result ≡ nat_lt 1 (length (thread self.old t).frames) }
-        ensures is { self.new ≡ ended_with self.old t 0xFFFFFFFF }
+        ensures is { self.new ≡ ended_with self.old t UNWOUND }
     {
-        calls::end_with(&mut self.rows, &mut self.mem, t, e, 0xFFFF_FFFF)
+        calls::end_with(&mut self.rows, &mut self.mem, t, e, UNWOUND)
     }
 
     /// What stands at an address, where nothing is hidden: an instruction, the return, another native routine by its

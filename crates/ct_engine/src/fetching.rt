@@ -2,8 +2,8 @@
 
 ghost use Rattle.std.specs.Prelude.{◌≡◌, ◌%◌, ◌&&◌, ◌==◌, IfSome, is_some};
 ghost use Rattle.def_instr.specs.Reading.{instruction_in};
+ghost use Rattle.def_machine.specs.Memory.{lies_in};
 ghost use Rattle.def_step.specs.Instructions.{fetched, next_at, next_native, next_word, is_native_entry};
-ghost use Rattle.ct_loadstore.specs.Quiet.{is_within};
 ghost use Rattle.ct_loadstore.specs.Shapes.{space_of};
 ghost use Rattle.ct_engine.specs.Steps.{is_word_of_ram, no_bank, NextInRange};
 
@@ -18,7 +18,7 @@ const FIRST_AFTER_NATIVE: u32 = NATIVE_BASE + NATIVE_UNIT * (LAST_NATIVE + 1);
 /// Whether an aligned word at an address lies in RAM.
 #[inline(always)]
 fn is_aligned_in_ram<M: Memory>(mem: &M, ram: u32, at: u32) -> bool
-    ensures { result ≡ is_within ram (M.granules mem.now) at 4 && (at % 4 == 0) }
+    ensures { result ≡ lies_in ram (M.granules mem.now) at 4 && (at % 4 == 0) }
 {
     ram <= at && at as u64 + 4 <= ram as u64 + mem.size() as u64 && at % 4 == 0
 }

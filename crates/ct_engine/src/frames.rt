@@ -1,6 +1,7 @@
 //! A frame more, and a frame less.
 
 ghost use Rattle.std.specs.Prelude.{◌≡◌, ◌<◌, ◌≤◌, ◌-◌, Some, None, true, cond, nat_lt, length};
+ghost use Rattle.def_profile.specs.declared.layout.TheConstants as layout;
 ghost use Rattle.def_areas.specs.Touches.{Touches};
 ghost use Rattle.ct_areas.specs.Threads.{area_begin, area_end, frames_most, thread_of};
 ghost use Rattle.ct_areas.specs.Parts.{pushed, inner_frame, saved_in};
@@ -14,7 +15,7 @@ use def_profile::layout::{AREA_HEAD, FRAME_SIZE};
 
 /// Whether a thread's area has room for one frame more.
 fn has_room(t: &Thread) -> bool
-    requires { 160 ≤ t.now.area.trusted_length }
+    requires { layout.AREA_HEAD ≤ t.now.area.trusted_length }
     ensures { result ≡ nat_lt t.now.depth (frames_most t.now.area) }
 {
     t.depth < (t.area.trusted_length - AREA_HEAD) / FRAME_SIZE

@@ -92,7 +92,7 @@ impl<M: Memory + Drop> Engine<M> {
         ensures { self.new ≡ went self.old t (raised (thread self.old t).pcc 4)
             (thread self.old t).posture to (integer value) }
     {
-        steps::put_number(&mut self.rows, t, to, value);
+        steps::put(&mut self.rows, t, to, Live::integer(value));
     }
 
     /// The running thread goes on after its instruction, and a register gets a value, which register 0 drops.

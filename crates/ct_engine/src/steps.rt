@@ -215,33 +215,6 @@ pub(crate) fn address_in(rows: &Rows, t: u32, number: u32) -> u32
     lent(rows, t, number).address()
 }
 
-/// A row whose thread goes on after its instruction; a register gets a number.
-#[inline(always)]
-fn put_number_row(t: &mut Thread, to: u32, value: u32)
-    requires { to < 16 }
-    ensures { t.new ≡ row_gone t.old (raised t.old.pcc 4) t.old.posture to (integer value) }
-{
-    if to != 0 {
-        t.regs[to as usize] = Live::integer(value);
-    }
-    raise(&mut t.pcc, 4);
-}
-
-/// The running thread goes on after its instruction; a register gets a number.
-#[inline(always)]
-pub(crate) fn put_number(rows: &mut Rows, t: u32, to: u32, value: u32)
-    requires there { t < length rows.old.list.items }
-    requires runs { rows.old.running ≡ Some t }
-    requires to { to < 16 }
-    ensures holds { (gs : List Granule) → Holds gs rows.old → Holds gs rows.new }
-    ensures seen { (gs : List Granule) → Holds gs rows.old
-        → seen gs rows.new ≡ went (seen gs rows.old) t
-        (raised (thread (seen gs rows.old) t).pcc 4)
-        (thread (seen gs rows.old) t).posture to (integer value) }
-{
-    put_number_row(&mut rows.list[t as usize], to, value);
-}
-
 /// A row whose thread goes on after its instruction; a register gets a value.
 #[inline(always)]
 fn put_row(t: &mut Thread, to: u32, value: Live)

@@ -32,12 +32,14 @@ pub fn ends_written()
         → Shows i m s t → (thread m t).frames ≡ f ∷ g ∷ fs
         → returned s i.entries t
         ≡ written i m s t f.top
-        (left_by i m (thread m t) f (g ∷ fs) (answer i (thread m t) f 10) (answer i (thread m t) f 11))
+        (left_by i m (thread m t) f (g ∷ fs) (answer i (thread m t) f 10)
+        (answer i (thread m t) f 11))
         s.running }
     ensures value { (i : Image) (m : State) (s : Seen) (t v : ℕ) (f g : Frame) (fs : List Frame)
         → Shows i m s t → (thread m t).frames ≡ f ∷ g ∷ fs
         → ended_with s t v
-        ≡ written i m s t f.top (left_by i m (thread m t) f (g ∷ fs) (plain v) (plain 0)) s.running }
+        ≡ written i m s t f.top (left_by i m (thread m t) f (g ∷ fs) (plain v) (plain 0))
+        s.running }
     ensures last { (i : Image) (m : State) (s : Seen) (t v : ℕ) (f : Frame)
         → Shows i m s t → (thread m t).frames ≡ f ∷ []
         → (returned s i.entries t ≡ written i m s t f.top nobody None)

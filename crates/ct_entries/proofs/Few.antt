@@ -1,68 +1,15 @@
--- An image has few entries: each owner has at most 256.
-use Rattle.std.proofs.Common.{ℕ, suc, ◌≡◌, ◌+◌, ◌*◌, ◌^◌, ◌<◌, ◌≤◌, List, [], ◌∷◌, ◌++◌, length, map, refl, ap, arith}
-use Rattle.std.proofs.lemmas.List.{length-append, length-map}
-use Rattle.std.specs.List.{AllByRecursion}
-use Rattle.ct_entry.specs.declared.rows.Entry.{Entry}
-use Rattle.ct_entry.specs.declared.rows.Owner.{Owner}
-use Rattle.ct_entry.specs.declared.rows.Owner.TheVariants.{Compartment, Library}
-use Rattle.def_profile.specs.declared.layout.TheConstants.{SLOT_SIZE, TABLE_HEAD, TABLE_ROW}
-use Rattle.def_image.specs.Parts.{SlotRow, GateRow, CodeRow, CompartmentRow, ThreadRow, PartsRow}
-use Rattle.def_boot.specs.Entries.{slot_rows, export_rows, library_export_row, compartment_rows, library_rows, stack_row, rows_from, rows_of}
+-- An image whose parts stand has few entries.
+use Rattle.std.proofs.Common.{◌^◌, ◌<◌, length, arith}
+use Rattle.def_image.specs.Parts.{PartsRow}
+use Rattle.def_boot.specs.Entries.{rows_of}
+use Rattle.law_image.proofs.Members.{all_at}
+use Rattle.law_listed.proofs.Few.{few_rows as few_of}
 use Rattle.ct_entries.specs.Fits.{CodeStands, CompartmentStands, Stands}
 
-slots_count : (p : PartsRow) (o : Owner) (at : ℕ) (ss : List SlotRow) → length (slot_rows p o at ss) ≡ length ss
-slots_count p o at [] = refl
-slots_count p o at (s ∷ ss) = ap (λ n. suc n) (slots_count p o (at + SLOT_SIZE) ss)
-
-exports_count : (b at : ℕ) (xs : List GateRow) → length (export_rows b at xs) ≡ length xs
-exports_count b at [] = refl
-exports_count b at (x ∷ xs) = ap (λ n. suc n) (exports_count b (at + TABLE_ROW) xs)
-
-compartment_few : (p : PartsRow) (b : ℕ) (c : CompartmentRow) → CompartmentStands p c → length (compartment_rows p b c) ≤ 256
-compartment_few p b c s =
-    let slots = slots_count p (Compartment b) c.code.base c.code.slots in
-    let exports = exports_count b (c.table + TABLE_HEAD) c.code.exports in
-    let both = length-append (slot_rows p (Compartment b) c.code.base c.code.slots) (export_rows b (c.table + TABLE_HEAD) c.code.exports) in
-    let few = s.code.few in
-    let some = s.code.exports in
-    omega (arith, slots, exports, both, few, some)
-
-library_few : (p : PartsRow) (l : ℕ) (c : CodeRow) → CodeStands p c → length (library_rows p l c) ≤ 256
-library_few p l c s =
-    let slots = slots_count p (Library l) c.base c.slots in
-    let exports = length-map c.exports (λ (x : GateRow). library_export_row l c) in
-    let both = length-append (slot_rows p (Library l) c.base c.slots) (map (λ (x : GateRow). library_export_row l c) c.exports) in
-    let few = s.few in
-    let some = s.exports in
-    omega (arith, slots, exports, both, few, some)
-
-few_from : {A : Type 0} (rows : ℕ → A → List Entry) (P : A → Type 0) → ((i : ℕ) (x : A) → P x → length (rows i x) ≤ 256)
-    → (i : ℕ) (xs : List A) → AllByRecursion P xs → length (rows_from rows i xs) ≤ 256 * length xs
-few_from rows P each i [] all = omega arith
-few_from rows P each i (x ∷ xs) all =
-    let here = each i x all.0 in
-    let rest = few_from rows P each (i + 1) xs all.1 in
-    let both = length-append (rows i x) (rows_from rows (i + 1) xs) in
-    omega (arith, here, rest, both)
-
-stacks_from : (i : ℕ) (ts : List ThreadRow) → length (rows_from (λ t x. stack_row t x ∷ []) i ts) ≡ length ts
-stacks_from i [] = refl
-stacks_from i (t ∷ ts) = ap (λ n. suc n) (stacks_from (i + 1) ts)
-
-total_few : (xs ys zs : List Entry) (k m n : ℕ) → length xs ≤ 256 * k → length ys ≤ 256 * m → length zs ≡ n → k ≤ 64 → m ≤ 32 → n ≤ 64
-    → length (xs ++ ys ++ zs) < 2 ^ 32
-total_few xs ys zs k m n one two three few some others =
-    let all = length-append (xs ++ ys) zs in
-    let owners = length-append xs ys in
-    omega (arith, one, two, three, few, some, others, all, owners)
-
 pub few_rows : (p : PartsRow) → Stands p → length (rows_of p) < 2 ^ 32
-unfolding rows_of
-few_rows p s = total_few
-    (rows_from (compartment_rows p) 0 p.compartments)
-    (rows_from (library_rows p) 0 p.libraries)
-    (rows_from (λ t x. stack_row t x ∷ []) 0 p.threads)
-    (length p.compartments) (length p.libraries) (length p.threads)
-    (few_from (compartment_rows p) (CompartmentStands p) (compartment_few p) 0 p.compartments s.compartments)
-    (few_from (library_rows p) (CodeStands p) (library_few p) 0 p.libraries s.libraries)
-    (stacks_from 0 p.threads) s.few s.some s.threads
+few_rows p s =
+    let few = few_of p
+    (λ k c is. let h = all_at (CompartmentStands p) p.compartments k c s.compartments is in (h.code.few, h.code.exports))
+    (λ k c is. let h = all_at (CodeStands p) p.libraries k c s.libraries is in (h.few, h.exports))
+    s.few s.some s.threads in
+    omega (arith, few)

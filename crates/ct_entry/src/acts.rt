@@ -1,7 +1,7 @@
 //! Deeds: what running code did that the report must account for, and the totals of a run.
 
 /// What was done. Addresses and lengths are bytes; a `value` is cut to its width of 1, 2, 4 or 8.
-#[derive(Clone, Copy, Debug, PartialEq, Eq, Drop)]
+#[derive(Clone, Copy, PartialEq, Eq, Drop)]
 pub enum Act {
     /// A compartment call through the switcher, of the export with this entry number.
     Call {
@@ -43,7 +43,7 @@ pub enum Act {
 
 /// A deed of a thread: the actor is the compartment of its top frame, `entry` the number of the
 /// entry whose capability was used, 0 for a trap.
-#[derive(Clone, Copy, Debug, PartialEq, Eq, Drop)]
+#[derive(Clone, Copy, PartialEq, Eq, Drop)]
 pub struct Deed {
     pub thread: u32,
     pub actor: u32,
@@ -52,7 +52,7 @@ pub struct Deed {
 }
 
 /// The begin of a span with interrupts off, by the export with this entry number.
-#[derive(Clone, Copy, Debug, PartialEq, Eq, Drop)]
+#[derive(Clone, Copy, PartialEq, Eq, Drop)]
 pub struct Owned {
     pub thread: u32,
     pub actor: u32,
@@ -60,7 +60,7 @@ pub struct Owned {
 }
 
 /// What one event did.
-#[derive(Clone, Copy, Debug, PartialEq, Eq, Drop)]
+#[derive(Clone, Copy, PartialEq, Eq, Drop)]
 pub struct Happened {
     pub deed: Option<Deed>,
     pub off: Option<Owned>,

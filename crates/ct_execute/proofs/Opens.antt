@@ -16,7 +16,8 @@ use Rattle.ct_engine.specs.declared.rows.Region.{Region}
 use Rattle.ct_engine.specs.Seen as engine
 use Rattle.ct_engine.specs.Seen.{thread}
 use Rattle.ct_heaped.specs.Seen.{Seen, hides}
-use Rattle.ct_execute.specs.Opening.{IsOpen, Runs, region_of}
+use Rattle.ct_engine.specs.Seen.{region_of}
+use Rattle.ct_execute.specs.Opening.{IsOpen, Runs}
 
 abbrev hides_at : Region → ℕ → ℕ → List Object → ℕ → Bool
 hides_at g base end objects k = engine.hides g k || hides_heap g.ram base end objects k

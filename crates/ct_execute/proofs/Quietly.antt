@@ -1,13 +1,14 @@
 -- What is carried out quietly: what a reading says, a fetch that passes, and branches and jumps whose target is whole.
-use Rattle.std.proofs.Common.{ℕ, ◌≡◌, ◌%◌, ◌==◌, ◌&&◌, Bool, true, false, Option, Some, None, IfSome, is_none, Ok, refl, sym, ap, ◌∙◌, subst, if◌then◌else◌}
+use Rattle.std.proofs.Common.{ℕ, zero, ◌≡◌, ◌%◌, ◌==◌, ◌&&◌, Bool, true, false, Option, Some, None, IfSome, is_none, Ok, refl, sym, ap, ◌∙◌, subst, if◌then◌else◌}
 use Rattle.ct_entry.specs.Listed.{Listed}
 use Rattle.def_words.specs.declared.Cap.{Cap}
 use Rattle.def_words.specs.declared.Posture.{Posture}
 use Rattle.def_words.specs.declared.Trap.{Trap}
 use Rattle.def_words.specs.Authority.{cap_address}
 use Rattle.def_words.specs.Capability.{integer, with_address}
+use Rattle.def_words.specs.Jumped.{linked}
 use Rattle.def_instr.specs.declared.Instr.{Instr}
-use Rattle.def_instr.specs.declared.Instr.TheVariants.{Beq, Bne, Blt, Bge, Bltu, Bgeu}
+use Rattle.def_instr.specs.declared.Instr.TheVariants.{Jal, Beq, Bne, Blt, Bge, Bltu, Bgeu}
 use Rattle.def_machine.specs.State.{Thread, register}
 use Rattle.def_step.specs.declared.Class.TheVariants as kinds
 use Rattle.def_step.specs.declared.Next.{Next}
@@ -24,7 +25,7 @@ use Rattle.ct_engine.specs.Seen.{Seen, thread, went}
 use Rattle.ct_engine.specs.Steps.{space_in, next_in, is_word_of_ram}
 use Rattle.ct_heaped.specs.Seen as heaped
 use Rattle.ct_execute.specs.Deciding.{decision, decide_fetched, decide_next, named_in, WentQuietly}
-use Rattle.ct_execute.specs.Quiet.{offset_of, address_in, takes, jump_by, jump_offset, jumps_whole, goes_at, goes_quietly, Says, CarriesQuietly}
+use Rattle.ct_execute.specs.Quiet.{offset_of, address_in, takes, plain_jump, jump_by, jump_offset, goes_at, goes_quietly, Says, CarriesQuietly}
 
 -- ---- what a reading says
 
@@ -149,18 +150,31 @@ taken_is w i o x y taken os xs ys is =
     let second : y ≡ address_in w (operands_of i).second = ys ∙ ap (λ (r : Operands). address_in w r.second) os in
     is ∙ ap (λ (a : ℕ). is_taken i a y) first ∙ ap (is_taken i (address_in w (operands_of i).first)) second
 
-pub branch_when : (w : Thread) (i : Instr) (o : Operands) (offset n x y : ℕ) (taken : Bool) → offset_of i ≡ Some offset → o ≡ operands_of i
+-- by how much a branch moves the program counter
+pub moved_so : (w : Thread) (i : Instr) (o : Operands) (offset n x y : ℕ) (taken : Bool) → o ≡ operands_of i
     → x ≡ address_in w o.first → y ≡ address_in w o.second → taken ≡ is_taken i x y → n ≡ (if taken then offset else 4)
-    → (target_at w.pcc n % 4 == 0) ≡ jumps_whole w.pcc (jump_offset w i)
-branch_when w i o offset n x y taken e os xs ys is by =
-    ap (λ (m : ℕ). target_at w.pcc m % 4 == 0) (by ∙ ap (λ (b : Bool). if b then offset else 4) (taken_is w i o x y taken os xs ys is))
-    ∙ sym (ap (λ (p : Option ℕ). jumps_whole w.pcc (jump_by w i p)) e)
+    → Some n ≡ jump_by w i (Some offset)
+moved_so w i o offset n x y taken os xs ys is by = ap Some (by ∙ ap (λ (b : Bool). if b then offset else 4) (taken_is w i o x y taken os xs ys is))
 
-pub branch_quiet : (s new : heaped.Seen) (t : ℕ) (i : Instr) (o : Operands) (offset n x y : ℕ) (taken : Bool) → offset_of i ≡ Some offset → o ≡ operands_of i
-    → x ≡ address_in (thread s.threads t) o.first → y ≡ address_in (thread s.threads t) o.second → taken ≡ is_taken i x y → n ≡ (if taken then offset else 4)
+-- a jump that leaves no link
+plain_quiet : (s : Seen) (t : ℕ) (i : Instr) (n : ℕ) (new : Seen) → Some n ≡ plain_jump i
+    → (target_at (thread s t).pcc n % 4 == 0) ≡ true → Turned s t n new → CarriesQuietly s t i new
+unfolding flow_result
+plain_quiet s t (Jal zero offset) n new e whole is listed k time =
+    let w = thread s t in
+    let same : n ≡ offset = cc in
+    rw (whole_target w.pcc w.posture (target_at w.pcc offset) (Some (linked w.pcc w.posture)) (subst (λ (m : ℕ). (target_at w.pcc m % 4 == 0) ≡ true) same whole))
+    (subst (λ (m : ℕ). Turned s t m new) same is, refl, refl, refl)
+plain_quiet s t i n new e whole is listed k time = absurd (cc)
+
+moved_quiet : (s : Seen) (t : ℕ) (i : Instr) (o : Option ℕ) (n : ℕ) (new : Seen) → offset_of i ≡ o → Some n ≡ jump_by (thread s t) i o
+    → (target_at (thread s t).pcc n % 4 == 0) ≡ true → Turned s t n new → CarriesQuietly s t i new
+moved_quiet s t i None n new e by whole is = plain_quiet s t i n new by whole is
+moved_quiet s t i (Some offset) n new e by whole is = branch_by s t i offset n new e (cc) whole is
+
+pub jump_quiet : (s new : heaped.Seen) (t : ℕ) (i : Instr) (n : ℕ) → Some n ≡ jump_offset (thread s.threads t) i
     → (target_at (thread s.threads t).pcc n % 4 == 0) ≡ true
     → new ≡ heaped.with_threads s (went s.threads t (with_address (thread s.threads t).pcc (target_at (thread s.threads t).pcc n)) (thread s.threads t).posture 0 (integer 0))
     → CarriesQuietly s.threads t i new.threads
-branch_quiet s new t i o offset n x y taken e os xs ys is by whole turned =
-    let same = taken_is (thread s.threads t) i o x y taken os xs ys is in
-    branch_by s.threads t i offset n new.threads e (by ∙ ap (λ (b : Bool). if b then offset else 4) same) whole (ap (λ (m : heaped.Seen). m.threads) turned)
+jump_quiet s new t i n by whole turned =
+    moved_quiet s.threads t i (offset_of i) n new.threads refl by whole (ap (λ (m : heaped.Seen). m.threads) turned)

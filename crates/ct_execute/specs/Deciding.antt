@@ -8,6 +8,7 @@ use Rattle.def_words.specs.declared.Trap.{Trap}
 use Rattle.def_words.specs.Authority.{cap_address}
 use Rattle.def_words.specs.Traps.{plain_trap}
 use Rattle.def_instr.specs.declared.Instr.{Instr}
+use Rattle.def_instr.specs.Table.{InRange}
 use Rattle.def_reach.specs.Roots.{root_of}
 use Rattle.def_machine.specs.State.{State, Thread, register}
 use Rattle.def_machine.specs.State as state
@@ -15,11 +16,13 @@ use Rattle.def_machine.specs.Frames.{returned}
 use Rattle.def_step.specs.declared.Next.{Next}
 use Rattle.def_step.specs.declared.Next.TheVariants.{Returning, Instruction, Native as Routine, Nothing}
 use Rattle.def_profile.specs.declared.traps.TheConstants.{ILLEGAL_INSTRUCTION}
+use Rattle.def_step.specs.declared.Operands.{Operands}
 use Rattle.def_step.specs.Checks.{first_failed}
 use Rattle.def_step.specs.Devices.{Bank}
 use Rattle.def_step.specs.Accesses.{Space}
 use Rattle.def_step.specs.Operands.{operands_of, class_of}
 use Rattle.def_step.specs.Instructions.{Board, Done, Around, carried_out, fetch_checks, next_at, served, trapped, put_done, deed}
+use Rattle.ct_decoded.specs.Reading.{AreRegisters}
 use Rattle.ct_engine.specs.Seen.{Seen, thread, went, with_granules}
 use Rattle.def_step.specs.Native.{native}
 use Rattle.ct_engine.specs.Steps.{space_in, IsRoutine}
@@ -116,3 +119,9 @@ pub record Stays (s new : Seen) : Type 0 where
   pub region : new.region ≡ s.region
   pub areas : new.areas ≡ s.areas
   pub size : length new.granules ≡ length s.granules
+
+-- an instruction of the table has these operands, each a register's number
+pub record HasOperands (i : Instr) (o : Operands) : Type 0 where
+  pub ranged : InRange i
+  pub is : o ≡ operands_of i
+  pub registers : AreRegisters o

@@ -2,11 +2,10 @@
 use Rattle.std.specs.Prelude.{ℕ, ◌-◌, ◌/◌, ◌≡◌, ◌≤◌, ◌<◌, ◌⊎◌, true, false, Some}
 use Rattle.def_words.specs.Authority.{cap_base, cap_top}
 use Rattle.def_words.specs.Permissions.{has, load_data, store_data}
-use Rattle.def_machine.specs.Image.{Image, trusted_end}
+use Rattle.def_machine.specs.Image.{Image}
 use Rattle.def_machine.specs.State.{State, register}
 use Rattle.def_machine.specs.State as state
-use Rattle.ct_engine.specs.declared.rows.Region.{Region}
-use Rattle.ct_engine.specs.Seen.{thread}
+use Rattle.ct_engine.specs.Seen.{region_of, thread}
 use Rattle.ct_heaped.specs.Seen.{Seen, hides}
 
 -- Nothing is hidden that a thread may load or store through a register, or fetch. All x are addresses of RAM or past
@@ -22,10 +21,6 @@ pub record IsOpen (s : Seen) (t : ℕ) : Type 0 where
   pub fetches : (x : ℕ) → s.threads.region.ram ≤ x → (thread s.threads t).pcc.tag ≡ true
       → cap_base (thread s.threads t).pcc ≤ x → x < cap_top (thread s.threads t).pcc
       → hides s ((x - s.threads.region.ram) / 8) ≡ false
-
--- an image's trusted region, past its first granules
-abbrev pub region_of : Image → Region
-region_of i = record { ram = i.ram; trusted = i.trusted; end = trusted_end i }
 
 -- Thread t runs in the state, and an engine whose region and heap are the image's holds for it what the state does, and
 -- the same objects.

@@ -6,11 +6,11 @@ ghost use Rattle.def_instr.specs.Table.{InRange};
 ghost use Rattle.def_words.specs.Capability.{raised};
 ghost use Rattle.def_step.specs.declared.Class.TheVariants as kinds;
 ghost use Rattle.def_step.specs.Devices.{Bank};
-ghost use Rattle.def_step.specs.Operands.{class_of, operands_of};
+ghost use Rattle.def_step.specs.Operands.{class_of};
 ghost use Rattle.ct_engine.specs.Seen.{thread, went};
 ghost use Rattle.ct_heaped.specs.Seen.{with_threads};
 ghost use Rattle.ct_engine.specs.Steps.{space_in, IsHeapPlaced};
-ghost use Rattle.ct_execute.specs.Deciding.{decide_by, decide_instruction, Decided, Stays};
+ghost use Rattle.ct_execute.specs.Deciding.{decide_by, decide_instruction, Decided, HasOperands, Stays};
 ghost use Rattle.ct_execute.specs.Opening.{IsOpen};
 
 use crate::ran::Ran;
@@ -52,11 +52,7 @@ fn carry_jump<M: Memory + Drop>(
     t: u32,
 ) -> Ran
     requires runs { engine.old.threads.running ≡ Some t }
-    requires ranged { InRange instruction }
-    requires operands { operands ≡ operands_of instruction }
-    requires to { operands.to < 16 }
-    requires first { operands.first < 16 }
-    requires second { operands.second < 16 }
+    requires has { HasOperands instruction operands }
     requires class { class_of instruction ≡ kinds.Jump }
     requires jump { is_jump instruction ≡ true }
     ensures is { (k : Bank) (time : ℕ) → Decided
@@ -99,11 +95,7 @@ fn carry_access<M: Memory + Drop>(
     requires opened { IsOpen engine.old t }
     requires heap { IsHeapPlaced engine.old.threads.region.ram heap
         (length engine.old.threads.granules) }
-    requires ranged { InRange instruction }
-    requires operands { operands ≡ operands_of instruction }
-    requires to { operands.to < 16 }
-    requires first { operands.first < 16 }
-    requires second { operands.second < 16 }
+    requires has { HasOperands instruction operands }
     requires class { class_of instruction ≡ kinds.Access }
     requires access { is_access instruction ≡ true }
     ensures is { (named : ℕ) → Decided
@@ -142,11 +134,7 @@ fn carry_value<M: Memory + Drop>(
     t: u32,
 ) -> Ran
     requires runs { engine.old.threads.running ≡ Some t }
-    requires ranged { InRange instruction }
-    requires operands { operands ≡ operands_of instruction }
-    requires to { operands.to < 16 }
-    requires first { operands.first < 16 }
-    requires second { operands.second < 16 }
+    requires has { HasOperands instruction operands }
     requires is { class ≡ class_of instruction }
     requires jump { class ≡ kinds.Jump → ⊥ }
     requires access { class ≡ kinds.Access → ⊥ }

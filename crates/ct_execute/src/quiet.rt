@@ -13,7 +13,7 @@ ghost use Rattle.ct_decoded.specs.Reading.{AreRegisters};
 ghost use Rattle.ct_engine.specs.Seen.{thread, went};
 ghost use Rattle.ct_execute.specs.Deciding.{decision, Stays, WentQuietly};
 ghost use Rattle.ct_execute.specs.Opening.{IsOpen};
-ghost use Rattle.ct_execute.specs.Quiet.{accesses_ram, goes_at, goes_quietly, jump_offset, jumps_whole, offset_of, CarriesQuietly, Says};
+ghost use Rattle.ct_execute.specs.Quiet.{accesses_ram, goes_at, goes_quietly, jump_by, jump_offset, jumps_whole, CarriesQuietly, Says};
 ghost use Rattle.ct_heaped.specs.Seen.{with_threads};
 
 use ct_alu::alu;
@@ -105,7 +105,6 @@ fn carry<M: Memory + Drop>(engine: &mut Engine<M>, t: u32, reading: &Reading) ->
 
 /// A branch, taken or not, or a jump by an offset that leaves no link, where it leads to a multiple of 4; else `false`,
 /// and nothing changes.
-#[tactic(auto, unfolding(def_step::specs::Jumps::flow_result))]
 #[inline(always)]
 fn jump<M: Memory + Drop>(
     engine: &mut Engine<M>,
@@ -125,44 +124,54 @@ fn jump<M: Memory + Drop>(
     ensures same { result ≡ false → engine.new ≡ engine.old }
     ensures stays { Stays engine.old.threads engine.new.threads }
 {
+    match moved_by(engine, t, reading, instruction) {
+        Some(by) => go_by(engine, t, by),
+        None => false,
+    }
+}
+
+/// By how much a branch moves the program counter, taken or not, or a jump by an offset that leaves no link.
+#[inline(always)]
+fn moved_by<M: Memory + Drop>(
+    engine: &Engine<M>,
+    t: u32,
+    reading: &Reading,
+    instruction: Instr,
+) -> Option<u32>
+    requires runs { engine.now.threads.running ≡ Some t }
+    requires operands { reading.now.operands ≡ operands_of instruction }
+    requires registers { AreRegisters reading.now.operands }
+    ensures { result ≡ jump_offset (thread engine.now.threads t) instruction }
+{
     match instruction {
         Instr::Beq { offset, .. }
         | Instr::Bne { offset, .. }
         | Instr::Blt { offset, .. }
         | Instr::Bge { offset, .. }
         | Instr::Bltu { offset, .. }
-        | Instr::Bgeu { offset, .. } => branch(engine, t, reading, instruction, offset),
-        Instr::Jal { rd: 0, offset } => go_by(engine, t, offset),
-        _ => false,
+        | Instr::Bgeu { offset, .. } => Some(branch(engine, t, reading, instruction, offset)),
+        Instr::Jal { rd: 0, offset } => Some(offset),
+        _ => None,
     }
 }
 
-/// A branch by an offset, taken or not; `false`, and nothing changes, where it leads to no multiple of 4.
+/// By how much a branch by an offset moves it.
 #[inline(always)]
 fn branch<M: Memory + Drop>(
-    engine: &mut Engine<M>,
+    engine: &Engine<M>,
     t: u32,
     reading: &Reading,
     instruction: Instr,
     offset: u32,
-) -> bool
-    requires runs { engine.old.threads.running ≡ Some t }
+) -> u32
+    requires runs { engine.now.threads.running ≡ Some t }
     requires operands { reading.now.operands ≡ operands_of instruction }
     requires registers { AreRegisters reading.now.operands }
-    requires offset { offset_of instruction ≡ Some offset }
-    ensures when { result
-        ≡ jumps_whole (thread engine.old.threads t).pcc
-        (jump_offset (thread engine.old.threads t) instruction) }
-    ensures quiet { result ≡ true
-        → CarriesQuietly engine.old.threads t instruction engine.new.threads }
-    ensures kept { engine.new ≡ with_threads engine.old engine.new.threads }
-    ensures same { result ≡ false → engine.new ≡ engine.old }
-    ensures stays { Stays engine.old.threads engine.new.threads }
+    ensures { Some result ≡ jump_by (thread engine.now.threads t) instruction (Some offset) }
 {
     let x = engine.address_in(t, reading.operands.first);
     let y = engine.address_in(t, reading.operands.second);
-    let by = if takes(instruction, x, y) { offset } else { 4 };
-    go_by(engine, t, by)
+    if takes(instruction, x, y) { offset } else { 4 }
 }
 
 /// The program counter moves by an offset, where that leads to a multiple of 4; else `false`, and nothing changes.

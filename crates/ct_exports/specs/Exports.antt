@@ -1,12 +1,12 @@
 -- What a switch reads of the entries: the export that it enters, and where its compartment's export table begins.
 use Rattle.std.specs.Prelude.{ℕ, zero, suc, ◌+◌, ◌-◌, ◌%◌, ◌&&◌, ◌==◌, ◌≡◌, ◌≤◌, ◌<◌, Bool, true, false, List, length, find, Option, None, unwrap_or, slice_get, slice_index_or}
 use Rattle.std.specs.List.Sorted.{IsNonDecreasingBy}
+use Rattle.ct_entry.specs.Kinds.{is_export}
 use Rattle.ct_entry.specs.Listed.{Listed}
 use Rattle.ct_entry.specs.declared.rows.Entry.{Entry}
 use Rattle.ct_entry.specs.declared.rows.Gate.{Gate}
 use Rattle.ct_entry.specs.declared.rows.Owner.{Owner}
 use Rattle.ct_entry.specs.declared.rows.Owner.TheVariants.{Trusted, Compartment, Library, Thread}
-use Rattle.ct_entry.specs.declared.rows.Kind.{Kind}
 use Rattle.ct_entry.specs.declared.rows.Kind.TheVariants as kind
 use Rattle.def_profile.specs.declared.layout.TheConstants.{TABLE_HEAD}
 use Rattle.def_reach.specs.Roots.{root_of, gate_for, compartment_of}
@@ -34,10 +34,6 @@ abbrev pub row_named : List Entry → ℕ → Option Entry
 row_named rows zero = None
 row_named rows (suc i) = slice_get rows i
 
-abbrev pub is_export_kind : Kind → Bool
-is_export_kind kind.Export = true
-is_export_kind _ = false
-
 abbrev pub is_compartment : ℕ → Owner → Bool
 is_compartment b Trusted = false
 is_compartment b (Compartment c) = c == b
@@ -46,7 +42,7 @@ is_compartment b (Thread t) = false
 
 -- an export of this compartment
 abbrev pub is_export_of : ℕ → Entry → Bool
-is_export_of b r = is_export_kind r.kind && is_compartment b r.owner
+is_export_of b r = is_export r.kind && is_compartment b r.owner
 
 -- its export table begins with the head, before the row of its first export
 abbrev pub table_in : List Entry → ℕ → ℕ

@@ -1,25 +1,28 @@
 //! Where the callee's stack ends.
 
 ghost use Rattle.std.specs.Prelude.{◌≡◌, ◌≤◌, ◌<◌, ◌%◌, ◌+◌, ◌*◌, ◌/◌, ◌^◌};
+ghost use Rattle.def_profile.specs.declared.bounds.TheConstants as bounds;
 ghost use Rattle.def_step.specs.Switch.{room_exponent, new_top};
+
+use def_profile::bounds::{LAST_EXPONENT, MOST_UNITS};
 
 /// The least exponent of 4 to 14 at which a length has at most 511 units.
 fn exponent(length: u32) -> u32
     ensures is { result ≡ room_exponent length }
     ensures low { 4 ≤ result }
-    ensures high { result ≤ 14 }
+    ensures high { result ≤ bounds.LAST_EXPONENT }
 {
-    for e in 4u32..15 {
-        if length >> e <= 511 {
+    for e in 4..LAST_EXPONENT + 1 {
+        if length >> e <= MOST_UNITS {
             return e;
         }
     }
-    14
+    LAST_EXPONENT
 }
 
 /// So many bytes in whole units of this exponent.
 fn whole(length: u32, exponent: u32) -> u32
-    requires { exponent ≤ 14 }
+    requires { exponent ≤ bounds.LAST_EXPONENT }
     ensures is { result ≡ length / 2 ^ exponent * 2 ^ exponent }
     ensures high { result ≤ length }
     ensures even { 4 ≤ exponent → result % 16 ≡ 0 }

@@ -14,8 +14,9 @@ use Rattle.def_reach.specs.Roots.{TrustedPart, Unknown, Listing, root_of, listed
 use Rattle.def_reach.specs.Sharing.{Calls, SharesC, Edge, Brings, IsLibrary}
 use Rattle.def_graph.specs.Reach.{same_owner}
 use Rattle.def_graph.specs.Route.{Step}
+use Rattle.ct_entry.specs.Kinds.{is_call, is_shared, is_library_slot}
 use Rattle.ct_graph.specs.declared.links.Link.{Link}
-use Rattle.ct_graph.specs.Links.{is_call, is_shared, is_library_slot, link_of, links_of, own, calls, brings, holds, shares, meets, goes}
+use Rattle.ct_graph.specs.Links.{link_of, links_of, own, calls, brings, holds, shares, meets, goes}
 use Rattle.ct_graph.proofs.Owners.{same_is, same_of, any_at, at_any, any_own, FoundAt}
 
 -- ---- kinds

@@ -1,36 +1,14 @@
 -- What the code reads of each row, and the steps of a path as tests on what it reads.
-use Rattle.std.specs.Prelude.{ℕ, ◌==◌, ◌&&◌, ◌||◌, Bool, true, false, not, List, map}
+use Rattle.std.specs.Prelude.{ℕ, ◌==◌, ◌&&◌, ◌||◌, Bool, not, List, map}
 use Rattle.std.specs.List.{list_any, filter}
 use Rattle.ct_entry.specs.declared.rows.Entry.{Entry}
 use Rattle.ct_entry.specs.declared.rows.Owner.{Owner}
-use Rattle.ct_entry.specs.declared.rows.Owner.TheVariants.{Compartment, Library}
-use Rattle.ct_entry.specs.declared.rows.Kind.{Kind}
-use Rattle.ct_entry.specs.declared.rows.Kind.TheVariants as kind
+use Rattle.ct_entry.specs.Kinds.{is_call, is_shared, is_library_slot, is_compartment, is_library}
 use Rattle.ct_entry.specs.Listed.{Listed}
 use Rattle.def_words.specs.Permissions.{bit, memory_capability}
 use Rattle.def_reach.specs.Roots.{root_of}
 use Rattle.def_graph.specs.Reach.{same_owner}
 use Rattle.ct_graph.specs.declared.links.Link.{Link}
-
-abbrev pub is_call : Kind → Bool
-is_call kind.Call = true
-is_call _ = false
-
-abbrev pub is_shared : Kind → Bool
-is_shared kind.Shared = true
-is_shared _ = false
-
-abbrev pub is_library_slot : Kind → Bool
-is_library_slot kind.Library = true
-is_library_slot _ = false
-
-abbrev pub is_compartment : Owner → Bool
-is_compartment (Compartment a) = true
-is_compartment _ = false
-
-abbrev pub is_library : Owner → Bool
-is_library (Library a) = true
-is_library _ = false
 
 -- a row with the owner of the entry that it names, whether a call of that export passes capabilities, and
 -- whether the row's rights let capabilities through

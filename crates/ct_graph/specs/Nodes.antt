@@ -3,11 +3,12 @@ use Rattle.std.specs.Prelude.{ℕ, ◌≡◌, ◌<◌, ◌≤◌, ◌++◌, ◌|
 use Rattle.std.specs.List.{list_any}
 use Rattle.ct_entry.specs.declared.rows.Owner.{Owner}
 use Rattle.ct_entry.specs.declared.rows.Owner.TheVariants.{Trusted}
+use Rattle.ct_entry.specs.Kinds.{is_compartment, is_library}
 use Rattle.ct_entry.specs.Listed.{Listed}
 use Rattle.def_graph.specs.Reach.{same_owner}
 use Rattle.def_graph.specs.Route.{precedes}
 use Rattle.ct_graph.specs.declared.links.Link.{Link}
-use Rattle.ct_graph.specs.Links.{is_compartment, is_library, links_of, goes, steps}
+use Rattle.ct_graph.specs.Links.{links_of, goes, steps}
 use Rattle.ct_graph.specs.Cells.{cell, far, Walks, IsDistance}
 
 abbrev pub is_node : Owner → Bool

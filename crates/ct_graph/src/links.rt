@@ -3,10 +3,11 @@
 ghost use Rattle.std.specs.Prelude.{ℕ, ◌≡◌, ◌==◌, ◌/◌, ◌%◌, ◌^◌, ◌<◌, List, Bool, map, IfOk, length};
 ghost use Rattle.std.specs.List.{list_any, filter};
 ghost use Rattle.def_words.specs.Permissions.{bit};
+ghost use Rattle.ct_entry.specs.Kinds.{is_compartment, is_library, is_shared};
 ghost use Rattle.ct_entry.specs.Listed.{Listed};
 ghost use Rattle.def_reach.specs.Roots.{root_of, gate_for};
 ghost use Rattle.def_graph.specs.Reach.{same_owner};
-ghost use Rattle.ct_graph.specs.Links.{link_of, links_of, own, calls, brings, shares, meets, steps, is_compartment, is_library, is_shared, holds};
+ghost use Rattle.ct_graph.specs.Links.{link_of, links_of, own, calls, brings, shares, meets, steps, holds};
 ghost use Rattle.std.specs.Prelude.{◌&&◌};
 
 use ct_entry::{Entries, Entry, Gate, Kind, Owner};

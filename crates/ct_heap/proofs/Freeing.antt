@@ -113,6 +113,10 @@ row_of h gs number base extent quota l f =
       small = omega (arith, small, size_is);
     }
 
+-- the same of the heap as its fields have it
+pub row_in : (h x : HeapRow) (gs : List Granule) (number base extent quota : ℕ) → x ≡ h → Laid h gs → Freeing h gs number base extent quota → Row x gs number base extent quota
+row_in h x gs number base extent quota is l f = subst (λ (y : HeapRow). Row y gs number base extent quota) (sym is) (row_of h gs number base extent quota l f)
+
 -- ---- the whole
 
 pub record Left (h n : HeapRow) (gs ms ns hs : List Granule) (base extent quota : ℕ) : Type 0 where

@@ -7,7 +7,7 @@ use Rattle.def_memory.specs.Ranges.{is_tagged}
 use Rattle.def_words.specs.Authority.{cap_base, cap_top}
 use Rattle.def_machine.specs.Image.{Image}
 use Rattle.def_machine.specs.State.{Object}
-use Rattle.def_machine.specs.Objects.{charges, quarantine, placed_among, painted, unpainted, is_painted_at}
+use Rattle.def_machine.specs.Objects.{live_object, charges, quarantine, placed_among, painted, unpainted, is_painted_at}
 use Rattle.def_machine.specs.Heap.{length_for, charge_for, Fits, IsPlaceFor}
 use Rattle.def_hidden.specs.Hidden.{is_live_at}
 use Rattle.def_chunks.specs.declared.heads.TheConstants.{NO_CHUNK}
@@ -74,15 +74,7 @@ pub record Same (h n : HeapRow) : Type 0 where
 -- ---- allocate
 
 abbrev pub made : HeapRow → ℕ → ℕ → ℕ → Object
-made h quota size base = record {
-  number = h.next;
-  quota = quota;
-  base = base;
-  length = length_for size;
-  charge = charge_for size;
-  live = true;
-  painted = false;
-}
+made h quota size base = live_object h.next quota base (length_for size)
 
 -- A live object of this size, charged to this quota, stands at the least lawful place; it reads as zero and untagged.
 pub record Allocates (h n : HeapRow) (gs hs : List Granule)

@@ -5,7 +5,7 @@ use Rattle.def_memory.specs.declared.Granule.{Granule}
 use Rattle.def_memory.specs.Granules.{plain, granule_at}
 use Rattle.def_memory.specs.Ranges.{IsMarked}
 use Rattle.def_machine.specs.State.{Object}
-use Rattle.def_machine.specs.Objects.{charges, quarantine, placed_among}
+use Rattle.def_machine.specs.Objects.{live_object, charges, quarantine, placed_among}
 use Rattle.def_chunks.specs.declared.heads.TheConstants.{FREE, LIVE, PAINTED, SLOT}
 use Rattle.def_chunks.specs.declared.rows.Range.{Range}
 use Rattle.def_chunks.specs.declared.rows.Gap.{Gap}
@@ -31,15 +31,7 @@ pub record Placing (h : HeapRow) (gs : List Granule) (quota length : ℕ) (g : G
   pub within : (account h quota).charged + length + CHUNK_HEAD ≤ (account h quota).limit
 
 abbrev pub placed_object : HeapRow → ℕ → ℕ → ℕ → Object
-placed_object h quota length base = record {
-  number = h.next;
-  quota = quota;
-  base = base;
-  length = length;
-  charge = length + CHUNK_HEAD;
-  live = true;
-  painted = false;
-}
+placed_object h quota length base = live_object h.next quota base length
 
 pub record Placed (h n : HeapRow) (gs hs : List Granule)
     (quota length base number object_base object_length live : ℕ) : Type 0 where

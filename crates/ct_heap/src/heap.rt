@@ -39,7 +39,13 @@ impl Model for Heap {
 
     ghost Value = { HeapRow };
 
-    ghost view = { λ h. record { range = h.range; accounts = h.accounts.items; next = h.next; waiting = h.waiting; names = h.names.items } };
+    ghost view = { λ h. record {
+      range = h.range;
+      accounts = h.accounts.items;
+      next = h.next;
+      waiting = h.waiting;
+      names = h.names.items;
+    } };
 }
 
 impl Heap {

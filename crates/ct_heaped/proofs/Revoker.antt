@@ -30,7 +30,8 @@ use Rattle.law_heaped.proofs.Shown.{hides_same}
 use Rattle.ct_areas.specs.declared.thread.Area.{Area}
 use Rattle.ct_engine.specs.Seen.{with_granules}
 use Rattle.ct_engine.specs.Seen as engine
-use Rattle.ct_engine.specs.Heaps.{IsBehind, NotStale, NoneLeft}
+use Rattle.law_sweeps.specs.Clean.{NotStale}
+use Rattle.ct_engine.specs.Heaps.{IsBehind, NoneLeft}
 use Rattle.ct_engine.specs.Sweeps.{kept_threads, passes, sliced}
 use Rattle.ct_heaped.specs.Kept.{IsClear, Holds}
 use Rattle.ct_heaped.specs.Seen.{Seen, covered, limits_in, seen}

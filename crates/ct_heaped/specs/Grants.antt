@@ -1,11 +1,11 @@
 -- An allocation and a free over all that is seen.
-use Rattle.std.specs.Prelude.{ℕ, ◌+◌, ◌-◌, ◌≡◌, true, false, if◌then◌else◌, Option, Some, None, Result, Ok, Err, MatchResult}
+use Rattle.std.specs.Prelude.{ℕ, ◌+◌, ◌-◌, ◌≡◌, true, if◌then◌else◌, Option, Some, None, Result, Ok, Err, MatchResult}
 use Rattle.def_profile.specs.declared.answers.TheConstants.{PAST_LIMIT, NO_PLACE, NO_SIZE, NO_PLACE_YET}
 use Rattle.def_profile.specs.declared.layout.TheConstants.{CHUNK_HEAD}
 use Rattle.def_memory.specs.Ranges.{zeroed_from, marked_from}
 use Rattle.def_machine.specs.State as state
-use Rattle.def_machine.specs.Objects.{charges, placed_among, quarantine, has_quarantined}
-use Rattle.def_machine.specs.Heap.{length_for, charge_for}
+use Rattle.def_machine.specs.Objects.{live_object, charges, placed_among, quarantine, has_quarantined}
+use Rattle.def_machine.specs.Heap.{length_for}
 use Rattle.def_step.specs.Quotas.{Allocation, Refused, Made}
 use Rattle.ct_engine.specs.Heaps.{sifted}
 use Rattle.ct_engine.specs.Seen as engine
@@ -19,15 +19,7 @@ use Rattle.ct_heaped.specs.Seen.{Seen, with_threads}
 
 -- a new object of this size at this place, charged to this quota
 abbrev pub new_object : Seen → ℕ → ℕ → ℕ → state.Object
-new_object s quota size base = record {
-  number = s.next;
-  quota = quota;
-  base = base;
-  length = length_for size;
-  charge = charge_for size;
-  live = true;
-  painted = false;
-}
+new_object s quota size base = live_object s.next quota base (length_for size)
 
 -- it reads as zero, as what is hidden does: memory stays as it is seen
 abbrev pub with_object : Seen → state.Object → Seen

@@ -1,6 +1,7 @@
 //! A call and a frame's end of the running thread.
 
 ghost use Rattle.std.specs.Prelude.{◌≡◌, Some, nat_lt, length};
+ghost use Rattle.def_profile.specs.declared.answers.TheConstants.{UNWOUND};
 ghost use Rattle.def_machine.specs.State.{register};
 ghost use Rattle.ct_engine.specs.Calls.{TopLies, switch_at, after_call, returned, ended_with};
 ghost use Rattle.ct_engine.specs.Seen.{thread};
@@ -61,7 +62,7 @@ impl<M: Memory + Drop> Engine<M> {
         requires runs { self.old.threads.running ≡ Some t }
         requires top { TopLies self.old.threads t }
         ensures result { result ≡ nat_lt 1 (length (thread self.old.threads t).frames) }
-        ensures is { self.new ≡ with_threads self.old (ended_with self.old.threads t 0xFFFFFFFF) }
+        ensures is { self.new ≡ with_threads self.old (ended_with self.old.threads t UNWOUND) }
     {
         self.threads.unwind(t, e)
     }

@@ -1,21 +1,20 @@
 -- What the limits of an image say of the sizes of its regions, and of the rights in its rows.
-use Rattle.std.proofs.Common.{ℕ, zero, suc, ◌≡◌, ◌+◌, ◌<◌, ◌≤◌, ◌^◌, ◌||◌, not, false, nat_lt, List, [], ◌∷◌, ◌++◌, length, map, Some, None, slice_get, All, refl, arith}
+use Rattle.std.proofs.Common.{ℕ, zero, suc, ◌≡◌, ◌+◌, ◌<◌, ◌≤◌, ◌^◌, List, [], ◌∷◌, length, map, Some, None, slice_get, All, refl, arith}
 use Rattle.std.specs.Prelude.{slice_index_or}
 use Rattle.std.specs.List.{AllByRecursion}
 use Rattle.std.proofs.lemmas.List.Elements.{All-from_recursion}
-use Rattle.def_image.specs.declared.Check.{Check}
 use Rattle.def_image.specs.declared.RawEntry.{RawEntry}
 use Rattle.def_image.specs.declared.format.TheConstants.{ENTRY, ROW, COMPARTMENT_HEAD, LIBRARY_HEAD}
 use Rattle.def_image.specs.Raw.{RawCode, RawCompartment}
 use Rattle.def_image.specs.Parts.{SlotRow, CodeRow, CompartmentRow, ThreadRow, PartsRow}
-use Rattle.def_image.specs.Profile.{outside}
 use Rattle.def_image.specs.Spelling.{raw_of, raw_slot, raw_code, raw_compartment}
-use Rattle.def_image.specs.Sizes.{entries_size, tables_size, compartment_size, library_size, compartments_at, libraries_at}
-use Rattle.def_image.specs.Checks.{first, walked, check}
-use Rattle.def_image.specs.Limits.{byte_at, row_limits, name_checks, own_slot_limits, slot_limits, code_limits, own_slots_limits, slots_limits, exports_limits, compartment_limits_by, compartment_limits, library_limits_by, library_limits, compartment_bounds, library_bounds, are_zeros, entry_name, is_misnamed, is_unnamed_key}
+use Rattle.def_image.specs.Sizes.{compartment_size, library_size, compartments_at, libraries_at}
+use Rattle.def_image.specs.Checks.{first}
+use Rattle.def_image.specs.Limits.{byte_at, row_limits, name_checks, own_slot_limits, slot_limits, compartment_limits_by, compartment_limits, library_limits_by, library_limits, entry_name, is_misnamed, is_unnamed_key}
 use Rattle.law_image.proofs.Tells.{lt_not}
-use Rattle.law_image.proofs.Passing.{left_none, right_none, all_pass}
-use Rattle.law_image.proofs.Limited.{limited, header_fits, thread_fits}
+use Rattle.law_image.proofs.Passing.{left_none, all_pass, every}
+use Rattle.law_image.proofs.Holding.{limited, compartment_holds, library_holds}
+use Rattle.law_image.proofs.Limited.{header_fits, thread_fits}
 use Rattle.law_image.proofs.Owners.{compartment_limited}
 use Rattle.ct_image.specs.Answers.{Stand}
 use Rattle.ct_sizes.specs.Places.{end_place}
@@ -35,7 +34,7 @@ all_there P xs one = λ k d lt. one k (slice_index_or xs k d) (there xs k d lt)
 
 pub small_is : (p : PartsRow) → Stand p → AreSmall p
 small_is p s =
-    let h = limited p s.limits in
+    let h = limited (raw_of p) s.limits in
     let header = header_fits p h.header in
     record {
       threads = header.few.threads;
@@ -48,14 +47,6 @@ pub room_is : (p : PartsRow) → Stand p → end_place p < 2 ^ 32
 room_is p s = let e = end_is p s.spellable in omega (arith, e, s.small)
 
 -- ---- rights are six bits
-
-every : {A : Type 0} (asked : ℕ → List A → A → List Check) (size : A → ℕ) (P : A → Type 0) → ((at : ℕ) (earlier : List A) (x : A) → first (asked at earlier x) ≡ None → P x)
-    → (at : ℕ) (earlier xs : List A) → first (walked asked size at earlier xs) ≡ None → AllByRecursion P xs
-unfolding walked
-every asked size P one at earlier [] e = tt
-every asked size P one at earlier (x ∷ xs) e =
-    let later = walked asked size (at + size x) (earlier ++ x ∷ []) xs in
-    (one at earlier x (left_none (asked at earlier x) later e), every asked size P one (at + size x) (earlier ++ x ∷ []) xs (right_none (asked at earlier x) later e))
 
 -- of members that fields were made of
 unmapped : {A B : Type 0} (f : A → B) (P : B → Type 0) (xs : List A) → AllByRecursion P (map f xs) → AllByRecursion (λ x. P (f x)) xs
@@ -78,29 +69,12 @@ unfolding slot_limits
 slot_packed at earlier e none = row_packed at e.row (left_none (row_limits at e.row) (name_checks (at + ROW) (is_unnamed_key e) (map entry_name earlier) e.name) none)
 
 compartment_packed : (entry at : ℕ) (seen : List (List ℕ)) (c : RawCompartment) → first (compartment_limits_by entry at seen c) ≡ None → AllByRecursion IsPacked c.code.slots
-unfolding compartment_limits_by
 compartment_packed entry at seen c none =
-    let k = c.code in
-    let front = name_checks at false seen k.name ++ code_limits at k in
-    let slots = own_slots_limits (at + COMPARTMENT_HEAD) k in
-    let head =
-    check (at + 52) (outside 16 1048576 c.globals_length) ∷ check (at + 56) (nat_lt 1048576 (length c.initial) || nat_lt c.globals_length (length c.initial))
-    ∷ check (at + 60) (outside 1 148 (length k.slots)) ∷ check (at + 64) (nat_lt 64 (length k.exports)) ∷ [] in
-    let gates = exports_limits compartment_bounds (entry + 2 + length k.slots) (at + COMPARTMENT_HEAD + entries_size k.slots) k in
-    let padding = check (at + COMPARTMENT_HEAD + tables_size k + length c.initial) (not (are_zeros c.padding)) ∷ [] in
-    let e1 = left_none (front ++ (head ++ slots) ++ gates) padding none in
-    let e2 = left_none (front ++ (head ++ slots)) gates e1 in
-    every own_slot_limits (λ s. ENTRY) IsPacked own_packed (at + COMPARTMENT_HEAD) [] k.slots (right_none head slots (right_none front (head ++ slots) e2))
+    every own_slot_limits (λ s. ENTRY) IsPacked own_packed (at + COMPARTMENT_HEAD) [] c.code.slots (compartment_holds entry at seen c none).slots
 
 library_packed : (entry at : ℕ) (seen : List (List ℕ)) (c : RawCode) → first (library_limits_by entry at seen c) ≡ None → AllByRecursion IsPacked c.slots
-unfolding library_limits_by
 library_packed entry at seen c none =
-    let front = name_checks at false seen c.name ++ code_limits at c in
-    let slots = slots_limits (at + LIBRARY_HEAD) c in
-    let head = check (at + 44) (nat_lt 128 (length c.slots)) ∷ check (at + 48) (nat_lt 64 (length c.exports)) ∷ [] in
-    let gates = exports_limits library_bounds (entry + 1 + length c.slots) (at + LIBRARY_HEAD + entries_size c.slots) c in
-    let e2 = left_none (front ++ (head ++ slots)) gates none in
-    every slot_limits (λ s. ENTRY) IsPacked slot_packed (at + LIBRARY_HEAD) [] c.slots (right_none head slots (right_none front (head ++ slots) e2))
+    every slot_limits (λ s. ENTRY) IsPacked slot_packed (at + LIBRARY_HEAD) [] c.slots (library_holds entry at seen c none).slots
 
 abbrev RowPacked : SlotRow → Type 0
 RowPacked s = s.row.rights < 64
@@ -111,7 +85,7 @@ slots_packed ss h = All-from_recursion RowPacked ss (unmapped raw_slot IsPacked 
 pub owners_packed : (p : PartsRow) → Stand p → OwnersPacked p.compartments
 unfolding raw_of
 owners_packed p s =
-    let h = (limited p s.limits).compartments in
+    let h = (limited (raw_of p) s.limits).compartments in
     let each = every compartment_limits compartment_size (λ (c : RawCompartment). AllByRecursion IsPacked c.code.slots) (λ at earlier k f. compartment_packed _ at _ k f)
     (compartments_at (raw_of p)) [] (map raw_compartment p.compartments) h in
     All-from_recursion (λ (c : CompartmentRow). ArePacked c.code.slots) p.compartments (each_own p.compartments (unmapped raw_compartment (λ (c : RawCompartment). AllByRecursion IsPacked c.code.slots) p.compartments each))
@@ -123,7 +97,7 @@ owners_packed p s =
 pub libraries_packed : (p : PartsRow) → Stand p → LibrariesPacked p.libraries
 unfolding raw_of
 libraries_packed p s =
-    let h = (limited p s.limits).libraries in
+    let h = (limited (raw_of p) s.limits).libraries in
     let each = every (library_limits (raw_of p)) library_size (λ (c : RawCode). AllByRecursion IsPacked c.slots) (λ at earlier k f. library_packed _ at _ k f)
     (libraries_at (raw_of p)) [] (map raw_code p.libraries) h in
     All-from_recursion (λ (c : CodeRow). ArePacked c.slots) p.libraries (each_one p.libraries (unmapped raw_code (λ (c : RawCode). AllByRecursion IsPacked c.slots) p.libraries each))

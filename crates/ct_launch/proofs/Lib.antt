@@ -1,4 +1,3 @@
 pub mod Standing
 pub mod Placing
 pub mod Starting
-pub mod Few

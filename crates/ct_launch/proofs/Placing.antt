@@ -20,12 +20,13 @@ use Rattle.law_grants.proofs.Lying as lying
 use Rattle.law_grants.proofs.Making.{length_above}
 use Rattle.law_grants.proofs.Own.{stack_entry_is}
 use Rattle.law_grants.proofs.Sets.{no_way}
-use Rattle.law_laid.proofs.Lists.{stack_there}
+use Rattle.law_listed.proofs.Regions.{stack_there}
 use Rattle.law_started.proofs.Whole.{areas_are}
 use Rattle.ct_areas.specs.declared.thread.Area.{Area}
 use Rattle.ct_engine.specs.Kept.{StackLies}
 use Rattle.ct_engine.specs.declared.rows.Region.{Region}
-use Rattle.ct_launch.specs.Launching.{region_of, area_from, areas_of, areas_begin, areas_end}
+use Rattle.ct_engine.specs.Seen.{region_of}
+use Rattle.ct_launch.specs.Launching.{area_from, areas_of, areas_begin, areas_end}
 use Rattle.ct_launch.specs.Placed.{IsPlaced, ArePlaced}
 use Rattle.ct_launch.proofs.Standing.{begin_in, room_of, area_lies, area_is, areas_count, frames_are, begins}
 

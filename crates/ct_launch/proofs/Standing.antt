@@ -1,8 +1,10 @@
 -- Areas that stand one after another, and the threads that start with them.
-use Rattle.std.proofs.Common.{ℕ, zero, suc, ◌≡◌, ◌+◌, ◌*◌, ◌%◌, ◌≤◌, List, [], ◌∷◌, ◌++◌, length, map, take, drop, Some, slice_get, slice_index_or, refl, sym, ap, ◌∙◌, subst, arith, append_assoc}
+use Rattle.std.proofs.Common.{ℕ, zero, suc, ◌≡◌, ◌+◌, ◌%◌, ◌≤◌, List, [], ◌∷◌, ◌++◌, length, map, take, drop, Some, slice_get, slice_index_or, refl, sym, ap, ◌∙◌, subst, arith, append_assoc}
 use Rattle.std.proofs.Math.ListN.{drop_of_length-le}
 use Rattle.std.proofs.lemmas.List.{append-nil, drop_more}
 use Rattle.std.proofs.lemmas.Option.{slice_get_within, get_or_from_slice_get}
+use Rattle.def_profile.specs.Areas.{area_length}
+use Rattle.def_profile.specs.declared.limits.TheConstants.{RAM_END}
 use Rattle.def_machine.specs.Image.{areas_size}
 use Rattle.def_machine.specs.Objects.{Each}
 use Rattle.def_machine.specs.State.{nobody}
@@ -34,12 +36,12 @@ pub area_lies : (p : PartsRow) (size at : ℕ) (x : ThreadRow) → p.ram % 16 �
     → HasArea size (area_from p at x)
 area_lies p size at x ram even low high one =
     let room = room_of x p at in
-    record { ram = ram; even = even; low = low; high = high; whole = ap (λ n. 160 + 64 * n) (sym room); some = rw room one }
+    record { ram = ram; even = even; low = low; high = high; whole = ap area_length (sym room); some = rw room one }
 
 -- what a thread's row has for its start
 pub record MayBegin (x : ThreadRow) : Type 0 where
   pub one : 1 ≤ x.frames
-  pub end : x.stack + x.stack_length ≤ 4294967280
+  pub end : x.stack + x.stack_length ≤ RAM_END
 
 -- ---- all of them
 

@@ -7,7 +7,7 @@ use Rattle.def_memory.specs.Granules.{plain}
 use Rattle.def_areas.specs.Areas.{held}
 use Rattle.def_machine.specs.Image.{address_of, trusted_end}
 use Rattle.def_machine.specs.Objects.{Each}
-use Rattle.def_machine.specs.State.{Thread}
+use Rattle.def_machine.specs.State.{Thread, outermost}
 use Rattle.def_chunks.specs.Heaps.{HeapRow}
 use Rattle.def_image.specs.Parts.{ThreadRow, PartsRow}
 use Rattle.def_image.specs.Regions.{trusted_region, area_size}
@@ -22,7 +22,6 @@ use Rattle.law_booted.proofs.Contents.{booted_in}
 use Rattle.law_started.proofs.Granules.{same_granule, granules_end}
 use Rattle.ct_start.proofs.Fits.{stack_end}
 use Rattle.ct_areas.specs.declared.thread.Area.{Area}
-use Rattle.ct_areas.specs.Threads.{outermost}
 use Rattle.ct_engine.specs.declared.rows.Region.{Region}
 use Rattle.ct_engine.specs.declared.starting.Fresh.{Fresh}
 use Rattle.ct_engine.specs.Seen.{hides, thread, area_at}
@@ -32,7 +31,8 @@ use Rattle.ct_heap.specs.Effects.{Empty, accounts_for, empty}
 use Rattle.ct_heaped.specs.Kept.{EndsBefore}
 use Rattle.ct_heaped.specs.Seen.{Seen, limits_in}
 use Rattle.ct_heaped.specs.Starts.{MayHold, started}
-use Rattle.ct_launch.specs.Launching.{region_of, areas_begin, areas_end, fresh_from, fresh_of, heap_range, launched, launched_threads}
+use Rattle.ct_engine.specs.Seen.{region_of}
+use Rattle.ct_launch.specs.Launching.{areas_begin, areas_end, fresh_from, fresh_of, heap_range, launched, launched_threads}
 use Rattle.ct_launch.specs.Placed.{ArePlaced, AreFirst}
 use Rattle.ct_launch.proofs.Standing.{stacks_lie, laid, threads_are, areas_are_of, areas_count, threads_count, area_is, thread_is}
 use Rattle.ct_launch.proofs.Placing.{stack_lies, ends_are, begins_are, ram_is, first_region, ends_in, ends_in_ram, begin_low, begin_even, are_placed}

@@ -2,7 +2,6 @@
 -- areas, and its empty heap.
 use Rattle.std.specs.Prelude.{ℕ, ◌+◌, ◌-◌, List, [], ◌∷◌, None}
 use Rattle.def_profile.specs.declared.layout.TheConstants.{TRUSTED_HEAD}
-use Rattle.def_machine.specs.Image.{Image, trusted_end}
 use Rattle.def_image.specs.Parts.{ThreadRow, PartsRow}
 use Rattle.def_image.specs.Sizes.{sum_of}
 use Rattle.def_image.specs.Regions.{area_size}
@@ -10,16 +9,12 @@ use Rattle.def_boot.specs.Boot.{boot_state, first_thread, first_threads, image_o
 use Rattle.ct_start.specs.declared.start.First.{First}
 use Rattle.ct_start.specs.Starts.{start_of}
 use Rattle.ct_areas.specs.declared.thread.Area.{Area}
-use Rattle.ct_engine.specs.declared.rows.Region.{Region}
 use Rattle.ct_engine.specs.declared.starting.Fresh.{Fresh}
 use Rattle.ct_engine.specs.Seen as engine
+use Rattle.ct_engine.specs.Seen.{region_of}
 use Rattle.def_chunks.specs.declared.rows.Range.{Range}
 use Rattle.ct_heap.specs.Effects.{range_of}
 use Rattle.ct_heaped.specs.Seen.{Seen}
-
--- the trusted region past its first granules
-abbrev pub region_of : Image → Region
-region_of i = record { ram = i.ram; trusted = i.trusted; end = trusted_end i }
 
 -- ---- the threads' areas, one after another in the order of the threads
 

@@ -6,7 +6,7 @@ use Rattle.ct_areas.specs.declared.thread.Area.{Area}
 use Rattle.ct_areas.specs.Threads.{HasArea, frames_most}
 use Rattle.ct_engine.specs.Kept.{StackLies}
 use Rattle.ct_engine.specs.Seen.{Seen, no_area, thread, area_at, innermost}
-use Rattle.ct_launch.specs.Launching.{region_of}
+use Rattle.ct_engine.specs.Seen.{region_of}
 
 -- the area and the stack of thread t, in RAM of so many bytes
 pub record IsPlaced (i : Image) (size t : ℕ) (a : Area) : Type 0 where

@@ -5,6 +5,7 @@ ghost use Rattle.def_boot.specs.Boot.{image_of};
 ghost use Rattle.def_image.specs.Parts.{ThreadRow};
 ghost use Rattle.def_image.specs.Sound.{Sound};
 ghost use Rattle.def_profile.specs.declared.limits.TheConstants.{MOST_FRAMES};
+ghost use Rattle.ct_engine.specs.Seen as engine;
 ghost use Rattle.ct_launch.specs.Launching as spec;
 
 use ct_areas::Area;
@@ -40,7 +41,7 @@ pub(crate) fn area_at(parts: &Parts, at: u32, index: usize) -> Area
 pub(crate) fn region_of(parts: &Parts, begin: u32, end: u32) -> Region
     requires begin { begin ≡ spec.areas_begin parts.now }
     requires end { end ≡ spec.areas_end parts.now }
-    ensures { result ≡ spec.region_of (image_of parts.now) }
+    ensures { result ≡ engine.region_of (image_of parts.now) }
 {
     Region {
         ram: parts.ram,

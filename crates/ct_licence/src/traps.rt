@@ -1,8 +1,8 @@
 //! Which causes, codes and registers a trap may tell.
 
 ghost use Rattle.std.specs.Prelude.{ℕ, ◌≡◌, ◌<◌, ◌⊎◌, ◌↔◌, IsTrue};
-ghost use Rattle.def_confined.specs.Licensed.{IsTrap};
-ghost use Rattle.ct_licence.specs.Traps.{IsCodeOfPcc, IsCodeOfRegister, IsPlainCause};
+ghost use Rattle.def_confined.specs.Licensed.{IsCodeOfPcc, IsCodeOfRegister, IsPlainCause, IsTrap};
+ghost use Rattle.def_profile.specs.declared.traps.TheConstants as traps;
 
 use def_profile::traps::{
     BOUNDS_CODE, BREAKPOINT, CAPABILITY_FAULT, ENVIRONMENT_CALL, EXECUTE_CODE, ILLEGAL_INSTRUCTION,
@@ -22,7 +22,8 @@ pub(crate) fn is_trap(cause: u32, code: u32, register: u32) -> bool
 
 fn is_capability_fault(code: u32, register: u32) -> bool
     ensures { IsTrue result
-        ↔ (((register ≡ 16) × IsCodeOfPcc code) ⊎ ((register < 16) × IsCodeOfRegister code)) }
+        ↔ (((register ≡ traps.PCC_REGISTER) × IsCodeOfPcc code)
+        ⊎ ((register < traps.PCC_REGISTER) × IsCodeOfRegister code)) }
 {
     if register == PCC_REGISTER {
         is_code_of_pcc(code)

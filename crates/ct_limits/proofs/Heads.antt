@@ -1,5 +1,5 @@
 -- The first failing check of a whole, by its parts.
-use Rattle.std.proofs.Common.{ℕ, ◌≡◌, ◌+◌, ◌<◌, ◌^◌, ◌||◌, Bool, false, List, [], ◌∷◌, ◌++◌, length, map, Option, Some, None, refl, sym, ap, ◌∙◌, append_assoc}
+use Rattle.std.proofs.Common.{ℕ, ◌≡◌, ◌+◌, ◌<◌, ◌^◌, ◌||◌, Bool, List, [], ◌∷◌, ◌++◌, length, map, Option, Some, None, refl, ap, ◌∙◌}
 use Rattle.std.specs.Prelude.{bytes_eq}
 use Rattle.std.proofs.lemmas.List.Folds.{list_any-append}
 use Rattle.def_names.specs.Names.{among}
@@ -8,11 +8,10 @@ use Rattle.def_image.specs.declared.format.TheConstants.{DEVICE, SHARED, THREAD,
 use Rattle.def_image.specs.Raw.{RawCode, RawCompartment, RawImage}
 use Rattle.def_image.specs.Sizes.{sealed_size, compartment_size, library_size, devices_at, shared_at, sealed_at, compartments_at, libraries_at, threads_at}
 use Rattle.def_image.specs.Checks.{first, walked}
-use Rattle.def_image.specs.Limits.{name_of, name_checks, code_limits, own_slots_limits, slots_limits, header_limits, compartment_limits_by, library_limits_by, limit_checks, device_limits, shared_limits, sealed_limits, compartment_limits, library_limits, thread_limits}
+use Rattle.def_image.specs.Limits.{name_of, name_checks, own_slots_limits, own_gates, dirty_padding, slots_limits, library_gates, count_limits, number_limits, header_limits, compartment_limits_by, library_limits_by, limit_checks, device_limits, shared_limits, sealed_limits, compartment_limits, library_limits, thread_limits}
 use Rattle.law_image.specs.First.{or_else}
 use Rattle.law_image.proofs.Walks.{first_both}
-use Rattle.ct_limits.specs.Asked.{named, count_limits, number_limits}
-use Rattle.ct_limits.specs.Owners.{own_numbers, compartment_head, dirty_padding, own_gates, first_of_tables, library_numbers, library_head, library_gates, first_of_library}
+use Rattle.ct_limits.specs.Owners.{compartment_head, first_of_tables, library_head, first_of_library}
 use Rattle.ct_limits.specs.Whole.{first_of_owners, first_of_parts}
 
 or_later : (a b c : Option ℕ) → or_else (or_else a b) c ≡ or_else a (or_else b c)
@@ -22,7 +21,7 @@ or_later (Some n) b c = refl
 -- ---- the header
 
 pub header_first : (r : RawImage) → first (header_limits r) ≡ or_else (first (count_limits r)) (first (number_limits r))
-unfolding header_limits name_checks
+unfolding header_limits
 header_first r = first_both (count_limits r) (number_limits r)
 
 -- ---- owners
@@ -31,31 +30,22 @@ pub compartment_first : (entry at : ℕ) (seen : List (List ℕ)) (c : RawCompar
     → first (compartment_limits_by entry at seen c) ≡ or_else (first (compartment_head at (among (name_of c.code.name) seen) c)) (first_of_tables at entry c)
 unfolding compartment_limits_by name_checks
 compartment_first entry at seen c =
-    let k = c.code in
-    let front = named at (among (name_of k.name) seen) false k.name ++ code_limits at k in
-    let head = front ++ own_numbers at c in
-    let slots = own_slots_limits (at + COMPARTMENT_HEAD) k in
-    let gates = own_gates at entry k in
+    let head = compartment_head at (among (name_of c.code.name) seen) c in
+    let slots = own_slots_limits (at + COMPARTMENT_HEAD) c.code in
+    let gates = own_gates entry at c.code in
     let padding = dirty_padding at c in
-    let a0 : first (compartment_limits_by entry at seen c) ≡ or_else (first (front ++ (own_numbers at c ++ slots) ++ gates)) (first padding) = first_both (front ++ (own_numbers at c ++ slots) ++ gates) padding in
-    let a1 : first (front ++ (own_numbers at c ++ slots) ++ gates) ≡ or_else (first (front ++ (own_numbers at c ++ slots))) (first gates) = first_both (front ++ (own_numbers at c ++ slots)) gates in
-    let a2 : first (front ++ (own_numbers at c ++ slots)) ≡ or_else (first head) (first slots) =
-    ap first (sym (append_assoc front (own_numbers at c) slots)) ∙ first_both head slots in
-    a0 ∙ ap (λ o. or_else o (first padding)) (a1 ∙ ap (λ o. or_else o (first gates)) a2 ∙ or_later (first head) (first slots) (first gates))
+    first_both (head ++ slots ++ gates) padding
+    ∙ ap (λ o. or_else o (first padding)) (first_both (head ++ slots) gates ∙ ap (λ o. or_else o (first gates)) (first_both head slots) ∙ or_later (first head) (first slots) (first gates))
     ∙ or_later (first head) (or_else (first slots) (first gates)) (first padding) ∙ ap (λ o. or_else (first head) o) (or_later (first slots) (first gates) (first padding))
 
 pub library_first : (entry at : ℕ) (seen : List (List ℕ)) (c : RawCode)
     → first (library_limits_by entry at seen c) ≡ or_else (first (library_head at (among (name_of c.name) seen) c)) (first_of_library at entry c)
 unfolding library_limits_by name_checks
 library_first entry at seen c =
-    let front = named at (among (name_of c.name) seen) false c.name ++ code_limits at c in
-    let head = front ++ library_numbers at c in
+    let head = library_head at (among (name_of c.name) seen) c in
     let slots = slots_limits (at + LIBRARY_HEAD) c in
-    let gates = library_gates at entry c in
-    let a1 : first (library_limits_by entry at seen c) ≡ or_else (first (front ++ (library_numbers at c ++ slots))) (first gates) = first_both (front ++ (library_numbers at c ++ slots)) gates in
-    let a2 : first (front ++ (library_numbers at c ++ slots)) ≡ or_else (first head) (first slots) =
-    ap first (sym (append_assoc front (library_numbers at c) slots)) ∙ first_both head slots in
-    a1 ∙ ap (λ o. or_else o (first gates)) a2 ∙ or_later (first head) (first slots) (first gates)
+    let gates = library_gates entry at c in
+    first_both (head ++ slots) gates ∙ ap (λ o. or_else o (first gates)) (first_both head slots) ∙ or_later (first head) (first slots) (first gates)
 
 -- ---- names of several lists
 

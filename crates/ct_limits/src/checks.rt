@@ -5,7 +5,6 @@ ghost use Rattle.def_image.specs.Checks as spec;
 ghost use Rattle.def_image.specs.Limits as limits;
 ghost use Rattle.def_image.specs.Profile as profile;
 ghost use Rattle.law_image.specs.First.{or_else};
-ghost use Rattle.ct_limits.specs.Asked.{named};
 
 use ct_names::is_name;
 use ct_raw::name_of;
@@ -59,7 +58,7 @@ pub fn are_zeros(bytes: &[u8]) -> bool
 /// zeros that pad it.
 pub fn name_checks(at: u32, repeated: bool, unwanted: bool, field: &[u8]) -> [Check; 2]
     requires { at + length field.now < 2 ^ 32 }
-    ensures { result ≡ named at repeated unwanted field.now }
+    ensures { result ≡ limits.named at repeated unwanted field.now }
 {
     let name = name_of(field);
     [

@@ -6,8 +6,6 @@ ghost use Rattle.def_image.specs.Limits as spec;
 ghost use Rattle.def_image.specs.Profile as profile;
 ghost use Rattle.def_image.specs.Sizes as sizes;
 ghost use Rattle.def_profile.specs.Versions as versions;
-ghost use Rattle.ct_limits.specs.Asked as parts;
-ghost use Rattle.ct_limits.specs.Asked.{missized};
 
 use crate::checks::{check, earlier_of, first, name_checks, outside};
 use ct_raw::RawImage;
@@ -53,7 +51,7 @@ pub fn rate_size(version: u32) -> u32
 
 /// Whether RAM of this base and size is too small, too large, no multiple of 16, or ends too high.
 fn is_missized(version: u32, ram: u32, size: u32) -> bool
-    ensures { result ≡ missized version ram size }
+    ensures { result ≡ spec.missized version ram size }
 {
     outside(LEAST_RAM, most_ram(version), size)
         || size % REGION_UNIT != 0
@@ -74,7 +72,7 @@ fn is_misrated(version: u32, sweep: u32) -> bool
 
 /// What is asked of the counts.
 fn count_checks(raw: &RawImage) -> [Check; 6]
-    ensures { result ≡ parts.count_limits raw.now }
+    ensures { result ≡ spec.count_limits raw.now }
 {
     let threads = most_threads(raw.version) as usize;
     [
@@ -88,8 +86,9 @@ fn count_checks(raw: &RawImage) -> [Check; 6]
 }
 
 /// What is asked of the numbers and of the firmware's name.
+#[tactic(auto, unfolding(def_image::specs::Limits::name_checks))]
 fn number_checks(raw: &RawImage) -> [Check; 6]
-    ensures { result ≡ parts.number_limits raw.now }
+    ensures { result ≡ spec.number_limits raw.now }
 {
     let version = raw.version;
     let ram = raw.ram;

@@ -6,7 +6,6 @@ ghost use Rattle.def_image.specs.Limits as spec;
 ghost use Rattle.def_image.specs.Sizes as sizes;
 ghost use Rattle.def_image.specs.Sizes.{sum_of};
 ghost use Rattle.def_image.specs.declared.format.TheConstants.{DEVICE as DEVICE_SIZE, SHARED as SHARED_SIZE};
-ghost use Rattle.ct_limits.specs.Asked.{overfilled};
 
 use crate::checks::{are_zeros, check, first, name_checks, outside};
 use crate::names::is_among;
@@ -48,7 +47,7 @@ fn sealed_size(sealed: &RawSealed) -> u32
 
 /// Whether so many bytes don't fit an object of this length.
 fn overfills(length: u32, count: u32) -> bool
-    ensures { result ≡ overfilled length count }
+    ensures { result ≡ spec.overfilled length count }
 {
     outside(1, MOST_BYTES, count) || length < count
 }

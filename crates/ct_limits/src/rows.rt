@@ -2,7 +2,7 @@
 
 ghost use Rattle.std.specs.Prelude.{◌≡◌, ◌≤◌, ◌<◌, ◌+◌, ◌^◌};
 ghost use Rattle.def_image.specs.Limits as spec;
-ghost use Rattle.ct_limits.specs.Asked.{bounds_of};
+ghost use Rattle.ct_limits.specs.Owners.{bounds_of};
 
 use crate::checks::{are_zeros, check, outside};
 use def_image::Check;

@@ -4,7 +4,7 @@ ghost use Rattle.std.specs.Prelude.{◌≡◌, ◌≤◌, ◌<◌, ◌+◌, ◌*
 ghost use Rattle.def_image.specs.Checks as checks;
 ghost use Rattle.def_image.specs.Limits as spec;
 ghost use Rattle.def_image.specs.declared.format.TheConstants.{ENTRY as ENTRY_SIZE};
-ghost use Rattle.ct_limits.specs.Asked.{bounds_of};
+ghost use Rattle.ct_limits.specs.Owners.{bounds_of};
 
 use crate::checks::{earlier_of, first, name_checks};
 use crate::names::is_among;

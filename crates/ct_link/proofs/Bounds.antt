@@ -2,6 +2,7 @@
 use Rattle.std.proofs.Common.{ℕ, zero, suc, ◌≡◌, ◌+◌, ◌*◌, ◌<◌, ◌≤◌, ◌^◌, max, List, [], ◌∷◌, ◌++◌, length, map, refl, sym, ap, ◌∙◌, subst, arith}
 use Rattle.std.specs.List.{AllByRecursion}
 use Rattle.std.proofs.lemmas.List.{length-append, length-map}
+use Rattle.def_profile.specs.declared.limits.TheConstants.{MOST_FRAMES, MOST_THREADS_2}
 use Rattle.def_layout.specs.Placement.{needed}
 use Rattle.def_image.specs.Sizes.{sum_of}
 use Rattle.def_description.specs.Lawful.{IsLawful, IsLawfulCompartment, IsLawfulLibrary, IsLawfulExport, IsLawfulShared, IsLawfulSealed, IsLawfulThread}
@@ -99,10 +100,10 @@ small_lent (l ∷ ls) (o ∷ os) h k =
     let text = k.0.text in
     (omega (arith, imports, text), small_lent ls os h.1 k.1)
 
-pub frames_few : (d : DescRow) → IsLawful d → AllByRecursion (λ (t : ThreadRow). t.frames ≤ 96) d.threads
-frames_few d law = all_so (IsLawfulThread d) (λ (t : ThreadRow). t.frames ≤ 96) d.threads (λ t h. h.frames.1) law.thread
+pub frames_few : (d : DescRow) → IsLawful d → AllByRecursion (λ (t : ThreadRow). t.frames ≤ MOST_FRAMES) d.threads
+frames_few d law = all_so (IsLawfulThread d) (λ (t : ThreadRow). t.frames ≤ MOST_FRAMES) d.threads (λ t h. h.frames.1) law.thread
 
-pub threads_few : (d : DescRow) → IsLawful d → length d.threads ≤ 64
+pub threads_few : (d : DescRow) → IsLawful d → length d.threads ≤ MOST_THREADS_2
 threads_few d law =
     let few = law.few.threads in
     let most = threads_most d.version in

@@ -3,6 +3,7 @@ use Rattle.std.proofs.Common.{ℕ, zero, suc, ◌≡◌, ◌+◌, ◌≤◌, Lis
 use Rattle.std.specs.Prelude.{Result, Ok, Err}
 use Rattle.std.specs.List.{AllByRecursion}
 use Rattle.std.proofs.Math.Path.{fun_ext}
+use Rattle.def_profile.specs.declared.limits.TheConstants.{MOST_BYTES}
 use Rattle.def_object.specs.declared.Label.{Label}
 use Rattle.def_description.specs.Lawful.{IsLawfulCode, IsLawfulCompartment, IsLawfulLibrary}
 use Rattle.def_description.specs.Rows.{CompartmentRow, LibraryRow, DescRow}
@@ -79,8 +80,8 @@ sized [] (o ∷ os) h t = absurd h
 sized (b ∷ bs) [] h t = absurd h
 sized (b ∷ bs) (o ∷ os) h t = (
   record {
-    text = subst (λ (l : List ℕ). length l ≤ 1048576) (sym h.0.text) t.0.few;
-    initial = subst (λ (l : List ℕ). length l ≤ 1048576) (sym h.0.initial) t.0.initial_few;
+    text = subst (λ (l : List ℕ). length l ≤ MOST_BYTES) (sym h.0.text) t.0.few;
+    initial = subst (λ (l : List ℕ). length l ≤ MOST_BYTES) (sym h.0.initial) t.0.initial_few;
   },
   sized bs os h.1 t.1,
 )

@@ -18,7 +18,7 @@ pub record AreSmallRows (d : DescRow) : Type 0 where
   pub libraries : length d.libraries ≤ most.MOST_LIBRARIES
   pub shared : length d.shared ≤ most.MOST_OBJECTS
   pub sealed : length d.sealed ≤ most.MOST_OBJECTS
-  pub threads : length d.threads ≤ 64
+  pub threads : length d.threads ≤ most.MOST_THREADS_2
 
 pub record AreStarts (d : DescRow) (s : Starts) : Type 0 where
   pub libraries : s.libraries ≡ 3 * length d.compartments

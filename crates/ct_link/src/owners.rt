@@ -2,6 +2,7 @@
 
 ghost use Rattle.std.specs.Prelude.{◌≡◌, ◌<◌, ◌≤◌, ◌^◌, drop, length, IfOk};
 ghost use Rattle.std.specs.List.{AllByRecursion};
+ghost use Rattle.def_profile.specs.declared.limits.TheConstants.{MOST_COMPARTMENTS, MOST_COMPARTMENT_ENTRIES, MOST_LIBRARY_ENTRIES, MOST_OWN_ENTRIES};
 ghost use Rattle.def_image.specs.Sizes.{sum_of};
 ghost use Rattle.def_link.specs.Linked as spec;
 ghost use Rattle.ct_link.specs.Rows.{AreOwn, AreLent, IsSized, IsSmallOwner, IsSmallLibrary, own_built, lent_built, code_in, with_object, library_with_object, row_entries, library_row_entries};
@@ -21,7 +22,7 @@ use std::alloc::{AllocError, Global};
 fn entry_count(compartment: &Compartment) -> u32
     requires { IsSmallOwner compartment.now }
     ensures value { result ≡ row_entries compartment.now }
-    ensures few { result ≤ 214 }
+    ensures few { result ≤ MOST_COMPARTMENT_ENTRIES }
 {
     2 + slot_count(compartment) + compartment.exports.len() as u32
 }
@@ -30,9 +31,9 @@ fn entry_count(compartment: &Compartment) -> u32
 #[tactic(auto, using(crate::proofs::Sums::sum_more, crate::proofs::Stretches::at_each))]
 pub(crate) fn entries_of(compartments: &[Compartment]) -> u32
     requires rows { AllByRecursion IsSmallOwner compartments.now }
-    requires few { length compartments.now ≤ 64 }
+    requires few { length compartments.now ≤ MOST_COMPARTMENTS }
     ensures value { result ≡ sum_of row_entries compartments.now }
-    ensures few { result ≤ 13696 }
+    ensures few { result ≤ MOST_OWN_ENTRIES }
 {
     let mut entries = 0;
     for compartment in compartments {
@@ -166,7 +167,7 @@ fn library_part(
 fn library_entry_count(library: &Library) -> u32
     requires { IsSmallLibrary library.now }
     ensures value { result ≡ library_row_entries library.now }
-    ensures few { result ≤ 193 }
+    ensures few { result ≤ MOST_LIBRARY_ENTRIES }
 {
     1 + library.imports.len() as u32 + library.exports.len() as u32
 }

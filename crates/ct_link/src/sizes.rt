@@ -3,6 +3,7 @@
 
 ghost use Rattle.std.specs.Prelude.{◌≡◌, ◌+◌, ◌*◌, ◌≤◌, ◌++◌, length, map, max, IfOk, OnOk};
 ghost use Rattle.std.specs.List.{AllByRecursion};
+ghost use Rattle.def_profile.specs.declared.limits.TheConstants.{MOST_FRAMES, MOST_THREADS_2};
 ghost use Rattle.def_description.specs.Lawful.{IsLawfulSealed};
 ghost use Rattle.def_description.specs.Rows.{SharedRow, SealedRow, ThreadRow};
 ghost use Rattle.def_image.specs.Sizes.{sum_of};
@@ -133,8 +134,8 @@ fn add_stacks(sizes: &mut Vec<u32>, threads: &[Thread]) -> Result<(), AllocError
 /// The size of the threads' areas, each with its saved registers and frames.
 #[tactic(auto, using(crate::proofs::Sums::sum_more, crate::proofs::Stretches::at_each))]
 fn areas_size(threads: &[Thread]) -> u32
-    requires frames { AllByRecursion (λ (t : ThreadRow). t.frames ≤ 96) threads.now }
-    requires few { length threads.now ≤ 64 }
+    requires frames { AllByRecursion (λ (t : ThreadRow). t.frames ≤ MOST_FRAMES) threads.now }
+    requires few { length threads.now ≤ MOST_THREADS_2 }
     ensures { result ≡ sum_of spec.area_size threads.now }
 {
     let mut size = 0;

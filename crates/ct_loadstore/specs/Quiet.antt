@@ -1,7 +1,8 @@
 -- A load or a store that no check refuses, in RAM: what it gives and what it leaves, whatever the devices and the time.
-use Rattle.std.specs.Prelude.{ℕ, ◌+◌, ◌*◌, ◌≡◌, ◌&&◌, Bool, not, nat_le, List, length, Option, None, Ok, is_some}
+use Rattle.std.specs.Prelude.{ℕ, ◌≡◌, ◌&&◌, Bool, not, List, Option, None, Ok, is_some}
 use Rattle.def_words.specs.declared.Cap.{Cap}
 use Rattle.def_memory.specs.declared.Granule.{Granule}
+use Rattle.def_machine.specs.Memory.{lies_in}
 use Rattle.def_instr.specs.declared.Instr.{Instr}
 use Rattle.def_step.specs.declared.Access.{Access}
 use Rattle.def_step.specs.Devices.{Bank}
@@ -16,18 +17,14 @@ Quiet a x y ram gs value hs =
     → access_result i x y (space_of ram gs k time)
     ≡ Ok (record { value = value; act = None; granules = hs; bank = k })
 
--- so many bytes at an address lie in RAM
-abbrev pub is_within : ℕ → List Granule → ℕ → ℕ → Bool
-is_within ram gs at width = nat_le ram at && nat_le (at + width) (ram + 8 * length gs)
-
 -- no check of a load through x refuses it, and it lies in RAM
 abbrev pub is_quiet_load : Access → Cap → ℕ → List Granule → Bool
 is_quiet_load a x ram gs =
     not (is_some (first_failed (load_checks a x (access_address a x))))
-    && is_within ram gs (access_address a x) a.width
+    && lies_in ram gs (access_address a x) a.width
 
 -- the same of a store of y
 abbrev pub is_quiet_store : Access → Cap → Cap → ℕ → List Granule → Bool
 is_quiet_store a x y ram gs =
     not (is_some (first_failed (store_checks a x (access_address a x) (a.whole && y.tag))))
-    && is_within ram gs (access_address a x) a.width
+    && lies_in ram gs (access_address a x) a.width

@@ -1,7 +1,8 @@
 //! A load or a store, whole.
 
-ghost use Rattle.std.specs.Prelude.{IsTrue, ◌≡◌, ◌+◌, ◌*◌, ◌&&◌, ◌≤◌, ◌<◌, ◌^◌, ◌%◌, length, nat_le, true, false, MatchResult, Ok, Err};
+ghost use Rattle.std.specs.Prelude.{IsTrue, ◌≡◌, ◌+◌, ◌*◌, ◌&&◌, ◌≤◌, ◌<◌, ◌^◌, ◌%◌, length, true, false, MatchResult, Ok, Err};
 ghost use Rattle.def_instr.specs.Shapes.{is_access};
+ghost use Rattle.def_machine.specs.Memory.{lies_in};
 ghost use Rattle.def_step.specs.Accesses.{access_result, accessed, access_of, is_ram};
 ghost use Rattle.ct_loadstore.specs.Maps.{IsMap};
 ghost use Rattle.ct_loadstore.specs.Shapes.{IsShape, space_of};
@@ -50,8 +51,7 @@ impl Model for Moved {
 
 /// Whether so many bytes from an address on lie in RAM.
 pub(crate) fn in_ram<M: Memory>(mem: &M, ram: u32, at: u32, width: u32) -> bool
-    ensures { result ≡ nat_le ram at
-        && nat_le (at + width) (ram + 8 * length (M.granules mem.now)) }
+    ensures { result ≡ lies_in ram (M.granules mem.now) at width }
 {
     ram <= at && at as u64 + width as u64 <= ram as u64 + mem.size() as u64
 }

@@ -1,6 +1,7 @@
 -- What the code leaves of an instruction, and of a frame's end, is what the written step leaves.
 use Rattle.std.proofs.Common.{ℕ, ◌≡◌, ◌<◌, Bool, nat_lt, List, [], ◌∷◌, length, Option, None, option_map, refl, sym, ap, ◌∙◌, slice_set, arith}
 use Rattle.std.proofs.Math.ListN.{get_or, set}
+use Rattle.def_profile.specs.declared.answers.TheConstants.{UNWOUND}
 use Rattle.ct_entry.specs.Listed.{Listed}
 use Rattle.ct_entry.specs.declared.acts.Deed.{Deed}
 use Rattle.def_words.specs.declared.Cap.{Cap}
@@ -30,7 +31,7 @@ use Rattle.ct_execute.specs.declared.ran.Ran.TheVariants.{Went, Returned, Native
 use Rattle.ct_execute.specs.Deciding.{Decision, Goes, Returns, Serves, Traps, decide, decision, settle, Decided, IfUnfinished}
 use Rattle.ct_execute.proofs.Executed.{executed_is}
 use Rattle.ct_machine.specs.Parts.{state_by, IsKept}
-use Rattle.ct_machine.specs.Going.{UNWOUND, left_after, goes_after, status_after, deed_by, finished, IsDone, CameTo}
+use Rattle.ct_machine.specs.Going.{left_after, goes_after, status_after, deed_by, finished, IsDone, CameTo}
 use Rattle.ct_machine.proofs.Statuses.{thread_with, set_with, end_with, like_with}
 use Rattle.ct_machine.proofs.Keeping.{two_more, unfinished_map}
 use Rattle.ct_machine.proofs.Taking.{ram_is, frames_with}

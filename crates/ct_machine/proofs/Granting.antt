@@ -44,7 +44,7 @@ use Rattle.ct_heaped.specs.Seen.{Seen, with_threads, limit_at}
 use Rattle.ct_heaped.specs.Grants.{with_object, quarantined, freed}
 use Rattle.ct_services.specs.Granted as granted
 use Rattle.ct_machine.specs.Parts.{state_by, IsKept}
-use Rattle.ct_machine.specs.Going.{CameTo, IsDone}
+use Rattle.ct_machine.specs.Going.{CameTo, IsDone, MayGoOn}
 use Rattle.ct_machine.proofs.Statuses.{thread_with, set_with}
 use Rattle.ct_machine.proofs.Taking.{ram_is}
 use Rattle.ct_machine.proofs.Keeping.{stays_kept}
@@ -150,7 +150,7 @@ module _ (i : Image) (e : Seen) (r : SchedRow) (k : Bank) (pending : Bool) (time
       subst (λ (y : routine.Ran). Serves most (granted.by_quota e t p) y) alike first
 
   -- c10 is a quota's capability only where its root is a quota of the image
-  pub names_quota : Facts i → Confined i here → granted.NamesQuota e t
+  names_quota : Facts i → Confined i here → granted.NamesQuota e t
   names_quota facts held is =
       let ten = register_alike i e r k pending time c t kept 10 in
       let c10 : Cap = register (thread here t) 10 in
@@ -159,6 +159,10 @@ module _ (i : Image) (e : Seen) (r : SchedRow) (k : Bank) (pending : Bool) (time
       let rooted : Rooted i c10 = in_rooted i here.objects t (thread here t).frames c10 (held.registers t 10) both.0 in
       let origin : (root i c10.shadow.root).origin ≡ Listing kind.Quota = facts.quotas c10.shadow.root (sym (rooted.boot (inr (inr (inr (inr sealed))))).seal ∙ sealed) in
       subst (λ (z : Cap). z.shadow.root < length e.limits) (sym ten) (kept.quotas c10.shadow.root (ap is_quota origin))
+
+  -- the same of the machine that this is
+  pub names_quota_in : (m : MachineRow) → machine e ≡ m → MayGoOn m → granted.NamesQuota e t
+  names_quota_in m is may = let had = subst MayGoOn (sym is) may in names_quota had.facts had.keeps.confined
 
   quota_alike : granted.quota_in e t ≡ quotas.quota_in here t
   quota_alike = ap (λ (z : Cap). z.shadow.root) (register_alike i e r k pending time c t kept 10)

@@ -30,7 +30,7 @@ use Rattle.ct_engine.specs.Seen as engine
 use Rattle.ct_heaped.specs.Seen.{Seen, with_threads}
 use Rattle.ct_services.specs.Served.{answered_in, rested, waited, with_status, either, unless, unless_row}
 use Rattle.ct_machine.specs.Parts.{state_by, IsKept}
-use Rattle.ct_machine.specs.Going.{ran_by_service, CameTo}
+use Rattle.ct_machine.specs.Going.{ran_by_service, CameTo, Runs}
 use Rattle.ct_machine.proofs.Keeping.{RunsReady, kept_so, none_runs}
 use Rattle.ct_machine.proofs.Opened.{some_within}
 use Rattle.ct_machine.proofs.Taking.{frames_with}
@@ -255,9 +255,13 @@ module _ (i : Image) (e : Seen) (r : SchedRow) (k : Bank) (pending : Bool) (time
   pub runs_ready : e.threads.running ≡ Some t → status_of r.statuses t ≡ Ready
   runs_ready runs = kept.ready t runs
 
-  pub runs_there : 0 < length (thread here t).frames → t < length r.statuses
+  runs_there : 0 < length (thread here t).frames → t < length r.statuses
   runs_there some =
       let frames : (thread here t).frames ≡ (engine.thread e.threads t).frames = frames_with e.threads.threads r.statuses t in
       let within = some_within e.threads.threads t (subst (λ (fs : List Frame). 0 < length fs) frames some) in
       let many = kept.statuses in
       omega (arith, within, many)
+
+  -- it has a status, in the machine that this is
+  pub runs_there_in : (m : MachineRow) → machine e r ≡ m → Runs m t → t < length r.statuses
+  runs_there_in m is runs = let here_runs = subst (λ (n : MachineRow). Runs n t) (sym is) runs in runs_there here_runs.some

@@ -7,7 +7,7 @@ use Rattle.ct_entry.specs.declared.rows.Entry.{Entry}
 use Rattle.ct_entry.specs.declared.rows.Gate.{Gate}
 use Rattle.def_reach.specs.Roots.{listed_root, root_of, gate_for, is_quota}
 use Rattle.def_machine.specs.Image.{Image}
-use Rattle.def_machine.specs.State.{Thread}
+use Rattle.def_machine.specs.State.{Thread, no_counts}
 use Rattle.def_machine.specs.Threads.{with_statuses}
 use Rattle.def_sched.specs.declared.Status.TheVariants.{Ready}
 use Rattle.def_step.specs.Devices.{Bank}
@@ -16,8 +16,8 @@ use Rattle.def_image.specs.Parts.{ThreadRow, PartsRow}
 use Rattle.def_image.specs.Sound.{Sound}
 use Rattle.def_boot.specs.Gates.{entries_of}
 use Rattle.def_boot.specs.Entries as listed
-use Rattle.ct_launch.proofs.Few.{few_entries}
-use Rattle.def_boot.specs.Boot.{boot_state, booted_machine, first_thread, first_threads, image_of, no_counts}
+use Rattle.law_listed.proofs.Few.{few_entries}
+use Rattle.def_boot.specs.Boot.{boot_state, booted_machine, first_thread, first_threads, image_of}
 use Rattle.def_boot.specs.Contents.{boot_granules, granules_from, granules_in}
 use Rattle.ct_heaped.specs.Seen.{Seen}
 use Rattle.ct_heaped.specs.Shared.{HasHeap}

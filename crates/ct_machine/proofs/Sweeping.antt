@@ -22,13 +22,13 @@ use Rattle.def_step.specs.declared.Event.TheVariants.{Sweep}
 use Rattle.law_lists.proofs.Tests.{eq_tells}
 use Rattle.law_turns.proofs.Moves.{clock_confined}
 use Rattle.law_sweeps.proofs.Moves.{clock_beside}
-use Rattle.law_swept.specs.Clean.{SavedClean, StoppedClean, IsClean}
-use Rattle.law_swept.proofs.Ending.{ends_clean}
+use Rattle.law_sweeps.specs.Clean.{SavedClean, StoppedClean, IsClean}
+use Rattle.law_sweeps.proofs.Ending.{ends_clean}
 use Rattle.law_heaped.proofs.Slices.{kept_length}
 use Rattle.ct_areas.specs.declared.thread.Area.{Area}
 use Rattle.ct_sched.specs.Sched.{SchedRow}
 use Rattle.ct_engine.specs.Seen as engine
-use Rattle.ct_engine.specs.Heaps.{FrameClean, NoneLeft}
+use Rattle.ct_engine.specs.Heaps.{NoneLeft}
 use Rattle.ct_engine.specs.Sweeps.{kept_threads, passes}
 use Rattle.ct_engine.specs.Written.{HasAreas}
 use Rattle.ct_engine.proofs.Sliced.{slice_written}
@@ -159,15 +159,11 @@ module _ (i : Image) (e : Seen) (r : SchedRow) (k : Bank) (pending : Bool) (time
   sliced_as : (x : Seen) (low high : ℕ) → x.threads ≡ e.threads → heap.with_slice i (state_of x) low high ≡ state_of (with_slice x low high)
   sliced_as x low high same = slice_written i (state_of x) x.threads r.statuses low high (subst (λ (s : engine.Seen). HasAreas i s) (sym same) areas_are)
 
-  saved_clean : (objects : List Object) (fs : List Frame) → Each (SavedClean objects) fs → Each (FrameClean objects) fs
-  saved_clean objects [] h = tt
-  saved_clean objects (f ∷ fs) h = (record { c1 = h.0.c1; c2 = h.0.c2; c3 = h.0.c3; c8 = h.0.c8; c9 = h.0.c9 }, saved_clean objects fs h.1)
-
   -- what the state holds nowhere the engine doesn't either
   none_in : (x : Seen) → IsClean (state_of x) → NoneLeft x.objects x.threads
   none_in x h = record {
     granules = h.granules;
-    frames = λ t. saved_clean x.objects (engine.thread x.threads t).frames (subst (λ (fs : List Frame). Each (SavedClean x.objects) fs) (frames_with x.threads.threads r.statuses t) (h.frames t));
+    frames = λ t. subst (λ (fs : List Frame). Each (SavedClean x.objects) fs) (frames_with x.threads.threads r.statuses t) (h.frames t);
     stopped = λ t other.
         let clean = h.stopped t other in
         let alike = like_with x.threads.threads r.statuses t Ready in

@@ -1,6 +1,7 @@
 -- The running thread carries on: what that asks, what an instruction or a native routine came to, and what is left
 -- where its frame ends.
 use Rattle.std.specs.Prelude.{ℕ, ◌+◌, ◌≡◌, ◌<◌, ◌&&◌, Bool, true, false, not, length, map, nat_lt, Option, Some, None, option_map, slice_set, cond}
+use Rattle.def_profile.specs.declared.answers.TheConstants.{UNWOUND}
 use Rattle.ct_entry.specs.Listed.{Listed}
 use Rattle.ct_entry.specs.declared.acts.Deed.{Deed}
 use Rattle.ct_entry.specs.declared.acts.Happened.{Happened}
@@ -97,10 +98,6 @@ ran_by_call called.NoStack = Went None 0
 ran_by_call (called.Trapped why) = Trapped why
 
 -- ---- where its innermost frame ends
-
--- an unwind's value, of a trap
-abbrev pub UNWOUND : ℕ
-UNWOUND = 0xFFFFFFFF
 
 abbrev pub left_after : Ran → Seen → Listed → ℕ → Seen
 left_after (Went act entry) s e t = s

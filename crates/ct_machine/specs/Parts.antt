@@ -10,7 +10,7 @@ use Rattle.def_reach.specs.Roots.{is_quota}
 use Rattle.ct_heaped.specs.Seen.{Seen}
 use Rattle.ct_heaped.specs.Shared.{HasHeap}
 use Rattle.ct_engine.specs.Steps.{IsHeapPlaced}
-use Rattle.ct_execute.specs.Opening.{region_of}
+use Rattle.ct_engine.specs.Seen.{region_of}
 use Rattle.ct_launch.specs.Placed.{ArePlaced}
 use Rattle.ct_sched.specs.Sched.{SchedRow}
 

@@ -44,7 +44,8 @@ impl<M: Memory + Drop> Model for Engine<M> {
       state = state_by m.threads m.sched m.pending m.bus.states m.time m.counts;
     } };
 
-    ghost invariant = { λ m. IsKept m.plan m.threads m.sched × IsCounted m.counts m.time m.threads.next };
+    ghost invariant = { λ m. IsKept m.plan m.threads m.sched
+        × IsCounted m.counts m.time m.threads.next };
 }
 
 impl<M: Memory + Drop> Engine<M> {

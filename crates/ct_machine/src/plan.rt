@@ -40,7 +40,6 @@ impl Model for Plan {
 
 impl Plan {
     /// The plan of an image.
-    #[tactic(auto, unfolding(def_boot::specs::Boot::image_of))]
     pub(crate) fn of(alloc: Global, image: &Image) -> Result<Plan, NoMemory>
         ensures { IfOk result (λ p. p ≡ image_of image.now) }
     {

@@ -26,7 +26,17 @@ impl Model for Tally {
 
     ghost Value = { Counts };
 
-    ghost view = { λ t. record { steps = t.steps; ticks = t.ticks; sweeps = t.sweeps; inputs = t.inputs; calls = t.calls; loads = t.loads; stores = t.stores; frees = t.frees; traps = t.traps } };
+    ghost view = { λ t. record {
+      steps = t.steps;
+      ticks = t.ticks;
+      sweeps = t.sweeps;
+      inputs = t.inputs;
+      calls = t.calls;
+      loads = t.loads;
+      stores = t.stores;
+      frees = t.frees;
+      traps = t.traps;
+    } };
 }
 
 impl Tally {

@@ -6,16 +6,17 @@ use Rattle.def_description.specs.Named.{slot_names, library_slot_names}
 use Rattle.def_description.specs.Rows.{AtRow, ExportRow, CompartmentRow, LexportRow, LibraryRow}
 use Rattle.def_link.specs.declared.LinkFault.{LinkFault}
 use Rattle.def_link.specs.declared.LinkFault.TheVariants as fault
-use Rattle.def_link.specs.Owners.{Unit as OwnerUnit, Built, built, text_label, label_or, is_begin, begin_of, first_lost, has_stray_bytes, placed_or, checked, unit_built, compartment_unit, library_unit}
+use Rattle.def_link.specs.Owners.{Unit as OwnerUnit, Built, built, label_or, is_begin, begin_of, first_lost, has_stray_bytes, placed_or, checked, unit_built, compartment_unit, library_unit}
 use Rattle.def_object.specs.declared.Label.{Label}
-use Rattle.ct_asm.specs.Labels.{Assembled, text_offset}
+use Rattle.def_object.specs.Object.{text_offset}
+use Rattle.ct_asm.specs.Labels.{Assembled}
 use Rattle.ct_objects.specs.Objects.{built_of, Holds, IsBuilt, Refuses}
 
 -- ---- an object that holds what was built says the same of exports
 
 label_same : (b : Built) (o : Assembled) → Holds b o → (label : Option (List ℕ)) (offset : ℕ) → label_or (built_of o) label offset ≡ label_or b label offset
 label_same b o h None offset = refl
-label_same b o h (Some name) offset = ap text_label (h.labels name)
+label_same b o h (Some name) offset = ap text_offset (h.labels name)
 
 -- the number, where it begins a word of the text
 pub begin_at : Built → ℕ → Option ℕ
@@ -62,11 +63,6 @@ unit_placed u source o h is stray = record {
   is = unit_is u source o h None is ∙ ap (λ b. cond b (Err (fault.Initial u.owner)) (Ok h.built)) (sym (stray_same u h.built o h.held) ∙ stray);
   held = h.held;
 }
-
--- the offset of a label is the one that an object gives
-pub same_offset : (o : Option Label) → text_offset o ≡ text_label o
-same_offset None = refl
-same_offset (Some l) = refl
 
 -- ---- by compartment and by library
 

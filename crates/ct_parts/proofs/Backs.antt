@@ -1,8 +1,8 @@
 -- The fields of parts that are made of fields are these.
-use Rattle.std.proofs.Common.{ℕ, zero, suc, ◌≡◌, ◌+◌, ◌<◌, ◌≤◌, ◌^◌, ◌||◌, not, Bool, true, false, nat_lt, List, [], ◌∷◌, ◌++◌, length, map, Some, None, refl, sym, ap, ◌∙◌, subst, arith}
+use Rattle.std.proofs.Common.{ℕ, zero, suc, ◌≡◌, ◌+◌, ◌<◌, ◌≤◌, ◌^◌, not, Bool, true, false, nat_lt, List, [], ◌∷◌, length, map, Some, None, refl, sym, ap, ◌∙◌, subst, arith}
 use Rattle.std.specs.List.{AllByRecursion}
+use Rattle.def_profile.specs.declared.limits.TheConstants.{MOST_BYTES}
 use Rattle.ct_entry.specs.Listed.{DeviceRow}
-use Rattle.def_image.specs.declared.Check.{Check}
 use Rattle.def_image.specs.declared.RawEntry.{RawEntry}
 use Rattle.def_image.specs.declared.format.TheConstants.{ENTRY, DEVICE, SHARED, THREAD, ROW, COMPARTMENT_HEAD, LIBRARY_HEAD}
 use Rattle.def_image.specs.Raw.{RawDevice, RawShared, RawSealed, RawCode, RawCompartment, RawThread, RawImage}
@@ -10,26 +10,18 @@ use Rattle.def_image.specs.Parts.{SlotRow, GateRow, SharedRow, SealedRow, CodeRo
 use Rattle.def_image.specs.Profile.{outside}
 use Rattle.def_image.specs.Spelling.{zeros, padding_after, device_number, raw_slot, raw_gate, raw_device, raw_shared, raw_sealed, raw_code, raw_compartment, raw_thread, raw_of, name_field, import_field, export_field}
 use Rattle.def_image.specs.Shapes.{IsField, IsNumber, IsEntry, IsDevice, IsShared, IsSealed, IsCode, IsCompartment, IsThread, IsShaped, Clean, SpellableSlot, SpellableGate, SpellableCode, IsSpellable}
-use Rattle.def_image.specs.Sizes.{entries_size, tables_size, sealed_size, compartment_size, library_size, devices_at, shared_at, sealed_at, compartments_at, libraries_at, threads_at, rate_size}
-use Rattle.def_image.specs.Checks.{first, walked, check}
-use Rattle.def_image.specs.Limits.{name_of, name_checks, are_zeros, header_limits, device_limits, shared_limits, sealed_limits, row_limits, gate_limits, own_slot_limits, slot_limits, export_limits, code_limits, own_slots_limits, slots_limits, exports_limits, compartment_limits_by, compartment_limits, library_limits_by, library_limits, thread_limits_by, thread_limits, limit_checks, Bounds, compartment_bounds, library_bounds, entry_name, is_misnamed, is_unnamed_key, device_name, shared_name, sealed_name, overfills}
+use Rattle.def_image.specs.Sizes.{entries_size, sealed_size, compartment_size, library_size, devices_at, shared_at, sealed_at, compartments_at, libraries_at, threads_at, rate_size}
+use Rattle.def_image.specs.Checks.{first, check}
+use Rattle.def_image.specs.Limits.{name_of, name_checks, are_zeros, header_limits, device_limits, shared_limits, sealed_limits, row_limits, gate_limits, own_slot_limits, slot_limits, export_limits, dirty_padding, compartment_limits_by, compartment_limits, library_limits_by, library_limits, thread_limits_by, thread_limits, limit_checks, Bounds, compartment_bounds, library_bounds, entry_name, is_misnamed, is_unnamed_key, device_name, shared_name, sealed_name, overfills}
 use Rattle.law_image.proofs.Tells.{not_false, within_is}
-use Rattle.law_image.proofs.Passing.{left_none, right_none, head_none, all_pass}
+use Rattle.law_image.proofs.Passing.{left_none, right_none, all_pass, every}
+use Rattle.law_image.proofs.Holding.{limited, compartment_holds, library_holds}
 use Rattle.ct_parts.specs.Converted.{text_of, device_kind_of, import_of, export_of, slot_of, gate_of, device_of, shared_of, sealed_of, code_of, compartment_of, thread_of, parts_of}
 use Rattle.ct_parts.specs.Back.{ComesBack, FieldsComeBack}
 use Rattle.ct_parts.proofs.NameTexts.{NameFits, name_fits, field_back, text_clean, all_zeros}
 use Rattle.ct_parts.proofs.Rows.{AreNarrow, import_back, export_back, device_back, small_there}
 
 -- ---- walks
-
--- what holds of each member on which nothing fails
-every : {A : Type 0} (asked : ℕ → List A → A → List Check) (size : A → ℕ) (P : A → Type 0) → ((at : ℕ) (earlier : List A) (x : A) → first (asked at earlier x) ≡ None → P x)
-    → (at : ℕ) (earlier xs : List A) → first (walked asked size at earlier xs) ≡ None → AllByRecursion P xs
-unfolding walked
-every asked size P one at earlier [] e = tt
-every asked size P one at earlier (x ∷ xs) e =
-    let later = walked asked size (at + size x) (earlier ++ x ∷ []) xs in
-    (one at earlier x (left_none (asked at earlier x) later e), every asked size P one (at + size x) (earlier ++ x ∷ []) xs (right_none (asked at earlier x) later e))
 
 -- members that come back, and those that have a spelling
 all_back : {A B : Type 0} (f : A → B) (g : B → A) (P Q : A → Type 0) → ((x : A) → P x → Q x → g (f x) ≡ x) → (xs : List A) → AllByRecursion P xs → AllByRecursion Q xs → map g (map f xs) ≡ xs
@@ -87,15 +79,12 @@ gate_fits b text entry narrow at earlier e none is =
       name = name_fits (at + ROW) false (map entry_name earlier) e.name (all_pass names (right_none rows names none));
     }
 
-abbrev same_entry : RawEntry → RawEntry
-same_entry e = record { row = e.row; name = e.name }
-
 slot_back : (e : RawEntry) → SlotFits e → IsEntry e → raw_slot (slot_of e) ≡ e
 slot_back e fits is =
     let s = fits is in
     let row = s.row in
     let name = field_back e.name is.1 s.name in
-    let same : raw_slot (slot_of e) ≡ same_entry e = cc in
+    let same : raw_slot (slot_of e) ≡ record e { name = e.name } = cc in
     same
 
 gate_back : (e : RawEntry) → GateFits e → IsEntry e → raw_gate (gate_of e) ≡ e
@@ -103,7 +92,7 @@ gate_back e fits is =
     let s = fits is in
     let row = s.row in
     let name = field_back e.name is.1 s.name in
-    let same : raw_gate (gate_of e) ≡ same_entry e = cc in
+    let same : raw_gate (gate_of e) ≡ record e { name = e.name } = cc in
     same
 
 slot_spells : (e : RawEntry) → SlotFits e → IsEntry e → SpellableSlot (slot_of e)
@@ -128,14 +117,11 @@ device_fits at earlier d none =
       name = name_fits at false (map device_name earlier) d.name (all_pass names (left_none names last none));
     }
 
-abbrev same_device : RawDevice → RawDevice
-same_device d = record { name = d.name; kind = d.kind; base = d.base }
-
 device_comes : (d : RawDevice) → DeviceOk d → IsDevice d → raw_device (device_of d) ≡ d
 device_comes d ok is =
     let kind = ok.kind in
     let name = field_back d.name is.0 ok.name in
-    let same : raw_device (device_of d) ≡ same_device d = cc in
+    let same : raw_device (device_of d) ≡ record d { name = d.name } = cc in
     same
 
 device_clean : (d : RawDevice) → DeviceOk d → IsDevice d → Clean (device_of d).name
@@ -148,16 +134,13 @@ shared_fits : (at : ℕ) (earlier : List RawShared) (s : RawShared) → first (s
 unfolding shared_limits
 shared_fits at earlier s none =
     let names = name_checks at false (map shared_name earlier) s.name in
-    let last = check (at + 36) (outside 1 1048576 s.length) ∷ [] in
+    let last = check (at + 36) (outside 1 MOST_BYTES s.length) ∷ [] in
     name_fits at false (map shared_name earlier) s.name (all_pass names (left_none names last none))
-
-abbrev same_shared : RawShared → RawShared
-same_shared s = record { name = s.name; base = s.base; length = s.length }
 
 shared_comes : (s : RawShared) → SharedOk s → IsShared s → raw_shared (shared_of s) ≡ s
 shared_comes s ok is =
     let name = field_back s.name is.0 ok in
-    let same : raw_shared (shared_of s) ≡ same_shared s = cc in
+    let same : raw_shared (shared_of s) ≡ record s { name = s.name } = cc in
     same
 
 shared_clean : (s : RawShared) → SharedOk s → IsShared s → Clean (shared_of s).name
@@ -172,16 +155,13 @@ unfolding sealed_limits
 sealed_fits at earlier s none =
     let names = name_checks at false (map sealed_name earlier) s.name in
     let last =
-    check (at + 36) (outside 1 1048576 s.length) ∷ check (at + 40) (outside 13 15 s.seal) ∷ check (at + 44) (overfills s)
+    check (at + 36) (outside 1 MOST_BYTES s.length) ∷ check (at + 40) (outside 13 15 s.seal) ∷ check (at + 44) (overfills s)
     ∷ check (at + 48 + length s.bytes) (not (are_zeros s.padding)) ∷ [] in
     let each = all_pass last (right_none names last none) in
     record {
       name = name_fits at false (map sealed_name earlier) s.name (all_pass names (left_none names last none));
       padding = not_false (are_zeros s.padding) each.1.1.1.0;
     }
-
-abbrev same_sealed : RawSealed → RawSealed
-same_sealed s = record { name = s.name; base = s.base; length = s.length; seal = s.seal; bytes = s.bytes; padding = s.padding }
 
 -- zeros that pad are as many as are wanted
 padded : (bs : List ℕ) (n : ℕ) → length bs ≡ n → are_zeros bs ≡ true → zeros n ≡ bs
@@ -191,7 +171,7 @@ sealed_comes : (s : RawSealed) → SealedOk s → IsSealed s → raw_sealed (sea
 sealed_comes s ok is =
     let name = field_back s.name is.0 ok.name in
     let padding = padded s.padding (padding_after (length s.bytes)) is.5.size ok.padding in
-    let same : raw_sealed (sealed_of s) ≡ same_sealed s = cc in
+    let same : raw_sealed (sealed_of s) ≡ record s { name = s.name } = cc in
     same
 
 sealed_clean : (s : RawSealed) → SealedOk s → IsSealed s → Clean (sealed_of s).name
@@ -204,13 +184,10 @@ thread_ok at seen t none =
     let last = check (at + 36) (outside 256 32768 t.stack_length) ∷ check (at + 48) (nat_lt 15 t.priority) ∷ check (at + 52) (outside 1 96 t.frames) ∷ [] in
     name_fits at false seen t.name (all_pass names (left_none names last none))
 
-abbrev same_thread : RawThread → RawThread
-same_thread t = record { name = t.name; stack = t.stack; stack_length = t.stack_length; compartment = t.compartment; export = t.export; priority = t.priority; frames = t.frames }
-
 thread_comes : (t : RawThread) → NameFits t.name → IsThread t → raw_thread (thread_of t) ≡ t
 thread_comes t ok is =
     let name = field_back t.name is.0 ok in
-    let same : raw_thread (thread_of t) ≡ same_thread t = cc in
+    let same : raw_thread (thread_of t) ≡ record t { name = t.name } = cc in
     same
 
 thread_clean : (t : RawThread) → NameFits t.name → IsThread t → Clean (thread_of t).name
@@ -223,15 +200,12 @@ record CodeOk (c : RawCode) : Type 0 where
   pub slots : AllByRecursion SlotFits c.slots
   pub exports : AllByRecursion GateFits c.exports
 
-abbrev same_code : RawCode → RawCode
-same_code c = record { name = c.name; base = c.base; length = c.length; slots = c.slots; exports = c.exports; text = c.text }
-
 code_comes : (c : RawCode) → CodeOk c → IsCode c → raw_code (code_of c) ≡ c
 code_comes c ok is =
     let name = field_back c.name is.name ok.name in
     let slots = all_back slot_of raw_slot SlotFits IsEntry slot_back c.slots ok.slots is.slots.1 in
     let exports = all_back gate_of raw_gate GateFits IsEntry gate_back c.exports ok.exports is.exports.1 in
-    let same : raw_code (code_of c) ≡ same_code c = cc in
+    let same : raw_code (code_of c) ≡ record c { name = c.name } = cc in
     same
 
 code_spells : (c : RawCode) → CodeOk c → IsCode c → SpellableCode (code_of c)
@@ -252,57 +226,34 @@ record CompartmentOk (c : RawCompartment) : Type 0 where
   pub padding : are_zeros c.padding ≡ true
 
 compartment_ok : (entry at : ℕ) (seen : List (List ℕ)) (c : RawCompartment) → first (compartment_limits_by entry at seen c) ≡ None → CompartmentOk c
-unfolding compartment_limits_by
 compartment_ok entry at seen c none =
     let k = c.code in
-    let names = name_checks at false seen k.name in
-    let codes = code_limits at k in
-    let slots = own_slots_limits (at + COMPARTMENT_HEAD) k in
-    let head =
-    check (at + 52) (outside 16 1048576 c.globals_length) ∷ check (at + 56) (nat_lt 1048576 (length c.initial) || nat_lt c.globals_length (length c.initial))
-    ∷ check (at + 60) (outside 1 148 (length k.slots)) ∷ check (at + 64) (nat_lt 64 (length k.exports)) ∷ [] in
-    let gates = exports_limits compartment_bounds (entry + 2 + length k.slots) (at + COMPARTMENT_HEAD + entries_size k.slots) k in
-    let padding = check (at + COMPARTMENT_HEAD + tables_size k + length c.initial) (not (are_zeros c.padding)) ∷ [] in
-    let e1 = left_none (names ++ codes ++ (head ++ slots) ++ gates) padding none in
-    let e2 = left_none (names ++ codes ++ (head ++ slots)) gates e1 in
-    let e3 = left_none (names ++ codes) (head ++ slots) e2 in
+    let h = compartment_holds entry at seen c none in
     record {
       code = record {
-        name = name_fits at false seen k.name (all_pass names (left_none names codes e3));
-        slots = every own_slot_limits (λ s. ENTRY) SlotFits own_slot (at + COMPARTMENT_HEAD) [] k.slots (right_none head slots (right_none (names ++ codes) (head ++ slots) e2));
+        name = name_fits at false seen k.name (all_pass (name_checks at false seen k.name) h.name);
+        slots = every own_slot_limits (λ s. ENTRY) SlotFits own_slot (at + COMPARTMENT_HEAD) [] k.slots h.slots;
         exports = every (export_limits compartment_bounds (length k.text) (entry + 2 + length k.slots)) (λ x. ENTRY) GateFits
-            (gate_fits compartment_bounds (length k.text) (entry + 2 + length k.slots) narrow_own) (at + COMPARTMENT_HEAD + entries_size k.slots) [] k.exports
-            (right_none (names ++ codes ++ (head ++ slots)) gates e1);
+            (gate_fits compartment_bounds (length k.text) (entry + 2 + length k.slots) narrow_own) (at + COMPARTMENT_HEAD + entries_size k.slots) [] k.exports h.gates;
       };
-      padding = not_false (are_zeros c.padding) (all_pass padding (right_none (names ++ codes ++ (head ++ slots) ++ gates) padding none)).0;
+      padding = not_false (are_zeros c.padding) (all_pass (dirty_padding at c) h.padding).0;
     }
 
 library_ok : (entry at : ℕ) (seen : List (List ℕ)) (c : RawCode) → first (library_limits_by entry at seen c) ≡ None → CodeOk c
-unfolding library_limits_by
 library_ok entry at seen c none =
-    let names = name_checks at false seen c.name in
-    let codes = code_limits at c in
-    let slots = slots_limits (at + LIBRARY_HEAD) c in
-    let head = check (at + 44) (nat_lt 128 (length c.slots)) ∷ check (at + 48) (nat_lt 64 (length c.exports)) ∷ [] in
-    let gates = exports_limits library_bounds (entry + 1 + length c.slots) (at + LIBRARY_HEAD + entries_size c.slots) c in
-    let e2 = left_none (names ++ codes ++ (head ++ slots)) gates none in
-    let e3 = left_none (names ++ codes) (head ++ slots) e2 in
+    let h = library_holds entry at seen c none in
     record {
-      name = name_fits at false seen c.name (all_pass names (left_none names codes e3));
-      slots = every slot_limits (λ s. ENTRY) SlotFits library_slot (at + LIBRARY_HEAD) [] c.slots (right_none head slots (right_none (names ++ codes) (head ++ slots) e2));
+      name = name_fits at false seen c.name (all_pass (name_checks at false seen c.name) h.name);
+      slots = every slot_limits (λ s. ENTRY) SlotFits library_slot (at + LIBRARY_HEAD) [] c.slots h.slots;
       exports = every (export_limits library_bounds (length c.text) (entry + 1 + length c.slots)) (λ x. ENTRY) GateFits
-          (gate_fits library_bounds (length c.text) (entry + 1 + length c.slots) narrow_library) (at + LIBRARY_HEAD + entries_size c.slots) [] c.exports
-          (right_none (names ++ codes ++ (head ++ slots)) gates none);
+          (gate_fits library_bounds (length c.text) (entry + 1 + length c.slots) narrow_library) (at + LIBRARY_HEAD + entries_size c.slots) [] c.exports h.gates;
     }
-
-abbrev same_compartment : RawCompartment → RawCompartment
-same_compartment c = record { code = c.code; table = c.table; globals = c.globals; globals_length = c.globals_length; initial = c.initial; padding = c.padding }
 
 compartment_comes : (c : RawCompartment) → CompartmentOk c → IsCompartment c → raw_compartment (compartment_of c) ≡ c
 compartment_comes c ok is =
     let code = code_comes c.code ok.code is.code in
     let padding = padded c.padding (padding_after (length c.initial)) is.padding.size ok.padding in
-    let same : raw_compartment (compartment_of c) ≡ same_compartment c = cc in
+    let same : raw_compartment (compartment_of c) ≡ record c { padding = c.padding } = cc in
     same
 
 compartment_spells : (c : RawCompartment) → CompartmentOk c → IsCompartment c → SpellableCode (compartment_of c).code
@@ -326,47 +277,17 @@ header_name r none =
     name_fits (52 + rate_size r.version) false [] r.name all
 
 parts_ok : (r : RawImage) → first (limit_checks r) ≡ None → PartsOk r
-unfolding limit_checks
 parts_ok r e =
-    let h = header_limits r in
-    let d = walked device_limits (λ d. DEVICE) (devices_at r) [] r.devices in
-    let s = walked shared_limits (λ s. SHARED) (shared_at r) [] r.shared in
-    let x = walked sealed_limits sealed_size (sealed_at r) [] r.sealed in
-    let c = walked compartment_limits compartment_size (compartments_at r) [] r.compartments in
-    let l = walked (library_limits r) library_size (libraries_at r) [] r.libraries in
-    let t = walked (thread_limits r) (λ t. THREAD) (threads_at r) [] r.threads in
-    let e1 = left_none (h ++ d ++ s ++ x ++ c ++ l) t e in
-    let e2 = left_none (h ++ d ++ s ++ x ++ c) l e1 in
-    let e3 = left_none (h ++ d ++ s ++ x) c e2 in
-    let e4 = left_none (h ++ d ++ s) x e3 in
-    let e5 = left_none (h ++ d) s e4 in
+    let h = limited r e in
     record {
-      name = header_name r (left_none h d e5);
-      devices = every device_limits (λ d. DEVICE) DeviceOk device_fits (devices_at r) [] r.devices (right_none h d e5);
-      shared = every shared_limits (λ s. SHARED) SharedOk shared_fits (shared_at r) [] r.shared (right_none (h ++ d) s e4);
-      sealed = every sealed_limits sealed_size SealedOk sealed_fits (sealed_at r) [] r.sealed (right_none (h ++ d ++ s) x e3);
-      compartments = every compartment_limits compartment_size CompartmentOk (λ at earlier k f. compartment_ok _ at _ k f) (compartments_at r) [] r.compartments (right_none (h ++ d ++ s ++ x) c e2);
-      libraries = every (library_limits r) library_size CodeOk (λ at earlier k f. library_ok _ at _ k f) (libraries_at r) [] r.libraries (right_none (h ++ d ++ s ++ x ++ c) l e1);
-      threads = every (thread_limits r) (λ t. THREAD) (λ (k : RawThread). NameFits k.name) (λ at earlier k f. thread_ok at _ k f) (threads_at r) [] r.threads (right_none (h ++ d ++ s ++ x ++ c ++ l) t e);
+      name = header_name r h.header;
+      devices = every device_limits (λ d. DEVICE) DeviceOk device_fits (devices_at r) [] r.devices h.devices;
+      shared = every shared_limits (λ s. SHARED) SharedOk shared_fits (shared_at r) [] r.shared h.shared;
+      sealed = every sealed_limits sealed_size SealedOk sealed_fits (sealed_at r) [] r.sealed h.sealed;
+      compartments = every compartment_limits compartment_size CompartmentOk (λ at earlier k f. compartment_ok _ at _ k f) (compartments_at r) [] r.compartments h.compartments;
+      libraries = every (library_limits r) library_size CodeOk (λ at earlier k f. library_ok _ at _ k f) (libraries_at r) [] r.libraries h.libraries;
+      threads = every (thread_limits r) (λ t. THREAD) (λ (k : RawThread). NameFits k.name) (λ at earlier k f. thread_ok at _ k f) (threads_at r) [] r.threads h.threads;
     }
-
-abbrev same_image : RawImage → RawImage
-same_image r = record {
-  version = r.version;
-  quantum = r.quantum;
-  ram = r.ram;
-  size = r.size;
-  trusted = r.trusted;
-  heap = r.heap;
-  sweep = r.sweep;
-  name = r.name;
-  devices = r.devices;
-  shared = r.shared;
-  sealed = r.sealed;
-  compartments = r.compartments;
-  libraries = r.libraries;
-  threads = r.threads;
-}
 
 fields_come : (r : RawImage) → IsShaped r → PartsOk r → raw_of (parts_of r) ≡ r
 unfolding raw_of parts_of
@@ -378,7 +299,7 @@ fields_come r is ok =
     let compartments = all_back compartment_of raw_compartment CompartmentOk IsCompartment compartment_comes r.compartments ok.compartments is.compartments.1 in
     let libraries = all_back code_of raw_code CodeOk IsCode code_comes r.libraries ok.libraries is.libraries.1 in
     let threads = all_back thread_of raw_thread (λ (t : RawThread). NameFits t.name) IsThread thread_comes r.threads ok.threads is.threads.1 in
-    let same : raw_of (parts_of r) ≡ same_image r = cc in
+    let same : raw_of (parts_of r) ≡ record r { name = r.name } = cc in
     same
 
 spells : (r : RawImage) → IsShaped r → PartsOk r → IsSpellable (parts_of r)

@@ -97,171 +97,127 @@ fn export_of(row: &[u8; 16]) -> ExportRow
     }
 }
 
-fn slot_of(alloc: Global, entry: &RawEntry) -> Result<Slot, AllocError>
-    ensures { IfOk result (λ s. s ≡ spec.slot_of entry.now) }
-{
-    let name = text_of(alloc, &entry.name)?;
-    let row = import_of(&entry.row);
-    Ok(Slot { row, name })
+/// A part that is made of fields.
+trait Made<F>: Drop {
+    /// What fields stand for.
+    ghost meaning: { F → Self };
+
+    fn of(alloc: Global, fields: &F) -> Result<Self, AllocError>
+        ensures { IfOk result (λ x. x ≡ meaning fields.now) };
 }
 
-fn export_in(alloc: Global, entry: &RawEntry) -> Result<Export, AllocError>
-    ensures { IfOk result (λ x. x ≡ spec.gate_of entry.now) }
+/// The parts of which a list has the fields.
+fn all_of<F, P: Made<F>>(alloc: Global, all: &[F]) -> Result<Vec<P>, AllocError>
+    ensures { IfOk result (λ v. v.items ≡ map P.meaning all.now) }
 {
-    let name = text_of(alloc, &entry.name)?;
-    let row = export_of(&entry.row);
-    Ok(Export { row, name })
-}
-
-fn slots_of(alloc: Global, entries: &[RawEntry]) -> Result<Vec<Slot>, AllocError>
-    ensures { IfOk result (λ v. v.items ≡ map spec.slot_of entries.now) }
-{
-    let mut slots = Vec::new(alloc);
-    for entry in entries {
-        slots.push(slot_of(alloc, entry)?)?;
+    let mut parts = Vec::new(alloc);
+    for fields in all {
+        parts.push(P::of(alloc, fields)?)?;
     }
-    Ok(slots)
+    Ok(parts)
 }
 
-fn exports_of(alloc: Global, entries: &[RawEntry]) -> Result<Vec<Export>, AllocError>
-    ensures { IfOk result (λ v. v.items ≡ map spec.gate_of entries.now) }
-{
-    let mut exports = Vec::new(alloc);
-    for entry in entries {
-        exports.push(export_in(alloc, entry)?)?;
+impl Made<RawEntry> for Slot {
+    ghost meaning = { spec.slot_of };
+
+    fn of(alloc: Global, entry: &RawEntry) -> Result<Slot, AllocError> {
+        let name = text_of(alloc, &entry.name)?;
+        let row = import_of(&entry.row);
+        Ok(Slot { row, name })
     }
-    Ok(exports)
 }
 
-fn device_of(alloc: Global, device: &RawDevice) -> Result<Device, AllocError>
-    ensures { IfOk result (λ d. d ≡ spec.device_of device.now) }
-{
-    Ok(Device {
-        name: text_of(alloc, &device.name)?,
-        kind: device_kind_of(device.kind),
-        base: device.base,
-    })
-}
+impl Made<RawEntry> for Export {
+    ghost meaning = { spec.gate_of };
 
-fn shared_of(alloc: Global, shared: &RawShared) -> Result<Shared, AllocError>
-    ensures { IfOk result (λ s. s ≡ spec.shared_of shared.now) }
-{
-    Ok(Shared {
-        name: text_of(alloc, &shared.name)?,
-        base: shared.base,
-        length: shared.length,
-    })
-}
-
-fn sealed_of(alloc: Global, sealed: &RawSealed) -> Result<Sealed, AllocError>
-    ensures { IfOk result (λ s. s ≡ spec.sealed_of sealed.now) }
-{
-    Ok(Sealed {
-        name: text_of(alloc, &sealed.name)?,
-        base: sealed.base,
-        length: sealed.length,
-        seal: sealed.seal,
-        bytes: Vec::from_slice(alloc, sealed.bytes.as_slice())?,
-    })
-}
-
-fn code_of(alloc: Global, code: &RawCode) -> Result<Code, AllocError>
-    ensures { IfOk result (λ c. c ≡ spec.code_of code.now) }
-{
-    Ok(Code {
-        name: text_of(alloc, &code.name)?,
-        base: code.base,
-        length: code.length,
-        slots: slots_of(alloc, code.slots.as_slice())?,
-        exports: exports_of(alloc, code.exports.as_slice())?,
-        text: Vec::from_slice(alloc, code.text.as_slice())?,
-    })
-}
-
-fn compartment_of(alloc: Global, compartment: &RawCompartment) -> Result<Compartment, AllocError>
-    ensures { IfOk result (λ c. c ≡ spec.compartment_of compartment.now) }
-{
-    Ok(Compartment {
-        code: code_of(alloc, &compartment.code)?,
-        table: compartment.table,
-        globals: compartment.globals,
-        globals_length: compartment.globals_length,
-        initial: Vec::from_slice(alloc, compartment.initial.as_slice())?,
-    })
-}
-
-fn thread_of(alloc: Global, thread: &RawThread) -> Result<Thread, AllocError>
-    ensures { IfOk result (λ t. t ≡ spec.thread_of thread.now) }
-{
-    Ok(Thread {
-        name: text_of(alloc, &thread.name)?,
-        stack: thread.stack,
-        stack_length: thread.stack_length,
-        compartment: thread.compartment,
-        export: thread.export,
-        priority: thread.priority,
-        frames: thread.frames,
-    })
-}
-
-fn devices_of(alloc: Global, all: &[RawDevice]) -> Result<Vec<Device>, AllocError>
-    ensures { IfOk result (λ v. v.items ≡ map spec.device_of all.now) }
-{
-    let mut devices = Vec::new(alloc);
-    for device in all {
-        devices.push(device_of(alloc, device)?)?;
+    fn of(alloc: Global, entry: &RawEntry) -> Result<Export, AllocError> {
+        let name = text_of(alloc, &entry.name)?;
+        let row = export_of(&entry.row);
+        Ok(Export { row, name })
     }
-    Ok(devices)
 }
 
-fn shared_objects_of(alloc: Global, all: &[RawShared]) -> Result<Vec<Shared>, AllocError>
-    ensures { IfOk result (λ v. v.items ≡ map spec.shared_of all.now) }
-{
-    let mut objects = Vec::new(alloc);
-    for shared in all {
-        objects.push(shared_of(alloc, shared)?)?;
+impl Made<RawDevice> for Device {
+    ghost meaning = { spec.device_of };
+
+    fn of(alloc: Global, device: &RawDevice) -> Result<Device, AllocError> {
+        Ok(Device {
+            name: text_of(alloc, &device.name)?,
+            kind: device_kind_of(device.kind),
+            base: device.base,
+        })
     }
-    Ok(objects)
 }
 
-fn sealed_objects_of(alloc: Global, all: &[RawSealed]) -> Result<Vec<Sealed>, AllocError>
-    ensures { IfOk result (λ v. v.items ≡ map spec.sealed_of all.now) }
-{
-    let mut objects = Vec::new(alloc);
-    for sealed in all {
-        objects.push(sealed_of(alloc, sealed)?)?;
+impl Made<RawShared> for Shared {
+    ghost meaning = { spec.shared_of };
+
+    fn of(alloc: Global, shared: &RawShared) -> Result<Shared, AllocError> {
+        Ok(Shared {
+            name: text_of(alloc, &shared.name)?,
+            base: shared.base,
+            length: shared.length,
+        })
     }
-    Ok(objects)
 }
 
-fn compartments_of(alloc: Global, all: &[RawCompartment]) -> Result<Vec<Compartment>, AllocError>
-    ensures { IfOk result (λ v. v.items ≡ map spec.compartment_of all.now) }
-{
-    let mut compartments = Vec::new(alloc);
-    for compartment in all {
-        compartments.push(compartment_of(alloc, compartment)?)?;
+impl Made<RawSealed> for Sealed {
+    ghost meaning = { spec.sealed_of };
+
+    fn of(alloc: Global, sealed: &RawSealed) -> Result<Sealed, AllocError> {
+        Ok(Sealed {
+            name: text_of(alloc, &sealed.name)?,
+            base: sealed.base,
+            length: sealed.length,
+            seal: sealed.seal,
+            bytes: Vec::from_slice(alloc, sealed.bytes.as_slice())?,
+        })
     }
-    Ok(compartments)
 }
 
-fn libraries_of(alloc: Global, all: &[RawCode]) -> Result<Vec<Code>, AllocError>
-    ensures { IfOk result (λ v. v.items ≡ map spec.code_of all.now) }
-{
-    let mut libraries = Vec::new(alloc);
-    for library in all {
-        libraries.push(code_of(alloc, library)?)?;
+impl Made<RawCode> for Code {
+    ghost meaning = { spec.code_of };
+
+    fn of(alloc: Global, code: &RawCode) -> Result<Code, AllocError> {
+        Ok(Code {
+            name: text_of(alloc, &code.name)?,
+            base: code.base,
+            length: code.length,
+            slots: all_of(alloc, code.slots.as_slice())?,
+            exports: all_of(alloc, code.exports.as_slice())?,
+            text: Vec::from_slice(alloc, code.text.as_slice())?,
+        })
     }
-    Ok(libraries)
 }
 
-fn threads_of(alloc: Global, all: &[RawThread]) -> Result<Vec<Thread>, AllocError>
-    ensures { IfOk result (λ v. v.items ≡ map spec.thread_of all.now) }
-{
-    let mut threads = Vec::new(alloc);
-    for thread in all {
-        threads.push(thread_of(alloc, thread)?)?;
+impl Made<RawCompartment> for Compartment {
+    ghost meaning = { spec.compartment_of };
+
+    fn of(alloc: Global, compartment: &RawCompartment) -> Result<Compartment, AllocError> {
+        Ok(Compartment {
+            code: Code::of(alloc, &compartment.code)?,
+            table: compartment.table,
+            globals: compartment.globals,
+            globals_length: compartment.globals_length,
+            initial: Vec::from_slice(alloc, compartment.initial.as_slice())?,
+        })
     }
-    Ok(threads)
+}
+
+impl Made<RawThread> for Thread {
+    ghost meaning = { spec.thread_of };
+
+    fn of(alloc: Global, thread: &RawThread) -> Result<Thread, AllocError> {
+        Ok(Thread {
+            name: text_of(alloc, &thread.name)?,
+            stack: thread.stack,
+            stack_length: thread.stack_length,
+            compartment: thread.compartment,
+            export: thread.export,
+            priority: thread.priority,
+            frames: thread.frames,
+        })
+    }
 }
 
 /// The parts that fields stand for.
@@ -270,12 +226,12 @@ pub fn parts_of(alloc: Global, raw: &RawImage) -> Result<Parts, AllocError>
     ensures { IfOk result (λ p. p ≡ spec.parts_of raw.now) }
 {
     let name = text_of(alloc, &raw.name)?;
-    let devices = devices_of(alloc, raw.devices.as_slice())?;
-    let shared = shared_objects_of(alloc, raw.shared.as_slice())?;
-    let sealed = sealed_objects_of(alloc, raw.sealed.as_slice())?;
-    let compartments = compartments_of(alloc, raw.compartments.as_slice())?;
-    let libraries = libraries_of(alloc, raw.libraries.as_slice())?;
-    let threads = threads_of(alloc, raw.threads.as_slice())?;
+    let devices = all_of(alloc, raw.devices.as_slice())?;
+    let shared = all_of(alloc, raw.shared.as_slice())?;
+    let sealed = all_of(alloc, raw.sealed.as_slice())?;
+    let compartments = all_of(alloc, raw.compartments.as_slice())?;
+    let libraries = all_of(alloc, raw.libraries.as_slice())?;
+    let threads = all_of(alloc, raw.threads.as_slice())?;
     Ok(Parts {
         version: raw.version,
         sweep: raw.sweep,

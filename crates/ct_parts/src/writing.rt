@@ -1,6 +1,6 @@
 //! An image's bytes, part by part. Each function appends the spelling of its part.
 
-ghost use Rattle.std.specs.Prelude.{◌≡◌, ◌++◌, map, OnOk, IfOk};
+ghost use Rattle.std.specs.Prelude.{◌≡◌, ◌++◌, List, ℕ, OnOk, IfOk};
 ghost use Rattle.std.specs.List.{flat_map};
 ghost use Rattle.def_image.specs.Spelling as spec;
 ghost use Rattle.ct_parts.specs.Written as told;
@@ -61,38 +61,41 @@ fn put_entry(out: &mut Vec<u8>, row: &[u8; 16], name: &str) -> Result<(), AllocE
     put_name(out, name)
 }
 
-/// A slot: its row, and its name.
-fn put_slot(out: &mut Vec<u8>, slot: &Slot) -> Result<(), AllocError>
-    ensures { OnOk result (out.new.items ≡ out.old.items ++ told.slot slot.now) }
-{
-    let row = write_import(&slot.row);
-    put_entry(out, &row, slot.name.as_str())
+/// A part that is spelled.
+trait Put {
+    /// What is written of it.
+    ghost told: { Self → List ℕ };
+
+    fn put(&self, out: &mut Vec<u8>) -> Result<(), AllocError>
+        ensures { OnOk result (out.new.items ≡ out.old.items ++ told self.now) };
 }
 
-/// An export: its row, and its name.
-fn put_export(out: &mut Vec<u8>, export: &Export) -> Result<(), AllocError>
-    ensures { OnOk result (out.new.items ≡ out.old.items ++ told.gate export.now) }
+/// The parts of a list.
+fn put_all<T: Put>(out: &mut Vec<u8>, all: &[T]) -> Result<(), AllocError>
+    ensures { OnOk result (out.new.items ≡ out.old.items ++ flat_map T.told all.now) }
 {
-    let row = write_export(&export.row);
-    put_entry(out, &row, export.name.as_str())
-}
-
-fn put_slots(out: &mut Vec<u8>, slots: &[Slot]) -> Result<(), AllocError>
-    ensures { OnOk result (out.new.items ≡ out.old.items ++ flat_map told.slot slots.now) }
-{
-    for slot in slots {
-        put_slot(out, slot)?;
+    for one in all {
+        one.put(out)?;
     }
     Ok(())
 }
 
-fn put_exports(out: &mut Vec<u8>, exports: &[Export]) -> Result<(), AllocError>
-    ensures { OnOk result (out.new.items ≡ out.old.items ++ flat_map told.gate exports.now) }
-{
-    for export in exports {
-        put_export(out, export)?;
+impl Put for Slot {
+    ghost told = { told.slot };
+
+    fn put(&self, out: &mut Vec<u8>) -> Result<(), AllocError> {
+        let row = write_import(&self.row);
+        put_entry(out, &row, self.name.as_str())
     }
-    Ok(())
+}
+
+impl Put for Export {
+    ghost told = { told.gate };
+
+    fn put(&self, out: &mut Vec<u8>) -> Result<(), AllocError> {
+        let row = write_export(&self.row);
+        put_entry(out, &row, self.name.as_str())
+    }
 }
 
 /// The number of a device's kind.
@@ -106,32 +109,38 @@ fn device_number(kind: DeviceKind) -> u32
     }
 }
 
-fn put_device(out: &mut Vec<u8>, device: &Device) -> Result<(), AllocError>
-    ensures { OnOk result (out.new.items ≡ out.old.items ++ told.device device.now) }
-{
-    put_name(out, device.name.as_str())?;
-    put_number(out, device_number(device.kind))?;
-    put_number(out, device.base)
+impl Put for Device {
+    ghost told = { told.device };
+
+    fn put(&self, out: &mut Vec<u8>) -> Result<(), AllocError> {
+        put_name(out, self.name.as_str())?;
+        put_number(out, device_number(self.kind))?;
+        put_number(out, self.base)
+    }
 }
 
-fn put_shared(out: &mut Vec<u8>, shared: &Shared) -> Result<(), AllocError>
-    ensures { OnOk result (out.new.items ≡ out.old.items ++ told.shared shared.now) }
-{
-    put_name(out, shared.name.as_str())?;
-    put_number(out, shared.base)?;
-    put_number(out, shared.length)
+impl Put for Shared {
+    ghost told = { told.shared };
+
+    fn put(&self, out: &mut Vec<u8>) -> Result<(), AllocError> {
+        put_name(out, self.name.as_str())?;
+        put_number(out, self.base)?;
+        put_number(out, self.length)
+    }
 }
 
-fn put_sealed(out: &mut Vec<u8>, sealed: &Sealed) -> Result<(), AllocError>
-    ensures { OnOk result (out.new.items ≡ out.old.items ++ told.sealed sealed.now) }
-{
-    put_name(out, sealed.name.as_str())?;
-    put_number(out, sealed.base)?;
-    put_number(out, sealed.length)?;
-    put_number(out, sealed.seal)?;
-    put_count(out, sealed.bytes.len())?;
-    out.extend_from_slice(sealed.bytes.as_slice())?;
-    put_zeros(out, padding_after(sealed.bytes.len()))
+impl Put for Sealed {
+    ghost told = { told.sealed };
+
+    fn put(&self, out: &mut Vec<u8>) -> Result<(), AllocError> {
+        put_name(out, self.name.as_str())?;
+        put_number(out, self.base)?;
+        put_number(out, self.length)?;
+        put_number(out, self.seal)?;
+        put_count(out, self.bytes.len())?;
+        out.extend_from_slice(self.bytes.as_slice())?;
+        put_zeros(out, padding_after(self.bytes.len()))
+    }
 }
 
 /// The head of a compartment or library.
@@ -150,96 +159,48 @@ fn put_tables(out: &mut Vec<u8>, code: &Code) -> Result<(), AllocError>
 {
     put_count(out, code.slots.len())?;
     put_count(out, code.exports.len())?;
-    put_slots(out, code.slots.as_slice())?;
-    put_exports(out, code.exports.as_slice())?;
+    put_all(out, code.slots.as_slice())?;
+    put_all(out, code.exports.as_slice())?;
     out.extend_from_slice(code.text.as_slice())?;
     Ok(())
 }
 
-fn put_library(out: &mut Vec<u8>, library: &Code) -> Result<(), AllocError>
-    ensures { OnOk result (out.new.items ≡ out.old.items ++ told.library library.now) }
-{
-    put_head(out, library)?;
-    put_tables(out, library)
-}
+impl Put for Code {
+    ghost told = { told.library };
 
-fn put_compartment(out: &mut Vec<u8>, compartment: &Compartment) -> Result<(), AllocError>
-    ensures { OnOk result (out.new.items ≡ out.old.items ++ told.compartment compartment.now) }
-{
-    put_head(out, &compartment.code)?;
-    put_number(out, compartment.table)?;
-    put_number(out, compartment.globals)?;
-    put_number(out, compartment.globals_length)?;
-    put_count(out, compartment.initial.len())?;
-    put_tables(out, &compartment.code)?;
-    out.extend_from_slice(compartment.initial.as_slice())?;
-    put_zeros(out, padding_after(compartment.initial.len()))
-}
-
-fn put_thread(out: &mut Vec<u8>, thread: &Thread) -> Result<(), AllocError>
-    ensures { OnOk result (out.new.items ≡ out.old.items ++ told.thread thread.now) }
-{
-    put_name(out, thread.name.as_str())?;
-    put_number(out, thread.stack)?;
-    put_number(out, thread.stack_length)?;
-    put_number(out, thread.compartment)?;
-    put_number(out, thread.export)?;
-    put_number(out, thread.priority)?;
-    put_number(out, thread.frames)
-}
-
-fn put_devices(out: &mut Vec<u8>, all: &[Device]) -> Result<(), AllocError>
-    ensures { OnOk result (out.new.items ≡ out.old.items ++ flat_map told.device all.now) }
-{
-    for one in all {
-        put_device(out, one)?;
+    fn put(&self, out: &mut Vec<u8>) -> Result<(), AllocError> {
+        put_head(out, self)?;
+        put_tables(out, self)
     }
-    Ok(())
 }
 
-fn put_shared_objects(out: &mut Vec<u8>, all: &[Shared]) -> Result<(), AllocError>
-    ensures { OnOk result (out.new.items ≡ out.old.items ++ flat_map told.shared all.now) }
-{
-    for one in all {
-        put_shared(out, one)?;
+impl Put for Compartment {
+    ghost told = { told.compartment };
+
+    fn put(&self, out: &mut Vec<u8>) -> Result<(), AllocError> {
+        put_head(out, &self.code)?;
+        put_number(out, self.table)?;
+        put_number(out, self.globals)?;
+        put_number(out, self.globals_length)?;
+        put_count(out, self.initial.len())?;
+        put_tables(out, &self.code)?;
+        out.extend_from_slice(self.initial.as_slice())?;
+        put_zeros(out, padding_after(self.initial.len()))
     }
-    Ok(())
 }
 
-fn put_sealed_objects(out: &mut Vec<u8>, all: &[Sealed]) -> Result<(), AllocError>
-    ensures { OnOk result (out.new.items ≡ out.old.items ++ flat_map told.sealed all.now) }
-{
-    for one in all {
-        put_sealed(out, one)?;
-    }
-    Ok(())
-}
+impl Put for Thread {
+    ghost told = { told.thread };
 
-fn put_compartments(out: &mut Vec<u8>, all: &[Compartment]) -> Result<(), AllocError>
-    ensures { OnOk result (out.new.items ≡ out.old.items ++ flat_map told.compartment all.now) }
-{
-    for one in all {
-        put_compartment(out, one)?;
+    fn put(&self, out: &mut Vec<u8>) -> Result<(), AllocError> {
+        put_name(out, self.name.as_str())?;
+        put_number(out, self.stack)?;
+        put_number(out, self.stack_length)?;
+        put_number(out, self.compartment)?;
+        put_number(out, self.export)?;
+        put_number(out, self.priority)?;
+        put_number(out, self.frames)
     }
-    Ok(())
-}
-
-fn put_libraries(out: &mut Vec<u8>, all: &[Code]) -> Result<(), AllocError>
-    ensures { OnOk result (out.new.items ≡ out.old.items ++ flat_map told.library all.now) }
-{
-    for one in all {
-        put_library(out, one)?;
-    }
-    Ok(())
-}
-
-fn put_threads(out: &mut Vec<u8>, all: &[Thread]) -> Result<(), AllocError>
-    ensures { OnOk result (out.new.items ≡ out.old.items ++ flat_map told.thread all.now) }
-{
-    for one in all {
-        put_thread(out, one)?;
-    }
-    Ok(())
 }
 
 /// The magic and the version.
@@ -288,16 +249,15 @@ fn put_rate(out: &mut Vec<u8>, version: u32, sweep: u32) -> Result<(), AllocErro
 fn put_lists(out: &mut Vec<u8>, parts: &Parts) -> Result<(), AllocError>
     ensures { OnOk result (out.new.items ≡ out.old.items ++ told.lists parts.now) }
 {
-    put_devices(out, parts.devices.as_slice())?;
-    put_shared_objects(out, parts.shared.as_slice())?;
-    put_sealed_objects(out, parts.sealed.as_slice())?;
-    put_compartments(out, parts.compartments.as_slice())?;
-    put_libraries(out, parts.libraries.as_slice())?;
-    put_threads(out, parts.threads.as_slice())
+    put_all(out, parts.devices.as_slice())?;
+    put_all(out, parts.shared.as_slice())?;
+    put_all(out, parts.sealed.as_slice())?;
+    put_all(out, parts.compartments.as_slice())?;
+    put_all(out, parts.libraries.as_slice())?;
+    put_all(out, parts.threads.as_slice())
 }
 
 /// The spelling of parts.
-
 pub fn written(alloc: Global, parts: &Parts) -> Result<Vec<u8>, AllocError>
     ensures { IfOk result (λ v. v.items ≡ spec.image_bytes parts.now) }
 {

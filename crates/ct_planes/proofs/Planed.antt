@@ -12,7 +12,8 @@ use Rattle.def_memory.specs.Granules.{nothing, granule_at, blank}
 use Rattle.def_memory.specs.Ranges.{IsRange, IsZeroed, IsMarked, IsNextTagged, Inside, is_tagged}
 use Rattle.ct_planes.specs.Bits.{Clear, IsNextSet}
 use Rattle.ct_planes.specs.Fills.{filled}
-use Rattle.ct_planes.specs.View.{granules_of, Fit, no_shadow}
+use Rattle.def_words.specs.Capability.{nowhere}
+use Rattle.ct_planes.specs.View.{granules_of, Fit}
 use Rattle.ct_planes.proofs.Fillings.{length_filled, filled_inside, filled_rest}
 
 abbrev pub granule : ℕ → Bool → Shadow → Bool → Granule
@@ -28,7 +29,7 @@ length_granules (w ∷ ws) [] ss ms a b c = absurd (omega (arith, a))
 length_granules (w ∷ ws) (t ∷ ts) [] ms a b c = absurd (omega (arith, b))
 length_granules (w ∷ ws) (t ∷ ts) (s ∷ ss) [] a b c = absurd (omega (arith, c))
 
-granule_from : (ws : List ℕ) (ts : List Bool) (ss : List Shadow) (ms : List Bool) (k : ℕ) → length ts ≡ length ws → length ss ≡ length ws → length ms ≡ length ws → granule_at (granules_of ws ts ss ms) k ≡ granule (get_or ws k 0) (get_or ts k false) (get_or ss k no_shadow) (get_or ms k false)
+granule_from : (ws : List ℕ) (ts : List Bool) (ss : List Shadow) (ms : List Bool) (k : ℕ) → length ts ≡ length ws → length ss ≡ length ws → length ms ≡ length ws → granule_at (granules_of ws ts ss ms) k ≡ granule (get_or ws k 0) (get_or ts k false) (get_or ss k nowhere) (get_or ms k false)
 granule_from [] [] [] [] k a b c = refl
 granule_from (w ∷ ws) (t ∷ ts) (s ∷ ss) (m ∷ ms) zero a b c = refl
 granule_from (w ∷ ws) (t ∷ ts) (s ∷ ss) (m ∷ ms) (suc k) a b c = granule_from ws ts ss ms k (omega (arith, a)) (omega (arith, b)) (omega (arith, c))
@@ -70,7 +71,7 @@ marks_from (w ∷ ws) [] ss ms a b c = absurd (omega (arith, a))
 marks_from (w ∷ ws) (t ∷ ts) [] ms a b c = absurd (omega (arith, b))
 marks_from (w ∷ ws) (t ∷ ts) (s ∷ ss) [] a b c = absurd (omega (arith, c))
 
-pub new_granules : (n : ℕ) → granules_of (replicate n 0) (replicate n false) (replicate n no_shadow) (replicate n false) ≡ replicate n nothing
+pub new_granules : (n : ℕ) → granules_of (replicate n 0) (replicate n false) (replicate n nowhere) (replicate n false) ≡ replicate n nothing
 new_granules zero = refl
 new_granules (suc n) = ap (λ l. nothing ∷ l) (new_granules n)
 
@@ -78,7 +79,7 @@ new_granules (suc n) = ap (λ l. nothing ∷ l) (new_granules n)
 pub count_of : (ws : List ℕ) (ts : List Bool) (ss : List Shadow) (ms : List Bool) → Fit ws ts ss ms → length (granules_of ws ts ss ms) ≡ length ws
 count_of ws ts ss ms f = length_granules ws ts ss ms f.tags f.shadows f.marks
 
-pub granule_of : (ws : List ℕ) (ts : List Bool) (ss : List Shadow) (ms : List Bool) (k : ℕ) → Fit ws ts ss ms → granule_at (granules_of ws ts ss ms) k ≡ granule (get_or ws k 0) (get_or ts k false) (get_or ss k no_shadow) (get_or ms k false)
+pub granule_of : (ws : List ℕ) (ts : List Bool) (ss : List Shadow) (ms : List Bool) (k : ℕ) → Fit ws ts ss ms → granule_at (granules_of ws ts ss ms) k ≡ granule (get_or ws k 0) (get_or ts k false) (get_or ss k nowhere) (get_or ms k false)
 granule_of ws ts ss ms k f = granule_from ws ts ss ms k f.tags f.shadows f.marks
 
 pub set_of : (ws : List ℕ) (ts : List Bool) (ss : List Shadow) (ms : List Bool) (i w : ℕ) (t : Bool) (s : Shadow) → Fit ws ts ss ms → granules_of (set ws i w) (set ts i t) (set ss i s) ms ≡ set (granules_of ws ts ss ms) i (granule w t s (get_or ms i false))
@@ -99,10 +100,10 @@ fit_set ws ts ss ms i w t s f = record {
   small = omega (arith, f.small, length-set ws i w);
 }
 
-pub fit_zeroed : (ws : List ℕ) (ts : List Bool) (ss : List Shadow) (ms : List Bool) (from to : ℕ) → Fit ws ts ss ms → Fit (filled from to 0 ws) (filled from to false ts) (filled from to no_shadow ss) ms
+pub fit_zeroed : (ws : List ℕ) (ts : List Bool) (ss : List Shadow) (ms : List Bool) (from to : ℕ) → Fit ws ts ss ms → Fit (filled from to 0 ws) (filled from to false ts) (filled from to nowhere ss) ms
 fit_zeroed ws ts ss ms from to f = record {
   tags = length_filled from to false ts ∙ f.tags ∙ sym (length_filled {A = ℕ} from to 0 ws);
-  shadows = length_filled from to no_shadow ss ∙ f.shadows ∙ sym (length_filled {A = ℕ} from to 0 ws);
+  shadows = length_filled from to nowhere ss ∙ f.shadows ∙ sym (length_filled {A = ℕ} from to 0 ws);
   marks = f.marks ∙ sym (length_filled {A = ℕ} from to 0 ws);
   small = omega (arith, f.small, length_filled {A = ℕ} from to 0 ws);
 }
@@ -111,24 +112,24 @@ pub fit_marked : (ws : List ℕ) (ts : List Bool) (ss : List Shadow) (ms : List 
 fit_marked ws ts ss ms from to on f = record { tags = f.tags; shadows = f.shadows; marks = length_filled from to on ms ∙ f.marks; small = f.small }
 
 -- a range of granules, by their numbers
-pub zeroed_is : (ws : List ℕ) (ts : List Bool) (ss : List Shadow) (ms : List Bool) (from to : ℕ) → Fit ws ts ss ms → IsRange (8 * length ws) from to → IsZeroed from to (granules_of ws ts ss ms) (granules_of (filled (from / 8) (to / 8) 0 ws) (filled (from / 8) (to / 8) false ts) (filled (from / 8) (to / 8) no_shadow ss) ms)
+pub zeroed_is : (ws : List ℕ) (ts : List Bool) (ss : List Shadow) (ms : List Bool) (from to : ℕ) → Fit ws ts ss ms → IsRange (8 * length ws) from to → IsZeroed from to (granules_of ws ts ss ms) (granules_of (filled (from / 8) (to / 8) 0 ws) (filled (from / 8) (to / 8) false ts) (filled (from / 8) (to / 8) nowhere ss) ms)
 zeroed_is ws ts ss ms from to f r =
     let a = from / 8 in
     let b = to / 8 in
     let new = fit_zeroed ws ts ss ms a b f in
     record {
-      size = count_of (filled a b 0 ws) (filled a b false ts) (filled a b no_shadow ss) ms new ∙ length_filled {A = ℕ} a b 0 ws ∙ sym (count_of ws ts ss ms f);
+      size = count_of (filled a b 0 ws) (filled a b false ts) (filled a b nowhere ss) ms new ∙ length_filled {A = ℕ} a b 0 ws ∙ sym (count_of ws ts ss ms f);
       zero = λ k within.
           let le : a ≤ k = omega (arith, within.0) in
           let lt : k < b = omega (arith, within.1, r.finish) in
           let few : k < length ws = omega (arith, within.1, r.inside) in
-          granule_of (filled a b 0 ws) (filled a b false ts) (filled a b no_shadow ss) ms k new
-          ∙ (λ i. granule (filled_inside {A = ℕ} a b 0 ws k 0 le lt few i) (filled_inside a b false ts k false le lt (omega (arith, few, f.tags)) i) (filled_inside a b no_shadow ss k no_shadow le lt (omega (arith, few, f.shadows)) i) (get_or ms k false))
+          granule_of (filled a b 0 ws) (filled a b false ts) (filled a b nowhere ss) ms k new
+          ∙ (λ i. granule (filled_inside {A = ℕ} a b 0 ws k 0 le lt few i) (filled_inside a b false ts k false le lt (omega (arith, few, f.tags)) i) (filled_inside a b nowhere ss k nowhere le lt (omega (arith, few, f.shadows)) i) (get_or ms k false))
           ∙ ap blank (sym (granule_of ws ts ss ms k f));
       rest = λ k out.
           let away : (k < a) ⊎ (b ≤ k) = elim out [ inl q ↦ inl (omega (arith, q, r.start)) | inr q ↦ inr (omega (arith, q)) ] in
-          granule_of (filled a b 0 ws) (filled a b false ts) (filled a b no_shadow ss) ms k new
-          ∙ (λ i. granule (filled_rest {A = ℕ} a b 0 ws k 0 away i) (filled_rest a b false ts k false away i) (filled_rest a b no_shadow ss k no_shadow away i) (get_or ms k false))
+          granule_of (filled a b 0 ws) (filled a b false ts) (filled a b nowhere ss) ms k new
+          ∙ (λ i. granule (filled_rest {A = ℕ} a b 0 ws k 0 away i) (filled_rest a b false ts k false away i) (filled_rest a b nowhere ss k nowhere away i) (get_or ms k false))
           ∙ sym (granule_of ws ts ss ms k f);
     }
 
@@ -141,12 +142,12 @@ marked_is ws ts ss ms from to on f r =
       size = count_of ws ts ss (filled a b on ms) new ∙ sym (count_of ws ts ss ms f);
       marks = λ k few within.
           granule_of ws ts ss (filled a b on ms) k new
-          ∙ ap (λ m. granule (get_or ws k 0) (get_or ts k false) (get_or ss k no_shadow) m) (filled_inside a b on ms k false (omega (arith, within.0)) (omega (arith, within.1, r.finish)) (omega (arith, within.1, r.inside, f.marks)))
+          ∙ ap (λ m. granule (get_or ws k 0) (get_or ts k false) (get_or ss k nowhere) m) (filled_inside a b on ms k false (omega (arith, within.0)) (omega (arith, within.1, r.finish)) (omega (arith, within.1, r.inside, f.marks)))
           ∙ ap {A = Granule} (λ g. record g { mark = on }) (sym (granule_of ws ts ss ms k f));
       rest = λ k out.
           let away : (k < a) ⊎ (b ≤ k) = elim out [ inl q ↦ inl (omega (arith, q, r.start)) | inr q ↦ inr (omega (arith, q)) ] in
           granule_of ws ts ss (filled a b on ms) k new
-          ∙ ap (λ m. granule (get_or ws k 0) (get_or ts k false) (get_or ss k no_shadow) m) (filled_rest a b on ms k false away)
+          ∙ ap (λ m. granule (get_or ws k 0) (get_or ts k false) (get_or ss k nowhere) m) (filled_rest a b on ms k false away)
           ∙ sym (granule_of ws ts ss ms k f);
     }
 
@@ -166,11 +167,19 @@ next_tagged_is ws ts ss ms from i f next = record {
   least = λ k le lt. tag_of ws ts ss ms k f ∙ next.least k (omega (arith, le)) (omega (arith, lt));
 }
 
--- of a list of granules that planes are seen as
-pub seen_count : (ws : List ℕ) (ts : List Bool) (ss : List Shadow) (ms : List Bool) (gs : List Granule) → Fit ws ts ss ms → granules_of ws ts ss ms ≡ gs → length ws ≡ length gs
-seen_count ws ts ss ms gs f v = sym (count_of ws ts ss ms f) ∙ ap length v
+-- each plane is as long as the list of granules that they are seen as
+pub record Sizes (ws : List ℕ) (ts : List Bool) (ss : List Shadow) (ms : List Bool) (gs : List Granule) : Type 0 where
+  pub words : length ws ≡ length gs
+  pub tags : length ts ≡ length gs
+  pub shadows : length ss ≡ length gs
+  pub marks : length ms ≡ length gs
 
-pub seen_granule : (ws : List ℕ) (ts : List Bool) (ss : List Shadow) (ms : List Bool) (gs : List Granule) (k : ℕ) → Fit ws ts ss ms → granules_of ws ts ss ms ≡ gs → granule_at gs k ≡ granule (get_or ws k 0) (get_or ts k false) (get_or ss k no_shadow) (get_or ms k false)
+pub seen_sizes : (ws : List ℕ) (ts : List Bool) (ss : List Shadow) (ms : List Bool) (gs : List Granule) → Fit ws ts ss ms → granules_of ws ts ss ms ≡ gs → Sizes ws ts ss ms gs
+seen_sizes ws ts ss ms gs f v =
+    let count : length ws ≡ length gs = sym (count_of ws ts ss ms f) ∙ ap length v in
+    record { words = count; tags = f.tags ∙ count; shadows = f.shadows ∙ count; marks = f.marks ∙ count }
+
+pub seen_granule : (ws : List ℕ) (ts : List Bool) (ss : List Shadow) (ms : List Bool) (gs : List Granule) (k : ℕ) → Fit ws ts ss ms → granules_of ws ts ss ms ≡ gs → granule_at gs k ≡ granule (get_or ws k 0) (get_or ts k false) (get_or ss k nowhere) (get_or ms k false)
 seen_granule ws ts ss ms gs k f v = ap (λ l. granule_at l k) (sym v) ∙ granule_of ws ts ss ms k f
 
 -- the bytes of planes are those of their granules

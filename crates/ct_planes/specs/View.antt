@@ -14,7 +14,3 @@ pub record Fit (ws : List ℕ) (ts : List Bool) (ss : List Shadow) (ms : List Bo
   pub shadows : length ss ≡ length ws
   pub marks : length ms ≡ length ws
   pub small : length ws < 2 ^ 29
-
--- the shadow of plain bytes
-abbrev pub no_shadow : Shadow
-no_shadow = record { root = 0; source = 0 }

@@ -2,7 +2,7 @@
 
 ghost use Rattle.std.specs.Prelude.{◌≡◌, ◌<◌, ◌≤◌, length, replicate, slice_set, slice_index_or, IfOk};
 ghost use Rattle.ct_planes.specs.Fills.{filled};
-ghost use Rattle.ct_planes.specs.View.{no_shadow};
+ghost use Rattle.def_words.specs.Capability.{nowhere};
 
 use def_refusals::NoMemory;
 use def_words::Shadow;
@@ -31,7 +31,7 @@ impl Model for Shadows {
 fn clear_in(rows: &mut [Shadow], from: usize, to: usize)
     requires order { from ≤ to }
     requires inside { to ≤ length rows.old }
-    ensures { rows.new ≡ filled from to no_shadow rows.old }
+    ensures { rows.new ≡ filled from to nowhere rows.old }
 {
     rows[from..to].fill(NONE);
 }
@@ -39,7 +39,7 @@ fn clear_in(rows: &mut [Shadow], from: usize, to: usize)
 impl Shadows {
     /// So many shadows, each of plain bytes.
     pub(crate) fn new(alloc: Global, count: usize) -> Result<Shadows, NoMemory>
-        ensures { IfOk result (λ shadows. shadows ≡ replicate count no_shadow) }
+        ensures { IfOk result (λ shadows. shadows ≡ replicate count nowhere) }
     {
         let rows = vec![in alloc; NONE; count]?;
         Ok(Shadows { rows })
@@ -48,7 +48,7 @@ impl Shadows {
     /// The shadow of a granule.
     pub(crate) fn get(&self, i: usize) -> Shadow
         requires { i < length self.now }
-        ensures { result ≡ slice_index_or self.now i no_shadow }
+        ensures { result ≡ slice_index_or self.now i nowhere }
     {
         self.rows[i]
     }
@@ -64,7 +64,7 @@ impl Shadows {
     /// Takes the shadow from a granule.
     pub(crate) fn clear(&mut self, i: usize)
         requires { i < length self.old }
-        ensures { self.new ≡ slice_set self.old i no_shadow }
+        ensures { self.new ≡ slice_set self.old i nowhere }
     {
         self.rows[i] = NONE;
     }
@@ -73,7 +73,7 @@ impl Shadows {
     pub(crate) fn zero(&mut self, from: usize, to: usize)
         requires order { from ≤ to }
         requires inside { to ≤ length self.old }
-        ensures { self.new ≡ filled from to no_shadow self.old }
+        ensures { self.new ≡ filled from to nowhere self.old }
     {
         clear_in(&mut self.rows, from, to);
     }

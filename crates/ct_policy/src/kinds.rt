@@ -1,6 +1,7 @@
 //! Owners and kinds of entries.
 
 ghost use Rattle.std.specs.Prelude.{◌≡◌};
+ghost use Rattle.ct_entry.specs.Kinds as kinds;
 ghost use Rattle.def_policy.specs.Breaking as spec;
 
 use ct_entry::{Kind, Owner};
@@ -14,7 +15,7 @@ pub(crate) fn is_listed(owners: &[Owner], owner: Owner) -> bool
 }
 
 pub(crate) fn is_device(kind: Kind) -> bool
-    ensures { result ≡ spec.is_device kind }
+    ensures { result ≡ kinds.is_device kind }
 {
     match kind {
         Kind::Device => true,
@@ -23,7 +24,7 @@ pub(crate) fn is_device(kind: Kind) -> bool
 }
 
 pub(crate) fn is_shared(kind: Kind) -> bool
-    ensures { result ≡ spec.is_shared kind }
+    ensures { result ≡ kinds.is_shared kind }
 {
     match kind {
         Kind::Shared => true,
@@ -32,7 +33,7 @@ pub(crate) fn is_shared(kind: Kind) -> bool
 }
 
 pub(crate) fn is_service(kind: Kind) -> bool
-    ensures { result ≡ spec.is_service kind }
+    ensures { result ≡ kinds.is_service kind }
 {
     match kind {
         Kind::Service => true,
@@ -41,7 +42,7 @@ pub(crate) fn is_service(kind: Kind) -> bool
 }
 
 pub(crate) fn is_call(kind: Kind) -> bool
-    ensures { result ≡ spec.is_call kind }
+    ensures { result ≡ kinds.is_call kind }
 {
     match kind {
         Kind::Call => true,
@@ -50,7 +51,7 @@ pub(crate) fn is_call(kind: Kind) -> bool
 }
 
 pub(crate) fn is_quota(kind: Kind) -> bool
-    ensures { result ≡ spec.is_quota kind }
+    ensures { result ≡ kinds.is_quota kind }
 {
     match kind {
         Kind::Quota => true,
@@ -59,7 +60,7 @@ pub(crate) fn is_quota(kind: Kind) -> bool
 }
 
 pub(crate) fn is_export(kind: Kind) -> bool
-    ensures { result ≡ spec.is_export kind }
+    ensures { result ≡ kinds.is_export kind }
 {
     match kind {
         Kind::Export => true,

@@ -213,11 +213,8 @@ code_takes h slots exports bytes x fits e =
     made (Follows h slots exports) tables_spelled (record { name = h.name; base = h.base; length = h.length; slots = a.found.0; exports = b.found.0; text = c.found.0 }) bytes c.found.1 x c.whole
     (record { name = refl; base = refl; size = refl; slots = a.holds; exports = b.holds; text = c.holds }) c.fits c.goes
 
-abbrev same_code : RawCode → RawCode
-same_code c = record { name = c.name; base = c.base; length = c.length; slots = c.slots; exports = c.exports; text = c.text }
-
 abbrev headed : CodeHead → RawCode → RawCode
-headed h c = record { name = h.name; base = h.base; length = h.length; slots = c.slots; exports = c.exports; text = c.text }
+headed h c = record c { name = h.name; base = h.base; length = h.length }
 
 code_again : (h : CodeHead) (slots exports : ℕ) (c : RawCode) (rest : List ℕ) → Follows h slots exports c → code_at h slots exports (tables_spelled c ++ rest) ≡ Some (c, rest)
 unfolding code_at
@@ -228,7 +225,7 @@ code_again h slots exports c rest f =
     let name = f.name in
     let base = f.base in
     let size = f.size in
-    let same : headed h c ≡ same_code c = cc in
+    let same : headed h c ≡ record c { name = c.name } = cc in
     ap (code_at h slots exports) regrouped ∙ on (many_exact entry_exact slots) c.slots r1 _ f.slots ∙ on (many_exact entry_exact exports) c.exports r2 _ f.exports
     ∙ on (field_exact h.text) c.text rest _ f.text ∙ ap (λ (y : RawCode). Some (y, rest)) same
 
@@ -326,9 +323,6 @@ told_alike h k g o n x m y c e f i j =
     ap (λ (z : CodeHead). compartment_parts z g n m c) e ∙ ap (λ (z : GlobalsHead). compartment_parts k z n m c) f
     ∙ ap (λ (z : ℕ). compartment_parts k o z m c) i ∙ ap (λ (z : ℕ). compartment_parts k o x z c) j
 
-abbrev same_head : CodeHead → CodeHead
-same_head h = record { name = h.name; base = h.base; length = h.length; text = h.text }
-
 -- the head is that of its code
 head_told : (h : CodeHead) (n m : ℕ) (c : RawCode) → Follows h n m c → h ≡ head_of c
 head_told h n m c f =
@@ -336,17 +330,14 @@ head_told h n m c f =
     let base = f.base in
     let size = f.size in
     let text = f.text.size in
-    let same : same_head h ≡ head_of c = cc in
+    let same : record h { name = h.name } ≡ head_of c = cc in
     same
 
 abbrev owned : GlobalsHead → List ℕ → GlobalsHead
-owned g initial = record { table = g.table; globals = g.globals; length = g.length; initial = length initial }
-
-abbrev same_own : GlobalsHead → GlobalsHead
-same_own g = record { table = g.table; globals = g.globals; length = g.length; initial = g.initial }
+owned g initial = record g { initial = length initial }
 
 own_told : (g : GlobalsHead) (initial : List ℕ) → length initial ≡ g.initial → g ≡ owned g initial
-own_told g initial e = let same : same_own g ≡ owned g initial = cc in same
+own_told g initial e = ap (λ (n : ℕ). record g { initial = n }) (sym e)
 
 compartment_takes : (bytes : List ℕ) (x : RawCompartment × List ℕ) → IsBytes bytes → compartment_at bytes ≡ Some x → Took IsCompartment compartment_spelled bytes x
 unfolding compartment_at

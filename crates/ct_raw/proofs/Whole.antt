@@ -188,26 +188,8 @@ lists_takes version n sweep name k bytes x fits e =
       threads = g.holds;
     }) g.fits g.goes
 
-abbrev same_image : RawImage → RawImage
-same_image r = record {
-  version = r.version;
-  quantum = r.quantum;
-  ram = r.ram;
-  size = r.size;
-  trusted = r.trusted;
-  heap = r.heap;
-  sweep = r.sweep;
-  name = r.name;
-  devices = r.devices;
-  shared = r.shared;
-  sealed = r.sealed;
-  compartments = r.compartments;
-  libraries = r.libraries;
-  threads = r.threads;
-}
-
 abbrev headed : ℕ → Bases → ℕ → List ℕ → RawImage → RawImage
-headed version n sweep name r = record {
+headed version n sweep name r = record r {
   version = version;
   quantum = n.quantum;
   ram = n.ram;
@@ -216,12 +198,6 @@ headed version n sweep name r = record {
   heap = n.heap;
   sweep = sweep;
   name = name;
-  devices = r.devices;
-  shared = r.shared;
-  sealed = r.sealed;
-  compartments = r.compartments;
-  libraries = r.libraries;
-  threads = r.threads;
 }
 
 lists_again : (version : ℕ) (n : Bases) (sweep : ℕ) (name : List ℕ) (k : Counts) (r : RawImage) (rest : List ℕ) → Carries version n sweep name k r
@@ -242,7 +218,7 @@ lists_again version n sweep name k r rest c =
     let f5 = c.heap in
     let f6 = c.sweep in
     let f7 = c.name in
-    let same : headed version n sweep name r ≡ same_image r = cc in
+    let same : headed version n sweep name r ≡ record r { name = r.name } = cc in
     ap (lists_at version n sweep name k) regrouped ∙ on (many_exact device_exact k.devices) r.devices r1 _ c.devices ∙ on (many_exact shared_exact k.shared) r.shared r2 _ c.shared
     ∙ on (many_exact sealed_exact k.sealed) r.sealed r3 _ c.sealed ∙ on (many_exact compartment_exact k.compartments) r.compartments r4 _ c.compartments
     ∙ on (many_exact library_exact k.libraries) r.libraries r5 _ c.libraries ∙ on (many_exact thread_exact k.threads) r.threads rest _ c.threads

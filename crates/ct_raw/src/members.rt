@@ -9,30 +9,44 @@ use crate::fault::Cut;
 use crate::fields::{RawCode, RawCompartment, RawDevice, RawSealed, RawShared, RawThread};
 use crate::heads::CodeHead;
 use crate::heads_at::{code_head_at, globals_head_at};
-use crate::lists::entries_at;
-use crate::numbers::{bytes_at, name_at, number_at};
+use crate::lists::{Member, many_at};
+use crate::numbers::{bytes_at, name_at, number_at, row_at};
+use def_image::RawEntry;
 use std::alloc::Global;
 
-/// A device.
-#[tactic(auto, unfolding(crate::specs::Reading::device_at))]
-pub fn device_at(bytes: &[u8]) -> Result<(RawDevice, &[u8]), Cut>
-    ensures { Gives (λ x. (x.0, x.1.now)) result (spec.device_at bytes.now) }
-{
-    let (name, rest) = name_at(bytes)?;
-    let (kind, rest) = number_at(rest)?;
-    let (base, rest) = number_at(rest)?;
-    Ok((RawDevice { name, kind, base }, rest))
+impl Member for RawEntry {
+    ghost reads = { spec.entry_at };
+
+    #[tactic(auto, unfolding(crate::specs::Reading::entry_at))]
+    fn at(_alloc: Global, bytes: &[u8]) -> Result<(RawEntry, &[u8]), Cut> {
+        let (row, rest) = row_at(bytes)?;
+        let (name, rest) = name_at(rest)?;
+        Ok((RawEntry { row, name }, rest))
+    }
 }
 
-/// A shared object.
-#[tactic(auto, unfolding(crate::specs::Reading::shared_at))]
-pub fn shared_at(bytes: &[u8]) -> Result<(RawShared, &[u8]), Cut>
-    ensures { Gives (λ x. (x.0, x.1.now)) result (spec.shared_at bytes.now) }
-{
-    let (name, rest) = name_at(bytes)?;
-    let (base, rest) = number_at(rest)?;
-    let (length, rest) = number_at(rest)?;
-    Ok((RawShared { name, base, length }, rest))
+impl Member for RawDevice {
+    ghost reads = { spec.device_at };
+
+    #[tactic(auto, unfolding(crate::specs::Reading::device_at))]
+    fn at(_alloc: Global, bytes: &[u8]) -> Result<(RawDevice, &[u8]), Cut> {
+        let (name, rest) = name_at(bytes)?;
+        let (kind, rest) = number_at(rest)?;
+        let (base, rest) = number_at(rest)?;
+        Ok((RawDevice { name, kind, base }, rest))
+    }
+}
+
+impl Member for RawShared {
+    ghost reads = { spec.shared_at };
+
+    #[tactic(auto, unfolding(crate::specs::Reading::shared_at))]
+    fn at(_alloc: Global, bytes: &[u8]) -> Result<(RawShared, &[u8]), Cut> {
+        let (name, rest) = name_at(bytes)?;
+        let (base, rest) = number_at(rest)?;
+        let (length, rest) = number_at(rest)?;
+        Ok((RawShared { name, base, length }, rest))
+    }
 }
 
 /// How many zeros lead from this length to a multiple of 4.
@@ -43,27 +57,28 @@ fn padding_after(length: u32) -> u32
     (4 - length % 4) % 4
 }
 
-/// A sealed object.
-#[tactic(auto, unfolding(crate::specs::Reading::sealed_at))]
-pub fn sealed_at(alloc: Global, bytes: &[u8]) -> Result<(RawSealed, &[u8]), Cut>
-    ensures { Gives (λ x. (x.0, x.1.now)) result (spec.sealed_at bytes.now) }
-{
-    let (name, rest) = name_at(bytes)?;
-    let (base, rest) = number_at(rest)?;
-    let (length, rest) = number_at(rest)?;
-    let (seal, rest) = number_at(rest)?;
-    let (count, rest) = number_at(rest)?;
-    let (held, rest) = bytes_at(alloc, count, rest)?;
-    let (padding, rest) = bytes_at(alloc, padding_after(count), rest)?;
-    let sealed = RawSealed {
-        name,
-        base,
-        length,
-        seal,
-        bytes: held,
-        padding,
-    };
-    Ok((sealed, rest))
+impl Member for RawSealed {
+    ghost reads = { spec.sealed_at };
+
+    #[tactic(auto, unfolding(crate::specs::Reading::sealed_at))]
+    fn at(alloc: Global, bytes: &[u8]) -> Result<(RawSealed, &[u8]), Cut> {
+        let (name, rest) = name_at(bytes)?;
+        let (base, rest) = number_at(rest)?;
+        let (length, rest) = number_at(rest)?;
+        let (seal, rest) = number_at(rest)?;
+        let (count, rest) = number_at(rest)?;
+        let (held, rest) = bytes_at(alloc, count, rest)?;
+        let (padding, rest) = bytes_at(alloc, padding_after(count), rest)?;
+        let sealed = RawSealed {
+            name,
+            base,
+            length,
+            seal,
+            bytes: held,
+            padding,
+        };
+        Ok((sealed, rest))
+    }
 }
 
 /// Slots, exports and text of a compartment or library, after their counts.
@@ -77,8 +92,8 @@ fn code_at(
 ) -> Result<(RawCode, &[u8]), Cut>
     ensures { Gives (λ x. (x.0, x.1.now)) result (spec.code_at head slots exports bytes.now) }
 {
-    let (slots, rest) = entries_at(alloc, slots, bytes)?;
-    let (exports, rest) = entries_at(alloc, exports, rest)?;
+    let (slots, rest) = many_at::<RawEntry>(alloc, slots, bytes)?;
+    let (exports, rest) = many_at::<RawEntry>(alloc, exports, rest)?;
     let (text, rest) = bytes_at(alloc, head.text, rest)?;
     let name = head.name;
     let code = RawCode {
@@ -92,60 +107,63 @@ fn code_at(
     Ok((code, rest))
 }
 
-/// A compartment.
-#[tactic(auto, unfolding(crate::specs::Reading::compartment_at))]
-pub fn compartment_at(alloc: Global, bytes: &[u8]) -> Result<(RawCompartment, &[u8]), Cut>
-    ensures { Gives (λ x. (x.0, x.1.now)) result (spec.compartment_at bytes.now) }
-{
-    let (head, rest) = code_head_at(bytes)?;
-    let (own, rest) = globals_head_at(rest)?;
-    let (slots, rest) = number_at(rest)?;
-    let (exports, rest) = number_at(rest)?;
-    let (code, rest) = code_at(alloc, head, slots, exports, rest)?;
-    let (initial, rest) = bytes_at(alloc, own.initial, rest)?;
-    let (padding, rest) = bytes_at(alloc, padding_after(own.initial), rest)?;
-    let compartment = RawCompartment {
-        code,
-        table: own.table,
-        globals: own.globals,
-        globals_length: own.length,
-        initial,
-        padding,
-    };
-    Ok((compartment, rest))
+impl Member for RawCompartment {
+    ghost reads = { spec.compartment_at };
+
+    #[tactic(auto, unfolding(crate::specs::Reading::compartment_at))]
+    fn at(alloc: Global, bytes: &[u8]) -> Result<(RawCompartment, &[u8]), Cut> {
+        let (head, rest) = code_head_at(bytes)?;
+        let (own, rest) = globals_head_at(rest)?;
+        let (slots, rest) = number_at(rest)?;
+        let (exports, rest) = number_at(rest)?;
+        let (code, rest) = code_at(alloc, head, slots, exports, rest)?;
+        let (initial, rest) = bytes_at(alloc, own.initial, rest)?;
+        let (padding, rest) = bytes_at(alloc, padding_after(own.initial), rest)?;
+        let compartment = RawCompartment {
+            code,
+            table: own.table,
+            globals: own.globals,
+            globals_length: own.length,
+            initial,
+            padding,
+        };
+        Ok((compartment, rest))
+    }
 }
 
-/// A library.
-#[tactic(auto, unfolding(crate::specs::Reading::library_at))]
-pub fn library_at(alloc: Global, bytes: &[u8]) -> Result<(RawCode, &[u8]), Cut>
-    ensures { Gives (λ x. (x.0, x.1.now)) result (spec.library_at bytes.now) }
-{
-    let (head, rest) = code_head_at(bytes)?;
-    let (slots, rest) = number_at(rest)?;
-    let (exports, rest) = number_at(rest)?;
-    code_at(alloc, head, slots, exports, rest)
+impl Member for RawCode {
+    ghost reads = { spec.library_at };
+
+    #[tactic(auto, unfolding(crate::specs::Reading::library_at))]
+    fn at(alloc: Global, bytes: &[u8]) -> Result<(RawCode, &[u8]), Cut> {
+        let (head, rest) = code_head_at(bytes)?;
+        let (slots, rest) = number_at(rest)?;
+        let (exports, rest) = number_at(rest)?;
+        code_at(alloc, head, slots, exports, rest)
+    }
 }
 
-/// A thread.
-#[tactic(auto, unfolding(crate::specs::Reading::thread_at))]
-pub fn thread_at(bytes: &[u8]) -> Result<(RawThread, &[u8]), Cut>
-    ensures { Gives (λ x. (x.0, x.1.now)) result (spec.thread_at bytes.now) }
-{
-    let (name, rest) = name_at(bytes)?;
-    let (stack, rest) = number_at(rest)?;
-    let (stack_length, rest) = number_at(rest)?;
-    let (compartment, rest) = number_at(rest)?;
-    let (export, rest) = number_at(rest)?;
-    let (priority, rest) = number_at(rest)?;
-    let (frames, rest) = number_at(rest)?;
-    let thread = RawThread {
-        name,
-        stack,
-        stack_length,
-        compartment,
-        export,
-        priority,
-        frames,
-    };
-    Ok((thread, rest))
+impl Member for RawThread {
+    ghost reads = { spec.thread_at };
+
+    #[tactic(auto, unfolding(crate::specs::Reading::thread_at))]
+    fn at(_alloc: Global, bytes: &[u8]) -> Result<(RawThread, &[u8]), Cut> {
+        let (name, rest) = name_at(bytes)?;
+        let (stack, rest) = number_at(rest)?;
+        let (stack_length, rest) = number_at(rest)?;
+        let (compartment, rest) = number_at(rest)?;
+        let (export, rest) = number_at(rest)?;
+        let (priority, rest) = number_at(rest)?;
+        let (frames, rest) = number_at(rest)?;
+        let thread = RawThread {
+            name,
+            stack,
+            stack_length,
+            compartment,
+            export,
+            priority,
+            frames,
+        };
+        Ok((thread, rest))
+    }
 }

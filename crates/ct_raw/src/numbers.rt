@@ -7,7 +7,6 @@ ghost use Rattle.ct_raw.specs.Given.{Gives};
 ghost use Rattle.ct_raw.specs.Reading as spec;
 
 use crate::fault::Cut;
-use def_image::RawEntry;
 use std::alloc::Global;
 
 /// A number.
@@ -52,21 +51,11 @@ pub fn name_at(bytes: &[u8]) -> Result<([u8; 32], &[u8]), Cut>
 }
 
 /// The 16 bytes of a row.
-fn row_at(bytes: &[u8]) -> Result<([u8; 16], &[u8]), Cut>
+pub fn row_at(bytes: &[u8]) -> Result<([u8; 16], &[u8]), Cut>
     ensures { Gives (λ x. (x.0, x.1.now)) result (spec.field_at ROW bytes.now) }
 {
     let (front, rest) = run_at(16, bytes)?;
     let mut row = [0; 16];
     row.copy_from_slice(front);
     Ok((row, rest))
-}
-
-/// A row with its name.
-#[tactic(auto, unfolding(crate::specs::Reading::entry_at))]
-pub fn entry_at(bytes: &[u8]) -> Result<(RawEntry, &[u8]), Cut>
-    ensures { Gives (λ x. (x.0, x.1.now)) result (spec.entry_at bytes.now) }
-{
-    let (row, rest) = row_at(bytes)?;
-    let (name, rest) = name_at(rest)?;
-    Ok((RawEntry { row, name }, rest))
 }

@@ -8,12 +8,12 @@ ghost use Rattle.ct_raw.specs.Reading as spec;
 ghost use Rattle.ct_raw.specs.declared.fault.Cut.TheVariants.{Unspelled};
 
 use crate::fault::Cut;
-use crate::fields::RawImage;
+use crate::fields::{
+    RawCode, RawCompartment, RawDevice, RawImage, RawSealed, RawShared, RawThread,
+};
 use crate::heads::{Bases, Counts};
 use crate::heads_at::{bases_at, counts_at, sweep_at};
-use crate::lists::{
-    compartments_at, devices_at, libraries_at, sealed_objects_at, shared_objects_at, threads_at,
-};
+use crate::lists::many_at;
 use crate::numbers::{name_at, number_at, run_at};
 use std::alloc::Global;
 
@@ -40,12 +40,12 @@ fn lists_at(
     ensures { Gives (λ x. (x.0, x.1.now)) result
         (spec.lists_at head.version head.bases head.sweep head.name counts bytes.now) }
 {
-    let (devices, rest) = devices_at(alloc, counts.devices, bytes)?;
-    let (shared, rest) = shared_objects_at(alloc, counts.shared, rest)?;
-    let (sealed, rest) = sealed_objects_at(alloc, counts.sealed, rest)?;
-    let (compartments, rest) = compartments_at(alloc, counts.compartments, rest)?;
-    let (libraries, rest) = libraries_at(alloc, counts.libraries, rest)?;
-    let (threads, rest) = threads_at(alloc, counts.threads, rest)?;
+    let (devices, rest) = many_at::<RawDevice>(alloc, counts.devices, bytes)?;
+    let (shared, rest) = many_at::<RawShared>(alloc, counts.shared, rest)?;
+    let (sealed, rest) = many_at::<RawSealed>(alloc, counts.sealed, rest)?;
+    let (compartments, rest) = many_at::<RawCompartment>(alloc, counts.compartments, rest)?;
+    let (libraries, rest) = many_at::<RawCode>(alloc, counts.libraries, rest)?;
+    let (threads, rest) = many_at::<RawThread>(alloc, counts.threads, rest)?;
     let name = head.name;
     let image = RawImage {
         version: head.version,

@@ -1,5 +1,6 @@
 -- Regions without their holders, as the code keeps them; and what is asked of a list of them.
 use Rattle.std.specs.Prelude.{ℕ, ◌≤◌, ◌+◌, List, [], ◌∷◌, ◌++◌, map, length, All}
+use Rattle.def_profile.specs.declared.limits.TheConstants.{RAM_END, MOST_THREADS_2, MOST_FRAMES, MOST_EXPORTS}
 use Rattle.def_image.specs.declared.format.TheConstants.{SHARED, THREAD}
 use Rattle.def_image.specs.Parts.{SharedRow, SealedRow, CodeRow, CompartmentRow, ThreadRow, PartsRow}
 use Rattle.def_image.specs.Regions.{RegionRow, TrustedPart, region, table_length}
@@ -17,10 +18,10 @@ unheld r = record r { holder = TrustedPart }
 
 -- how much threads and compartments may ask for, so that the lengths of their regions are small
 pub record AreSmall (p : PartsRow) : Type 0 where
-  pub threads : length p.threads ≤ 64
-  pub frames : All (λ (t : ThreadRow). t.frames ≤ 96) p.threads
-  pub exports : All (λ (c : CompartmentRow). length c.code.exports ≤ 64) p.compartments
-  pub ram : p.ram + p.size ≤ 4294967280
+  pub threads : length p.threads ≤ MOST_THREADS_2
+  pub frames : All (λ (t : ThreadRow). t.frames ≤ MOST_FRAMES) p.threads
+  pub exports : All (λ (c : CompartmentRow). length c.code.exports ≤ MOST_EXPORTS) p.compartments
+  pub ram : p.ram + p.size ≤ RAM_END
 
 -- the regions of a compartment at this place
 abbrev pub three_rows : ℕ → CompartmentRow → List RegionRow

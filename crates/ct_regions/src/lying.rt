@@ -2,6 +2,7 @@
 
 ghost use Rattle.std.specs.Prelude.{◌≡◌, ◌≤◌, ◌<◌, ◌+◌, ◌*◌, ◌^◌, length, [], IfOk};
 ghost use Rattle.std.specs.List.{list_any};
+ghost use Rattle.def_profile.specs.declared.limits.TheConstants.{RAM_END};
 ghost use Rattle.def_image.specs.Checks as checks;
 ghost use Rattle.def_image.specs.Lying as spec;
 ghost use Rattle.def_image.specs.Regions.{trusted_region};
@@ -68,7 +69,7 @@ fn meets_any(span: Span, earlier: &[Span]) -> bool
 /// Whether a region lies in RAM, at multiples of 16, with bounds that a word can spell, and apart
 /// from those before it.
 fn is_laid(parts: &Parts, earlier: &[Span], span: Span) -> bool
-    requires { parts.now.ram + parts.now.size ≤ 4294967280 }
+    requires { parts.now.ram + parts.now.size ≤ RAM_END }
     ensures { result ≡ spec.is_laid parts.now (rows_of earlier.now) (row_of span) }
 {
     if !is_inside(parts.ram, parts.size, span.base, span.length) {
@@ -135,7 +136,7 @@ fn devices_fault(parts: &Parts, at: u32, devices: &[Device]) -> Option<u32>
 /// Whether a region after the trusted one isn't laid, reaches past the heap's base or meets the
 /// trusted one.
 fn is_span_astray(parts: &Parts, trusted: Span, earlier: &[Span], span: Span) -> bool
-    requires { parts.now.ram + parts.now.size ≤ 4294967280 }
+    requires { parts.now.ram + parts.now.size ≤ RAM_END }
     ensures { result ≡ lain.is_span_astray parts.now trusted earlier.now span }
 {
     let end = span.base as u128 + span.length as u128;
@@ -144,7 +145,7 @@ fn is_span_astray(parts: &Parts, trusted: Span, earlier: &[Span], span: Span) ->
 
 /// The first of the regions after the trusted one that is astray.
 fn spans_fault(parts: &Parts, trusted: Span, spans: &[Span]) -> Option<u32>
-    requires { parts.now.ram + parts.now.size ≤ 4294967280 }
+    requires { parts.now.ram + parts.now.size ≤ RAM_END }
     ensures { result
         ≡ checks.first (checks.walked (lain.span_asked parts.now trusted) (λ s. 0) 0 [] spans.now) }
 {

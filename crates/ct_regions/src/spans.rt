@@ -1,6 +1,7 @@
 //! The regions of an image, by the places of their bases.
 
 ghost use Rattle.std.specs.Prelude.{◌≡◌, ◌≤◌, ◌<◌, ◌+◌, ◌*◌, ◌^◌, ◌++◌, length, All, IfOk, OnOk};
+ghost use Rattle.def_profile.specs.declared.limits.TheConstants.{MOST_EXPORTS, MOST_FRAMES, MOST_THREADS_2};
 ghost use Rattle.def_image.specs.Parts.{CompartmentRow, ThreadRow};
 ghost use Rattle.def_image.specs.Sizes.{sum_of};
 ghost use Rattle.def_image.specs.Regions as regions;
@@ -27,8 +28,8 @@ pub struct Span {
 
 /// How many bytes the trusted region needs.
 fn trusted_size(threads: &[Thread]) -> u32
-    requires few { length threads.now ≤ 64 }
-    requires frames { All (λ (t : ThreadRow). t.frames ≤ 96) threads.now }
+    requires few { length threads.now ≤ MOST_THREADS_2 }
+    requires frames { All (λ (t : ThreadRow). t.frames ≤ MOST_FRAMES) threads.now }
     ensures value { result ≡ regions.trusted_size threads.now }
     ensures small { result ≤ 403472 }
 {
@@ -53,7 +54,7 @@ pub fn trusted_span(parts: &Parts) -> Span
 
 /// The length of the region of a compartment's export table.
 fn table_length(compartment: &Compartment) -> u64
-    requires { length compartment.now.code.exports ≤ 64 }
+    requires { length compartment.now.code.exports ≤ MOST_EXPORTS }
     ensures { result ≡ regions.table_length compartment.now }
 {
     region_length(TABLE_HEAD + TABLE_ROW * compartment.code.exports.len() as u32)
@@ -101,7 +102,7 @@ fn add_compartment(
     at: u32,
     compartment: &Compartment,
 ) -> Result<(), AllocError>
-    requires exports { length compartment.now.code.exports ≤ 64 }
+    requires exports { length compartment.now.code.exports ≤ MOST_EXPORTS }
     requires room { at + places.compartment_bytes compartment.now < 2 ^ 32 }
     ensures { OnOk result
         (rows_of spans.new.items ≡ rows_of spans.old.items ++ spec.three_rows at compartment.now) }
@@ -130,7 +131,8 @@ fn add_compartments(
     at: u32,
     compartments: &[Compartment],
 ) -> Result<(), AllocError>
-    requires exports { All (λ (c : CompartmentRow). length c.code.exports ≤ 64) compartments.now }
+    requires exports { All (λ (c : CompartmentRow). length c.code.exports ≤ MOST_EXPORTS)
+        compartments.now }
     requires room { at + sum_of places.compartment_bytes compartments.now < 2 ^ 32 }
     ensures { OnOk result
         (rows_of spans.new.items ≡ rows_of spans.old.items

@@ -19,7 +19,7 @@ use Rattle.def_script.specs.declared.Given.{Given}
 use Rattle.def_program.specs.Runs.{input_of}
 use Rattle.ct_machine.specs.Going.{silence}
 use Rattle.ct_running.specs.Rounds.{Came, Passed, ticks_if, lines_of, round_of}
-use Rattle.ct_running.proofs.Pieces as pieces
+use Rattle.ct_port.proofs.Pieces as pieces
 
 -- ---- lists of events
 

@@ -1,49 +1,9 @@
--- Two pieces that are written one after the other, and one that is empty.
-use Rattle.std.proofs.Common.{◌≡◌, ℕ, ◌==◌, true, List, [], ◌∷◌, ◌++◌, length, Option, Some, None, refl, ◌∙◌, ap, sym, subst, arith}
-use Rattle.std.proofs.lemmas.Bool.{eqb-true}
-use Rattle.std.proofs.lemmas.List.{append_assoc, append-nil}
-use Rattle.def_port.specs.Bytes.{Rose, Appends, AppendsBefore}
+-- What is left of a text of which a beginning was written.
+use Rattle.std.proofs.Common.{◌≡◌, ℕ, List, [], ◌++◌, Option, ◌∙◌, sym, subst}
+use Rattle.std.proofs.lemmas.List.{append-nil}
+use Rattle.def_port.specs.Bytes.{Rose, AppendsBefore}
 use Rattle.def_port.specs.Writes.{Writes, WriteFails}
 use Rattle.law_lists.proofs.Added as added
-
-pub both : (old mid new : Option (List ℕ)) (f g h : ℕ) (first second : List ℕ) → Writes old mid f g first → Writes mid new g h second → Writes old new f h (first ++ second)
-both old mid new f g h first second a b = record { added = added.appends_both old mid new first second a.added b.added; same = b.same ∙ a.same }
-
-pub first_fails : (old new : Option (List ℕ)) (f g : ℕ) (first second : List ℕ) → WriteFails old new f g first → WriteFails old new f g (first ++ second)
-first_fails old new f g first second a = record {
-  added = record {
-    part = a.added.part;
-    rest = a.added.rest ++ second;
-    whole = sym (append_assoc a.added.part a.added.rest second) ∙ ap (λ t. t ++ second) a.added.whole;
-    added = a.added.added;
-  };
-  rose = a.rose;
-}
-
-pub second_fails : (old mid new : Option (List ℕ)) (f g h : ℕ) (first second : List ℕ) → Writes old mid f g first → WriteFails mid new g h second → WriteFails old new f h (first ++ second)
-second_fails old mid new f g h first second a b = record {
-  added = record {
-    part = first ++ b.added.part;
-    rest = b.added.rest;
-    whole = append_assoc first b.added.part b.added.rest ∙ ap (λ t. first ++ t) b.added.whole;
-    added = added.appends_both old mid new first b.added.part a.added b.added.added;
-  };
-  rose = let P : ℕ → Type 0 = λ n. Rose n h in subst P a.same b.rose;
-}
-
-appends_none : (old : Option (List ℕ)) → Appends old old []
-appends_none None = tt
-appends_none (Some before) = ap (λ t. Some t) (sym (append-nil before))
-
-pub nothing : (old : Option (List ℕ)) (faults : ℕ) → Writes old old faults faults []
-nothing old faults = record { added = appends_none old; same = refl }
-
--- a line that is empty needs no write
-pub wrote_nothing : (old : Option (List ℕ)) (faults : ℕ) (text : List ℕ) → (length text == 0) ≡ true → Writes old old faults faults text
-wrote_nothing old faults [] empty = nothing old faults
-wrote_nothing old faults (c ∷ cs) empty = let none : length (c ∷ cs) ≡ 0 = eqb-true (length (c ∷ cs)) 0 empty in absurd (omega (arith, none))
-
--- ---- a text of which a beginning was written
 
 -- what is left of it is written
 pub rest_written : (old mid new : Option (List ℕ)) (f g h : ℕ) (left text : List ℕ) → AppendsBefore old mid left text → g ≡ f → Writes mid new g h left → Writes old new f h text

@@ -14,7 +14,7 @@ use ct_port::{Sink, WriteFailed};
 use ct_trace::{Line, line_of, summary_of};
 
 /// Writes a line that isn't empty.
-#[tactic(auto, using(crate::proofs::Pieces::wrote_nothing))]
+#[tactic(auto, using(ct_port::proofs::Pieces::wrote_nothing))]
 fn write_line<S: Sink>(line: &Line, sink: &mut S) -> Result<(), WriteFailed>
     ensures { WriteAnswers (S.bytes sink.old) (S.bytes sink.new) (S.faults sink.old)
         (S.faults sink.new) line.now.bytes result }
@@ -36,7 +36,7 @@ fn write_all<S: Sink>(happened: &Happened, number: u32, sink: &mut S) -> Result<
 
 /// Writes the lines of what happened with the step of this number. Where nothing happened no line is
 /// made.
-#[tactic(auto, unfolding(def_trace::specs::Trace::trace_line), using(crate::proofs::Pieces::wrote_nothing))]
+#[tactic(auto, unfolding(def_trace::specs::Trace::trace_line), using(ct_port::proofs::Pieces::wrote_nothing))]
 pub(crate) fn write_happened<S: Sink>(
     happened: &Happened,
     number: u32,

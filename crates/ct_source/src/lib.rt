@@ -63,10 +63,10 @@ fn all_statements<'a>(alloc: Global, text: &'a [u8]) -> Result<Vec<Statement<&'a
             Ok(read) => read,
             Err(fault) => return Err(fault),
         };
+        section = section_after(section, read.part);
         if add(&mut all, number, read).is_err() {
             return Err(AsmFault::NoMemory);
         }
-        section = section_after(section, read.part);
         rest = after;
     }
     Ok(all)

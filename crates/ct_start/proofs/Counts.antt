@@ -1,6 +1,7 @@
 -- The numbers of an image's entries are sums over the members before.
 use Rattle.std.proofs.Common.{ℕ, zero, suc, ◌≡◌, ◌+◌, ◌*◌, ◌<◌, ◌≤◌, List, [], ◌∷◌, length, take, Some, slice_get, All, refl, ap, sym, ◌∙◌, arith}
 use Rattle.std.specs.Prelude.{slice_index_or}
+use Rattle.def_profile.specs.declared.limits.TheConstants.{MOST_COMPARTMENT_ENTRIES, MOST_LIBRARY_ENTRIES}
 use Rattle.def_image.specs.Parts.{CodeRow, CompartmentRow, ThreadRow, PartsRow}
 use Rattle.def_image.specs.Members.{number_in, compartment_entries, library_entries, first_library, first_stack, code_number, globals_number, library_number, stack_number}
 use Rattle.def_image.specs.Sizes.{sum_of}
@@ -47,31 +48,31 @@ stack_at p t lt =
 
 -- ---- how many each owner has, at most
 
-pub own_few : (p : PartsRow) → Sound p → (b : ℕ) (c : CompartmentRow) → slice_get p.compartments b ≡ Some c → compartment_entries c ≤ 214
+pub own_few : (p : PartsRow) → Sound p → (b : ℕ) (c : CompartmentRow) → slice_get p.compartments b ≡ Some c → compartment_entries c ≤ MOST_COMPARTMENT_ENTRIES
 own_few p s b c is =
     let fits = s.compartment b c is in
     let slots = fits.slots.1 in
     let exports = fits.code.exports in
     omega (arith, slots, exports)
 
-pub library_few : (p : PartsRow) → Sound p → (l : ℕ) (c : CodeRow) → slice_get p.libraries l ≡ Some c → library_entries c ≤ 193
+pub library_few : (p : PartsRow) → Sound p → (l : ℕ) (c : CodeRow) → slice_get p.libraries l ≡ Some c → library_entries c ≤ MOST_LIBRARY_ENTRIES
 library_few p s l c is =
     let fits = s.library l c is in
     let slots = fits.slots in
     let exports = fits.code.exports in
     omega (arith, slots, exports)
 
-pub all_own : (p : PartsRow) → Sound p → All (λ (c : CompartmentRow). compartment_entries c ≤ 214) p.compartments
-all_own p s = all_there (λ (c : CompartmentRow). compartment_entries c ≤ 214) p.compartments (own_few p s)
+pub all_own : (p : PartsRow) → Sound p → All (λ (c : CompartmentRow). compartment_entries c ≤ MOST_COMPARTMENT_ENTRIES) p.compartments
+all_own p s = all_there (λ (c : CompartmentRow). compartment_entries c ≤ MOST_COMPARTMENT_ENTRIES) p.compartments (own_few p s)
 
-pub some_own : (p : PartsRow) → Sound p → (n : ℕ) → All (λ (c : CompartmentRow). compartment_entries c ≤ 214) (take n p.compartments)
-some_own p s n = all_there (λ (c : CompartmentRow). compartment_entries c ≤ 214) (take n p.compartments) (λ b c is. own_few p s b c (taken p.compartments n b c is))
+pub some_own : (p : PartsRow) → Sound p → (n : ℕ) → All (λ (c : CompartmentRow). compartment_entries c ≤ MOST_COMPARTMENT_ENTRIES) (take n p.compartments)
+some_own p s n = all_there (λ (c : CompartmentRow). compartment_entries c ≤ MOST_COMPARTMENT_ENTRIES) (take n p.compartments) (λ b c is. own_few p s b c (taken p.compartments n b c is))
 
-pub all_libraries : (p : PartsRow) → Sound p → All (λ (c : CodeRow). library_entries c ≤ 193) p.libraries
-all_libraries p s = all_there (λ (c : CodeRow). library_entries c ≤ 193) p.libraries (library_few p s)
+pub all_libraries : (p : PartsRow) → Sound p → All (λ (c : CodeRow). library_entries c ≤ MOST_LIBRARY_ENTRIES) p.libraries
+all_libraries p s = all_there (λ (c : CodeRow). library_entries c ≤ MOST_LIBRARY_ENTRIES) p.libraries (library_few p s)
 
-pub some_libraries : (p : PartsRow) → Sound p → (n : ℕ) → All (λ (c : CodeRow). library_entries c ≤ 193) (take n p.libraries)
-some_libraries p s n = all_there (λ (c : CodeRow). library_entries c ≤ 193) (take n p.libraries) (λ l c is. library_few p s l c (taken p.libraries n l c is))
+pub some_libraries : (p : PartsRow) → Sound p → (n : ℕ) → All (λ (c : CodeRow). library_entries c ≤ MOST_LIBRARY_ENTRIES) (take n p.libraries)
+some_libraries p s n = all_there (λ (c : CodeRow). library_entries c ≤ MOST_LIBRARY_ENTRIES) (take n p.libraries) (λ l c is. library_few p s l c (taken p.libraries n l c is))
 
 pub own_short : (p : PartsRow) → Sound p → (n : ℕ) → length (take n p.compartments) ≤ 64
 own_short p s n = let few = s.few.compartments in let short = take_short p.compartments n in omega (arith, few, short)

@@ -2,6 +2,7 @@
 use Rattle.std.specs.Prelude.{ℕ, List, [], ◌∷◌, map}
 use Rattle.def_machine.specs.State as state
 use Rattle.def_machine.specs.State.{Frame}
+use Rattle.def_step.specs.Instructions.{actor_of}
 use Rattle.def_image.specs.Parts.{PartsRow}
 use Rattle.def_boot.specs.Boot.{boot_state, first_threads}
 use Rattle.def_memory.specs.Granules.{plain}
@@ -9,11 +10,7 @@ use Rattle.def_boot.specs.Made.{return_sentry}
 use Rattle.ct_start.specs.declared.start.First.{First}
 use Rattle.ct_start.specs.declared.start.Kept.{Kept}
 
--- the compartment of a thread's innermost frame, and the number of the export that it entered
-abbrev pub actor_in : List Frame → ℕ
-actor_in [] = 0
-actor_in (f ∷ fs) = f.actor
-
+-- the number of the export that a thread's innermost frame entered
 abbrev pub export_in : List Frame → ℕ
 export_in [] = 0
 export_in (f ∷ fs) = f.export
@@ -24,7 +21,7 @@ start_of t = record {
   pcc = t.pcc;
   regs = t.registers;
   posture = t.posture;
-  actor = actor_in t.frames;
+  actor = actor_of t.frames;
   export = export_in t.frames;
 }
 

@@ -1,6 +1,7 @@
 //! The numbers of an image's entries.
 
 ghost use Rattle.std.specs.Prelude.{◌≡◌, ◌<◌, ◌≤◌, ◌+◌, ◌^◌, All, length, option_map, slice_get};
+ghost use Rattle.def_profile.specs.declared.limits.TheConstants.{MOST_COMPARTMENTS, MOST_COMPARTMENT_ENTRIES, MOST_LIBRARIES, MOST_LIBRARY_ENTRIES, MOST_OWN_ENTRIES, MOST_SHARED_ENTRIES};
 ghost use Rattle.def_image.specs.Members as member;
 ghost use Rattle.def_image.specs.Members.{code_number, compartment_entries, globals_number, library_entries, library_number, stack_number};
 ghost use Rattle.def_image.specs.Sizes.{sum_of};
@@ -11,10 +12,10 @@ use def_profile::layout::SLOT_SIZE;
 
 /// How many entries these compartments have: each its code, its globals, its slots and its exports.
 fn own_entries(compartments: &[Compartment]) -> u32
-    requires few { length compartments.now ≤ 64 }
-    requires each { All (λ c. compartment_entries c ≤ 214) compartments.now }
+    requires few { length compartments.now ≤ MOST_COMPARTMENTS }
+    requires each { All (λ c. compartment_entries c ≤ MOST_COMPARTMENT_ENTRIES) compartments.now }
     ensures is { result ≡ sum_of compartment_entries compartments.now }
-    ensures small { result ≤ 13696 }
+    ensures small { result ≤ MOST_OWN_ENTRIES }
 {
     let mut total = 0;
     for compartment in compartments.iter() {
@@ -26,10 +27,10 @@ fn own_entries(compartments: &[Compartment]) -> u32
 
 /// How many entries these libraries have: each its code, its slots and its exports.
 fn shared_entries(libraries: &[Code]) -> u32
-    requires few { length libraries.now ≤ 32 }
-    requires each { All (λ c. library_entries c ≤ 193) libraries.now }
+    requires few { length libraries.now ≤ MOST_LIBRARIES }
+    requires each { All (λ c. library_entries c ≤ MOST_LIBRARY_ENTRIES) libraries.now }
     ensures is { result ≡ sum_of library_entries libraries.now }
-    ensures small { result ≤ 6176 }
+    ensures small { result ≤ MOST_SHARED_ENTRIES }
 {
     let mut total = 0;
     for code in libraries.iter() {
@@ -44,7 +45,7 @@ pub(crate) fn code_number(parts: &Parts, of: usize) -> u32
     requires there { of < length parts.now.compartments }
     ensures is { result ≡ code_number parts.now of }
     ensures globals { result + 1 ≡ globals_number parts.now of }
-    ensures small { result ≤ 13697 }
+    ensures small { result ≤ 1 + MOST_OWN_ENTRIES }
 {
     1 + own_entries(&parts.compartments[..of])
 }
@@ -54,7 +55,7 @@ pub(crate) fn library_number(parts: &Parts, of: usize) -> u32
     requires sound { Sound parts.now }
     requires there { of < length parts.now.libraries }
     ensures is { result ≡ library_number parts.now of }
-    ensures small { result ≤ 19873 }
+    ensures small { result ≤ 1 + MOST_OWN_ENTRIES + MOST_SHARED_ENTRIES }
 {
     1 + own_entries(parts.compartments.as_slice()) + shared_entries(&parts.libraries[..of])
 }

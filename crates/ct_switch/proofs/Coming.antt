@@ -28,6 +28,20 @@ failed_so t c1 c6 c2 o one six two is =
     ∙ ap (λ c. first_failed (return_checks (register_in t 1) ++ gate_checks c ++ stack_checks t.area.stack t.top c2)) six
     ∙ ap (λ c. first_failed (return_checks (register_in t 1) ++ gate_checks (register_in t 6) ++ stack_checks t.area.stack t.top c)) two
 
+-- the stack's address and the export that the switch looks up, by what it reads
+pub record Looked (e : Listed) (t : row.Thread) (x : Export) (address : ℕ) : Type 0 where
+  pub at : address ≡ cap_address (register_in t 2)
+  pub export : x ≡ export_of e (root_of e (register_in t 6).shadow.root).of
+
+pub looked : (e : Listed) (t : row.Thread) (x : Export) (address entry number : ℕ) (stack import : Cap)
+    → stack ≡ register_in t 2 → address ≡ cap_address stack
+    → import ≡ register_in t 6 → entry ≡ import.shadow.root → number ≡ (root_of e entry).of → x ≡ export_of e number
+    → Looked e t x address
+looked e t x address entry number stack import two at six root of is = record {
+  at = at ∙ ap (λ (k : Cap). cap_address k) two;
+  export = is ∙ ap (λ n. export_of e n) (of ∙ ap (λ n. (root_of e n).of) (root ∙ ap (λ (k : Cap). k.shadow.root) six));
+}
+
 by_checks : (gs : List Granule) (e : Listed) (t : row.Thread) → 0 < t.depth
     → switch_in gs e t ≡ past_checks e t.area.stack (frames_most t.area) (living gs true t) (failed_in t)
 by_checks gs e t alive = ap (λ l. switch_of e t.area.stack t.top (frames_most t.area) l) (alive_is gs true t alive)

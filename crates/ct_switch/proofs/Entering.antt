@@ -12,7 +12,9 @@ use Rattle.ct_areas.specs.Parts.{register_in, with_frame}
 use Rattle.ct_exports.specs.declared.exports.Export.{Export}
 use Rattle.ct_exports.specs.Exports.{AreTogether, HeadLies, IsCallable, row_at, is_export_of, table_of, callee_of, export_of}
 use Rattle.ct_switch.specs.declared.calls.Called.TheVariants as called
-use Rattle.ct_switch.specs.Calls.{TopFits, told, head_of, switch_in, memory_after, thread_after, row_after, given_by, given_in, entered_row, entered_thread}
+use Rattle.ct_switch.specs.declared.deciding.Decision.{Decision}
+use Rattle.ct_switch.specs.declared.deciding.Decision.TheVariants as decision
+use Rattle.ct_switch.specs.Calls.{TopFits, Enterable, MayEnter, told, head_of, switch_in, memory_after, thread_after, row_after, given_by, given_in, entered_row, entered_thread}
 use Rattle.ct_switch.proofs.Threads.{entered_same}
 
 -- ---- the room
@@ -48,6 +50,9 @@ head_inside ram size table h = go ram table size h.low h.high
     go r t s low high = omega (arith, low, high)
 
 -- ---- a call that enters
+
+pub enterable : (e : Listed) (size : ℕ) (t : row.Thread) (d : Decision) (x : Export) (high : ℕ) → d ≡ decision.Enters x high → MayEnter e size t d → Enterable e size t x high
+enterable e size t d x high is may = subst (λ k. MayEnter e size t k) is may
 
 pub given_same : (gs : List Granule) (e : Listed) (t : row.Thread) (x : Export) (head high : ℕ) (g : Given) → x ≡ export_of e x.number
     → head ≡ head_of e t.area x.callee → g ≡ given_by gs t head x.code high → g ≡ given_in gs e t x.number high
@@ -85,7 +90,7 @@ abbrev pub Refuses : Switched → Type 0
 Refuses (Enters export high) = ⊥
 Refuses _ = Unit {0}
 
-pub record Kept (gs : List Granule) (e : Listed) (t : row.Thread) (s : Switched) : Type 0 where
+record Kept (gs : List Granule) (e : Listed) (t : row.Thread) (s : Switched) : Type 0 where
   pub thread : thread_of gs true t ≡ thread_after gs e t s
   pub memory : gs ≡ memory_after gs t s
   pub row : t ≡ row_after gs e t s
@@ -96,5 +101,14 @@ kept_at gs e t TooDeep r = record { thread = refl; memory = refl; row = refl }
 kept_at gs e t NoStack r = record { thread = refl; memory = refl; row = refl }
 kept_at gs e t (Enters export high) r = absurd r
 
-pub kept_so : (gs : List Granule) (e : Listed) (t : row.Thread) (s : Switched) → Refuses s → s ≡ switch_in gs e t → Kept gs e t (switch_in gs e t)
-kept_so gs e t s r is = subst (λ k. Kept gs e t k) is (kept_at gs e t s r)
+-- a switch that comes to this refusal answers it, and all stays
+pub record Refused (gs : List Granule) (e : Listed) (t : row.Thread) (s : Switched) : Type 0 where
+  pub result : told (register_in t 6) s ≡ told (register_in t 6) (switch_in gs e t)
+  pub thread : thread_of gs true t ≡ thread_after gs e t (switch_in gs e t)
+  pub memory : gs ≡ memory_after gs t (switch_in gs e t)
+  pub row : t ≡ row_after gs e t (switch_in gs e t)
+
+pub refused_so : (gs : List Granule) (e : Listed) (t : row.Thread) (s : Switched) → Refuses s → s ≡ switch_in gs e t → Refused gs e t s
+refused_so gs e t s r is =
+    let kept = subst (λ k. Kept gs e t k) is (kept_at gs e t s r) in
+    record { result = ap (λ k. told (register_in t 6) k) is; thread = kept.thread; memory = kept.memory; row = kept.row }

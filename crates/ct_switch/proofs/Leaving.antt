@@ -11,7 +11,7 @@ use Rattle.ct_areas.specs.declared.thread.Area.{Area}
 use Rattle.ct_areas.specs.declared.thread.Thread as row
 use Rattle.ct_areas.specs.Threads.{thread_of}
 use Rattle.ct_areas.specs.Parts.{IsSpan, register_in, without_frame, frame_address, shallower, inner_frame, outer_frames}
-use Rattle.ct_switch.specs.declared.ends.Kept.{Kept}
+use Rattle.ct_areas.specs.declared.frames.Saved.{Saved}
 use Rattle.ct_switch.specs.Ready.{IsReady}
 use Rattle.ct_switch.specs.Calls.{handed, returned_by, thread_left, memory_left, row_left, ended_row, restored_row, filtered_frame}
 use Rattle.ct_switch.proofs.Threads.{stack_span, order_back, left_at, left_last, left_is}
@@ -81,7 +81,7 @@ left_ends gs ms hs t q new first second ready popped row_is cleared none ended =
           ∙ cond_true (t.depth == 1) (ended_row t) (restored_row (shallower gs t) (inner_frame gs t) (filtered_frame gs t.area.ram (inner_frame gs t)) first second) tests.1;
     }
 
-pub left_goes : (gs ms hs : List Granule) (t q new : row.Thread) (kept : Kept) (first second : Cap) → IsReady gs t → ms ≡ without_frame gs t
+pub left_goes : (gs ms hs : List Granule) (t q new : row.Thread) (kept : Saved) (first second : Cap) → IsReady gs t → ms ≡ without_frame gs t
     → q ≡ shallower gs t → hs ≡ zeroed_from q.area.stack (q.area.stack + (t.top - t.area.stack)) q.area.ram ms
     → (q.depth ≡ 0 → ⊥) → (thread_of ms true q).frames ≡ outer_frames gs t → kept ≡ filtered_frame gs t.area.ram (inner_frame gs t)
     → new ≡ restored_row q (inner_frame gs t) kept first second → Left gs hs t new first second true

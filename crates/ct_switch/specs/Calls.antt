@@ -30,7 +30,7 @@ use Rattle.ct_switch.specs.declared.calls.Called.{Called}
 use Rattle.ct_switch.specs.declared.calls.Called.TheVariants as called
 use Rattle.ct_switch.specs.declared.deciding.Decision.{Decision}
 use Rattle.ct_switch.specs.declared.deciding.Decision.TheVariants as decision
-use Rattle.ct_switch.specs.declared.ends.Kept.{Kept}
+use Rattle.ct_areas.specs.declared.frames.Saved.{Saved}
 use Rattle.ct_exports.specs.declared.exports.Export.{Export}
 use Rattle.ct_exports.specs.Exports.{IsCallable, callee_of, export_of, table_of}
 
@@ -222,11 +222,8 @@ ended_row t = record t {
   handling = false;
 }
 
-abbrev pub kept_in : Frame → Kept
-kept_in f = record { export = f.export; c1 = f.c1; c2 = f.c2; c3 = f.c3; c8 = f.c8; c9 = f.c9 }
-
 -- what a frame keeps, through the load filter
-abbrev pub filtered_frame : List Granule → ℕ → Frame → Kept
+abbrev pub filtered_frame : List Granule → ℕ → Frame → Saved
 filtered_frame gs ram f = record {
   export = f.export;
   c1 = filtered_in ram gs f.c1;
@@ -236,13 +233,13 @@ filtered_frame gs ram f = record {
   c9 = filtered_in ram gs f.c9;
 }
 
-abbrev pub caller_registers : Kept → Cap → Cap → List Cap
+abbrev pub caller_registers : Saved → Cap → Cap → List Cap
 caller_registers kept first second =
     plain 0 ∷ plain 0 ∷ kept.c2 ∷ kept.c3 ∷ plain 0 ∷ plain 0 ∷ plain 0 ∷ plain 0 ∷ kept.c8
     ∷ kept.c9 ∷ first ∷ second
     ∷ plain 0 ∷ plain 0 ∷ plain 0 ∷ plain 0 ∷ []
 
-abbrev pub restored_row : row.Thread → Frame → Kept → Cap → Cap → row.Thread
+abbrev pub restored_row : row.Thread → Frame → Saved → Cap → Cap → row.Thread
 restored_row t f kept first second = record t {
   pcc = opened kept.c1;
   regs = caller_registers kept first second;

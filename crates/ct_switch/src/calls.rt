@@ -63,7 +63,8 @@ fn enter<M: Memory>(t: &mut Thread, mem: &mut M, x: &Export, start: &Start, high
     requires high { high ≤ t.old.top }
     requires even { high % 16 ≡ 0 }
     ensures memory { M.granules mem.new
-        ≡ with_frame (zeroed_from t.old.area.stack high t.old.area.ram (M.granules mem.old)) t.old x.now.number }
+        ≡ with_frame (zeroed_from t.old.area.stack high t.old.area.ram (M.granules mem.old)) t.old
+        x.now.number }
     ensures thread { thread_of (M.granules mem.new) true t.new
         ≡ entered_thread (thread_of (M.granules mem.old) true t.old) x.now high start.now }
     ensures row { t.new ≡ entered_row t.old x.now high start.now }
@@ -83,7 +84,8 @@ pub fn call<M: Memory>(t: &mut Thread, mem: &mut M, e: &Entries) -> Called
     ensures result { result
         ≡ told (register_in t.old 6) (switch_in (M.granules mem.old) e.now t.old) }
     ensures thread { thread_of (M.granules mem.new) true t.new
-        ≡ thread_after (M.granules mem.old) e.now t.old (switch_in (M.granules mem.old) e.now t.old) }
+        ≡ thread_after (M.granules mem.old) e.now t.old
+        (switch_in (M.granules mem.old) e.now t.old) }
     ensures memory { M.granules mem.new
         ≡ memory_after (M.granules mem.old) t.old (switch_in (M.granules mem.old) e.now t.old) }
     ensures row { t.new

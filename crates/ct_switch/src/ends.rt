@@ -1,16 +1,17 @@
 //! A frame's end: the return, the unwind, and the end of an error handler.
 
 ghost use Rattle.std.specs.Prelude.{◌≡◌, ◌*◌, ◌<◌, ℕ, Bool, true, nat_lt, length};
+ghost use Rattle.def_profile.specs.declared.answers.TheConstants.{UNWOUND};
 ghost use Rattle.def_words.specs.declared.Cap.{Cap};
 ghost use Rattle.def_memory.specs.Granules.{plain};
 ghost use Rattle.def_machine.specs.State.{Frame};
 ghost use Rattle.def_reach.specs.Roots.{root_of};
 ghost use Rattle.ct_areas.specs.declared.thread.Thread as row;
 ghost use Rattle.ct_areas.specs.Threads.{thread_of};
-ghost use Rattle.ct_areas.specs.Parts.{inner_frame};
+ghost use Rattle.ct_areas.specs.Parts.{saved_in};
 ghost use Rattle.ct_exports.specs.Exports.{AreSorted};
 ghost use Rattle.ct_switch.specs.Ready.{IsReady, IsOther};
-ghost use Rattle.ct_switch.specs.Calls.{returned_by, thread_left, memory_left, row_left, no_registers, ended_row, restored_row, kept_in, filtered_frame, caller_registers};
+ghost use Rattle.ct_switch.specs.Calls.{returned_by, thread_left, memory_left, row_left, no_registers, ended_row, restored_row, filtered_frame, caller_registers};
 
 use crate::deciding::register;
 use crate::given::handed;
@@ -21,47 +22,14 @@ use ct_exports::export_of;
 use ct_flow::posture_through;
 use ct_loadstore::filter;
 use ct_mem::Memory;
-
-/// What a frame keeps of its caller, and the entry number of its own export.
-#[derive(Clone, Copy, Drop)]
-pub(crate) struct Kept {
-    pub(crate) export: u32,
-    pub(crate) c1: Live,
-    pub(crate) c2: Live,
-    pub(crate) c3: Live,
-    pub(crate) c8: Live,
-    pub(crate) c9: Live,
-}
-
-/// What a thread's innermost frame keeps.
-fn inner<M: Memory>(t: &Thread, mem: &M) -> Kept
-    requires { IsReady (M.granules mem.now) t.now }
-    ensures { result ≡ kept_in (inner_frame (M.granules mem.now) t.now) }
-{
-    let Saved {
-        export,
-        c1,
-        c2,
-        c3,
-        c8,
-        c9,
-    } = innermost(t, mem);
-    Kept {
-        export,
-        c1,
-        c2,
-        c3,
-        c8,
-        c9,
-    }
-}
+use def_profile::answers::UNWOUND;
 
 /// What a frame keeps, through the load filter.
-fn through<M: Memory>(mem: &M, ram: u32, saved: &Kept) -> Kept
-    ensures { (f : Frame) → saved.now ≡ kept_in f
+fn through<M: Memory>(mem: &M, ram: u32, saved: &Saved) -> Saved
+    ensures { (f : Frame) → saved.now ≡ saved_in f
         → result ≡ filtered_frame (M.granules mem.now) ram f }
 {
-    Kept {
+    Saved {
         export: saved.export,
         c1: filter(mem, ram, saved.c1),
         c2: filter(mem, ram, saved.c2),
@@ -72,7 +40,7 @@ fn through<M: Memory>(mem: &M, ram: u32, saved: &Kept) -> Kept
 }
 
 /// The registers of a caller: those that its frame kept, and two results.
-fn restored(kept: &Kept, first: Live, second: Live) -> [Live; 16]
+fn restored(kept: &Saved, first: Live, second: Live) -> [Live; 16]
     ensures { result ≡ caller_registers kept.now first second }
 {
     let none = Live::integer(0);
@@ -84,8 +52,8 @@ fn restored(kept: &Kept, first: Live, second: Live) -> [Live; 16]
 
 /// A caller goes on: its program counter and registers are those that its frame kept, filtered, and its posture is by the
 /// saved c1.
-fn restore(t: &mut Thread, saved: &Kept, kept: &Kept, first: Live, second: Live)
-    ensures { (f : Frame) → saved.now ≡ kept_in f
+fn restore(t: &mut Thread, saved: &Saved, kept: &Saved, first: Live, second: Live)
+    ensures { (f : Frame) → saved.now ≡ saved_in f
         → t.new ≡ restored_row t.old f kept.now first second }
 {
     t.pcc = open(kept.c1);
@@ -125,7 +93,7 @@ fn leave<M: Memory>(t: &mut Thread, mem: &mut M, first: Live, second: Live) -> b
     ensures memory { M.granules mem.new ≡ memory_left (M.granules mem.old) t.old }
     ensures row { t.new ≡ row_left (M.granules mem.old) t.old (λ f. first) (λ f. second) }
 {
-    let saved = inner(t, mem);
+    let saved = innermost(t, mem);
     let kept = through(mem, t.area.ram, &saved);
     let bytes = t.top - t.area.stack;
     pop(t, mem);
@@ -146,15 +114,17 @@ pub fn give_back<M: Memory>(t: &mut Thread, mem: &mut M, e: &Entries) -> bool
     requires entries { AreSorted e.now.gates }
     ensures result { result ≡ nat_lt 1 t.old.depth }
     ensures thread { thread_of (M.granules mem.new) true t.new
-        ≡ thread_left (M.granules mem.old) t.old (returned_by e.now t.old 10) (returned_by e.now t.old 11) }
+        ≡ thread_left (M.granules mem.old) t.old (returned_by e.now t.old 10)
+        (returned_by e.now t.old 11) }
     ensures memory { M.granules mem.new ≡ memory_left (M.granules mem.old) t.old }
     ensures row { t.new
-        ≡ row_left (M.granules mem.old) t.old (returned_by e.now t.old 10) (returned_by e.now t.old 11) }
+        ≡ row_left (M.granules mem.old) t.old (returned_by e.now t.old 10)
+        (returned_by e.now t.old 11) }
     ensures others { (u : row.Thread) (runs : Bool)
         → IsOther t.old u (8 * length (M.granules mem.old))
         → thread_of (M.granules mem.new) runs u ≡ thread_of (M.granules mem.old) runs u }
 {
-    let passes = export_of(e, inner(t, mem).export).passes;
+    let passes = export_of(e, innermost(t, mem).export).passes;
     let ten = register(&t.regs, 10);
     let eleven = register(&t.regs, 11);
     let first = handed(passes, ten);
@@ -163,19 +133,19 @@ pub fn give_back<M: Memory>(t: &mut Thread, mem: &mut M, e: &Entries) -> bool
 }
 
 /// The unwind: the return with c10 = -1 and c11 = 0. `false` exactly where the frame was the thread's last.
-pub fn unwind<M: Memory>(t: &mut Thread, mem: &mut M, _e: &Entries) -> bool
+pub fn unwind<M: Memory>(t: &mut Thread, mem: &mut M, e: &Entries) -> bool
     requires { IsReady (M.granules mem.old) t.old }
     ensures result { result ≡ nat_lt 1 t.old.depth }
     ensures thread { thread_of (M.granules mem.new) true t.new
-        ≡ thread_left (M.granules mem.old) t.old (λ f. plain 0xFFFFFFFF) (λ f. plain 0) }
+        ≡ thread_left (M.granules mem.old) t.old (λ f. plain UNWOUND) (λ f. plain 0) }
     ensures memory { M.granules mem.new ≡ memory_left (M.granules mem.old) t.old }
     ensures row { t.new
-        ≡ row_left (M.granules mem.old) t.old (λ f. plain 0xFFFFFFFF) (λ f. plain 0) }
+        ≡ row_left (M.granules mem.old) t.old (λ f. plain UNWOUND) (λ f. plain 0) }
     ensures others { (u : row.Thread) (runs : Bool)
         → IsOther t.old u (8 * length (M.granules mem.old))
         → thread_of (M.granules mem.new) runs u ≡ thread_of (M.granules mem.old) runs u }
 {
-    leave(t, mem, Live::integer(0xFFFF_FFFF), Live::integer(0))
+    end_with(t, mem, e, 0xFFFF_FFFF)
 }
 
 /// The end of a frame with a value, as its error handler says: the return with c10 = the value and c11 = 0. `false`

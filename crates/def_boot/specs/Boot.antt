@@ -8,7 +8,7 @@ use Rattle.def_memory.specs.Granules.{plain}
 use Rattle.def_reach.specs.Roots.{is_disabled}
 use Rattle.def_machine.specs.Image.{Image}
 use Rattle.def_machine.specs.State as st
-use Rattle.def_machine.specs.State.{State, Frame, Counts, interrupts_on}
+use Rattle.def_machine.specs.State.{State, Frame, interrupts_on, outermost, at_rest}
 use Rattle.def_profile.specs.declared.layout.TheConstants.{TRUSTED_HEAD}
 use Rattle.def_sched.specs.declared.Status.TheVariants.{Ready}
 use Rattle.def_sched.specs.Picks.{first_order}
@@ -79,17 +79,7 @@ first_posture p t =
 
 -- one frame, whose caller is nobody
 abbrev pub first_frame : PartsRow → ThreadRow → Frame
-first_frame p t = record {
-  actor = t.compartment;
-  export = entry_number p t;
-  top = t.stack + t.stack_length;
-  handling = false;
-  c1 = plain 0;
-  c2 = plain 0;
-  c3 = plain 0;
-  c8 = plain 0;
-  c9 = plain 0;
-}
+first_frame p t = outermost t.compartment (entry_number p t) (t.stack + t.stack_length)
 
 abbrev pub first_pcc : PartsRow → ThreadRow → Cap
 first_pcc p t = with_address (made_for p (code_number p t.compartment)) (entry_address p t)
@@ -117,34 +107,10 @@ first_threads p n (t ∷ ts) = first_thread p n t ∷ first_threads p (n + 1) ts
 
 -- ---- the state
 
-abbrev pub no_counts : Counts
-no_counts = record {
-  steps = 0;
-  ticks = 0;
-  sweeps = 0;
-  inputs = 0;
-  calls = 0;
-  loads = 0;
-  stores = 0;
-  frees = 0;
-  traps = 0;
-}
-
 unfoldable pub boot_state : PartsRow → State
-boot_state p = record {
-  granules = boot_granules p;
-  threads = first_threads p 0 p.threads;
-  running = None;
-  pending = false;
-  objects = [];
-  next = 1;
-  tokens = [];
-  front = None;
-  devices = map (λ (d : DeviceRow). fresh_device d.kind) p.devices;
-  time = 0;
-  picks = first_order (length p.threads);
-  counts = no_counts;
-}
+boot_state p =
+    at_rest (boot_granules p) (first_threads p 0 p.threads)
+    (map (λ (d : DeviceRow). fresh_device d.kind) p.devices) (first_order (length p.threads))
 
 abbrev pub booted_machine : PartsRow → MachineRow
 booted_machine p = record { board = board_of p; state = boot_state p }

@@ -1,17 +1,17 @@
 -- The chunks of a heap as a function of memory, and when they tile its range.
-use Rattle.std.specs.Prelude.{ℕ, zero, suc, ◌+◌, ◌-◌, ◌*◌, ◌/◌, ◌%◌, ◌^◌, ◌≡◌, ◌≤◌, ◌<◌, cond, nat_lt, nat_eq, List, [], ◌∷◌, length}
+use Rattle.std.specs.Prelude.{ℕ, zero, suc, ◌+◌, ◌*◌, ◌%◌, ◌^◌, ◌≡◌, ◌≤◌, ◌<◌, cond, nat_lt, nat_eq, List, [], ◌∷◌, length}
 use Rattle.def_words.specs.declared.Cap.{Cap}
 use Rattle.def_memory.specs.declared.Granule.{Granule}
 use Rattle.def_chunks.specs.declared.heads.TheConstants.{FREE, NO_CHUNK}
 use Rattle.def_chunks.specs.declared.rows.Range.{Range}
-use Rattle.def_chunks.specs.Chunks.{Chunk, total, first_free, head_at, Lays, AreChunks, NoneTouch}
+use Rattle.def_chunks.specs.Chunks.{Chunk, total, first_free, head_at, head_in, Lays, AreChunks, NoneTouch}
 
 -- the chunk that a head is of
 abbrev pub chunk_of : Cap → Chunk
 chunk_of c = record {
-  size = c.word % 2 ^ 32 / 8 * 8;
-  state = c.word % 2 ^ 32 % 8;
-  number = cond (nat_eq (c.word % 2 ^ 32 % 8) FREE) 0 (c.word / 2 ^ 32);
+  size = (head_in c).size;
+  state = (head_in c).state;
+  number = cond (nat_eq (head_in c).state FREE) 0 (head_in c).rest;
 }
 
 -- heads one after another, up to an address; at most so many

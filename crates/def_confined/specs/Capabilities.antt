@@ -1,11 +1,12 @@
 -- What each tagged capability is, wherever it stands.
 use Rattle.std.specs.Prelude.{ℕ, ◌≡◌, ◌≤◌, ◌<◌, ◌≢◌, ◌⊎◌, ◌&&◌, Bool, true, false, not, nat_eq}
+use Rattle.def_profile.specs.declared.seals.TheConstants.{SENTRY_INHERIT, SENTRY_DISABLE, SENTRY_ENABLE, RETURN_DISABLE, RETURN_ENABLE, EXPORT_TYPE, QUOTA_TYPE}
 use Rattle.def_words.specs.declared.Cap.{Cap}
 use Rattle.def_words.specs.Authority.{cap_address, cap_base, cap_top}
 use Rattle.def_words.specs.Permissions.{IsLegal, Within, cap_perms, has, global, store_local, execute}
 use Rattle.def_words.specs.Seals.{cap_seal}
+use Rattle.ct_entry.specs.Kinds.{is_compartment}
 use Rattle.ct_entry.specs.declared.rows.Owner.{Owner}
-use Rattle.ct_entry.specs.declared.rows.Owner.TheVariants.{Compartment}
 use Rattle.ct_entry.specs.declared.rows.Kind.TheVariants.{Call, Code, Service}
 use Rattle.def_reach.specs.Roots.{Origin, TrustedPart, Listing, is_quota, is_stack, is_native, is_root}
 use Rattle.def_machine.specs.Image.{Image, root, made_cap}
@@ -18,21 +19,19 @@ heap_cap i c = is_quota (root i c.shadow.root).origin && not (nat_eq c.shadow.so
 abbrev pub stack_cap : Image → Cap → Bool
 stack_cap i c = is_stack (root i c.shadow.root).origin
 
-abbrev pub is_compartments : Owner → Bool
-is_compartments (Compartment b) = true
-is_compartments _ = false
-
 -- code is a root where it is a compartment's: a library's is not
 abbrev pub is_home : Origin → Owner → Bool
-is_home (Listing Code) o = is_compartments o
+is_home (Listing Code) o = is_compartment o
 is_home _ o = true
 
 -- the types that boot alone makes: forward sentries, exports and quotas
 abbrev pub IsBootType : ℕ → Type 0
-IsBootType n = (n ≡ 1) ⊎ (n ≡ 2) ⊎ (n ≡ 3) ⊎ (n ≡ 9) ⊎ (n ≡ 10)
+IsBootType n =
+    (n ≡ SENTRY_INHERIT) ⊎ (n ≡ SENTRY_DISABLE) ⊎ (n ≡ SENTRY_ENABLE) ⊎ (n ≡ EXPORT_TYPE)
+    ⊎ (n ≡ QUOTA_TYPE)
 
 abbrev pub IsReturnType : ℕ → Type 0
-IsReturnType n = (n ≡ 4) ⊎ (n ≡ 5)
+IsReturnType n = (n ≡ RETURN_DISABLE) ⊎ (n ≡ RETURN_ENABLE)
 
 -- as boot made it but for `global`
 pub record AsBoot (i : Image) (c : Cap) : Type 0 where
@@ -58,9 +57,9 @@ pub record Rooted (i : Image) (c : Cap) : Type 0 where
   pub held : stack_cap i c ≡ true → has c global ≡ false
   pub returns : IsReturnType (cap_seal c)
       → (cap_base c < cap_top c) × (has c execute ≡ true) × (heap_cap i c ≡ false)
-  pub source : cap_seal c ≡ 4 → (root i c.shadow.source).disabled ≡ true
+  pub source : cap_seal c ≡ RETURN_DISABLE → (root i c.shadow.source).disabled ≡ true
   pub boot : IsBootType (cap_seal c) → AsBoot i c
-  pub calls : cap_seal c ≡ 9 → (root i c.shadow.root).origin ≡ Listing Call
+  pub calls : cap_seal c ≡ EXPORT_TYPE → (root i c.shadow.root).origin ≡ Listing Call
   pub native : is_native (root i c.shadow.root).origin ≡ true
       → cap_address c ≡ cap_address (made_cap i c.shadow.root)
 
@@ -69,5 +68,5 @@ pub record Rooted (i : Image) (c : Cap) : Type 0 where
 abbrev pub Kept : Image → Cap → Type 0
 Kept i c =
     c.tag ≡ true
-    → ((root i c.shadow.root).origin ≡ Listing Service → cap_seal c ≡ 1)
-    × ((root i c.shadow.root).origin ≡ TrustedPart → cap_seal c ≡ 5)
+    → ((root i c.shadow.root).origin ≡ Listing Service → cap_seal c ≡ SENTRY_INHERIT)
+    × ((root i c.shadow.root).origin ≡ TrustedPart → cap_seal c ≡ RETURN_ENABLE)

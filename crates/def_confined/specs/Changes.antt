@@ -1,6 +1,7 @@
 -- What the laws take of each kind of change: one thread changes and its frames stay; one thread changes whole
 -- and its stack is zeroed; capabilities stay or lose their tag while objects change.
 use Rattle.std.specs.Prelude.{ℕ, ◌≡◌, ◌+◌, ◌%◌, ◌≤◌, ◌<◌, ◌⊎◌, true, false, List, [], ◌∷◌, length, Option, Some}
+use Rattle.def_profile.specs.declared.seals.TheConstants.{EXPORT_TYPE}
 use Rattle.def_words.specs.declared.Cap.{Cap}
 use Rattle.def_words.specs.declared.Posture.{Posture}
 use Rattle.def_words.specs.Seals.{cap_seal}
@@ -58,20 +59,26 @@ pub record Turned (i : Image) (s : State) (t high : ℕ) (new : Thread) (run : O
     pub live : run ≡ Some t → (n : ℕ) → HasLive i s.objects (register new n)
     pub stays : (u : ℕ) → run ≡ Some u → s.running ≡ Some u
 
--- a call whose checks passed: the caller's top frame is g
-pub record Enters (i : Image) (s : State) (t : ℕ) (g : Frame) (gs : List Frame)
-    (callee export high : ℕ) (w : Given) : Type 0 where
+-- what a call is: c1 of the caller, whose top frame is g, is a return sentry, c6 an import of the export; the callee's
+-- stack ends at a multiple of 16, no further than the caller's top
+pub record IsCall (i : Image) (s : State) (t : ℕ) (g : Frame) (gs : List Frame)
+    (callee export high : ℕ) : Type 0 where
   pub running : s.running ≡ Some t
   pub caller : (thread s t).frames ≡ g ∷ gs
   pub return_tagged : (register (thread s t) 1).tag ≡ true
   pub return_sealed : IsReturnType (cap_seal (register (thread s t) 1))
   pub gate_tagged : (register (thread s t) 6).tag ≡ true
-  pub gate_sealed : cap_seal (register (thread s t) 6) ≡ 9
+  pub gate_sealed : cap_seal (register (thread s t) 6) ≡ EXPORT_TYPE
   pub gate : (root i (register (thread s t) 6).shadow.root).of ≡ export
   pub callee_is : (root i export).owner ≡ Compartment callee
   pub even : high % 16 ≡ 0
   pub low : stack_base i t ≤ high
   pub under : high ≤ g.top
+
+-- a call, with what the callee is given
+pub record Enters (i : Image) (s : State) (t : ℕ) (g : Frame) (gs : List Frame)
+    (callee export high : ℕ) (w : Given) : Type 0 where
+  pub call : IsCall i s t g gs callee export high
   pub pcc : w.pcc.tag ≡ true → IsOwn i callee w.pcc × IsPcc i w.pcc
   pub globals : w.globals.tag ≡ true → IsOwn i callee w.globals
   pub back : w.back.tag ≡ true → IsReturnSentry i w.back

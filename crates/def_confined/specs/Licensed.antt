@@ -1,5 +1,6 @@
 -- *Licensed*: what a deed, or a span with interrupts off, needs of the report.
 use Rattle.std.specs.Prelude.{ℕ, ◌≡◌, ◌+◌, ◌≤◌, ◌<◌, ◌⊎◌, true}
+use Rattle.def_profile.specs.declared.traps.TheConstants.{MISALIGNED_FETCH, ILLEGAL_INSTRUCTION, BREAKPOINT, MISALIGNED_LOAD, MISALIGNED_STORE, ENVIRONMENT_CALL, CAPABILITY_FAULT, BOUNDS_CODE, TAG_CODE, SEAL_CODE, EXECUTE_CODE, LOAD_CODE, STORE_CODE, STORE_CAPABILITY_CODE, SYSTEM_REGISTER_CODE, PCC_REGISTER}
 use Rattle.ct_entry.specs.declared.rows.Kind.TheVariants as kind
 use Rattle.ct_entry.specs.declared.acts.Act.{Act}
 use Rattle.ct_entry.specs.declared.acts.Act.TheVariants.{Call, Load, Store, Allocate, Free, Trap}
@@ -10,17 +11,30 @@ use Rattle.def_words.specs.Permissions.{bit, load_data, store_data}
 use Rattle.def_reach.specs.Roots.{Listing, root_of}
 use Rattle.def_reach.specs.Sharing.{Reaches}
 
--- what the checks of instructions and routines answer: cause 28 with its code and the register that failed, 16
--- for the program counter; any other cause with zeros
+-- causes that have no code
+abbrev pub IsPlainCause : ℕ → Type 0
+IsPlainCause cause =
+    (cause ≡ MISALIGNED_FETCH) ⊎ (cause ≡ ILLEGAL_INSTRUCTION) ⊎ (cause ≡ BREAKPOINT)
+    ⊎ (cause ≡ MISALIGNED_LOAD) ⊎ (cause ≡ MISALIGNED_STORE) ⊎ (cause ≡ ENVIRONMENT_CALL)
+
+-- codes that name the program counter, and codes that name a register
+abbrev pub IsCodeOfPcc : ℕ → Type 0
+IsCodeOfPcc code =
+    (code ≡ BOUNDS_CODE) ⊎ (code ≡ TAG_CODE) ⊎ (code ≡ SEAL_CODE) ⊎ (code ≡ EXECUTE_CODE)
+    ⊎ (code ≡ SYSTEM_REGISTER_CODE)
+
+abbrev pub IsCodeOfRegister : ℕ → Type 0
+IsCodeOfRegister code =
+    (code ≡ BOUNDS_CODE) ⊎ (code ≡ TAG_CODE) ⊎ (code ≡ SEAL_CODE) ⊎ (code ≡ EXECUTE_CODE)
+    ⊎ (code ≡ LOAD_CODE) ⊎ (code ≡ STORE_CODE) ⊎ (code ≡ STORE_CAPABILITY_CODE)
+
+-- what the checks of instructions and routines answer: a capability's fault with its code and the register that
+-- failed, or the program counter; any other cause with zeros
 abbrev pub IsTrap : ℕ → ℕ → ℕ → Type 0
 IsTrap cause code register =
-    (((cause ≡ 0) ⊎ (cause ≡ 2) ⊎ (cause ≡ 3) ⊎ (cause ≡ 4) ⊎ (cause ≡ 6) ⊎ (cause ≡ 11))
-    × (code ≡ 0) × (register ≡ 0))
-    ⊎ ((cause ≡ 28) × (register ≡ 16)
-    × ((code ≡ 1) ⊎ (code ≡ 2) ⊎ (code ≡ 3) ⊎ (code ≡ 17) ⊎ (code ≡ 24)))
-    ⊎ ((cause ≡ 28) × (register < 16)
-    × ((code ≡ 1) ⊎ (code ≡ 2) ⊎ (code ≡ 3) ⊎ (code ≡ 17) ⊎ (code ≡ 18) ⊎ (code ≡ 19)
-    ⊎ (code ≡ 21)))
+    (IsPlainCause cause × (code ≡ 0) × (register ≡ 0))
+    ⊎ ((cause ≡ CAPABILITY_FAULT) × (register ≡ PCC_REGISTER) × IsCodeOfPcc code)
+    ⊎ ((cause ≡ CAPABILITY_FAULT) × (register < PCC_REGISTER) × IsCodeOfRegister code)
 
 -- a device import that the actor is reached through, with this right, and the access in its range
 abbrev pub IsDeviceAccess : Listed → Deed → ℕ → ℕ → ℕ → Type 0

@@ -1,6 +1,7 @@
 -- What the laws of the moves take of newly made capabilities. Each holds under the new one's tag, and each is
 -- proved of the capabilities that the written operations make.
 use Rattle.std.specs.Prelude.{ℕ, ◌≡◌, ◌+◌, ◌≤◌, ◌⊎◌, true}
+use Rattle.def_profile.specs.declared.seals.TheConstants.{FIRST_KEY_TYPE, RETURN_ENABLE}
 use Rattle.def_words.specs.declared.Cap.{Cap}
 use Rattle.def_words.specs.declared.Posture.{Posture}
 use Rattle.def_words.specs.Authority.{cap_address, cap_base, cap_top}
@@ -15,7 +16,7 @@ use Rattle.def_confined.specs.Capabilities.{Rooted, heap_cap}
 
 -- unsealed, or sealed by a key
 abbrev pub Loose : ℕ → Type 0
-Loose n = (n ≡ 0) ⊎ (13 ≤ n)
+Loose n = (n ≡ 0) ⊎ (FIRST_KEY_TYPE ≤ n)
 
 -- d is a result of an operation on c: within c's authority and rights, and either sealed or opened by a key,
 -- or sealed as c is
@@ -50,7 +51,7 @@ pub record IsOwn (i : Image) (b : ℕ) (c : Cap) : Type 0 where
 pub record IsReturnSentry (i : Image) (c : Cap) : Type 0 where
   pub rooted : Rooted i c
   pub kind : (root i c.shadow.root).origin ≡ TrustedPart
-  pub sealed : cap_seal c ≡ 5
+  pub sealed : cap_seal c ≡ RETURN_ENABLE
 
 -- thread t's stack up to an address
 pub record IsStackUpTo (i : Image) (t high : ℕ) (c : Cap) : Type 0 where

@@ -1,6 +1,7 @@
 -- What the laws of the moves ask of an image: how its regions, the ranges and rights of its entries, and the
 -- capabilities that boot makes stand to one another. All x are addresses.
 use Rattle.std.specs.Prelude.{ℕ, ◌≡◌, ◌%◌, ◌^◌, ◌≤◌, ◌<◌, ◌⊎◌, true, false}
+use Rattle.def_profile.specs.declared.seals.TheConstants.{SENTRY_INHERIT, SENTRY_DISABLE, SENTRY_ENABLE, RETURN_DISABLE, RETURN_ENABLE, FIRST_KEY_TYPE}
 use Rattle.def_words.specs.declared.Cap.{Cap}
 use Rattle.def_words.specs.Authority.{cap_base}
 use Rattle.def_words.specs.Permissions.{bit, has, store_data, load_data, memory_capability, execute, unsealing, sealing}
@@ -51,7 +52,7 @@ pub record BootHeld (i : Image) (n : ℕ) (c : Cap) : Type 0 where
   pub no_heap : heap_cap i c ≡ false
   pub owner : is_owned (root i c.shadow.root).origin ≡ true → (d : ℕ)
       → Reaches i.entries (root i n).owner d → Reaches i.entries (root i c.shadow.root).owner d
-  pub no_source : cap_seal c ≡ 4 → ⊥
+  pub no_source : cap_seal c ≡ RETURN_DISABLE → ⊥
 
 -- what an entry reaches through which capabilities may be loaded
 abbrev pub Loads : Image → ℕ → Cap → Region → Type 0
@@ -99,16 +100,17 @@ pub record Partitioned (i : Image) : Type 0 where
       → (a : ℕ) × ((root i n).owner ≡ Compartment a)
   pub keys : (n : ℕ) → is_root (root i n).origin ≡ true
       → (bit (root i n).rights sealing ≡ true) ⊎ (bit (root i n).rights unsealing ≡ true)
-      → 13 ≤ (root i n).base
+      → FIRST_KEY_TYPE ≤ (root i n).base
   pub executes : (n : ℕ) → is_root (root i n).origin ≡ true → bit (root i n).rights execute ≡ true
       → is_code (root i n).origin ≡ true
   pub runs_away : (n x : ℕ) → bit (root i n).rights execute ≡ true → (root i n).base ≤ x
       → x < (root i n).top → AwayFromHeap i x
   pub forwards : (n : ℕ)
-      → (cap_seal (made_cap i n) ≡ 1) ⊎ (cap_seal (made_cap i n) ≡ 2)
-      ⊎ (cap_seal (made_cap i n) ≡ 3)
+      → (cap_seal (made_cap i n) ≡ SENTRY_INHERIT)
+      ⊎ (cap_seal (made_cap i n) ≡ SENTRY_DISABLE)
+      ⊎ (cap_seal (made_cap i n) ≡ SENTRY_ENABLE)
       → ((root i n).origin ≡ Listing kind.Library) ⊎ ((root i n).origin ≡ Listing kind.Service)
-  pub disables : (n : ℕ) → cap_seal (made_cap i n) ≡ 2
+  pub disables : (n : ℕ) → cap_seal (made_cap i n) ≡ SENTRY_DISABLE
       → ((root i (root i n).of).disabled ≡ true)
       × ((d : ℕ) → Reaches i.entries (root i n).owner d
       → Reaches i.entries (root i (root i n).of).owner d)
@@ -123,7 +125,7 @@ pub record Partitioned (i : Image) : Type 0 where
       → ((root i n).rights ≡ STACK_RIGHTS) × ((root i n).top ≤ RAM_END)
   pub heap_small : i.heap_end ≤ 2 ^ 32
   pub gates_small : (n : ℕ) → (gate_for i.entries.gates n).code < 2 ^ 32
-  pub sentry : (made_cap i 0).tag ≡ true → cap_seal (made_cap i 0) ≡ 5
+  pub sentry : (made_cap i 0).tag ≡ true → cap_seal (made_cap i 0) ≡ RETURN_ENABLE
   pub boot_rooted : (k : ℕ) → region i k ≡ Fixed → (booted i k).cap.tag ≡ true
       → Rooted i (booted i k).cap
   pub boot_away : (k : ℕ) → region i k ≡ Fixed → (booted i k).cap.tag ≡ true

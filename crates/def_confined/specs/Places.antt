@@ -1,5 +1,6 @@
 -- Places, the compartments that are their domains, and what each place may hold.
 use Rattle.std.specs.Prelude.{ℕ, ◌≡◌, ◌+◌, ◌≤◌, ◌<◌, ◌⊎◌, true, false, cond, nat_lt, List, [], ◌∷◌}
+use Rattle.def_profile.specs.declared.seals.TheConstants.{RETURN_DISABLE}
 use Rattle.def_words.specs.declared.Cap.{Cap}
 use Rattle.def_words.specs.Authority.{cap_base, cap_top}
 use Rattle.def_words.specs.Seals.{cap_seal}
@@ -47,7 +48,7 @@ pub record Placed (i : Image) (objects : List Object) (domain : ℕ → Type 0) 
   pub owner : is_owned (root i c.shadow.root).origin ≡ true → (d : ℕ) → domain d
       → Reaches i.entries (root i c.shadow.root).owner d
   pub own : stack_cap i c ≡ true → stack c
-  pub source : cap_seal c ≡ 4 → (d : ℕ) → domain d
+  pub source : cap_seal c ≡ RETURN_DISABLE → (d : ℕ) → domain d
       → Reaches i.entries (root i c.shadow.source).owner d
 
 abbrev pub NoStack : Cap → Type 0

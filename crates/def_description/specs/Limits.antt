@@ -7,6 +7,7 @@ use Rattle.def_profile.specs.declared.layout.TheConstants.{REGION_UNIT}
 use Rattle.def_profile.specs.declared.limits.TheConstants.{MOST_BYTES, MOST_FILE_NAME, RAM_END, SWEEP_RATE}
 use Rattle.def_profile.specs.declared.seals.TheConstants.{FIRST_KEY_TYPE, LAST_KEY_TYPE}
 use Rattle.def_profile.specs.Versions.{most_ram, least_sweep, most_sweep}
+pub use Rattle.def_image.specs.Profile.{is_within}
 use Rattle.def_image.specs.Profile.{last_version, most_threads}
 use Rattle.def_description.specs.declared.faults.PartWord.{PartWord}
 use Rattle.def_description.specs.declared.faults.PartWord.TheVariants as part
@@ -15,9 +16,6 @@ use Rattle.def_description.specs.declared.tables.Shape.TheVariants as shape
 use Rattle.def_description.specs.Members.{number_of, number_or, text_of, text_at, list_at, list_in}
 use Rattle.def_description.specs.Tables.{Member, members_of}
 use Rattle.def_description.specs.Walk.{Spot}
-
-abbrev pub is_within : ℕ → ℕ → ℕ → Bool
-is_within low high n = nat_le low n && nat_le n high
 
 -- ---- what stands at a member
 

@@ -27,34 +27,51 @@ name_of (b ∷ bs) = if b == 0 then [] else b ∷ name_of bs
 abbrev pub are_zeros : List ℕ → Bool
 are_zeros bytes = list_all (λ b. b == 0) bytes
 
--- it has the form of a name, is none of those seen, and is what is wanted here; zeros pad it
-unfoldable pub name_checks : ℕ → Bool → List (List ℕ) → List ℕ → List Check
-name_checks at unwanted seen field =
-    check at (not (is_name (name_of field)) || among (name_of field) seen || unwanted)
+-- it has the form of a name, isn't repeated, and is what is wanted here; zeros pad it
+abbrev pub named : ℕ → Bool → Bool → List ℕ → List Check
+named at repeated unwanted field =
+    check at (not (is_name (name_of field)) || repeated || unwanted)
     ∷ check (at + length (name_of field)) (not (are_zeros (drop (length (name_of field)) field)))
     ∷ []
 
+-- it is none of those seen
+unfoldable pub name_checks : ℕ → Bool → List (List ℕ) → List ℕ → List Check
+name_checks at unwanted seen field = named at (among (name_of field) seen) unwanted field
+
 -- ---- the header
 
-abbrev pub is_missized : RawImage → Bool
-is_missized r =
-    outside LEAST_RAM (version.most_ram r.version) r.size
-    || not (r.size % REGION_UNIT == 0)
-    || nat_lt RAM_END (r.ram + r.size)
+-- RAM of this base and size, of a version
+abbrev pub missized : ℕ → ℕ → ℕ → Bool
+missized v ram size =
+    outside LEAST_RAM (version.most_ram v) size
+    || not (size % REGION_UNIT == 0)
+    || nat_lt RAM_END (ram + size)
 
-unfoldable pub header_limits : RawImage → List Check
-header_limits r =
+abbrev pub is_missized : RawImage → Bool
+is_missized r = missized r.version r.ram r.size
+
+-- how many members the lists have
+abbrev pub count_limits : RawImage → List Check
+count_limits r =
     check 8 (nat_lt most.MOST_DEVICES (length r.devices))
     ∷ check 12 (nat_lt most.MOST_OBJECTS (length r.shared))
     ∷ check 16 (nat_lt most.MOST_OBJECTS (length r.sealed))
     ∷ check 20 (nat_lt most.MOST_COMPARTMENTS (length r.compartments))
     ∷ check 24 (nat_lt most.MOST_LIBRARIES (length r.libraries))
     ∷ check 28 (nat_lt (profile.most_threads r.version) (length r.threads))
-    ∷ check 32 (outside 1 most.MOST_QUANTUM r.quantum)
+    ∷ []
+
+-- its numbers and the firmware's name
+abbrev pub number_limits : RawImage → List Check
+number_limits r =
+    check 32 (outside 1 most.MOST_QUANTUM r.quantum)
     ∷ check 36 (not (r.ram % REGION_UNIT == 0))
     ∷ check 40 (is_missized r)
     ∷ check 52 (outside (version.least_sweep r.version) (version.most_sweep r.version) r.sweep)
     ∷ name_checks (52 + rate_size r.version) false [] r.name
+
+unfoldable pub header_limits : RawImage → List Check
+header_limits r = count_limits r ++ number_limits r
 
 -- ---- devices and objects
 
@@ -79,9 +96,12 @@ shared_limits at earlier s =
 abbrev pub sealed_name : RawSealed → List ℕ
 sealed_name s = name_of s.name
 
--- its bytes fit it
+-- so many bytes don't fit an object of this length
+abbrev pub overfilled : ℕ → ℕ → Bool
+overfilled size count = outside 1 most.MOST_BYTES count || nat_lt size count
+
 abbrev pub overfills : RawSealed → Bool
-overfills s = outside 1 most.MOST_BYTES (length s.bytes) || nat_lt s.length (length s.bytes)
+overfills s = overfilled s.length (length s.bytes)
 
 unfoldable pub sealed_limits : ℕ → List RawSealed → RawSealed → List Check
 sealed_limits at earlier s =
@@ -222,37 +242,61 @@ abbrev pub exports_limits : Bounds → ℕ → ℕ → RawCode → List Check
 exports_limits b entry at c =
     walked (export_limits b (length c.text) entry) (λ x. ENTRY) at [] c.exports
 
--- `entry` is the number of its first entry
-unfoldable pub compartment_limits_by : ℕ → ℕ → List (List ℕ) → RawCompartment → List Check
-compartment_limits_by entry at seen c =
-    name_checks at false seen c.code.name
-    ++ code_limits at c.code
-    ++ check (at + 52) (outside REGION_UNIT most.MOST_BYTES c.globals_length)
+-- the numbers of a compartment's head
+abbrev pub own_numbers : ℕ → RawCompartment → List Check
+own_numbers at c =
+    check (at + 52) (outside REGION_UNIT most.MOST_BYTES c.globals_length)
     ∷ check (at + 56)
     (nat_lt most.MOST_BYTES (length c.initial) || nat_lt c.globals_length (length c.initial))
     ∷ check (at + 60) (outside 1 most.MOST_SLOTS (length c.code.slots))
     ∷ check (at + 64) (nat_lt most.MOST_EXPORTS (length c.code.exports))
-    ∷ own_slots_limits (at + COMPARTMENT_HEAD) c.code
-    ++ exports_limits compartment_bounds (entry + 2 + length c.code.slots)
-    (at + COMPARTMENT_HEAD + entries_size c.code.slots) c.code
-    ++ check (at + COMPARTMENT_HEAD + tables_size c.code + length c.initial)
+    ∷ []
+
+-- `entry` is the number of its first entry
+abbrev pub own_gates : ℕ → ℕ → RawCode → List Check
+own_gates entry at c =
+    exports_limits compartment_bounds (entry + 2 + length c.slots)
+    (at + COMPARTMENT_HEAD + entries_size c.slots) c
+
+abbrev pub dirty_padding : ℕ → RawCompartment → List Check
+dirty_padding at c =
+    check (at + COMPARTMENT_HEAD + tables_size c.code + length c.initial)
     (not (are_zeros c.padding))
     ∷ []
+
+unfoldable pub compartment_limits_by : ℕ → ℕ → List (List ℕ) → RawCompartment → List Check
+compartment_limits_by entry at seen c =
+    name_checks at false seen c.code.name
+    ++ code_limits at c.code
+    ++ own_numbers at c
+    ++ own_slots_limits (at + COMPARTMENT_HEAD) c.code
+    ++ own_gates entry at c.code
+    ++ dirty_padding at c
 
 abbrev pub compartment_limits : ℕ → List RawCompartment → RawCompartment → List Check
 compartment_limits at earlier c =
     compartment_limits_by (1 + sum_of compartment_entries earlier) at (map compartment_name earlier)
     c
 
+-- the numbers of a library's head
+abbrev pub library_numbers : ℕ → RawCode → List Check
+library_numbers at c =
+    check (at + 44) (nat_lt most.MOST_IMPORTS (length c.slots))
+    ∷ check (at + 48) (nat_lt most.MOST_EXPORTS (length c.exports))
+    ∷ []
+
+abbrev pub library_gates : ℕ → ℕ → RawCode → List Check
+library_gates entry at c =
+    exports_limits library_bounds (entry + 1 + length c.slots)
+    (at + LIBRARY_HEAD + entries_size c.slots) c
+
 unfoldable pub library_limits_by : ℕ → ℕ → List (List ℕ) → RawCode → List Check
 library_limits_by entry at seen c =
     name_checks at false seen c.name
     ++ code_limits at c
-    ++ check (at + 44) (nat_lt most.MOST_IMPORTS (length c.slots))
-    ∷ check (at + 48) (nat_lt most.MOST_EXPORTS (length c.exports))
-    ∷ slots_limits (at + LIBRARY_HEAD) c
-    ++ exports_limits library_bounds (entry + 1 + length c.slots)
-    (at + LIBRARY_HEAD + entries_size c.slots) c
+    ++ library_numbers at c
+    ++ slots_limits (at + LIBRARY_HEAD) c
+    ++ library_gates entry at c
 
 -- the number of the first library's first entry
 abbrev pub first_library_entry : RawImage → ℕ

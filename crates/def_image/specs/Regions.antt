@@ -3,7 +3,8 @@
 use Rattle.std.specs.Prelude.{ℕ, ◌+◌, ◌*◌, List, [], ◌∷◌, ◌++◌, length}
 use Rattle.ct_entry.specs.declared.rows.Owner.{Owner}
 use Rattle.ct_entry.specs.declared.rows.Owner.TheVariants.{Compartment, Library}
-use Rattle.def_profile.specs.declared.layout.TheConstants.{TABLE_HEAD, TABLE_ROW, TRUSTED_HEAD, AREA_HEAD, FRAME_SIZE}
+use Rattle.def_profile.specs.declared.layout.TheConstants.{TABLE_HEAD, TABLE_ROW, TRUSTED_HEAD}
+use Rattle.def_profile.specs.Areas.{area_length}
 use Rattle.def_layout.specs.Placement.{region_length}
 use Rattle.def_image.specs.declared.format.TheConstants.{SHARED, THREAD}
 use Rattle.def_image.specs.Parts.{SharedRow, SealedRow, CodeRow, CompartmentRow, ThreadRow, PartsRow}
@@ -47,7 +48,7 @@ table_length c = region_length (table_size c.code)
 
 -- a thread's saved registers and frames
 abbrev pub area_size : ThreadRow → ℕ
-area_size t = AREA_HEAD + FRAME_SIZE * t.frames
+area_size t = area_length t.frames
 
 abbrev pub trusted_size : List ThreadRow → ℕ
 trusted_size threads = TRUSTED_HEAD + sum_of area_size threads

@@ -1,22 +1,13 @@
 -- The edges of the *Sharing graph*, by a test of the entries.
-use Rattle.std.specs.Prelude.{ℕ, ◌+◌, ◌-◌, ◌==◌, ◌&&◌, ◌||◌, Bool, true, false, not, List, [], ◌∷◌, if◌then◌else◌}
+use Rattle.std.specs.Prelude.{ℕ, ◌+◌, ◌-◌, ◌==◌, ◌&&◌, ◌||◌, Bool, not, List, [], ◌∷◌, if◌then◌else◌}
 use Rattle.std.specs.List.{list_any, flat_map, range_with_len}
 use Rattle.ct_entry.specs.declared.rows.Entry.{Entry}
-use Rattle.ct_entry.specs.declared.rows.Kind.{Kind}
-use Rattle.ct_entry.specs.declared.rows.Kind.TheVariants as kind
 use Rattle.ct_entry.specs.declared.rows.Owner.TheVariants.{Compartment}
+use Rattle.ct_entry.specs.Kinds.{is_call, is_shared}
 use Rattle.ct_entry.specs.Listed.{Listed}
 use Rattle.def_words.specs.Permissions.{bit, memory_capability}
 use Rattle.def_reach.specs.Roots.{root_of}
 use Rattle.def_graph.specs.Reach.{same_owner}
-
-abbrev pub is_call : Kind → Bool
-is_call kind.Call = true
-is_call _ = false
-
-abbrev pub is_shared : Kind → Bool
-is_shared kind.Shared = true
-is_shared _ = false
 
 abbrev pub is_of : ℕ → Entry → Bool
 is_of a r = same_owner r.owner (Compartment a)

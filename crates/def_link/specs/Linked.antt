@@ -1,7 +1,8 @@
 -- What a description and its sources stand for: the parts of an image, or the first fault. A fault
 -- of an owner comes first; L2, that RAM hasn't room for all regions, comes after all of them.
 use Rattle.std.specs.Prelude.{ℕ, ◌+◌, ◌*◌, List, [], ◌∷◌, ◌++◌, map, length, max, take, drop, get_or, nat_lt, Result, Ok, Err, if◌then◌else◌}
-use Rattle.def_profile.specs.declared.layout.TheConstants.{SLOT_SIZE, TABLE_HEAD, TABLE_ROW, TRUSTED_HEAD, AREA_HEAD, FRAME_SIZE}
+use Rattle.def_profile.specs.Areas.{area_length}
+use Rattle.def_profile.specs.declared.layout.TheConstants.{SLOT_SIZE, TABLE_HEAD, TABLE_ROW, TRUSTED_HEAD}
 use Rattle.def_layout.specs.declared.Region.{Region}
 use Rattle.def_layout.specs.Placement.{region, placed, last_end, needed}
 use Rattle.def_image.specs.Sizes.{sum_of}
@@ -53,7 +54,7 @@ compartment_sizes (x ∷ xs) =
 
 -- saved registers and frames
 abbrev pub area_size : ThreadRow → ℕ
-area_size t = AREA_HEAD + FRAME_SIZE * t.frames
+area_size t = area_length t.frames
 
 abbrev pub sizes_of : DescRow → List BuiltCompartment → List BuiltLibrary → List ℕ
 sizes_of d cs ls =

@@ -1,15 +1,16 @@
 -- The compartments and libraries of a description, one after another, each with its text, initial
 -- bytes and labels; or the first fault of one.
-use Rattle.std.specs.Prelude.{ℕ, ◌+◌, ◌%◌, List, [], ◌∷◌, ◌++◌, map, drop, length, Bool, true, false, ◌&&◌, ◌==◌, nat_lt, Option, Some, None, option_and_then, is_none, Result, Ok, Err, if◌then◌else◌}
+use Rattle.std.specs.Prelude.{ℕ, ◌+◌, ◌%◌, List, [], ◌∷◌, ◌++◌, map, drop, length, Bool, ◌&&◌, ◌==◌, nat_lt, Option, Some, None, option_and_then, is_none, Result, Ok, Err, if◌then◌else◌}
 use Rattle.std.specs.List.{flat_map}
 use Rattle.ct_entry.specs.declared.rows.Owner.{Owner}
 use Rattle.ct_entry.specs.declared.rows.Owner.TheVariants.{Compartment, Library}
+use Rattle.ct_entry.specs.Kinds.{is_library}
 use Rattle.def_source.specs.declared.AsmFault.{AsmFault}
 use Rattle.def_source.specs.declared.AsmFault.TheVariants as asm
-use Rattle.def_source.specs.Source.{Statements, program_of, is_text}
+use Rattle.def_source.specs.Source.{Statements, program_of}
 use Rattle.def_object.specs.declared.Fault.{Fault}
 use Rattle.def_object.specs.declared.Label.{Label}
-use Rattle.def_object.specs.Object.{undeclared_in, fault_in, label_in, text_of, initial_of, word_bytes}
+use Rattle.def_object.specs.Object.{undeclared_in, fault_in, label_in, text_of, text_offset, initial_of, word_bytes}
 use Rattle.def_description.specs.Named.{slot_names, library_slot_names}
 use Rattle.def_description.specs.Rows.{CodeRow, AtRow, ExportRow, CompartmentRow, LexportRow, LibraryRow, DescRow}
 use Rattle.def_link.specs.declared.LinkFault.{LinkFault}
@@ -88,13 +89,9 @@ built owner slots code source = built_by owner slots code.words source code.file
 -- ---- exports
 
 -- the offset that an export's place says: that of a label of the text, or the number itself
-abbrev pub text_label : Option Label → Option ℕ
-text_label None = None
-text_label (Some l) = if is_text l.section then Some l.offset else None
-
 abbrev pub label_or : Built → Option (List ℕ) → ℕ → Option ℕ
 label_or b None offset = Some offset
-label_or b (Some name) offset = text_label (b.labels name)
+label_or b (Some name) offset = text_offset (b.labels name)
 
 -- a multiple of 4 below the text's length
 abbrev pub is_begin : Built → ℕ → Bool
@@ -111,10 +108,6 @@ first_lost b n [] = None
 first_lost b n (at ∷ ats) = if is_none (begin_of b at) then Some n else first_lost b (n + 1) ats
 
 -- ---- an owner, and all of them
-
-abbrev pub is_library : Owner → Bool
-is_library (Library i) = true
-is_library _ = false
 
 -- L4: a library has no globals, so no initial bytes
 abbrev pub has_stray_bytes : Owner → Built → Bool

@@ -1,5 +1,6 @@
 -- Calls, returns and unwinds, whole.
 use Rattle.std.specs.Prelude.{ℕ, ◌+◌, ◌-◌, true, false, List, [], ◌∷◌, Option, cond, nat_lt, slice_set}
+use Rattle.def_profile.specs.declared.answers.TheConstants.{UNWOUND}
 use Rattle.def_profile.specs.declared.rights.TheConstants.{STACK_RIGHTS}
 use Rattle.def_words.specs.declared.Cap.{Cap}
 use Rattle.def_words.specs.declared.Posture.{Posture}
@@ -44,6 +45,7 @@ given i old t callee export high = record {
   globals = made_cap i (globals_entry i callee);
 }
 
+-- the frame of a call, with what it saves of its caller
 abbrev pub pushed_frame : Thread → ℕ → ℕ → ℕ → Frame
 pushed_frame old callee export high = record {
   actor = callee;
@@ -137,5 +139,5 @@ abbrev pub unwound : Image → State → ℕ → List Frame → State
 unwound i s t [] = s
 unwound i s t (f ∷ []) = switched i s t f.top nobody Option.None
 unwound i s t (f ∷ g ∷ gs) =
-    switched i s t f.top (left_by i s (thread s t) f (g ∷ gs) (plain 0xFFFFFFFF) (plain 0))
+    switched i s t f.top (left_by i s (thread s t) f (g ∷ gs) (plain UNWOUND) (plain 0))
     s.running

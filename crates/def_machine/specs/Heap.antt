@@ -1,6 +1,7 @@
 -- *Heap*: places, allocation, free and the sweep.
 use Rattle.std.specs.Prelude.{ℕ, ◌+◌, ◌-◌, ◌*◌, ◌/◌, ◌%◌, ◌≡◌, ◌≤◌, ◌<◌, ◌==◌, ◌&&◌, ◌||◌, Bool, true, false, cond, nat_le, List, [], ◌∷◌, map, length, min, nat_lt, find, Option, Some, None}
 use Rattle.std.specs.List.{range_with_len, list_all}
+use Rattle.def_profile.specs.Areas.{frame_after}
 use Rattle.def_profile.specs.declared.layout.TheConstants.{CHUNK_HEAD}
 use Rattle.def_profile.specs.declared.rights.TheConstants.{HEAP_RIGHTS}
 use Rattle.def_words.specs.declared.Cap.{Cap}
@@ -12,7 +13,7 @@ use Rattle.def_machine.specs.Image.{Image, area_of}
 use Rattle.def_machine.specs.State.{State, Thread, Frame, Object, thread}
 use Rattle.def_machine.specs.Memory.{filtered}
 use Rattle.def_machine.specs.Registers.{with_registers}
-use Rattle.def_machine.specs.Objects.{Each, ApartFrom, quarantine, placed_among, has_quarantined, painted, unpainted, is_painted_at}
+use Rattle.def_machine.specs.Objects.{Each, ApartFrom, live_object, quarantine, placed_among, has_quarantined, painted, unpainted, is_painted_at}
 
 -- the length of an object of this size, and what it takes from its quota
 abbrev pub length_for : ℕ → ℕ
@@ -27,20 +28,7 @@ pub record Fits (i : Image) (objects : List Object) (length base : ℕ) : Type 0
   pub aligned : base % alignment_of length ≡ 0
   pub low : i.heap_base + CHUNK_HEAD ≤ base
   pub high : base + length ≤ i.heap_end
-  pub apart : Each
-      (λ q.
-      ApartFrom
-      (record {
-        number = 0;
-        quota = 0;
-        base = base;
-        length = length;
-        charge = 0;
-        live = true;
-        painted = false;
-      })
-      q)
-      objects
+  pub apart : Each (λ q. ApartFrom (live_object 0 0 base length) q) objects
 
 -- the least lawful place
 pub record IsPlaceFor (i : Image) (objects : List Object) (length base : ℕ) : Type 0 where
@@ -63,15 +51,7 @@ place_of i objects length =
 
 -- a new object of this size at this place, charged to this quota
 abbrev pub new_object : State → ℕ → ℕ → ℕ → Object
-new_object s quota size base = record {
-  number = s.next;
-  quota = quota;
-  base = base;
-  length = length_for size;
-  charge = charge_for size;
-  live = true;
-  painted = false;
-}
+new_object s quota size base = live_object s.next quota base (length_for size)
 
 -- the capability of an object: its quota's root, its number as source
 abbrev pub object_cap : Object → Cap
@@ -129,7 +109,7 @@ sliced_frame i s low high at f = record f {
 abbrev pub sliced_frames : Image → State → ℕ → ℕ → ℕ → List Frame → List Frame
 sliced_frames i s low high area [] = []
 sliced_frames i s low high area (f ∷ fs) =
-    sliced_frame i s low high (area + 160 + 64 * length fs) f ∷ sliced_frames i s low high area fs
+    sliced_frame i s low high (frame_after area (length fs)) f ∷ sliced_frames i s low high area fs
 
 abbrev pub sliced_registers : Image → State → ℕ → ℕ → ℕ → List Cap → List Cap
 sliced_registers i s low high at [] = []

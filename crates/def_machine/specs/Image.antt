@@ -1,5 +1,6 @@
 -- The part of a running firmware that never changes.
 use Rattle.std.specs.Prelude.{ℕ, ◌+◌, ◌-◌, ◌*◌, ◌/◌, List, [], ◌∷◌, take, slice_index_or}
+use Rattle.def_profile.specs.Areas.{area_length}
 use Rattle.def_words.specs.declared.Cap.{Cap}
 use Rattle.def_memory.specs.declared.Granule.{Granule}
 use Rattle.def_memory.specs.Granules.{plain, nothing}
@@ -74,11 +75,11 @@ granule_of i x = (x - i.ram) / 8
 abbrev pub address_of : Image → ℕ → ℕ
 address_of i k = i.ram + 8 * k
 
--- ---- the threads' areas: 160 bytes, and 64 for each frame that a thread may have
+-- ---- the threads' areas, each with room for as many frames as its thread may have
 
 abbrev pub areas_size : List ℕ → ℕ
 areas_size [] = 0
-areas_size (n ∷ ns) = 160 + 64 * n + areas_size ns
+areas_size (n ∷ ns) = area_length n + areas_size ns
 
 abbrev pub frames_most : Image → ℕ → ℕ
 frames_most i t = slice_index_or i.frames t 0

@@ -1,5 +1,5 @@
 -- What stores do, and the load filter.
-use Rattle.std.specs.Prelude.{ℕ, ◌-◌, ◌/◌, ◌&&◌, nat_le, Bool, List, cond}
+use Rattle.std.specs.Prelude.{ℕ, ◌+◌, ◌-◌, ◌*◌, ◌/◌, ◌&&◌, nat_le, Bool, List, length, cond}
 use Rattle.def_words.specs.declared.Cap.{Cap}
 use Rattle.def_words.specs.Authority.{cap_base}
 use Rattle.def_words.specs.Capability.{untagged}
@@ -9,6 +9,10 @@ use Rattle.def_memory.specs.Granules.{granule_at}
 use Rattle.def_memory.specs.Accesses.{stored, stored_cap}
 use Rattle.def_machine.specs.Image.{Image, granule_of}
 use Rattle.def_machine.specs.State.{State, granule}
+
+-- so many bytes at an address lie in the memory that begins at `ram`
+abbrev pub lies_in : ℕ → List Granule → ℕ → ℕ → Bool
+lies_in ram gs at width = nat_le ram at && nat_le (at + width) (ram + 8 * length gs)
 
 -- a capability is stored at an address of RAM: what is stored is what `by` lets through
 abbrev pub cap_stored : Image → State → ℕ → Cap → Cap → State

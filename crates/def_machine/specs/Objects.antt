@@ -1,7 +1,19 @@
 -- Objects of the heap as rows: what is live, what is quarantined, what a quota is charged with.
-use Rattle.std.specs.Prelude.{ℕ, ◌+◌, ◌≤◌, ◌<◌, ◌⊎◌, ◌&&◌, ◌||◌, Bool, false, not, List, [], ◌∷◌, cond, map, nat_eq, nat_le, nat_lt}
+use Rattle.std.specs.Prelude.{ℕ, ◌+◌, ◌≤◌, ◌<◌, ◌⊎◌, ◌&&◌, ◌||◌, Bool, true, false, not, List, [], ◌∷◌, cond, map, nat_eq, nat_le, nat_lt}
 use Rattle.def_profile.specs.declared.layout.TheConstants.{CHUNK_HEAD}
 use Rattle.def_machine.specs.State.{Object}
+
+-- a live object of so many bytes, with its number, its quota and where it begins
+abbrev pub live_object : ℕ → ℕ → ℕ → ℕ → Object
+live_object number quota base length = record {
+  number = number;
+  quota = quota;
+  base = base;
+  length = length;
+  charge = length + CHUNK_HEAD;
+  live = true;
+  painted = false;
+}
 
 -- one of the elements
 abbrev pub Any : {A : Type 0} → (A → Type 0) → List A → Type 0

@@ -1,5 +1,5 @@
 -- *State*: everything that an event may change.
-use Rattle.std.specs.Prelude.{ℕ, Bool, false, List, [], Option, slice_index_or}
+use Rattle.std.specs.Prelude.{ℕ, Bool, false, List, [], Option, None, slice_index_or}
 use Rattle.def_words.specs.declared.Cap.{Cap}
 use Rattle.def_words.specs.declared.Posture.{Posture}
 pub use Rattle.def_sched.specs.declared.Status.{Status}
@@ -81,6 +81,51 @@ pub record State : Type 0 where
   pub time : ℕ
   pub picks : List ℕ
   pub counts : Counts
+
+-- before any event
+abbrev pub no_counts : Counts
+no_counts = record {
+  steps = 0;
+  ticks = 0;
+  sweeps = 0;
+  inputs = 0;
+  calls = 0;
+  loads = 0;
+  stores = 0;
+  frees = 0;
+  traps = 0;
+}
+
+-- none runs, and no object was made
+abbrev pub at_rest : List Granule → List Thread → List DeviceState → List ℕ → State
+at_rest granules threads devices picks = record {
+  granules = granules;
+  threads = threads;
+  running = None;
+  pending = false;
+  objects = [];
+  next = 1;
+  tokens = [];
+  front = None;
+  devices = devices;
+  time = 0;
+  picks = picks;
+  counts = no_counts;
+}
+
+-- the outermost frame of a thread, which has no caller: its compartment, its export, its top
+abbrev pub outermost : ℕ → ℕ → ℕ → Frame
+outermost actor export top = record {
+  actor = actor;
+  export = export;
+  top = top;
+  handling = false;
+  c1 = plain 0;
+  c2 = plain 0;
+  c3 = plain 0;
+  c8 = plain 0;
+  c9 = plain 0;
+}
 
 abbrev pub interrupts_on : Posture
 interrupts_on = record { off = false; source = 0 }

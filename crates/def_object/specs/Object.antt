@@ -93,6 +93,11 @@ label_in all name = label_from name start 0 all
 abbrev pub Labels : Type 0
 Labels = Name → Option Label
 
+-- the offset of a label of the text
+abbrev pub text_offset : Option Label → Option ℕ
+text_offset None = None
+text_offset (Some l) = if is_text l.section then Some l.offset else None
+
 -- ---- faults
 
 -- whether a label lies within a reach that is even, backwards by at most so many bytes and forwards by two less

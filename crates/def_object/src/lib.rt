@@ -6,7 +6,7 @@
 use def_source::parts::Section;
 
 /// Where a statement stands: its section, and how many bytes of each section stand before it.
-#[derive(Clone, Copy, PartialEq, Eq, Drop)]
+#[derive(Clone, Copy, Drop)]
 pub struct Place {
     pub section: Section,
     pub text: u128,
@@ -15,7 +15,7 @@ pub struct Place {
 
 /// A label: the section in which it is defined, how many bytes of that section stand before it, and
 /// how many labels and statements stand before it.
-#[derive(Clone, Copy, PartialEq, Eq, Drop)]
+#[derive(Clone, Copy, Drop)]
 pub struct Label {
     pub section: Section,
     pub offset: u128,
@@ -23,7 +23,7 @@ pub struct Label {
 }
 
 /// A fault by its number, and its line.
-#[derive(Clone, Copy, PartialEq, Eq, Drop)]
+#[derive(Clone, Copy, Drop)]
 pub struct Fault {
     pub number: u32,
     pub line: u32,

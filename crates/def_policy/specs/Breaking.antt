@@ -1,36 +1,16 @@
 -- Which entries of a report break a rule, and when a policy holds of a report.
-use Rattle.std.specs.Prelude.{ℕ, ◌≡◌, ◌+◌, ◌==◌, ◌&&◌, nat_lt, Bool, true, false, not, List, [], ◌∷◌, ◌++◌, All, if◌then◌else◌}
+use Rattle.std.specs.Prelude.{ℕ, ◌≡◌, ◌+◌, ◌==◌, ◌&&◌, nat_lt, Bool, false, not, List, [], ◌∷◌, ◌++◌, All, if◌then◌else◌}
 use Rattle.std.specs.List.{list_any}
 use Rattle.ct_entry.specs.declared.rows.Entry.{Entry}
 use Rattle.ct_entry.specs.declared.rows.Gate.{Gate}
-use Rattle.ct_entry.specs.declared.rows.Kind.{Kind}
-use Rattle.ct_entry.specs.declared.rows.Kind.TheVariants as kind
 use Rattle.ct_entry.specs.declared.rows.Owner.{Owner}
+use Rattle.ct_entry.specs.Kinds.{is_device, is_shared, is_call, is_service, is_quota, is_export}
 use Rattle.ct_entry.specs.Listed.{Listed}
 use Rattle.def_reach.specs.Roots.{gate_for, is_disabled}
 use Rattle.def_graph.specs.Reach.{Reached, same_owner}
-pub use Rattle.def_lines.specs.Edges.{is_call, is_shared}
 use Rattle.def_policy.specs.declared.Subject.{Subject}
 use Rattle.def_policy.specs.declared.Subject.TheVariants.{Device, Shared, Service, Call, Disabled, Data, Total, Quota, Apart}
 use Rattle.def_policy.specs.Rulings.{Ruling}
-
--- ---- kinds
-
-abbrev pub is_device : Kind → Bool
-is_device kind.Device = true
-is_device _ = false
-
-abbrev pub is_service : Kind → Bool
-is_service kind.Service = true
-is_service _ = false
-
-abbrev pub is_quota : Kind → Bool
-is_quota kind.Quota = true
-is_quota _ = false
-
-abbrev pub is_export : Kind → Bool
-is_export kind.Export = true
-is_export _ = false
 
 -- ---- one entry
 

@@ -1,4 +1,5 @@
-//! What native routines answer where they refuse: the numbers here, negated.
+//! What native routines answer where they refuse: the numbers here, negated. The last one, which
+//! callers get of frames that a trap ended, stands as it is.
 
 /// No quota was given.
 pub const NO_QUOTA: u32 = 1;
@@ -22,3 +23,6 @@ pub const NO_STACK: u32 = 11;
 pub const TOO_DEEP: u32 = 12;
 /// The word that was to be waited for holds another value.
 pub const DIFFERS: u32 = 21;
+
+/// What a caller gets in c10 of a frame that a trap ended; c11 is zero.
+pub const UNWOUND: u32 = 0xFFFF_FFFF;

@@ -39,6 +39,14 @@ pub const MOST_KEYS: u32 = 3;
 pub const MOST_SLOTS: u32 = 1 + MOST_IMPORTS + MOST_QUOTAS + MOST_KEYS;
 /// Exports of an owner.
 pub const MOST_EXPORTS: u32 = 64;
+/// Report entries of a compartment: its code, its globals, its slots and its exports.
+pub const MOST_COMPARTMENT_ENTRIES: u32 = 2 + MOST_SLOTS + MOST_EXPORTS;
+/// Report entries of a library: its code, its imports and its exports.
+pub const MOST_LIBRARY_ENTRIES: u32 = 1 + MOST_IMPORTS + MOST_EXPORTS;
+/// Report entries of all compartments.
+pub const MOST_OWN_ENTRIES: u32 = MOST_COMPARTMENTS * MOST_COMPARTMENT_ENTRIES;
+/// Report entries of all libraries.
+pub const MOST_SHARED_ENTRIES: u32 = MOST_LIBRARIES * MOST_LIBRARY_ENTRIES;
 /// Arguments of an export.
 pub const MOST_ARGUMENTS: u32 = 6;
 

@@ -2,6 +2,7 @@
 use Rattle.std.specs.Prelude.{ℕ, ◌+◌, ◌-◌, ◌*◌, ◌^◌, ◌==◌, List, [], ◌∷◌, length, Bool, true, false, not, ◌&&◌, ◌||◌, nat_le, Option, Some, None, option_map, bytes_eq, codes, if◌then◌else◌}
 use Rattle.std.specs.List.{list_all}
 use Rattle.def_profile.specs.declared.limits.TheConstants.{MOST_STEPS}
+pub use Rattle.def_names.specs.Names.{is_digit}
 use Rattle.def_program.specs.declared.TheConstants.{MOST_NUMBER}
 
 -- the names of files and owners, the limit of a run in steps, and its script where it has one; the
@@ -17,9 +18,6 @@ pub data Command : Type 0 where
   Demo : ℕ → Command
 
 -- ---- a limit: decimal digits without sign or leading zero, of 1 to 4,000,000,000
-
-abbrev pub is_digit : ℕ → Bool
-is_digit c = nat_le 48 c && nat_le c 57
 
 -- the number that decimal digits spell
 abbrev pub value_of : List ℕ → ℕ

@@ -1,16 +1,17 @@
 //! Statements, and the pieces of which lines are made. `N` is what stands for a name: its text in
 //! the code, its bytes in definitions.
 
-ghost use Rattle.std.specs.Prelude.{◌≡◌};
+ghost use Rattle.std.specs.Prelude.{◌≡◌, ⊤};
 ghost use Rattle.def_source.specs.Source.{is_text, is_data};
 
 use def_instr::shapes::{
     BranchOperation, ImmediateOperation, LoadOperation, RegisterOperation, SourceOperation,
     StoreOperation, UpperOperation,
 };
+use std::alloc::AllocError;
 
 /// The mnemonics without operands.
-#[derive(Clone, Copy, PartialEq, Eq, Drop)]
+#[derive(Clone, Copy, Drop)]
 pub enum BareOperation {
     Fence,
     Ecall,
@@ -25,7 +26,7 @@ pub struct Number {
 }
 
 /// A token of a line. A directive's name is without its point.
-#[derive(Clone, Copy, Drop)]
+#[derive(Drop)]
 pub enum Token<N> {
     Name(N),
     Directive(N),
@@ -63,7 +64,7 @@ impl Section {
 }
 
 /// Where a branch or a jump goes: to a label, or by an offset in bytes.
-#[derive(Clone, Copy, Drop)]
+#[derive(Copy, Drop)]
 pub enum Target<N> {
     Label(N),
     Offset(Number),
@@ -71,7 +72,7 @@ pub enum Target<N> {
 
 /// A label or a statement. Registers are numbers below 32 as they are read, below 16 where they are
 /// lawful.
-#[derive(Clone, Copy, Drop)]
+#[derive(Copy, Drop)]
 pub enum Part<N> {
     /// `name:`
     Label {
@@ -219,15 +220,35 @@ pub enum Part<N> {
 }
 
 /// What stands on one line.
-#[derive(Clone, Copy, Drop)]
+#[derive(Drop)]
 pub struct Line<N> {
     pub label: Option<N>,
     pub part: Option<Part<N>>,
 }
 
 /// A label or a statement, and its line, counted from 1.
-#[derive(Clone, Copy, Drop)]
+#[derive(Drop)]
 pub struct Statement<N> {
     pub line: u32,
     pub part: Part<N>,
+}
+
+impl<N: Copy> Clone for Target<N> {
+    ghost is_clone = { λ s r. r ≡ s };
+
+    ghost is_infallible = { λ _. ⊤ };
+
+    fn clone(&self) -> Result<Target<N>, AllocError> {
+        Ok(*self)
+    }
+}
+
+impl<N: Copy> Clone for Part<N> {
+    ghost is_clone = { λ s r. r ≡ s };
+
+    ghost is_infallible = { λ _. ⊤ };
+
+    fn clone(&self) -> Result<Part<N>, AllocError> {
+        Ok(*self)
+    }
 }

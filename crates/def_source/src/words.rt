@@ -9,7 +9,7 @@ use def_instr::shapes::{
 
 /// What a statement's first word says: an operation by its operand form, a jump, or a pseudo
 /// instruction.
-#[derive(Clone, Copy, PartialEq, Eq, Drop)]
+#[derive(Clone, Copy, Drop)]
 pub enum Head {
     Registers(RegisterOperation),
     Immediate(ImmediateOperation),
@@ -50,7 +50,7 @@ pub enum Head {
 }
 
 /// A directive.
-#[derive(Clone, Copy, PartialEq, Eq, Drop)]
+#[derive(Clone, Copy, Drop)]
 pub enum Directive {
     Text,
     Data,

@@ -1,5 +1,5 @@
 -- Loads and stores: their checks, what they give and what they leave.
-use Rattle.std.specs.Prelude.{ℕ, ◌+◌, ◌-◌, ◌*◌, ◌/◌, ◌%◌, ◌^◌, ◌==◌, ◌&&◌, ◌||◌, Bool, true, false, not, nat_le, List, [], ◌∷◌, length, Option, Some, None, is_some, Result, Ok, Err, if◌then◌else◌}
+use Rattle.std.specs.Prelude.{ℕ, ◌+◌, ◌-◌, ◌*◌, ◌/◌, ◌%◌, ◌^◌, ◌==◌, ◌&&◌, ◌||◌, Bool, true, false, not, List, [], ◌∷◌, Option, Some, None, is_some, Result, Ok, Err, if◌then◌else◌}
 use Rattle.ct_entry.specs.declared.acts.Act.{Act}
 use Rattle.ct_entry.specs.declared.acts.Act.TheVariants.{Load, Store}
 use Rattle.def_words.specs.declared.Cap.{Cap}
@@ -14,7 +14,7 @@ use Rattle.def_memory.specs.Accesses.{loaded, stored, loaded_cap, stored_cap}
 use Rattle.def_instr.specs.declared.Instr.{Instr}
 use Rattle.def_instr.specs.declared.Instr.TheVariants.{Lb, Lh, Lw, Clc, Lbu, Lhu, Sb, Sh, Sw, Csc}
 use Rattle.def_bits.specs.Bits.{extended}
-use Rattle.def_machine.specs.Memory.{filtered_in}
+use Rattle.def_machine.specs.Memory.{filtered_in, lies_in}
 use Rattle.def_step.specs.declared.Access.{Access}
 use Rattle.def_profile.specs.declared.traps.TheConstants.{BOUNDS_CODE, TAG_CODE, SEAL_CODE, LOAD_CODE, STORE_CODE, STORE_CAPABILITY_CODE, MISALIGNED_LOAD, MISALIGNED_STORE}
 use Rattle.def_words.specs.Traps.{capability_trap, plain_trap}
@@ -102,7 +102,7 @@ pub record Accessed : Type 0 where
 
 -- whether so many bytes lie in RAM
 abbrev pub is_ram : Space → ℕ → ℕ → Bool
-is_ram p at width = nat_le p.ram at && nat_le (at + width) (p.ram + 8 * length p.granules)
+is_ram p at width = lies_in p.ram p.granules at width
 
 -- a loaded number as a 32-bit word
 abbrev pub widened : Access → ℕ → ℕ

@@ -1,6 +1,7 @@
 -- *Handler*: where a trap enters the error handler of the thread's compartment, how, and how the handler ends.
 use Rattle.std.specs.Prelude.{ℕ, ◌+◌, ◌-◌, ◌*◌, ◌/◌, ◌^◌, ◌==◌, ◌&&◌, ◌++◌, Bool, not, nat_le, List, [], ◌∷◌, map, Option, Some, None, is_none, slice_index_or, slice_set, if◌then◌else◌}
 use Rattle.std.specs.List.{range_with_len}
+use Rattle.def_profile.specs.declared.answers.TheConstants.{UNWOUND}
 use Rattle.def_words.specs.declared.Cap.{Cap}
 use Rattle.def_words.specs.declared.Trap.{Trap}
 use Rattle.def_words.specs.Authority.{cap_address}
@@ -90,7 +91,7 @@ handler_answers old = cap_address (register old 10) == 1
 -- what its caller gets in c10; c11 is zero
 abbrev pub handler_answer : Thread → Cap
 handler_answer old =
-    if handler_answers old then integer (cap_address (register old 11)) else integer 4294967295
+    if handler_answers old then integer (cap_address (register old 11)) else integer UNWOUND
 
 -- the frame ends, as by a return, with these results
 abbrev pub handler_left : Image → State → ℕ → List Frame → State

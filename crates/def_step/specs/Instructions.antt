@@ -1,5 +1,5 @@
 -- *Instruction step*: one instruction of a thread.
-use Rattle.std.specs.Prelude.{ℕ, ◌+◌, ◌-◌, ◌*◌, ◌/◌, ◌%◌, ◌==◌, ◌&&◌, Bool, nat_le, nat_lt, List, [], ◌∷◌, length, Option, Some, None, option_map, unwrap_or, Result, Ok, Err, slice_set, if◌then◌else◌}
+use Rattle.std.specs.Prelude.{ℕ, ◌+◌, ◌-◌, ◌*◌, ◌/◌, ◌%◌, ◌==◌, ◌&&◌, Bool, nat_le, nat_lt, List, [], ◌∷◌, Option, Some, None, option_map, unwrap_or, Result, Ok, Err, slice_set, if◌then◌else◌}
 use Rattle.ct_entry.specs.declared.acts.Act.{Act}
 use Rattle.ct_entry.specs.declared.acts.Act.TheVariants.{Trap}
 use Rattle.ct_entry.specs.declared.acts.Deed.{Deed}
@@ -31,7 +31,7 @@ use Rattle.def_profile.specs.declared.traps.TheConstants.{BOUNDS_CODE, TAG_CODE,
 use Rattle.def_words.specs.Traps.{capability_trap, plain_trap}
 use Rattle.def_step.specs.Checks.{Check, first_failed}
 use Rattle.def_step.specs.Devices.{Bank}
-use Rattle.def_step.specs.Accesses.{Space, Accessed, access_result}
+use Rattle.def_step.specs.Accesses.{is_ram, Space, Accessed, access_result}
 use Rattle.def_step.specs.Jumps.{Flowed, flow_result}
 use Rattle.def_step.specs.Operands.{operands_of, class_of}
 use Rattle.def_step.specs.Routines.{Ran, Traps, Leaves}
@@ -129,7 +129,7 @@ fetch_checks pcc =
 -- the word at an address; what isn't an aligned word of RAM is no instruction, and no pcc leads there
 abbrev pub fetched : Space → ℕ → ℕ
 fetched p at =
-    if nat_le p.ram at && nat_le (at + 4) (p.ram + 8 * length p.granules) && (at % 4 == 0)
+    if is_ram p at 4 && (at % 4 == 0)
     then loaded p.granules (at - p.ram) 4
     else 0
 

@@ -1,6 +1,6 @@
 -- Native routines: how they answer, and those of the switcher and the scheduler. A routine traps at a check, or leaves a
 -- state, with what it did and the entry that it did it by.
-use Rattle.std.specs.Prelude.{ℕ, ◌+◌, ◌-◌, ◌*◌, ◌%◌, ◌==◌, ◌&&◌, Bool, nat_le, length, List, [], ◌∷◌, Option, Some, None, if◌then◌else◌}
+use Rattle.std.specs.Prelude.{ℕ, ◌+◌, ◌-◌, ◌%◌, ◌==◌, ◌&&◌, Bool, List, [], ◌∷◌, Option, Some, None, if◌then◌else◌}
 use Rattle.ct_entry.specs.declared.acts.Act.{Act}
 use Rattle.ct_entry.specs.declared.acts.Act.TheVariants.{Call}
 use Rattle.def_profile.specs.declared.answers.TheConstants.{NO_STACK, TOO_DEEP, DIFFERS}
@@ -17,6 +17,7 @@ use Rattle.def_sched.specs.Statuses.{asleep, awaiting, woken, woken_count}
 use Rattle.def_reach.specs.Roots.{compartment_of}
 use Rattle.def_machine.specs.Image.{Image, root, stack_base, frames_most}
 use Rattle.def_machine.specs.State.{State, Thread, thread, register}
+use Rattle.def_machine.specs.Memory.{lies_in}
 use Rattle.def_machine.specs.Registers.{written, with_thread}
 use Rattle.def_machine.specs.Threads.{resumed, with_status, statuses_of, with_statuses}
 use Rattle.def_machine.specs.Frames.{switched, given, entered}
@@ -101,7 +102,7 @@ sleep s t =
 -- ---- 4 and 5, wait and wake
 
 abbrev pub lies_in_ram : Image → State → ℕ → ℕ → Bool
-lies_in_ram i s at width = nat_le i.ram at && nat_le (at + width) (i.ram + 8 * length s.granules)
+lies_in_ram i s at width = lies_in i.ram s.granules at width
 
 -- c10 as a load of four bytes of RAM
 abbrev pub word_checks : Image → State → Cap → List Check

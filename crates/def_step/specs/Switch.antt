@@ -1,6 +1,7 @@
 -- *Threads and frames*: the switch. Its checks, the room that it gives a callee, and what it comes to.
 use Rattle.std.specs.Prelude.{ℕ, ◌+◌, ◌-◌, ◌*◌, ◌/◌, ◌^◌, ◌==◌, ◌&&◌, ◌++◌, Bool, nat_le, nat_lt, find, length, List, [], ◌∷◌, Option, Some, None, unwrap_or, if◌then◌else◌}
 use Rattle.std.specs.List.{range_with_len}
+use Rattle.def_profile.specs.declared.bounds.TheConstants.{LAST_EXPONENT, MOST_UNITS}
 use Rattle.def_profile.specs.declared.seals.TheConstants.{RETURN_DISABLE, RETURN_ENABLE, EXPORT_TYPE}
 use Rattle.ct_entry.specs.Listed.{Listed}
 use Rattle.def_words.specs.declared.Cap.{Cap}
@@ -48,7 +49,10 @@ switch_checks base top caller =
 
 -- the least e of 4 to 14 at which a length has at most 511 units of 2^e
 abbrev pub room_exponent : ℕ → ℕ
-room_exponent length = unwrap_or (find (λ e. nat_le (length / 2 ^ e) 511) (range_with_len 4 11)) 14
+room_exponent length =
+    unwrap_or
+    (find (λ e. nat_le (length / 2 ^ e) MOST_UNITS) (range_with_len 4 (LAST_EXPONENT - 3)))
+    LAST_EXPONENT
 
 abbrev pub room_of : ℕ → ℕ
 room_of length = length / 2 ^ room_exponent length * 2 ^ room_exponent length

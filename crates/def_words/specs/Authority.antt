@@ -4,6 +4,7 @@
 -- permission bits, three bits of seal field, four of E, nine of B and nine of T. The formulas are this
 -- profile's own, after the idea of the CHERIoT Architecture Specification.
 use Rattle.std.specs.Prelude.{ℕ, ◌+◌, ◌-◌, ◌*◌, ◌/◌, ◌%◌, ◌^◌, ◌==◌, nat_lt, if◌then◌else◌}
+use Rattle.def_profile.specs.declared.bounds.TheConstants.{WIDEST_EXPONENT, WIDEST_FIELD}
 use Rattle.def_words.specs.declared.Bounds.{Bounds}
 use Rattle.def_words.specs.declared.Cap.{Cap}
 
@@ -31,7 +32,8 @@ top_field high = high % 512
 
 -- E of 15 stands for 24
 abbrev pub exponent_of : ℕ → ℕ
-exponent_of high = if exponent_field high == 15 then 24 else exponent_field high
+exponent_of high =
+    if exponent_field high == WIDEST_FIELD then WIDEST_EXPONENT else exponent_field high
 
 abbrev pub one_if_less : ℕ → ℕ → ℕ
 one_if_less a b = if nat_lt a b then 1 else 0

@@ -1,5 +1,6 @@
 -- *Least bounds*: the bounds that a word can spell around a range, with the least exponent that serves.
 use Rattle.std.specs.Prelude.{ℕ, zero, suc, ◌+◌, ◌-◌, ◌*◌, ◌/◌, ◌%◌, ◌^◌, ◌==◌, ◌≡◌, ◌<◌, ◌≤◌, ◌⊎◌, ◌&&◌, nat_le, if◌then◌else◌}
+use Rattle.def_profile.specs.declared.bounds.TheConstants.{LAST_EXPONENT, WIDEST_EXPONENT, WIDEST_FIELD, MOST_UNITS}
 use Rattle.def_words.specs.declared.Rounded.{Rounded}
 use Rattle.def_words.specs.Authority.{base_of, top_of}
 
@@ -15,22 +16,22 @@ units base top exponent = ceil_units top exponent - floor_units base exponent
 
 -- the least e from 0 to 14 at which the range meets at most 511 units, or else 24
 pub record IsLeastExponent (base top e : ℕ) : Type 0 where
-  pub serves : ((e ≤ 14) × (units base top e ≤ 511)) ⊎ (e ≡ 24)
-  pub least : (k : ℕ) → k < e → k ≤ 14 → 511 < units base top k
+  pub serves : ((e ≤ LAST_EXPONENT) × (units base top e ≤ MOST_UNITS)) ⊎ (e ≡ WIDEST_EXPONENT)
+  pub least : (k : ℕ) → k < e → k ≤ LAST_EXPONENT → MOST_UNITS < units base top k
 
 -- the first of e to e + n - 1 that serves, or else 24
 abbrev pub first_from : ℕ → ℕ → ℕ → ℕ → ℕ
-first_from base top e zero = 24
+first_from base top e zero = WIDEST_EXPONENT
 first_from base top e (suc n) =
-    if nat_le (units base top e) 511 then e else first_from base top (e + 1) n
+    if nat_le (units base top e) MOST_UNITS then e else first_from base top (e + 1) n
 
 -- the number that IsLeastExponent determines
 unfoldable pub exponent_for : ℕ → ℕ → ℕ
-exponent_for base top = first_from base top 0 15
+exponent_for base top = first_from base top 0 (LAST_EXPONENT + 1)
 
 -- E stands for 24 by 15
 abbrev pub coded : ℕ → ℕ
-coded e = if e == 24 then 15 else e
+coded e = if e == WIDEST_EXPONENT then WIDEST_FIELD else e
 
 -- the range from base to top rounded outwards to multiples of 2^e
 abbrev pub rounded_at : ℕ → ℕ → ℕ → Rounded

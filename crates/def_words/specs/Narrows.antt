@@ -1,5 +1,6 @@
 -- What the laws of confinement ask of the words that operations make, each under the result's tag.
 use Rattle.std.specs.Prelude.{ℕ, ◌≡◌, ◌≤◌, ◌≢◌, true, false}
+use Rattle.def_profile.specs.declared.seals.TheConstants.{RETURN_DISABLE, RETURN_ENABLE}
 use Rattle.def_words.specs.declared.Cap.{Cap}
 use Rattle.def_words.specs.declared.Posture.{Posture}
 use Rattle.def_words.specs.Authority.{cap_address, cap_base, cap_top}
@@ -46,8 +47,8 @@ pub record IsLink (pcc : Cap) (before : Posture) (l : Cap) : Type 0 where
   pub same_base : cap_base l ≡ cap_base pcc
   pub same_top : cap_top l ≡ cap_top pcc
   pub same_rights : cap_perms l ≡ cap_perms pcc
-  pub off : before.off ≡ true → (cap_seal l ≡ 4) × (l.shadow.source ≡ before.source)
-  pub on : before.off ≡ false → (cap_seal l ≡ 5) × (l.shadow.source ≡ 0)
+  pub off : before.off ≡ true → (cap_seal l ≡ RETURN_DISABLE) × (l.shadow.source ≡ before.source)
+  pub on : before.off ≡ false → (cap_seal l ≡ RETURN_ENABLE) × (l.shadow.source ≡ 0)
 
 -- d was made by derive
 pub record IsMade (low high set address kind : ℕ) (d : Cap) : Type 0 where

@@ -17,7 +17,7 @@ use Rattle.law_grants.proofs.Wiring.{wired}
 use Rattle.law_grants.proofs.Holding.{holds}
 use Rattle.law_image.proofs.Sounds.{sound}
 use Rattle.law_booted.proofs.Whole as booted
-use Rattle.law_run.proofs.Running.{run_keeps, told_licensed}
+use Rattle.law_events.proofs.Running.{run_keeps, told_licensed}
 use Rattle.law_started.proofs.Whole.{keeps}
 use Rattle.law_started.proofs.Shutting.{shut}
 use Rattle.law_started.proofs.Blanking.{blank}

@@ -14,7 +14,7 @@ use Rattle.def_image.specs.declared.SlotKind.TheVariants as slot
 use Rattle.def_image.specs.Members.{device_base}
 use Rattle.def_image.specs.Parts.{PartsRow}
 use Rattle.def_image.specs.Sound.{Names, Sound}
-use Rattle.def_policy.specs.Breaking.{is_device}
+use Rattle.ct_entry.specs.Kinds.{is_device}
 use Rattle.def_profile.specs.declared.layout.TheConstants.{DEVICE_SIZE}
 use Rattle.def_reach.specs.Roots.{Listing, Root, TrustedPart, Unknown, listed_root, no_gate, root_of}
 use Rattle.law_listed.proofs.Listing.{entry_of}

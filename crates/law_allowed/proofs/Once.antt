@@ -12,7 +12,8 @@ use Rattle.def_image.specs.Profile.{outside}
 use Rattle.def_image.specs.Sizes.{devices_at}
 use Rattle.def_image.specs.Spelling.{name_field, raw_device, raw_of}
 use Rattle.def_image.specs.declared.format.TheConstants.{DEVICE}
-use Rattle.law_image.proofs.Limited.{asked_of, limited}
+use Rattle.law_image.proofs.Holding.{limited}
+use Rattle.law_image.proofs.Limited.{asked_of}
 use Rattle.law_image.proofs.Members.{map_at}
 use Rattle.law_image.proofs.Passing.{head_none, left_none}
 use Rattle.law_image.proofs.Tells.{among_taken, any_not, or_left, or_right}
@@ -27,9 +28,9 @@ names_before p j = map device_name (map raw_device (take j p.devices))
 
 module _ (p : PartsRow) (f : IsFaultless p) where
   none_before : (j : ℕ) (e : DeviceRow) → slice_get p.devices j ≡ Some e → among (named e) (names_before p j) ≡ false
-  unfolding named names_before device_limits name_checks
+  unfolding named names_before device_limits name_checks raw_of
   none_before j e is =
-      let a = asked_of raw_device device_limits (λ d. DEVICE) (devices_at (raw_of p)) p.devices (limited p f.limits).devices j e is in
+      let a = asked_of raw_device device_limits (λ d. DEVICE) (devices_at (raw_of p)) p.devices (limited (raw_of p) f.limits).devices j e is in
       let seen = names_before p j in
       let formed = not (is_name (named e)) in
       let twice = among (named e) seen in

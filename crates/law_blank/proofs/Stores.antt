@@ -1,6 +1,5 @@
 -- A store of the running thread meets nothing that is hidden.
-use Rattle.std.proofs.Common.{ℕ, ◌≡◌, ◌+◌, ◌-◌, ◌*◌, ◌%◌, ◌≤◌, ◌<◌, ◌&&◌, true, false, inr, List, Option, Some, None, Result, Ok, Err, length, refl, sym, ap, ◌∙◌, arith, nat_le, slice_set}
-use Rattle.std.proofs.lemmas.Bool.{leb-true, and_parts}
+use Rattle.std.proofs.Common.{ℕ, ◌≡◌, ◌-◌, ◌%◌, ◌≤◌, ◌<◌, ◌&&◌, true, false, inr, List, Option, Some, None, Result, Ok, Err, refl, sym, ap, ◌∙◌, arith, slice_set}
 use Rattle.law_lists.proofs.Tests.{chosen}
 use Rattle.law_lists.proofs.Sets.{after_set_split}
 use Rattle.def_words.specs.declared.Trap.{Trap}
@@ -16,7 +15,8 @@ use Rattle.def_machine.specs.State.{State, thread, register, granule}
 use Rattle.def_machine.specs.Memory.{cap_stored, bytes_stored}
 use Rattle.def_step.specs.declared.Access.{Access}
 use Rattle.def_step.specs.Checks.{first_failed}
-use Rattle.def_step.specs.Accesses.{Accessed, access_of, access_checks, load_checks, store_checks, access_address, access_result, accessed, in_ram, on_device, is_ram, ram_stored, unless}
+use Rattle.law_routines.proofs.Accesses.{ram_begins, by_access}
+use Rattle.def_step.specs.Accesses.{Accessed, access_of, access_checks, load_checks, store_checks, access_address, access_result, accessed, ram_stored, unless}
 use Rattle.def_step.specs.Instructions.{Board, space_of}
 use Rattle.def_confined.specs.Confined.{Confined}
 use Rattle.def_hidden.specs.Hidden.{Shut, Blank, is_hidden}
@@ -57,15 +57,14 @@ stored_blank b s t n m a at r wide inside x =
 
 accessed_blank : (b : Board) (s : State) (t n m : ℕ) (a : Access) (at : ℕ) → Reaching b s t → HasWidth a → AllPass (access_checks a (register (thread s t) n) (register (thread s t) m) at)
     → BlankIn b s (accessed a (register (thread s t) n) (register (thread s t) m) at (space_of b s)).granules
-accessed_blank b s t n m a at r wide passes =
-    let P : Accessed → Type 0 = λ z. BlankIn b s z.granules in
-    chosen P (is_ram (space_of b s) at a.width) (in_ram a (register (thread s t) n) (register (thread s t) m) at (space_of b s)) (on_device a (register (thread s t) n) (register (thread s t) m) at (space_of b s))
-    (λ ram. chosen P a.loads _ _
-    (λ loads. r.blank)
-    (λ stores. stored_blank b s t n m a at r wide (leb-true b.image.ram at (and_parts (nat_le b.image.ram at) (nat_le (at + a.width) (b.image.ram + 8 * length s.granules)) ram).0)
-    (store_passes a (register (thread s t) n) at (a.whole && (register (thread s t) m).tag)
-    (when_false AllPass a.loads (load_checks a (register (thread s t) n) at) (store_checks a (register (thread s t) n) at (a.whole && (register (thread s t) m).tag)) stores passes))))
-    (λ other. chosen P a.loads _ _ (λ loads. r.blank) (λ stores. r.blank))
+accessed_blank b s t n m a at r wide passes = by_access (λ z. BlankIn b s z.granules) a (register (thread s t) n) (register (thread s t) m) at (space_of b s) (record {
+  loads = λ ram loads. r.blank;
+  stores = λ ram stores. stored_blank b s t n m a at r wide (ram_begins (space_of b s) at a.width ram)
+      (store_passes a (register (thread s t) n) at (a.whole && (register (thread s t) m).tag)
+      (when_false AllPass a.loads (load_checks a (register (thread s t) n) at) (store_checks a (register (thread s t) n) at (a.whole && (register (thread s t) m).tag)) stores passes));
+  reads = λ loads. r.blank;
+  writes = λ stores. r.blank;
+})
 
 pub result_blank : (b : Board) (s : State) (t n m : ℕ) (k : Instr) → Reaching b s t → IfBlank b s (access_result k (register (thread s t) n) (register (thread s t) m) (space_of b s))
 unfolding access_result

@@ -13,10 +13,8 @@ use Rattle.def_image.specs.Sound.{Sound, CodeFits}
 use Rattle.def_boot.specs.Contents.{code_content, table_content, gate_word, word_of}
 use Rattle.def_boot.specs.Made.{made_for, return_sentry}
 use Rattle.law_listed.specs.Rows.{slot_number, library_slot_number}
-use Rattle.law_listed.proofs.Regions.{table_there}
+use Rattle.law_listed.proofs.Regions.{code_there, table_there, globals_there, library_there, sealed_there}
 use Rattle.law_grants.proofs.Making.{length_above}
-use Rattle.law_laid.proofs.Lists.{globals_there, sealed_there}
-use Rattle.law_booted.proofs.Codes.{code_there, library_there}
 use Rattle.law_boot_words.specs.Booting.{Puts, PutsBytes}
 use Rattle.law_boot_words.proofs.Regions.{trusted_there, at_offset}
 

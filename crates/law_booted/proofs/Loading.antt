@@ -33,16 +33,14 @@ use Rattle.law_listed.specs.Rows.{HasRow, EntryIs, is_nothing, is_trusted, is_co
 use Rattle.law_listed.proofs.Listing.{entry_of}
 use Rattle.law_listed.proofs.Standing.{compartment_of, library_of, slot_owner}
 use Rattle.law_listed.proofs.Blocks.{present}
-use Rattle.law_listed.proofs.Regions.{Among}
+use Rattle.law_listed.proofs.Regions.{Among, code_there, globals_there, library_there, sealed_there, shared_there, stack_there}
 use Rattle.law_grants.proofs.Sets.{clash_of, no_way}
 use Rattle.law_grants.proofs.Making.{device_base_is}
 use Rattle.law_grants.proofs.Own.{stack_entry_is}
 use Rattle.law_grants.proofs.Imports.{reach}
-use Rattle.law_laid.proofs.Lists.{shared_there, sealed_there, globals_there, stack_there}
 use Rattle.law_laid.proofs.Found.{found}
 use Rattle.law_laid.proofs.Granules.{of_address, past_address, at_region, whole}
 use Rattle.law_laid.proofs.Storing.{Part}
-use Rattle.law_booted.proofs.Codes.{code_there, library_there}
 use Rattle.law_booted.proofs.Contents.{booted_in}
 use Rattle.law_booted.proofs.Rooting.{faithful, boot_made, no_object}
 

@@ -20,7 +20,8 @@ use Rattle.law_laid.proofs.Granules.{in_ram}
 use Rattle.law_started.proofs.Granules.{same_granule}
 use Rattle.law_started.proofs.Tags.{tagged_fixed}
 use Rattle.ct_engine.specs.Seen.{hides}
-use Rattle.ct_launch.specs.Launching.{region_of, fresh_of}
+use Rattle.ct_engine.specs.Seen.{region_of}
+use Rattle.ct_launch.specs.Launching.{fresh_of}
 use Rattle.ct_launch.proofs.Placing.{ram_is}
 use Rattle.ct_launch.proofs.Starting.{may_start}
 

@@ -22,7 +22,7 @@ use Rattle.ct_switch.proofs.Failing.{checks_passed}
 use Rattle.ct_engine.specs.Seen.{Seen, thread, area_at}
 use Rattle.ct_engine.specs.Calls.{MayCall, HeadStands, switch_at}
 use Rattle.ct_engine.proofs.Entering.{enters_by}
-use Rattle.ct_launch.specs.Launching.{region_of}
+use Rattle.ct_engine.specs.Seen.{region_of}
 use Rattle.ct_launch.specs.Placed.{IsPlaced}
 use Rattle.law_callable.specs.Showing.{IsOfSound, ShowsCaller}
 use Rattle.law_callable.proofs.Rising.{image_sorted}

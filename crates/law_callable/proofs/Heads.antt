@@ -27,7 +27,7 @@ use Rattle.ct_exports.specs.Exports.{IsCallable, callee_of, table_of}
 use Rattle.ct_engine.specs.declared.rows.Region.{Region}
 use Rattle.ct_engine.specs.Seen.{Seen, hides, area_at}
 use Rattle.ct_engine.specs.Calls.{IsEnterable, HeadStands, head_at}
-use Rattle.ct_launch.specs.Launching.{region_of}
+use Rattle.ct_engine.specs.Seen.{region_of}
 use Rattle.ct_launch.specs.Placed.{IsPlaced}
 use Rattle.ct_launch.proofs.Placing.{ram_is}
 use Rattle.law_callable.proofs.Rows.{table_is, callable}

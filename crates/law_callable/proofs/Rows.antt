@@ -30,7 +30,8 @@ use Rattle.law_grants.specs.Fits.{Lies, ExportAt}
 use Rattle.law_grants.proofs.Imports.{named}
 use Rattle.law_grants.proofs.Lying.{own_there}
 use Rattle.law_grants.proofs.Making.{length_above}
-use Rattle.ct_exports.specs.Exports.{IsExport, AreTogether, HeadLies, IsCallable, no_row, row_at, is_export_kind, is_compartment, is_export_of, table_of, callee_of}
+use Rattle.ct_entry.specs.Kinds.{is_export as is_export_kind}
+use Rattle.ct_exports.specs.Exports.{IsExport, AreTogether, HeadLies, IsCallable, no_row, row_at, is_compartment, is_export_of, table_of, callee_of}
 
 -- ---- rows as roots
 

@@ -8,7 +8,7 @@ use Rattle.def_machine.specs.State.{State}
 use Rattle.def_machine.specs.State as state
 use Rattle.def_confined.specs.Confined.{Confined}
 use Rattle.ct_engine.specs.Seen.{Seen, thread, area_at}
-use Rattle.ct_launch.specs.Launching.{region_of}
+use Rattle.ct_engine.specs.Seen.{region_of}
 use Rattle.ct_launch.specs.Placed.{IsPlaced}
 
 pub record IsOfSound (i : Image) : Type 0 where

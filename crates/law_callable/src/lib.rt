@@ -21,7 +21,7 @@ ghost use Rattle.ct_engine.specs.Seen.{Seen, thread, area_at};
 ghost use Rattle.ct_engine.specs.Calls.{TopLies, MayCall, HeadStands, switch_at};
 ghost use Rattle.ct_heaped.specs.Calls as heaped;
 ghost use Rattle.ct_heaped.specs.Seen as heaped_seen;
-ghost use Rattle.ct_launch.specs.Launching.{region_of};
+ghost use Rattle.ct_engine.specs.Seen.{region_of};
 ghost use Rattle.ct_launch.specs.Placed.{IsPlaced};
 ghost use Rattle.law_callable.specs.Showing.{IsOfSound, ShowsCaller};
 

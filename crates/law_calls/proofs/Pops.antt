@@ -1,6 +1,7 @@
 -- A return, an unwind, and the end of a thread.
 use Rattle.std.proofs.Common.{ℕ, ◌≡◌, ◌+◌, ◌*◌, ◌%◌, ◌^◌, ◌≤◌, inl, inr, true, false, List, [], ◌∷◌, Some, None, refl, sym, ap, ◌∙◌, subst, arith}
 use Rattle.std.proofs.lemmas.Nat.{mod-mul-add, mod_below, pow_pos}
+use Rattle.def_profile.specs.declared.answers.TheConstants.{UNWOUND}
 use Rattle.law_lists.proofs.Tests.{lt_tells}
 use Rattle.def_words.specs.declared.Cap.{Cap}
 use Rattle.def_words.specs.Authority.{cap_high}
@@ -169,11 +170,11 @@ return_confined i s t f g gs p h frames =
     })
 
 pub unwind_confined : (i : Image) (s : State) (t : ℕ) (f g : Frame) (gs : List Frame) → Partitioned i → Confined i s → (thread s t).frames ≡ f ∷ g ∷ gs
-    → Confined i (switched i s t f.top (left_by i s (thread s t) f (g ∷ gs) (plain 4294967295) (plain 0)) s.running)
-unwind_confined i s t f g gs p h frames = left_confined i s t f g gs (plain 4294967295) (plain 0) p h frames (record {
-  first_in = plain_in i s.objects t (g ∷ gs) (plain 4294967295) refl;
+    → Confined i (switched i s t f.top (left_by i s (thread s t) f (g ∷ gs) (plain UNWOUND) (plain 0)) s.running)
+unwind_confined i s t f g gs p h frames = left_confined i s t f g gs (plain UNWOUND) (plain 0) p h frames (record {
+  first_in = plain_in i s.objects t (g ∷ gs) (plain UNWOUND) refl;
   second_in = plain_in i s.objects t (g ∷ gs) (plain 0) refl;
-  first_kept = plain_kept i (plain 4294967295) refl;
+  first_kept = plain_kept i (plain UNWOUND) refl;
   second_kept = plain_kept i (plain 0) refl;
   first_live = λ runs tagged. absurd (let clash : false ≡ true = tagged in cc);
   second_live = λ runs tagged. absurd (let clash : false ≡ true = tagged in cc);

@@ -31,8 +31,8 @@ use Rattle.law_calls.proofs.Givens.{own_placed, own_live, own_kept, sentry_place
 gate_joins : (i : Image) (s : State) (t : ℕ) (g : Frame) (gs : List Frame) (callee export high : ℕ) (w : Given) → Partitioned i → Confined i s → Enters i s t g gs callee export high w → (root i export).passes ≡ true → Joined i.entries g.actor callee
 gate_joins i s t g gs callee export high w p h e passes =
     let gate : Placed i s.objects (λ d. d ≡ g.actor) (OwnStack i t (g ∷ gs)) (register (thread s t) 6) =
-    (subst (λ (fs : List Frame). InFrames i s.objects t fs (register (thread s t) 6)) e.caller (h.registers t 6)) e.gate_tagged in
-    let kind_is : (root i (register (thread s t) 6).shadow.root).origin ≡ Listing kind.Call = gate.rooted.calls e.gate_sealed in
+    (subst (λ (fs : List Frame). InFrames i s.objects t fs (register (thread s t) 6)) e.call.caller (h.registers t 6)) e.call.gate_tagged in
+    let kind_is : (root i (register (thread s t) 6).shadow.root).origin ≡ Listing kind.Call = gate.rooted.calls e.call.gate_sealed in
     let a = p.calls (register (thread s t) 6).shadow.root kind_is in
     let owner_is : (root i (register (thread s t) 6).shadow.root).owner ≡ Compartment a.0 = a.1 in
     let P : Owner → Type 0 = λ o. Reaches i.entries o g.actor in
@@ -43,8 +43,8 @@ gate_joins i s t g gs callee export high w p h e passes =
       import = (register (thread s t) 6).shadow.root;
       kind_is = kind_is;
       caller = owner_is;
-      callee = subst Q (sym e.gate) e.callee_is;
-      passes = subst R (sym e.gate) passes;
+      callee = subst Q (sym e.call.gate) e.call.callee_is;
+      passes = subst R (sym e.call.gate) passes;
     } in
     joined_trans i.entries g.actor a.0 callee (joined_sym i.entries a.0 g.actor near) (joined_edge i.entries a.0 callee (inl edge))
 
@@ -77,14 +77,14 @@ pub push_confined : (i : Image) (s : State) (t : ℕ) (g : Frame) (gs : List Fra
 push_confined i s t g gs callee export high w p h e =
     let none_kept : Kept i (plain 0) = plain_kept i (plain 0) refl in
     let f : Frame = pushed_frame (thread s t) callee export high in
-    let below : FramesHold i s.objects t (g ∷ gs) = subst (λ (fs : List Frame). FramesHold i s.objects t fs) e.caller (h.frames t) in
-    let saved : (n : ℕ) → InFrames i s.objects t (g ∷ gs) (register (thread s t) n) = λ n. subst (λ (fs : List Frame). InFrames i s.objects t fs (register (thread s t) n)) e.caller (h.registers t n) in
+    let below : FramesHold i s.objects t (g ∷ gs) = subst (λ (fs : List Frame). FramesHold i s.objects t fs) e.call.caller (h.frames t) in
+    let saved : (n : ℕ) → InFrames i s.objects t (g ∷ gs) (register (thread s t) n) = λ n. subst (λ (fs : List Frame). InFrames i s.objects t fs (register (thread s t) n)) e.call.caller (h.registers t n) in
     let joins : (root i export).passes ≡ true → Joins i (g ∷ gs) (pushed_frame (thread s t) callee export high ∷ g ∷ gs) = λ passes.
     let j : Joined i.entries g.actor callee = gate_joins i s t g gs callee export high w p h e passes in
     (j, λ x within. inr (joined_sym i.entries g.actor callee j, within)) in
     let whole : InFrames i s.objects t (pushed_frame (thread s t) callee export high ∷ g ∷ gs) (plain 0) = plain_in i s.objects t (pushed_frame (thread s t) callee export high ∷ g ∷ gs) (plain 0) refl in
     let into : (c : Cap) → InFrames i s.objects t (pushed_frame (thread s t) callee export high ∷ g ∷ gs) c → InFrames i s.objects t (pushed_frame (thread s t) callee export high ∷ (thread s t).frames) c =
-    λ c k. subst (λ (fs : List Frame). InFrames i s.objects t (pushed_frame (thread s t) callee export high ∷ fs) c) (sym e.caller) k in
+    λ c k. subst (λ (fs : List Frame). InFrames i s.objects t (pushed_frame (thread s t) callee export high ∷ fs) c) (sym e.call.caller) k in
     let given_in : (n : ℕ) → InFrames i s.objects t (pushed_frame (thread s t) callee export high ∷ g ∷ gs) (argument i (thread s t) export n) = λ n.
     argument_case (λ c. InFrames i s.objects t (pushed_frame (thread s t) callee export high ∷ g ∷ gs) c) i (thread s t) export n whole
     (plain_in i s.objects t (pushed_frame (thread s t) callee export high ∷ g ∷ gs) (untagged (register (thread s t) (10 + n))) refl)
@@ -100,21 +100,21 @@ push_confined i s t g gs callee export high w p h e =
     let pcc_in : InFrames i s.objects t (pushed_frame (thread s t) callee export high ∷ g ∷ gs) w.pcc = λ tagged. own_placed i s.objects t callee (pushed_frame (thread s t) callee export high ∷ g ∷ gs) w.pcc (e.pcc tagged).0 in
     switched_confined i s t high (entered i (thread s t) callee export high w) s.running p h (record {
       stack = below.0.stack;
-      inside = omega (arith, e.under, below.0.high);
+      inside = omega (arith, e.call.under, below.0.high);
       outers = λ x le. outer_same (pushed_frame (thread s t) callee export high) (thread s t).frames high x refl le;
       pcc = into w.pcc pcc_in;
       registers = λ n. into (register (entered i (thread s t) callee export high w) n)
           (all_of (λ c. InFrames i s.objects t (pushed_frame (thread s t) callee export high ∷ g ∷ gs) c) (entered i (thread s t) callee export high w).registers (plain 0) whole
           (whole, (back_in, (stack_in, (globals_in, (whole, (whole, (whole, (whole, (whole, (whole, (given_in 0, (given_in 1, (given_in 2, (given_in 3, (given_in 4, (given_in 5, tt)))))))))))))))) n);
-      frames = subst (λ (fs : List Frame). FramesHold i s.objects t (pushed_frame (thread s t) callee export high ∷ fs)) (sym e.caller) (
+      frames = subst (λ (fs : List Frame). FramesHold i s.objects t (pushed_frame (thread s t) callee export high ∷ fs)) (sym e.call.caller) (
         record {
           stack = below.0.stack;
-          even = e.even;
-          low = e.low;
-          high = omega (arith, e.under, below.0.high);
-          under = e.under;
+          even = e.call.even;
+          low = e.call.low;
+          high = omega (arith, e.call.under, below.0.high);
+          under = e.call.under;
           passes = λ passes. joined_sym i.entries g.actor callee (gate_joins i s t g gs callee export high w p h e passes);
-          returns = (e.return_tagged, e.return_sealed);
+          returns = (e.call.return_tagged, e.call.return_sealed);
           c1 = saved 1;
           c2 = saved 2;
           c3 = saved 3;
@@ -126,7 +126,7 @@ push_confined i s t g gs callee export high w p h e =
       kept = all_of (Kept i) (entered i (thread s t) callee export high w).registers (plain 0) (plain_kept i (plain 0) refl)
           (none_kept, (sentry_kept i w.back e.back, (stack_kept i t high w.stack e.stack, (own_kept i callee w.globals e.globals, (none_kept, (none_kept, (none_kept, (none_kept, (none_kept, (none_kept, (given_kept 0, (given_kept 1, (given_kept 2, (given_kept 3, (given_kept 4, (given_kept 5, tt))))))))))))))));
       kept_frames = (record { c1 = h.kept.registers t 1; c2 = h.kept.registers t 2; c3 = h.kept.registers t 3; c8 = h.kept.registers t 8; c9 = h.kept.registers t 9 }, h.kept.frames t);
-      posture = posture_in i (entered i (thread s t) callee export high w) f (thread s t).frames callee export e.callee_is refl refl;
+      posture = posture_in i (entered i (thread s t) callee export high w) f (thread s t).frames callee export e.call.callee_is refl refl;
       runs = λ tagged. (e.pcc tagged).1;
       live = λ runs. all_of (HasLive i s.objects) (entered i (thread s t) callee export high w).registers (plain 0) nothing_live (
         nothing_live,

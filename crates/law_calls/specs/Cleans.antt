@@ -1,5 +1,6 @@
 -- What a callee's registers hold, and what a caller's do after a call.
 use Rattle.std.specs.Prelude.{ℕ, ◌≡◌, ◌⊎◌, List, Option}
+use Rattle.def_profile.specs.declared.answers.TheConstants.{UNWOUND}
 use Rattle.def_words.specs.declared.Cap.{Cap}
 use Rattle.def_memory.specs.Granules.{plain}
 use Rattle.def_machine.specs.Image.{Image}
@@ -22,4 +23,4 @@ abbrev pub back_from : Image → State → Thread → Frame → List Frame → T
 back_from i s old f fs = left_by i s old f fs (answer i old f 10) (answer i old f 11)
 
 abbrev pub unwound_from : Image → State → Thread → Frame → List Frame → Thread
-unwound_from i s old f fs = left_by i s old f fs (plain 0xFFFFFFFF) (plain 0)
+unwound_from i s old f fs = left_by i s old f fs (plain UNWOUND) (plain 0)

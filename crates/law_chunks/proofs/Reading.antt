@@ -32,18 +32,17 @@ head_tells c next shape small =
 
 pub chunk_back : (c : Chunk) (next : ℕ) → IsChunk c → c.size + 8 < 2 ^ 32 → chunk_of (head_of c next) ≡ c
 chunk_back c next shape small =
-    let whole = shape.whole in
-    let state = shape.states in
-    let more : ℕ = cond (is_free c) next c.number in
-    let low : (c.size + c.state + more * 2 ^ 32) % 2 ^ 32 ≡ c.size + c.state = omega (arith, small, state) in
-    let high : (c.size + c.state + more * 2 ^ 32) / 2 ^ 32 ≡ more = omega (arith, small, state) in
-    let size : (c.size + c.state) / 8 * 8 ≡ c.size = omega (arith, whole, state) in
-    let kind : (c.size + c.state) % 8 ≡ c.state = omega (arith, whole, state) in
-    let number : cond (nat_eq c.state 0) 0 more ≡ c.number = elim (eq_tells c.state 0) [
+    let told = head_tells c next shape small in
+    let made : ℕ → ℕ → ℕ → Chunk = λ size state number. record { size = size; state = state; number = number } in
+    let number : cond (nat_eq c.state 0) 0 (cond (is_free c) next c.number) ≡ c.number = elim (eq_tells c.state 0) [
       | inl e ↦ (let blank = shape.blank e.0 in rw e.0 (sym blank))
       | inr e ↦ rw e.0 refl
     ] in
-    rw (low, high, size, kind, number) refl
+    let head : Head = head_in (head_of c next) in
+    ap (λ n. made n head.state (cond (nat_eq head.state 0) 0 head.rest)) told.size
+    ∙ ap (λ n. made c.size n (cond (nat_eq n 0) 0 head.rest)) told.state
+    ∙ ap (λ n. made c.size c.state (cond (nat_eq c.state 0) 0 n)) told.rest
+    ∙ ap (made c.size c.state) number
 
 pub read_is : (gs : List Granule) (ram base end n at : ℕ) (cs : List Chunk) (next : ℕ) → Lays gs ram base at cs next → AreChunks cs → at + total cs ≡ end → total cs + 8 < 2 ^ 32 → total cs ≤ n → read gs ram end n at ≡ cs
 read_is gs ram base end zero at [] next h are size small fuel = refl

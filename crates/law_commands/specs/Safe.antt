@@ -7,7 +7,6 @@ use Rattle.def_boot.specs.Boot.{board_of, boot_state, booted_machine, image_of}
 use Rattle.def_image.specs.Parts.{PartsRow}
 use Rattle.def_machine.specs.Image.{root}
 use Rattle.def_machine.specs.Objects.{charges}
-use Rattle.def_machine.specs.State.{State}
 use Rattle.def_program.specs.Commands.{Command, Run, RunImage, Demo}
 use Rattle.def_program.specs.declared.TheConstants.{DEMO_STEPS}
 use Rattle.def_program.specs.Runs.{events_until}
@@ -21,36 +20,33 @@ use Rattle.law_history.specs.Clean.{CleanEvent}
 use Rattle.law_history.specs.Each.{EachEvent}
 use Rattle.law_history.specs.Temporal.{AllocatesFresh, UsesLive}
 use Rattle.law_reuse.specs.Reuse.{SweepsWhole}
-
--- the state of an image's machine after these events from boot
-abbrev pub after : PartsRow → List Event → State
-after p es = run (board_of p) (boot_state p) es
+use Rattle.law_within.specs.Within.{state_after}
 
 -- after so many of the events the live charges on each quota are at most its limit
 abbrev pub WithinLimits : PartsRow → List Event → Type 0
 WithinLimits p es =
-    (n q : ℕ) → charges q (after p (take n es)).objects ≤ (root (image_of p) q).limit
+    (n q : ℕ) → charges q (state_after p (take n es)).objects ≤ (root (image_of p) q).limit
 
 -- where one step tells a free, and a later one an allocation whose chunk meets the chunk of the freed object, a whole
 -- sweep that began after the free lies between
-abbrev pub SweptBeforeReuse : PartsRow → List Event → Type 0
-SweptBeforeReuse p events =
+abbrev pub SweptBeforeReuseIn : PartsRow → List Event → Type 0
+SweptBeforeReuseIn p events =
     (es fs rest : List Event) (freed made : Deed)
     (n base long live number from size left : ℕ)
     → events ≡ es ++ Step ∷ (fs ++ Step ∷ rest)
-    → (happens (board_of p) (after p es) Step).1.deed ≡ Some freed
+    → (happens (board_of p) (state_after p es) Step).1.deed ≡ Some freed
     → freed.act ≡ Free n base long live
-    → (happens (board_of p) (run (board_of p) (happens (board_of p) (after p es) Step).0 fs)
+    → (happens (board_of p) (run (board_of p) (happens (board_of p) (state_after p es) Step).0 fs)
     Step).1.deed ≡ Some made
     → made.act ≡ Allocate number from size left → ChunksMeet from size base long
-    → SweepsWhole (board_of p) (happens (board_of p) (after p es) Step).0 fs
+    → SweepsWhole (board_of p) (happens (board_of p) (state_after p es) Step).0 fs
 
 pub record IsSafeRun (p : PartsRow) (es : List Event) : Type 0 where
   pub calls : EachEvent (CleanEvent (board_of p)) (board_of p) (boot_state p) es
   pub accesses : EachEvent (λ s e. UsesReach (board_of p) s) (board_of p) (boot_state p) es
   pub unused : EachEvent (λ s e. UsesLive (board_of p) s) (board_of p) (boot_state p) es
   pub fresh : EachEvent (AllocatesFresh (board_of p)) (board_of p) (boot_state p) es
-  pub swept : SweptBeforeReuse p es
+  pub swept : SweptBeforeReuseIn p es
   pub quotas : WithinLimits p es
 
 -- of the run that a command asks for, whatever its script says

@@ -1,5 +1,5 @@
 -- No event makes devices more or fewer.
-use Rattle.std.proofs.Common.{◌≡◌, ℕ, ◌+◌, ◌-◌, ◌&&◌, not, nat_le, List, length, map, [], ◌∷◌, Option, Some, None, Result, Ok, Err, refl, ap, ◌∙◌}
+use Rattle.std.proofs.Common.{◌≡◌, ℕ, ◌+◌, ◌-◌, ◌&&◌, not, nat_le, List, length, map, [], ◌∷◌, Option, Some, None, Result, Ok, Err, refl, ◌∙◌}
 use Rattle.std.proofs.lemmas.List.{length-set}
 use Rattle.def_words.specs.declared.Cap.{Cap}
 use Rattle.def_words.specs.declared.Trap as trap_words
@@ -18,9 +18,10 @@ use Rattle.def_step.specs.declared.Class.TheVariants as class
 use Rattle.def_step.specs.declared.Event.{Event}
 use Rattle.def_step.specs.declared.Event.TheVariants.{Step, Tick, Sweep, Input}
 use Rattle.def_step.specs.declared.Next.{Next}
-use Rattle.def_step.specs.Accesses.{Space, Accessed, access_of, access_checks, access_address, access_result, accessed, in_ram, on_device, is_ram, stored_value, unless}
+use Rattle.law_routines.proofs.Accesses.{by_access}
+use Rattle.def_step.specs.Accesses.{Space, Accessed, access_of, access_checks, access_address, access_result, accessed, stored_value, unless}
 use Rattle.def_step.specs.Checks.{first_failed}
-use Rattle.def_step.specs.Devices.{Bank, found, bank_read, bank_read_at, bank_written, bank_written_at, left_by_read, left_by_write, device, base_of, after_input}
+use Rattle.def_step.specs.Devices.{Bank, found, bank_read_at, bank_written_at, left_by_read, left_by_write, device, base_of, after_input}
 use Rattle.def_step.specs.Jumps.{Flowed, flow_result}
 use Rattle.def_step.specs.Operands.{operands_of, class_of}
 use Rattle.def_step.specs.Instructions.{Board, Done, Around, accesses, flows, executed, after_fetch, goes_on, ends, fetch_checks, next_at, space_of, operand, carried_out, named_by, around}
@@ -42,16 +43,13 @@ written_keeps k (Some n) at width value = length-set k.states n (left_by_write (
 abbrev Keeps : Space → Accessed → Type 0
 Keeps p m = length m.bank.states ≡ length p.bank.states
 
-ram_keeps : (a : Access) (x y : Cap) (at : ℕ) (p : Space) → Keeps p (in_ram a x y at p)
-ram_keeps a x y at p = chosen (Keeps p) a.loads _ _ (λ _. refl) (λ _. refl)
-
-device_keeps : (a : Access) (x y : Cap) (at : ℕ) (p : Space) → Keeps p (on_device a x y at p)
-device_keeps a x y at p =
-    chosen (Keeps p) a.loads _ _ (λ _. read_keeps p.bank (found p.bank.bases at) at a.width)
-    (λ _. written_keeps p.bank (found p.bank.bases at) at a.width (stored_value a y))
-
 access_keeps : (a : Access) (x y : Cap) (at : ℕ) (p : Space) → Keeps p (accessed a x y at p)
-access_keeps a x y at p = chosen (Keeps p) (is_ram p at a.width) _ _ (λ _. ram_keeps a x y at p) (λ _. device_keeps a x y at p)
+access_keeps a x y at p = by_access (Keeps p) a x y at p (record {
+  loads = λ ram loads. refl;
+  stores = λ ram stores. refl;
+  reads = λ loads. read_keeps p.bank (found p.bank.bases at) at a.width;
+  writes = λ stores. written_keeps p.bank (found p.bank.bases at) at a.width (stored_value a y);
+})
 
 -- ---- an instruction
 

@@ -1,5 +1,5 @@
 -- Loads and stores of the running thread: what they leave is confined, and what reaches a device is licensed.
-use Rattle.std.proofs.Common.{ℕ, ◌≡◌, ◌+◌, ◌-◌, ◌*◌, ◌%◌, ◌≤◌, ◌<◌, ◌&&◌, ◌||◌, Bool, true, false, not, inl, inr, ◌⊎◌, List, ◌∷◌, length, Option, Some, None, Ok, Err, refl, sym, ap, ◌∙◌, subst, arith, nat_le, if◌then◌else◌}
+use Rattle.std.proofs.Common.{ℕ, ◌≡◌, ◌+◌, ◌-◌, ◌%◌, ◌≤◌, ◌<◌, ◌&&◌, ◌||◌, Bool, true, false, not, inl, inr, ◌⊎◌, List, ◌∷◌, Option, Some, None, Ok, Err, refl, sym, ap, ◌∙◌, subst, arith, nat_le, if◌then◌else◌}
 use Rattle.std.specs.Prelude.{unwrap_or, is_some}
 use Rattle.std.proofs.lemmas.Bool.{eqb-true, leb-true, and_parts}
 use Rattle.law_lists.proofs.Tests.{chosen, bool_tells}
@@ -31,7 +31,7 @@ use Rattle.def_step.specs.declared.Access.{Access}
 use Rattle.def_step.specs.Checks.{first_failed}
 use Rattle.def_step.specs.Devices.{Bank, found, bank_value, bank_read, bank_written}
 use Rattle.def_machine.specs.Memory.{filtered_in}
-use Rattle.def_step.specs.Accesses.{Accessed, access_of, access_checks, load_checks, store_checks, access_address, access_result, accessed, in_ram, on_device, is_ram, ram_value, ram_stored, device_value, stored_value, widened, deed_at, unless}
+use Rattle.def_step.specs.Accesses.{Accessed, access_of, access_checks, load_checks, store_checks, access_address, access_result, accessed, ram_value, ram_stored, device_value, stored_value, widened, deed_at, unless}
 use Rattle.def_step.specs.Instructions.{Board, Done, Around, accesses, around, space_of, bank_of, deed, put_done, operand, carried_out, named_by, actor_of}
 use Rattle.def_board.specs.Wired.{Wired}
 use Rattle.def_confined.specs.Confined.{Confined}
@@ -45,6 +45,7 @@ use Rattle.def_confined.specs.Swept.{HasUnpainted}
 use Rattle.law_jumps.proofs.Moves.{jumps_confined}
 use Rattle.law_made.proofs.Results.{attenuated_derived, attenuated_carries}
 use Rattle.law_licensed.proofs.Checks.{AllPass, all_pass}
+use Rattle.law_routines.proofs.Accesses.{ram_begins, by_access}
 use Rattle.def_confined.specs.Changes.{Puts}
 use Rattle.law_registers.proofs.Moves.{untagged_puts}
 use Rattle.law_events.proofs.Goings.{Fetching}
@@ -138,9 +139,6 @@ store_says b s t n m a at w stores = store_passes a (register (thread s t) n) at
 aligned_eight : (a : Access) (at : ℕ) → HasWidth a → a.whole ≡ true → at % a.width ≡ 0 → at % 8 ≡ 0
 aligned_eight a at wide whole h = let P : ℕ → Type 0 = λ n. at % n ≡ 0 in subst P (wide.eight whole) h
 
-in_ram_says : (b : Board) (s : State) (a : Access) (at : ℕ) → is_ram (space_of b s) at a.width ≡ true → b.image.ram ≤ at
-in_ram_says b s a at e = leb-true b.image.ram at (and_parts (nat_le b.image.ram at) (nat_le (at + a.width) (b.image.ram + 8 * length s.granules)) e).0
-
 -- the register gets a value and the program counter goes on; RAM is as it was
 value_confined : (b : Board) (s : State) (t to : ℕ) (v : Cap) (devices : Bank) (act : Option Act) → Fetching b.image s t → Puts b.image s t v
     → Confined b.image (put_done s t (done_of (around b s t) to (record { value = Some v; act = act; granules = s.granules; bank = devices })))
@@ -210,28 +208,12 @@ abbrev LeavesRam : Board → State → Accessed → Type 0
 LeavesRam b s m = RamLeft b.image s m.granules
 
 pub accessed_ram : (b : Board) (s : State) (t n m : ℕ) (a : Access) (at : ℕ) → Accessing b s t n m a at → LeavesRam b s (accessed a (register (thread s t) n) (register (thread s t) m) at (space_of b s))
-accessed_ram b s t n m a at w =
-    chosen (LeavesRam b s) (is_ram (space_of b s) at a.width) (in_ram a (register (thread s t) n) (register (thread s t) m) at (space_of b s)) (on_device a (register (thread s t) n) (register (thread s t) m) at (space_of b s))
-    (λ ram. chosen (LeavesRam b s) a.loads
-    (record { value = Some (ram_value a (register (thread s t) n) at b.image.ram s.granules); act = None; granules = s.granules; bank = bank_of b s })
-    (record { value = None; act = None; granules = ram_stored a (register (thread s t) n) (register (thread s t) m) at b.image.ram s.granules; bank = bank_of b s })
-    (λ loads. ram_same b.image s)
-    (λ stores. stored_left b s t n m a at w))
-    (λ other. chosen (LeavesRam b s) a.loads
-    (record {
-      value = Some (device_value a (register (thread s t) n) (bank_value (bank_of b s) at a.width s.time));
-      act = deed_at (space_of b s) at (acts.Load at a.width (bank_value (bank_of b s) at a.width s.time));
-      granules = s.granules;
-      bank = bank_read (bank_of b s) at a.width;
-    })
-    (record {
-      value = None;
-      act = deed_at (space_of b s) at (acts.Store at a.width (stored_value a (register (thread s t) m)));
-      granules = s.granules;
-      bank = bank_written (bank_of b s) at a.width (stored_value a (register (thread s t) m));
-    })
-    (λ loads. ram_same b.image s)
-    (λ stores. ram_same b.image s))
+accessed_ram b s t n m a at w = by_access (LeavesRam b s) a (register (thread s t) n) (register (thread s t) m) at (space_of b s) (record {
+  loads = λ ram loads. ram_same b.image s;
+  stores = λ ram stores. stored_left b s t n m a at w;
+  reads = λ loads. ram_same b.image s;
+  writes = λ stores. ram_same b.image s;
+})
 
 -- ---- whole
 
@@ -239,31 +221,12 @@ abbrev Leaves : Board → State → ℕ → ℕ → Accessed → Type 0
 Leaves b s t to m = Confined b.image (put_done s t (done_of (around b s t) to m))
 
 pub accessed_confined : (b : Board) (s : State) (t n m to : ℕ) (a : Access) (at : ℕ) → Accessing b s t n m a at → Leaves b s t to (accessed a (register (thread s t) n) (register (thread s t) m) at (space_of b s))
-accessed_confined b s t n m to a at w =
-    chosen (Leaves b s t to) (is_ram (space_of b s) at a.width) (in_ram a (register (thread s t) n) (register (thread s t) m) at (space_of b s)) (on_device a (register (thread s t) n) (register (thread s t) m) at (space_of b s))
-    (λ ram.
-    let inside = in_ram_says b s a at ram in
-    chosen (Leaves b s t to) a.loads
-    (record { value = Some (ram_value a (register (thread s t) n) at b.image.ram s.granules); act = None; granules = s.granules; bank = bank_of b s })
-    (record { value = None; act = None; granules = ram_stored a (register (thread s t) n) (register (thread s t) m) at b.image.ram s.granules; bank = bank_of b s })
-    (λ loads. value_confined b s t to (ram_value a (register (thread s t) n) at b.image.ram s.granules) (bank_of b s) None w.f (ram_puts b s t n m a at w loads inside))
-    (λ stores. store_confined b s t n m to a at w stores inside))
-    (λ other.
-    chosen (Leaves b s t to) a.loads
-    (record {
-      value = Some (device_value a (register (thread s t) n) (bank_value (bank_of b s) at a.width s.time));
-      act = deed_at (space_of b s) at (acts.Load at a.width (bank_value (bank_of b s) at a.width s.time));
-      granules = s.granules;
-      bank = bank_read (bank_of b s) at a.width;
-    })
-    (record {
-      value = None;
-      act = deed_at (space_of b s) at (acts.Store at a.width (stored_value a (register (thread s t) m)));
-      granules = s.granules;
-      bank = bank_written (bank_of b s) at a.width (stored_value a (register (thread s t) m));
-    })
-    (λ loads. value_confined b s t to (device_value a (register (thread s t) n) (bank_value (bank_of b s) at a.width s.time)) (bank_read (bank_of b s) at a.width) (deed_at (space_of b s) at (acts.Load at a.width (bank_value (bank_of b s) at a.width s.time))) w.f (device_puts b s t a (register (thread s t) n) (bank_value (bank_of b s) at a.width s.time)))
-    (λ stores. plain_confined b s t to (bank_written (bank_of b s) at a.width (stored_value a (register (thread s t) m))) (deed_at (space_of b s) at (acts.Store at a.width (stored_value a (register (thread s t) m)))) w.f))
+accessed_confined b s t n m to a at w = by_access (Leaves b s t to) a (register (thread s t) n) (register (thread s t) m) at (space_of b s) (record {
+  loads = λ ram loads. value_confined b s t to (ram_value a (register (thread s t) n) at b.image.ram s.granules) (bank_of b s) None w.f (ram_puts b s t n m a at w loads (ram_begins (space_of b s) at a.width ram));
+  stores = λ ram stores. store_confined b s t n m to a at w stores (ram_begins (space_of b s) at a.width ram);
+  reads = λ loads. value_confined b s t to (device_value a (register (thread s t) n) (bank_value (bank_of b s) at a.width s.time)) (bank_read (bank_of b s) at a.width) (deed_at (space_of b s) at (acts.Load at a.width (bank_value (bank_of b s) at a.width s.time))) w.f (device_puts b s t a (register (thread s t) n) (bank_value (bank_of b s) at a.width s.time));
+  writes = λ stores. plain_confined b s t to (bank_written (bank_of b s) at a.width (stored_value a (register (thread s t) m))) (deed_at (space_of b s) at (acts.Store at a.width (stored_value a (register (thread s t) m)))) w.f;
+})
 
 -- ---- what reaches a device is licensed
 
@@ -325,31 +288,12 @@ store_told b s t n m a at value w stores =
     (λ none. none_tells b s t n)
 
 pub accessed_licensed : (b : Board) (s : State) (t n m : ℕ) (a : Access) (at : ℕ) → Accessing b s t n m a at → Tells b s t n (accessed a (register (thread s t) n) (register (thread s t) m) at (space_of b s)).act
-accessed_licensed b s t n m a at w =
-    let P : Accessed → Type 0 = λ r. Tells b s t n r.act in
-    chosen P (is_ram (space_of b s) at a.width) (in_ram a (register (thread s t) n) (register (thread s t) m) at (space_of b s)) (on_device a (register (thread s t) n) (register (thread s t) m) at (space_of b s))
-    (λ ram.
-    chosen P a.loads
-    (record { value = Some (ram_value a (register (thread s t) n) at b.image.ram s.granules); act = None; granules = s.granules; bank = bank_of b s })
-    (record { value = None; act = None; granules = ram_stored a (register (thread s t) n) (register (thread s t) m) at b.image.ram s.granules; bank = bank_of b s })
-    (λ loads. none_tells b s t n)
-    (λ stores. none_tells b s t n))
-    (λ other.
-    chosen P a.loads
-    (record {
-      value = Some (device_value a (register (thread s t) n) (bank_value (bank_of b s) at a.width s.time));
-      act = deed_at (space_of b s) at (acts.Load at a.width (bank_value (bank_of b s) at a.width s.time));
-      granules = s.granules;
-      bank = bank_read (bank_of b s) at a.width;
-    })
-    (record {
-      value = None;
-      act = deed_at (space_of b s) at (acts.Store at a.width (stored_value a (register (thread s t) m)));
-      granules = s.granules;
-      bank = bank_written (bank_of b s) at a.width (stored_value a (register (thread s t) m));
-    })
-    (λ loads. load_told b s t n m a at (bank_value (bank_of b s) at a.width s.time) w loads)
-    (λ stores. store_told b s t n m a at (stored_value a (register (thread s t) m)) w stores))
+accessed_licensed b s t n m a at w = by_access (λ r. Tells b s t n r.act) a (register (thread s t) n) (register (thread s t) m) at (space_of b s) (record {
+  loads = λ ram loads. none_tells b s t n;
+  stores = λ ram stores. none_tells b s t n;
+  reads = λ loads. load_told b s t n m a at (bank_value (bank_of b s) at a.width s.time) w loads;
+  writes = λ stores. store_told b s t n m a at (stored_value a (register (thread s t) m)) w stores;
+})
 
 -- ---- the instruction
 
@@ -363,23 +307,20 @@ pub record AccessLaws (b : Board) (s : State) (t : ℕ) (k : Instr) : Type 0 whe
 pub access_laws : (b : Board) (s : State) (t : ℕ) (k : Instr) → Wired b → Fetching b.image s t → s.running ≡ Some t → AccessLaws b s t k
 unfolding access_result
 access_laws b s t k wired f runs =
-    let a = access_of k in
+    let accessing : None ≡ first_failed (access_checks (access_of k) (operand s t (operands_of k).first) (operand s t (operands_of k).second) (access_address (access_of k) (operand s t (operands_of k).first)))
+    → Accessing b s t (operands_of k).first (operands_of k).second (access_of k) (access_address (access_of k) (operand s t (operands_of k).first)) =
+    λ none. record { f = f; wired = wired; runs = runs; wide = width_of k; passed = all_pass _ (sym none) } in
     record {
-      confined = λ d e.
-          let c = carried (around b s t) (operands_of k).to (first_failed (access_checks (access_of k) (operand s t (operands_of k).first) (operand s t (operands_of k).second) (access_address (access_of k) (operand s t (operands_of k).first))))
-          (accessed (access_of k) (operand s t (operands_of k).first) (operand s t (operands_of k).second) (access_address (access_of k) (operand s t (operands_of k).first)) (space_of b s)) d e in
-          subst (λ (z : Done). Confined b.image (put_done s t z)) (sym c.is)
-          (accessed_confined b s t (operands_of k).first (operands_of k).second (operands_of k).to (access_of k) (access_address (access_of k) (operand s t (operands_of k).first))
-          (record { f = f; wired = wired; runs = runs; wide = width_of k; passed = all_pass _ c.passed }));
-      ram = λ d e.
-          let c = carried (around b s t) (operands_of k).to (first_failed (access_checks (access_of k) (operand s t (operands_of k).first) (operand s t (operands_of k).second) (access_address (access_of k) (operand s t (operands_of k).first))))
-          (accessed (access_of k) (operand s t (operands_of k).first) (operand s t (operands_of k).second) (access_address (access_of k) (operand s t (operands_of k).first)) (space_of b s)) d e in
-          subst (λ (z : Done). RamLeft b.image s z.granules) (sym c.is)
-          (accessed_ram b s t (operands_of k).first (operands_of k).second (access_of k) (access_address (access_of k) (operand s t (operands_of k).first))
-          (record { f = f; wired = wired; runs = runs; wide = width_of k; passed = all_pass _ c.passed }));
-      licensed = λ d act e is.
-          let c = carried (around b s t) (operands_of k).to (first_failed (access_checks (access_of k) (operand s t (operands_of k).first) (operand s t (operands_of k).second) (access_address (access_of k) (operand s t (operands_of k).first))))
-          (accessed (access_of k) (operand s t (operands_of k).first) (operand s t (operands_of k).second) (access_address (access_of k) (operand s t (operands_of k).first)) (space_of b s)) d e in
-          accessed_licensed b s t (operands_of k).first (operands_of k).second (access_of k) (access_address (access_of k) (operand s t (operands_of k).first))
-          (record { f = f; wired = wired; runs = runs; wide = width_of k; passed = all_pass _ c.passed }) act (sym (ap (λ (z : Done). z.act) c.is) ∙ is);
+      confined = λ d e. let c = done d e in subst (λ (z : Done). Confined b.image (put_done s t z)) (sym c.is)
+          (accessed_confined b s t (operands_of k).first (operands_of k).second (operands_of k).to (access_of k) (access_address (access_of k) (operand s t (operands_of k).first)) (accessing (sym c.passed)));
+      ram = λ d e. let c = done d e in subst (λ (z : Done). RamLeft b.image s z.granules) (sym c.is)
+          (accessed_ram b s t (operands_of k).first (operands_of k).second (access_of k) (access_address (access_of k) (operand s t (operands_of k).first)) (accessing (sym c.passed)));
+      licensed = λ d act e is. let c = done d e in
+          accessed_licensed b s t (operands_of k).first (operands_of k).second (access_of k) (access_address (access_of k) (operand s t (operands_of k).first)) (accessing (sym c.passed)) act (sym (ap (λ (z : Done). z.act) c.is) ∙ is);
     }
+  where
+    done : (d : Done) → carried_out class.Access k (operands_of k).to (operand s t (operands_of k).first) (operand s t (operands_of k).second) (named_by b.image (operand s t (operands_of k).first)) (around b s t) ≡ Ok d
+        → CarriedOut (around b s t) (operands_of k).to (first_failed (access_checks (access_of k) (operand s t (operands_of k).first) (operand s t (operands_of k).second) (access_address (access_of k) (operand s t (operands_of k).first))))
+        (accessed (access_of k) (operand s t (operands_of k).first) (operand s t (operands_of k).second) (access_address (access_of k) (operand s t (operands_of k).first)) (space_of b s)) d
+    done d e = carried (around b s t) (operands_of k).to (first_failed (access_checks (access_of k) (operand s t (operands_of k).first) (operand s t (operands_of k).second) (access_address (access_of k) (operand s t (operands_of k).first))))
+        (accessed (access_of k) (operand s t (operands_of k).first) (operand s t (operands_of k).second) (access_address (access_of k) (operand s t (operands_of k).first)) (space_of b s)) d e

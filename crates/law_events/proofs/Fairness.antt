@@ -1,6 +1,5 @@
 -- What one step of a thread owes, and how it ends: a trap, a return, a register with a new program counter.
-use Rattle.std.proofs.Common.{ℕ, zero, suc, ◌≡◌, ◌-◌, true, false, List, [], ◌∷◌, length, Option, Some, None, refl, sym, ◌∙◌, subst, arith}
-use Rattle.std.proofs.lemmas.List.{length-set}
+use Rattle.std.proofs.Common.{ℕ, ◌≡◌, true, false, List, [], ◌∷◌, Option, Some, None, refl, sym, ◌∙◌, subst, arith}
 use Rattle.def_words.specs.declared.Cap.{Cap}
 use Rattle.def_words.specs.declared.Trap.{Trap}
 use Rattle.def_words.specs.declared.Posture.{Posture}
@@ -9,7 +8,6 @@ use Rattle.ct_entry.specs.declared.acts.Deed.{Deed}
 use Rattle.def_machine.specs.Image.{Image}
 use Rattle.def_machine.specs.State.{State, Frame, Object, thread}
 use Rattle.def_machine.specs.Frames.{returned}
-use Rattle.def_machine.specs.Registers.{written}
 use Rattle.def_machine.specs.Threads.{jumped}
 use Rattle.def_step.specs.Instructions.{Board, Done, bank_of, deed, trapped, put_done}
 use Rattle.def_confined.specs.Places.{InFrames}
@@ -19,10 +17,11 @@ use Rattle.def_confined.specs.Licensed.{Licensed}
 use Rattle.law_places.proofs.Turns.{clock_of}
 use Rattle.law_calls.proofs.Pops.{returned_confined, unwound_confined}
 use Rattle.law_moves.proofs.Pops.{returned_beside, unwound_beside}
+use Rattle.law_moves.proofs.Threads.{written_length}
 use Rattle.def_confined.specs.Changes.{Jumps}
 use Rattle.law_jumps.proofs.Moves.{jumps_confined}
 use Rattle.def_confined.specs.Keeps.{Beside}
-use Rattle.law_sweeps.proofs.Moves.{RamLeft, ram_same, moved_beside}
+use Rattle.law_sweeps.proofs.Moves.{RamLeft, ram_same, running_left, moved_beside}
 use Rattle.law_licensed.proofs.Checks.{MayTell}
 
 -- the state after stays confined, the deed is licensed, and what stands beside stays
@@ -60,22 +59,9 @@ has_frames i objects t [] c h tagged e = let clash : true ≡ false = sym tagged
 has_frames i objects t (f ∷ fs) c h tagged e = let clash : (f ∷ fs) ≡ [] = e in cc
 
 -- a register and the program counter of the running thread change, and RAM
-written_length : (rs : List Cap) (n : ℕ) (c : Cap) → length (written rs n c) ≡ length rs
-written_length rs zero c = refl
-written_length rs (suc n) c = length-set rs (suc n) c
-
 pub put_beside : (b : Board) (s : State) (t : ℕ) (d : Done) → s.running ≡ Some t → ((thread s t).frames ≡ [] → ⊥) → RamLeft b.image s d.granules → Beside b.image s → Beside b.image (put_done s t d)
 put_beside b s t d runs some ram h = moved_beside b.image s t d.granules (jumped (thread s t) d.pcc d.posture d.to d.value) s.running (record (clock_of s) { devices = d.bank.states }) ram
-    (record {
-      sweeps = λ w. record {
-        frames = w.frames t;
-        registers = λ idle. absurd (idle runs);
-        others = λ u other idle is. idle is;
-      };
-      deep = h.bounded.deep t;
-      few = omega (arith, h.bounded.few t, written_length (thread s t).registers d.to d.value);
-      ends = λ e. record { over = e.over; none = λ none. absurd (some none) };
-    })
+    (running_left b.image s t (jumped (thread s t) d.pcc d.posture d.to d.value) runs refl (omega (arith, h.bounded.few t, written_length (thread s t).registers d.to d.value)) (λ e. record { over = e.over; none = λ none. absurd (some none) }) h)
     h
 
 abbrev pub moved_on : Board → State → ℕ → Cap → Cap → Posture → Done

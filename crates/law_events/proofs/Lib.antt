@@ -8,3 +8,4 @@ pub mod Fairness
 pub mod Steps
 pub mod Events
 pub mod Accesses
+pub mod Running

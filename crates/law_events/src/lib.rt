@@ -1,19 +1,21 @@
-//! Laws of events: whatever an event does keeps a state confined, with what stands beside, and each deed and each
-//! span with interrupts off that it tells is licensed. They speak of the written machine alone.
+//! Laws of events and of runs: whatever an event, or a list of them, does keeps a state confined, with what stands
+//! beside, and each deed and each span with interrupts off that it tells is licensed. They speak of the written machine
+//! alone.
 #![tactic(auto)]
 
-ghost use Rattle.std.specs.Prelude.{◌≡◌, Option, Some};
+ghost use Rattle.std.specs.Prelude.{◌≡◌, List, Option, Some};
 ghost use Rattle.ct_entry.specs.declared.acts.Deed.{Deed};
 ghost use Rattle.ct_entry.specs.declared.acts.Owned.{Owned};
 ghost use Rattle.def_machine.specs.State.{State};
 ghost use Rattle.def_step.specs.declared.Event.{Event};
 ghost use Rattle.def_step.specs.Instructions.{Board};
-ghost use Rattle.def_step.specs.Events.{happens, one_more_step, preempted, scheduled};
+ghost use Rattle.def_step.specs.Events.{happens, one_more_step, preempted, run, scheduled, told};
 ghost use Rattle.def_board.specs.Wired.{Wired};
 ghost use Rattle.def_facts.specs.Facts.{Facts};
 ghost use Rattle.def_confined.specs.Keeps.{Keeps};
 ghost use Rattle.def_confined.specs.Partitioned.{Partitioned};
 ghost use Rattle.def_confined.specs.Licensed.{Licensed, OffLicensed};
+ghost use Rattle.def_confined.specs.Telling.{AllLicensed};
 
 /// Every event, lawful or not, keeps a state confined, and what stands beside.
 pub fn events_confined()
@@ -38,4 +40,18 @@ pub fn events_licensed()
     ensures spans { (b : Board) (s : State) (e : Event) (o : Owned)
         → Partitioned b.image → Facts b.image → Wired b → Keeps b.image s
         → (happens b s e).1.off ≡ Some o → OffLicensed b.image.entries o }
+{}
+
+/// Any list of events, lawful or not, keeps a state confined, and what stands beside.
+pub fn runs_confined()
+    ensures { (b : Board) (s : State) (es : List Event)
+        → Partitioned b.image → Facts b.image → Wired b → Keeps b.image s
+        → Keeps b.image (run b s es) }
+{}
+
+/// Each deed, and each span with interrupts off, that a list of events tells is licensed.
+pub fn runs_licensed()
+    ensures { (b : Board) (s : State) (es : List Event)
+        → Partitioned b.image → Facts b.image → Wired b → Keeps b.image s
+        → AllLicensed b.image.entries (told b s es) }
 {}

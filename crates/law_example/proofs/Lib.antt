@@ -4,3 +4,4 @@ pub mod Rooting
 pub mod Whole
 pub mod Booting
 pub mod Gates
+pub mod Placing

@@ -5,6 +5,8 @@ use Rattle.std.specs.List.{range_with_len}
 use Rattle.std.proofs.lemmas.Bool.{le-ltb}
 use Rattle.std.proofs.lemmas.List.{take_all}
 use Rattle.std.proofs.lemmas.List.FromFn.{length-map-range_with_len}
+use Rattle.def_profile.specs.declared.layout.TheConstants.{TRUSTED_HEAD}
+use Rattle.def_profile.specs.Areas.{area_length}
 use Rattle.serde_json.specs.Data.{Data}
 use Rattle.def_layout.specs.Placement.{placed, last_end, needed}
 use Rattle.def_image.specs.Parts.{PartsRow}
@@ -144,7 +146,7 @@ all_taken p =
 nil_more : (ns : List ℕ) (a : ℕ) → Takes ns a → Takes (ns ++ []) a
 nil_more ns a h = subst (λ (l : List ℕ). Takes l a) (sym (append-nil ns)) h
 
-trusted_few : (n : ℕ) → n ≤ 65 → 16 + (160 + 64 * n + (160 + 64 * n + 0)) ≤ 8656
+trusted_few : (n : ℕ) → n ≤ 65 → TRUSTED_HEAD + (area_length n + (area_length n + 0)) ≤ 8656
 trusted_few n le = omega arith
 
 sizes_take : (p : Plan) → IsSmall p → Takes (sizes_of (rows_in p) (all_with p) []) 135552
@@ -155,7 +157,7 @@ sizes_take p small =
     let three : Takes (own ++ [] ++ [] ++ []) (1720 * p.count) = nil_more (own ++ [] ++ []) (1720 * p.count) (nil_more (own ++ []) (1720 * p.count) (nil_more own (1720 * p.count) taken)) in
     let stacks : Takes (8192 ∷ 8192 ∷ []) (8336 + 8336) = takes_both (8192 ∷ []) (8192 ∷ []) 8336 8336 (takes_one 8192 (omega arith)) (takes_one 8192 (omega arith)) in
     let frames : cut (p.count + 1) ≤ 65 = cut_small (p.count + 1) 65 (omega arith) in
-    let trusted : ℕ = 16 + (160 + 64 * cut (p.count + 1) + (160 + 64 * cut (p.count + 1) + 0)) in
+    let trusted : ℕ = TRUSTED_HEAD + (area_length (cut (p.count + 1)) + (area_length (cut (p.count + 1)) + 0)) in
     let few : trusted ≤ 8656 = trusted_few (cut (p.count + 1)) frames in
     let last : Takes (trusted ∷ []) (trusted + 144) = takes_one trusted (omega arith) in
     let all = takes_both (own ++ [] ++ [] ++ [] ++ 8192 ∷ 8192 ∷ []) (trusted ∷ []) (1720 * p.count + (8336 + 8336)) (trusted + 144)

@@ -1,45 +1,25 @@
 -- What boot makes for each entry is rooted in it.
-use Rattle.std.proofs.Common.{ℕ, ◌≡◌, inl, inr, Bool, true, false, ◌&&◌, not, nat_eq, refl, sym, ap, ◌∙◌, arith}
-use Rattle.law_lists.proofs.Tests.{bool_tells}
+use Rattle.std.proofs.Common.{ℕ, ◌≡◌, inl, inr, true, ◌&&◌, not, nat_eq, refl, sym, ap, ◌∙◌, arith}
 use Rattle.def_words.specs.declared.Cap.{Cap}
 use Rattle.def_words.specs.declared.Shadow.{Shadow}
-use Rattle.def_words.specs.Authority.{cap_address, cap_base, cap_top}
-use Rattle.def_words.specs.Permissions.{has}
-use Rattle.def_words.specs.Seals.{cap_seal}
 use Rattle.def_reach.specs.Roots.{is_root, is_quota}
-use Rattle.def_machine.specs.Image.{Image, root, made_cap}
-use Rattle.def_confined.specs.Capabilities.{AsBoot}
+use Rattle.def_machine.specs.Image.{root, made_cap}
 use Rattle.def_confined.specs.Partitioned.{BootMade}
 use Rattle.def_image.specs.Parts.{PartsRow}
 use Rattle.def_image.specs.Sound.{Sound}
 use Rattle.def_boot.specs.Boot.{image_of}
 use Rattle.def_boot.specs.Made.{from_entry}
+use Rattle.law_made.proofs.Boots.{as_boot, no_source}
 use Rattle.law_made.proofs.Makes.{made_rooted}
 use Rattle.law_grants.proofs.Sets.{clash_of, no_way}
 use Rattle.law_grants.proofs.Told.{Told, Faithful}
 use Rattle.law_grants.proofs.Clauses.{told_at}
 
-as_boot : (i : Image) (n : ℕ) (d : Cap) → d ≡ made_cap i n → d.shadow ≡ from_entry n → AsBoot i d
-as_boot i n d e s =
-    let same : made_cap i d.shadow.root ≡ d = ap (λ (x : Shadow). made_cap i x.root) s ∙ sym e in
-    record {
-      seal = sym (ap cap_seal same);
-      low = sym (ap cap_base same);
-      high = sym (ap cap_top same);
-      at = sym (ap cap_address same);
-      rights = λ p other. sym (ap (λ z. has z p) same);
-      source = ap (λ (x : Shadow). x.source) s;
-    }
-
--- what boot makes has no object as source
-no_object : (b : Bool) → (b && not (nat_eq 0 0)) ≡ false
-no_object b = elim (bool_tells b) [ inl is ↦ rw is refl | inr none ↦ rw none refl ]
-
 boot_made : (p : PartsRow) (n : ℕ) → Told p n (root (image_of p) n) (made_cap (image_of p) n) → Faithful p n (root (image_of p) n) (made_cap (image_of p) n) → BootMade (image_of p) n (made_cap (image_of p) n)
 boot_made p n t f =
     let i = image_of p in
     let order = t.order in
-    let no_heap = no_object (is_quota (root i n).origin) in
+    let no_heap = no_source (is_quota (root i n).origin) in
     record {
       from = ap (λ (x : Shadow). x.root) f.made.shadow_is;
       source = ap (λ (x : Shadow). x.source) f.made.shadow_is;

@@ -5,7 +5,7 @@ use Rattle.ct_entry.specs.declared.rows.Gate.{Gate}
 use Rattle.ct_entry.specs.declared.rows.Kind.TheVariants as kind
 use Rattle.def_profile.specs.declared.limits.TheConstants.{RAM_END}
 use Rattle.def_profile.specs.declared.rights.TheConstants.{STACK_RIGHTS}
-use Rattle.def_profile.specs.declared.seals.TheConstants.{EXPORT_TYPE, QUOTA_TYPE}
+use Rattle.def_profile.specs.declared.seals.TheConstants.{EXPORT_TYPE, QUOTA_TYPE, FIRST_KEY_TYPE, SENTRY_INHERIT, SENTRY_DISABLE, SENTRY_ENABLE}
 use Rattle.def_words.specs.declared.Cap.{Cap}
 use Rattle.def_words.specs.Permissions.{bit, execute, sealing, unsealing}
 use Rattle.def_words.specs.Seals.{cap_seal}
@@ -31,7 +31,7 @@ is_device (Listing kind.Device) = true
 is_device _ = false
 
 -- a key's range begins at its type
-key_low : (p : PartsRow) (o : Origin) (base top : ℕ) → LiesAs p o base top → o ≡ Listing kind.Key → 13 ≤ base
+key_low : (p : PartsRow) (o : Origin) (base top : ℕ) → LiesAs p o base top → o ≡ Listing kind.Key → FIRST_KEY_TYPE ≤ base
 key_low p o base top (of_nothing no_key none) is = no_way (sym no_key ∙ ap is_key is)
 key_low p o base top (in_ram no_key low high) is = no_way (sym no_key ∙ ap is_key is)
 key_low p o base top (native no_key own entry) is = no_way (sym no_key ∙ ap is_key is)
@@ -102,7 +102,7 @@ module _ (p : PartsRow) (s : Sound p) where
   pub calls : (n : ℕ) → (root (image_of p) n).origin ≡ Listing kind.Call → (a : ℕ) × ((root (image_of p) n).owner ≡ owner.Compartment a)
   calls n is = (told_at n).owned (inl is)
 
-  pub keys : (n : ℕ) → is_root (root (image_of p) n).origin ≡ true → (bit (root (image_of p) n).rights sealing ≡ true) ⊎ (bit (root (image_of p) n).rights unsealing ≡ true) → 13 ≤ (root (image_of p) n).base
+  pub keys : (n : ℕ) → is_root (root (image_of p) n).origin ≡ true → (bit (root (image_of p) n).rights sealing ≡ true) ⊎ (bit (root (image_of p) n).rights unsealing ≡ true) → FIRST_KEY_TYPE ≤ (root (image_of p) n).base
   keys n is any = key_low p _ _ _ (told_at n).lies ((told_at n).rights.keys any)
 
   pub executes : (n : ℕ) → is_root (root (image_of p) n).origin ≡ true → bit (root (image_of p) n).rights execute ≡ true → is_code (root (image_of p) n).origin ≡ true
@@ -119,7 +119,7 @@ module _ (p : PartsRow) (s : Sound p) where
     | inr f ↦ record { made = f; is = sym f.made.made.kind_is ∙ is }
   ]
 
-  pub forwards : (n : ℕ) → (cap_seal (made_cap (image_of p) n) ≡ 1) ⊎ (cap_seal (made_cap (image_of p) n) ≡ 2) ⊎ (cap_seal (made_cap (image_of p) n) ≡ 3)
+  pub forwards : (n : ℕ) → (cap_seal (made_cap (image_of p) n) ≡ SENTRY_INHERIT) ⊎ (cap_seal (made_cap (image_of p) n) ≡ SENTRY_DISABLE) ⊎ (cap_seal (made_cap (image_of p) n) ≡ SENTRY_ENABLE)
       → ((root (image_of p) n).origin ≡ Listing kind.Library) ⊎ ((root (image_of p) n).origin ≡ Listing kind.Service)
   forwards n (inl e) = let f = sealed_as n 1 e (omega arith) in f.made.says.forwards (inl f.is)
   forwards n (inr (inl e)) = let f = sealed_as n 2 e (omega arith) in f.made.says.forwards (inr (inl f.is))
@@ -132,7 +132,7 @@ module _ (p : PartsRow) (s : Sound p) where
       let found = (named p s n).library is in
       ap (λ (z : Root). z.disabled) found.row.root_is ∙ sym (ap (λ (g : Gate). is_disabled g.posture) found.row.gate_is) ∙ off
 
-  pub disables : (n : ℕ) → cap_seal (made_cap (image_of p) n) ≡ 2
+  pub disables : (n : ℕ) → cap_seal (made_cap (image_of p) n) ≡ SENTRY_DISABLE
       → ((root (image_of p) (root (image_of p) n).of).disabled ≡ true) × ((d : ℕ) → Reaches (image_of p).entries (root (image_of p) n).owner d → Reaches (image_of p).entries (root (image_of p) (root (image_of p) n).of).owner d)
   disables n two =
       let f = sealed_as n 2 two (omega arith) in

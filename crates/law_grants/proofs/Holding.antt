@@ -10,7 +10,8 @@ use Rattle.def_profile.specs.declared.layout.TheConstants.{SLOT_SIZE}
 use Rattle.def_profile.specs.declared.native.TheConstants.{NATIVE_BASE, NATIVE_END}
 use Rattle.def_reach.specs.Roots.{Root, Origin, Unknown, TrustedPart, Listing, root_of, gate_for, is_native, is_stack}
 use Rattle.def_machine.specs.Image.{root, made_cap, code_entry}
-use Rattle.def_confined.specs.Capabilities.{is_home, is_compartments}
+use Rattle.ct_entry.specs.Kinds.{is_compartment}
+use Rattle.def_confined.specs.Capabilities.{is_home}
 use Rattle.def_facts.specs.Facts.{Facts, HasCapability, IsCompartmentExport, IsLibraryExport, GateFits, StackFits, IsInside, Reads, gate_code}
 use Rattle.def_image.specs.declared.ImportRow.{ImportRow}
 use Rattle.def_image.specs.declared.SlotKind.{SlotKind}
@@ -45,7 +46,7 @@ use Rattle.law_grants.proofs.Settling.{settled as made_settled}
 home_of : (o : Origin) (w : Owner) → (o ≡ Listing kind.Code → (b : ℕ) × (w ≡ Compartment b)) → is_home o w ≡ true
 home_of Unknown w own = refl
 home_of TrustedPart w own = refl
-home_of (Listing kind.Code) w own = let found = own refl in ap is_compartments found.1
+home_of (Listing kind.Code) w own = let found = own refl in ap is_compartment found.1
 home_of (Listing kind.Globals) w own = refl
 home_of (Listing kind.Stack) w own = refl
 home_of (Listing kind.Device) w own = refl

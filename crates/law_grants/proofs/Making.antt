@@ -2,6 +2,7 @@
 use Rattle.std.proofs.Common.{ℕ, ◌≡◌, ◌≢◌, ◌+◌, ◌%◌, ◌^◌, ◌≤◌, ◌<◌, inl, inr, true, false, max, nat_eq, Some, option_map, unwrap_or, slice_get, refl, sym, ap, ◌∙◌, subst, arith, lit<, lit≤}
 use Rattle.std.proofs.lemmas.Bool.{eqb-true}
 use Rattle.std.proofs.lemmas.Option.{slice_get_within}
+use Rattle.def_profile.specs.declared.bounds.TheConstants.{MOST_UNITS}
 use Rattle.ct_entry.specs.Listed.{DeviceRow}
 use Rattle.ct_entry.specs.declared.rows.Owner.{Owner}
 use Rattle.ct_entry.specs.declared.rows.Entry.{Entry}
@@ -11,7 +12,7 @@ use Rattle.ct_entry.specs.declared.rows.Mode.TheVariants.{Inherit, Disabled, Ena
 use Rattle.def_profile.specs.declared.layout.TheConstants.{SLOT_SIZE, TABLE_ROW, DEVICE_SIZE, REGION_UNIT}
 use Rattle.def_profile.specs.declared.native.TheConstants.{RETURN_ENTRY, NATIVE_LENGTH}
 use Rattle.def_profile.specs.declared.rights.TheConstants.{CODE_RIGHTS, GLOBALS_RIGHTS, STACK_RIGHTS, SERVICE_RIGHTS, SEALED_RIGHTS, EXPORT_RIGHTS, QUOTA_RIGHTS, KEY_RIGHTS}
-use Rattle.def_profile.specs.declared.seals.TheConstants.{SENTRY_INHERIT, SENTRY_DISABLE, SENTRY_ENABLE, RETURN_ENABLE, EXPORT_TYPE, QUOTA_TYPE}
+use Rattle.def_profile.specs.declared.seals.TheConstants.{SENTRY_INHERIT, SENTRY_DISABLE, SENTRY_ENABLE, RETURN_ENABLE, EXPORT_TYPE, QUOTA_TYPE, FIRST_KEY_TYPE, LAST_KEY_TYPE}
 use Rattle.def_words.specs.LeastBounds.{rounded_of, exponent_for}
 use Rattle.def_words.specs.Permissions.{bit, execute}
 use Rattle.def_words.specs.Seals.{seal_type}
@@ -22,7 +23,7 @@ use Rattle.law_words.proofs.Leasts.{ceil_above}
 use Rattle.law_words.proofs.Making.{derive_makes}
 use Rattle.law_words.proofs.Exacts.{exponent_zero, exact_base, exact_top, exact_flag}
 use Rattle.law_words.proofs.Bits.{apart}
-use Rattle.law_words.proofs.Rights.{memory_is_root, executable_is_root, sealing_is_root, key_spelled, stack_spelled}
+use Rattle.law_words.proofs.Rights.{memory_is_root, executable_is_root, sealing_is_root, taken}
 use Rattle.def_layout.specs.Placement.{least_multiple, whole_size, region_length}
 use Rattle.def_reach.specs.Roots.{gate_for}
 use Rattle.def_image.specs.declared.ImportRow.{ImportRow}
@@ -43,7 +44,7 @@ use Rattle.law_grants.proofs.Sets.{DataRights, RunRights, code_set, service_set,
 
 -- ---- bounds
 
-pub exact_short : (base size : ℕ) → size ≤ 511 → (rounded_of base (base + size)).exact ≡ true
+pub exact_short : (base size : ℕ) → size ≤ MOST_UNITS → (rounded_of base (base + size)).exact ≡ true
 exact_short base size few = exact_flag base (base + size) (exact_base base (base + size) (exponent_zero base size few)) (exact_top base (base + size) (exponent_zero base size few))
 
 multiple_above : (n : ℕ) → n ≤ least_multiple REGION_UNIT n
@@ -76,10 +77,10 @@ sentry_kind s Disabled run = run_kind s SENTRY_DISABLE run (λ e. omega (arith, 
 sentry_kind s Enabled run = run_kind s SENTRY_ENABLE run (λ e. omega (arith, e)) refl
 
 -- the types of keys
-key_kind : (s k : ℕ) → bit s execute ≡ false → 13 ≤ k → k ≤ 15 → KindFits s k
+key_kind : (s k : ℕ) → bit s execute ≡ false → FIRST_KEY_TYPE ≤ k → k ≤ LAST_KEY_TYPE → KindFits s k
 key_kind s k run low high = data_kind s k run (λ e. omega (arith, e, low)) (by k low high)
   where
-    by : (k : ℕ) → 13 ≤ k → k ≤ 15 → seal_type false (k % 8) ≡ k
+    by : (k : ℕ) → FIRST_KEY_TYPE ≤ k → k ≤ LAST_KEY_TYPE → seal_type false (k % 8) ≡ k
     by k low high =
         let some : nat_eq (k % 8) 0 ≡ false = apart (k % 8) 0 (λ e. omega (arith, e, low, high)) in
         rw some (omega (arith, low, high))
@@ -120,7 +121,7 @@ pub quota_rights : (x : ℕ) → fits_kind slot.Quota x ≡ true → DataRights 
 quota_rights x fits = subst (λ y. DataRights y) (sym (eqb-true x QUOTA_RIGHTS fits)) quota_set
 
 key_rights : (x : ℕ) → fits_kind slot.Key x ≡ true → Spells sealing_root x
-key_rights x fits = subst (λ y. Spells sealing_root y) (sym (eqb-true x KEY_RIGHTS fits)) key_spelled
+key_rights x fits = subst (λ y. Spells sealing_root y) (sym (eqb-true x KEY_RIGHTS fits)) taken.key.1
 
 module _ (p : PartsRow) (s : Sound p) where
   -- a range in RAM below the heap
@@ -147,7 +148,7 @@ module _ (p : PartsRow) (s : Sound p) where
       → MadeAs n x.stack (x.stack + x.stack_length) STACK_RIGHTS (x.stack + x.stack_length) 0 (derive memory_root x.stack x.stack_length STACK_RIGHTS (x.stack + x.stack_length) 0 (from_entry n))
   stack_made n t x is =
       let lies = stack_there p s t x is in
-      inside_made memory_root x.stack x.stack_length STACK_RIGHTS (x.stack + x.stack_length) 0 n lies.high lies.exact memory_is_root stack_spelled (omega arith) (omega arith) (inl refl)
+      inside_made memory_root x.stack x.stack_length STACK_RIGHTS (x.stack + x.stack_length) 0 n lies.high lies.exact memory_is_root taken.stack.1 (omega arith) (omega arith) (inl refl)
 
   -- ---- what slots name
 
@@ -186,10 +187,10 @@ module _ (p : PartsRow) (s : Sound p) where
       let P : SealedRow → Type 0 = λ z. Lies p z.base z.length in
       subst P (sym same) (sealed_there p s i o is)
 
-  pub sealed_types : (i : ℕ) (o : SealedRow) → slice_get p.sealed i ≡ Some o → (13 ≤ (sealed p i).seal) × ((sealed p i).seal ≤ 15)
+  pub sealed_types : (i : ℕ) (o : SealedRow) → slice_get p.sealed i ≡ Some o → (FIRST_KEY_TYPE ≤ (sealed p i).seal) × ((sealed p i).seal ≤ LAST_KEY_TYPE)
   sealed_types i o is =
       let same : sealed p i ≡ o = ap (λ z. unwrap_or z no_sealed) is in
-      let P : SealedRow → Type 0 = λ z. (13 ≤ z.seal) × (z.seal ≤ 15) in
+      let P : SealedRow → Type 0 = λ z. (FIRST_KEY_TYPE ≤ z.seal) × (z.seal ≤ LAST_KEY_TYPE) in
       subst P (sym same) (s.sealed i o is).seal
 
   pub called_in : (b : ℕ) (c : CompartmentRow) (j : ℕ) (x : GateRow) → slice_get p.compartments b ≡ Some c → slice_get c.code.exports j ≡ Some x

@@ -1,6 +1,7 @@
 -- The numbers that the image keeps of code, globals and stacks; whose they are; gates and the return sentry.
 use Rattle.std.proofs.Common.{ℕ, zero, suc, ◌≡◌, ◌+◌, ◌*◌, ◌^◌, ◌≤◌, ◌<◌, inl, inr, Bool, true, false, List, [], ◌∷◌, length, Some, slice_get, slice_index_or, refl, sym, ap, ◌∙◌, subst, arith}
 use Rattle.std.proofs.lemmas.Option.{slice_get_within}
+use Rattle.def_profile.specs.declared.seals.TheConstants.{RETURN_ENABLE}
 use Rattle.law_lists.proofs.Tests.{lt_tells}
 use Rattle.ct_entry.specs.declared.rows.Owner.{Owner}
 use Rattle.ct_entry.specs.declared.rows.Owner.TheVariants.{Trusted, Compartment, Library, Thread}
@@ -210,6 +211,6 @@ module _ (p : PartsRow) (s : Sound p) where
   unfolding image_of entries_of
   gates_small n = gate_small n (entry_of p n)
 
-  pub sentry : (made_cap (image_of p) 0).tag ≡ true → cap_seal (made_cap (image_of p) 0) ≡ 5
+  pub sentry : (made_cap (image_of p) 0).tag ≡ true → cap_seal (made_cap (image_of p) 0) ≡ RETURN_ENABLE
   unfolding image_of made_caps
   sentry tagged = sentry_made.made.kind_is

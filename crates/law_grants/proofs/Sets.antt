@@ -2,11 +2,11 @@
 use Rattle.std.proofs.Common.{ℕ, ◌≡◌, ◌+◌, ◌⊎◌, inl, inr, Bool, true, false, ◌||◌, List, [], ◌∷◌, refl, sym, ap, ◌∙◌, subst}
 use Rattle.law_lists.proofs.Tests.{eq_tells, bool_tells}
 use Rattle.ct_entry.specs.declared.rows.Kind.TheVariants as kind
-use Rattle.def_profile.specs.declared.rights.TheConstants.{GL, LD, SD, MC, LM, LG, CODE_RIGHTS, GLOBALS_RIGHTS, STACK_RIGHTS, SERVICE_RIGHTS, SEALED_RIGHTS, EXPORT_RIGHTS, QUOTA_RIGHTS, KEY_RIGHTS}
+use Rattle.def_profile.specs.declared.rights.TheConstants.{MC, LM, LG, CODE_RIGHTS, GLOBALS_RIGHTS, STACK_RIGHTS, SERVICE_RIGHTS, SEALED_RIGHTS, EXPORT_RIGHTS, QUOTA_RIGHTS, KEY_RIGHTS}
 use Rattle.def_words.specs.Derive.{memory_root, executable_root}
-use Rattle.def_words.specs.Permissions.{IsLegal, bit, form_of, global, store_data, store_local, load_data, execute, unsealing, sealing, normal_set, set_where, unpacked}
+use Rattle.def_words.specs.Permissions.{IsLegal, bit, form_of, global, store_data, store_local, load_data, execute, unsealing, sealing, normal_set, set_where}
 use Rattle.law_words.specs.Facts.{Spells}
-use Rattle.law_words.proofs.Rights.{code_legal, globals_legal, stack_legal, service_legal, sealed_legal, export_legal, quota_legal, key_legal, read_legal, write_legal, read_write_legal, code_spelled, globals_spelled, service_spelled, sealed_spelled, export_spelled, quota_spelled, read_spelled, write_spelled, read_write_spelled}
+use Rattle.law_words.proofs.Rights.{taken}
 use Rattle.def_reach.specs.Roots.{Origin, Unknown, Listing, is_root, is_code, is_stack}
 use Rattle.def_image.specs.Rights.{is_one_of, device_rights, carrying_rights, read_rights, write_rights, both_rights}
 
@@ -40,57 +40,41 @@ pub record DataRights (s : ℕ) : Type 0 where
   pub not_seal : bit s sealing ≡ false
   pub not_unseal : bit s unsealing ≡ false
 
-carry_legal : IsLegal (GL + LD + MC + LM + LG)
-unfolding normal_set set_where form_of bit
-carry_legal = refl
-
-put_legal : IsLegal (GL + SD + MC)
-unfolding normal_set set_where form_of bit
-put_legal = refl
-
-carry_spelled : Spells memory_root (GL + LD + MC + LM + LG)
-unfolding memory_root unpacked normal_set set_where form_of bit
-carry_spelled = refl
-
-put_spelled : Spells memory_root (GL + SD + MC)
-unfolding memory_root unpacked normal_set set_where form_of bit
-put_spelled = refl
-
 pub read_set : DataRights read_rights
 unfolding bit
-read_set = record { legal = read_legal; spelled = read_spelled; not_local = refl; not_run = refl; not_seal = refl; not_unseal = refl }
+read_set = record { legal = taken.read.0; spelled = taken.read.1; not_local = refl; not_run = refl; not_seal = refl; not_unseal = refl }
 
 pub write_set : DataRights write_rights
 unfolding bit
-write_set = record { legal = write_legal; spelled = write_spelled; not_local = refl; not_run = refl; not_seal = refl; not_unseal = refl }
+write_set = record { legal = taken.write.0; spelled = taken.write.1; not_local = refl; not_run = refl; not_seal = refl; not_unseal = refl }
 
 pub both_set : DataRights both_rights
 unfolding bit
-both_set = record { legal = read_write_legal; spelled = read_write_spelled; not_local = refl; not_run = refl; not_seal = refl; not_unseal = refl }
+both_set = record { legal = taken.read_write.0; spelled = taken.read_write.1; not_local = refl; not_run = refl; not_seal = refl; not_unseal = refl }
 
 carry_set : DataRights (read_rights + MC + LM + LG)
 unfolding bit
-carry_set = record { legal = carry_legal; spelled = carry_spelled; not_local = refl; not_run = refl; not_seal = refl; not_unseal = refl }
+carry_set = record { legal = taken.carry.0; spelled = taken.carry.1; not_local = refl; not_run = refl; not_seal = refl; not_unseal = refl }
 
 put_set : DataRights (write_rights + MC)
 unfolding bit
-put_set = record { legal = put_legal; spelled = put_spelled; not_local = refl; not_run = refl; not_seal = refl; not_unseal = refl }
+put_set = record { legal = taken.put.0; spelled = taken.put.1; not_local = refl; not_run = refl; not_seal = refl; not_unseal = refl }
 
 pub globals_set : DataRights GLOBALS_RIGHTS
 unfolding bit
-globals_set = record { legal = globals_legal; spelled = globals_spelled; not_local = refl; not_run = refl; not_seal = refl; not_unseal = refl }
+globals_set = record { legal = taken.globals.0; spelled = taken.globals.1; not_local = refl; not_run = refl; not_seal = refl; not_unseal = refl }
 
 pub sealed_set : DataRights SEALED_RIGHTS
 unfolding bit
-sealed_set = record { legal = sealed_legal; spelled = sealed_spelled; not_local = refl; not_run = refl; not_seal = refl; not_unseal = refl }
+sealed_set = record { legal = taken.sealed.0; spelled = taken.sealed.1; not_local = refl; not_run = refl; not_seal = refl; not_unseal = refl }
 
 pub export_set : DataRights EXPORT_RIGHTS
 unfolding bit
-export_set = record { legal = export_legal; spelled = export_spelled; not_local = refl; not_run = refl; not_seal = refl; not_unseal = refl }
+export_set = record { legal = taken.export.0; spelled = taken.export.1; not_local = refl; not_run = refl; not_seal = refl; not_unseal = refl }
 
 pub quota_set : DataRights QUOTA_RIGHTS
 unfolding bit
-quota_set = record { legal = quota_legal; spelled = quota_spelled; not_local = refl; not_run = refl; not_seal = refl; not_unseal = refl }
+quota_set = record { legal = taken.quota.0; spelled = taken.quota.1; not_local = refl; not_run = refl; not_seal = refl; not_unseal = refl }
 
 -- ---- one of several sets
 
@@ -145,11 +129,11 @@ pub record RunRights (s : ℕ) : Type 0 where
 
 pub code_set : RunRights CODE_RIGHTS
 unfolding bit
-code_set = record { legal = code_legal; spelled = code_spelled; not_local = refl; not_seal = refl; not_unseal = refl; run = refl }
+code_set = record { legal = taken.code.0; spelled = taken.code.1; not_local = refl; not_seal = refl; not_unseal = refl; run = refl }
 
 pub service_set : RunRights SERVICE_RIGHTS
 unfolding bit
-service_set = record { legal = service_legal; spelled = service_spelled; not_local = refl; not_seal = refl; not_unseal = refl; run = refl }
+service_set = record { legal = taken.service.0; spelled = taken.service.1; not_local = refl; not_seal = refl; not_unseal = refl; run = refl }
 
 pub run_fit : (o : Origin) (s : ℕ) → RunRights s → is_stack o ≡ false → is_key o ≡ false → (is_root o ≡ true → is_code o ≡ true) → RightsFit o s
 run_fit o s d no_stack no_key code = record {
@@ -165,7 +149,7 @@ run_fit o s d no_stack no_key code = record {
 pub stack_fit : RightsFit (Listing kind.Stack) STACK_RIGHTS
 unfolding bit
 stack_fit = record {
-  legal = stack_legal;
+  legal = taken.stack.0;
   local = λ local. refl;
   held = λ stack. refl;
   runs = λ runs root. no_way runs;
@@ -177,7 +161,7 @@ stack_fit = record {
 pub key_fit : RightsFit (Listing kind.Key) KEY_RIGHTS
 unfolding bit
 key_fit = record {
-  legal = key_legal;
+  legal = taken.key.0;
   local = λ local. no_way local;
   held = λ stack. no_way stack;
   runs = λ runs root. no_way runs;

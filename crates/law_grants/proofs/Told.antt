@@ -13,7 +13,7 @@ use Rattle.ct_entry.specs.declared.rows.Kind.TheVariants as kind
 use Rattle.def_profile.specs.declared.layout.TheConstants.{SLOT_SIZE, DEVICE_SIZE}
 use Rattle.def_profile.specs.declared.native.TheConstants.{NATIVE_BASE, NATIVE_END, NATIVE_LENGTH, LAST_NATIVE, RETURN, RETURN_ENTRY}
 use Rattle.def_profile.specs.declared.rights.TheConstants.{KEY_RIGHTS}
-use Rattle.def_profile.specs.declared.seals.TheConstants.{FIRST_KEY_TYPE, RETURN_ENABLE, EXPORT_TYPE, QUOTA_TYPE}
+use Rattle.def_profile.specs.declared.seals.TheConstants.{FIRST_KEY_TYPE, RETURN_ENABLE, EXPORT_TYPE, QUOTA_TYPE, SENTRY_INHERIT, SENTRY_DISABLE, SENTRY_ENABLE, RETURN_DISABLE, LAST_KEY_TYPE}
 use Rattle.def_words.specs.declared.Cap.{Cap}
 use Rattle.def_words.specs.Permissions.{bit, execute}
 use Rattle.def_memory.specs.Granules.{plain}
@@ -40,15 +40,15 @@ use Rattle.law_grants.proofs.Making.{sentry_made, code_made, globals_made, stack
 
 -- what the type of a capability says of its entry
 pub record TypeSays (p : PartsRow) (r : Root) (k : ℕ) : Type 0 where
-  pub not_off : k ≡ 4 → ⊥
-  pub returns : k ≡ 5 → (r.base < r.top) × (bit r.rights execute ≡ true)
-  pub calls : k ≡ 9 → r.origin ≡ Listing kind.Call
-  pub quotas : k ≡ 10 → r.origin ≡ Listing kind.Quota
-  pub forwards : (k ≡ 1) ⊎ (k ≡ 2) ⊎ (k ≡ 3) → (r.origin ≡ Listing kind.Library) ⊎ (r.origin ≡ Listing kind.Service)
-  pub disables : k ≡ 2 → (r.origin ≡ Listing kind.Library) × (is_disabled (gate_for (gates_of p) r.of).posture ≡ true)
+  pub not_off : k ≡ RETURN_DISABLE → ⊥
+  pub returns : k ≡ RETURN_ENABLE → (r.base < r.top) × (bit r.rights execute ≡ true)
+  pub calls : k ≡ EXPORT_TYPE → r.origin ≡ Listing kind.Call
+  pub quotas : k ≡ QUOTA_TYPE → r.origin ≡ Listing kind.Quota
+  pub forwards : (k ≡ SENTRY_INHERIT) ⊎ (k ≡ SENTRY_DISABLE) ⊎ (k ≡ SENTRY_ENABLE) → (r.origin ≡ Listing kind.Library) ⊎ (r.origin ≡ Listing kind.Service)
+  pub disables : k ≡ SENTRY_DISABLE → (r.origin ≡ Listing kind.Library) × (is_disabled (gate_for (gates_of p) r.of).posture ≡ true)
 
 -- unsealed, or of a key's type
-says_little : (p : PartsRow) (r : Root) (k : ℕ) → (k ≡ 0) ⊎ (13 ≤ k) → TypeSays p r k
+says_little : (p : PartsRow) (r : Root) (k : ℕ) → (k ≡ 0) ⊎ (FIRST_KEY_TYPE ≤ k) → TypeSays p r k
 says_little p r k few = record {
   not_off = λ e. elim few [ inl a ↦ omega (arith, e, a) | inr a ↦ omega (arith, e, a) ];
   returns = λ e. absurd (elim few [ inl a ↦ omega (arith, e, a) | inr a ↦ omega (arith, e, a) ]);
@@ -58,7 +58,7 @@ says_little p r k few = record {
   disables = λ e. absurd (elim few [ inl a ↦ omega (arith, e, a) | inr a ↦ omega (arith, e, a) ]);
 }
   where
-    none : (k ≡ 1) ⊎ (k ≡ 2) ⊎ (k ≡ 3) → ⊥
+    none : (k ≡ SENTRY_INHERIT) ⊎ (k ≡ SENTRY_DISABLE) ⊎ (k ≡ SENTRY_ENABLE) → ⊥
     none (inl e) = elim few [ inl a ↦ omega (arith, e, a) | inr a ↦ omega (arith, e, a) ]
     none (inr (inl e)) = elim few [ inl a ↦ omega (arith, e, a) | inr a ↦ omega (arith, e, a) ]
     none (inr (inr e)) = elim few [ inl a ↦ omega (arith, e, a) | inr a ↦ omega (arith, e, a) ]
@@ -80,7 +80,7 @@ says_library p r Inherit is at = says_forward p r 1 (inl is) (omega arith) (λ e
 says_library p r Disabled is at = says_forward p r 2 (inl is) (omega arith) (λ e. (is, ap is_disabled at))
 says_library p r Enabled is at = says_forward p r 3 (inl is) (omega arith) (λ e. absurd (omega (arith, e)))
 
-none_forward : (k : ℕ) → 4 ≤ k → (k ≡ 1) ⊎ (k ≡ 2) ⊎ (k ≡ 3) → ⊥
+none_forward : (k : ℕ) → 4 ≤ k → (k ≡ SENTRY_INHERIT) ⊎ (k ≡ SENTRY_DISABLE) ⊎ (k ≡ SENTRY_ENABLE) → ⊥
 none_forward k past (inl e) = omega (arith, e, past)
 none_forward k past (inr (inl e)) = omega (arith, e, past)
 none_forward k past (inr (inr e)) = omega (arith, e, past)
@@ -162,7 +162,7 @@ pub data LiesAs (p : PartsRow) (o : Origin) (base top : ℕ) : Type 0 where
   in_ram : is_key o ≡ false → p.ram ≤ base → top ≤ p.heap → LiesAs p o base top
   native : is_key o ≡ false → is_native o ≡ true → IsNativeEntry base top → LiesAs p o base top
   device : o ≡ Listing kind.Device → IsDevice p base top → LiesAs p o base top
-  of_key : o ≡ Listing kind.Key → FIRST_KEY_TYPE ≤ base → top ≤ 16 → LiesAs p o base top
+  of_key : o ≡ Listing kind.Key → FIRST_KEY_TYPE ≤ base → top ≤ LAST_KEY_TYPE + 1 → LiesAs p o base top
 
 -- nothing was made, and the entry is of no native routine
 pub record IsPlain (r : Root) (d : Cap) : Type 0 where

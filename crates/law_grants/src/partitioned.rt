@@ -7,6 +7,7 @@ ghost use Rattle.ct_entry.specs.declared.rows.Owner.TheVariants as owner;
 ghost use Rattle.def_confined.specs.Partitioned.{AwayFromHeap, BootMade, IsOwnEntry};
 ghost use Rattle.def_profile.specs.declared.limits.TheConstants.{RAM_END};
 ghost use Rattle.def_profile.specs.declared.rights.TheConstants.{STACK_RIGHTS};
+ghost use Rattle.def_profile.specs.declared.seals.TheConstants.{FIRST_KEY_TYPE, RETURN_ENABLE, SENTRY_DISABLE, SENTRY_ENABLE, SENTRY_INHERIT};
 ghost use Rattle.def_machine.specs.Image.{code_entry, globals_entry, made_cap, root, stack_entry};
 ghost use Rattle.def_reach.specs.Roots.{Listing, gate_for, is_code, is_root};
 ghost use Rattle.def_reach.specs.Sharing.{Reaches};
@@ -34,7 +35,7 @@ pub fn rows_partition()
         → is_root (root (image_of p) n).origin ≡ true
         → (bit (root (image_of p) n).rights sealing ≡ true)
         ⊎ (bit (root (image_of p) n).rights unsealing ≡ true)
-        → 13 ≤ (root (image_of p) n).base }
+        → FIRST_KEY_TYPE ≤ (root (image_of p) n).base }
     ensures executes { (p : PartsRow) → Sound p → (n : ℕ)
         → is_root (root (image_of p) n).origin ≡ true
         → bit (root (image_of p) n).rights execute ≡ true
@@ -59,12 +60,13 @@ pub fn made_partition()
         → is_root (root (image_of p) n).origin ≡ true
         → (made_cap (image_of p) n).tag ≡ true → BootMade (image_of p) n (made_cap (image_of p) n) }
     ensures forwards { (p : PartsRow) → Sound p → (n : ℕ)
-        → (cap_seal (made_cap (image_of p) n) ≡ 1) ⊎ (cap_seal (made_cap (image_of p) n) ≡ 2)
-        ⊎ (cap_seal (made_cap (image_of p) n) ≡ 3)
+        → (cap_seal (made_cap (image_of p) n) ≡ SENTRY_INHERIT)
+        ⊎ (cap_seal (made_cap (image_of p) n) ≡ SENTRY_DISABLE)
+        ⊎ (cap_seal (made_cap (image_of p) n) ≡ SENTRY_ENABLE)
         → ((root (image_of p) n).origin ≡ Listing kind.Library)
         ⊎ ((root (image_of p) n).origin ≡ Listing kind.Service) }
     ensures disables { (p : PartsRow) → Sound p → (n : ℕ)
-        → cap_seal (made_cap (image_of p) n) ≡ 2
+        → cap_seal (made_cap (image_of p) n) ≡ SENTRY_DISABLE
         → ((root (image_of p) (root (image_of p) n).of).disabled ≡ true)
         × ((d : ℕ) → Reaches (image_of p).entries (root (image_of p) n).owner d
         → Reaches (image_of p).entries (root (image_of p) (root (image_of p) n).of).owner d) }
@@ -76,5 +78,5 @@ pub fn made_partition()
         → (root (image_of p) n).owner ≡ owner.Compartment b
         → IsOwnEntry (image_of p) b (globals_entry (image_of p) b) kind.Globals }
     ensures sentry { (p : PartsRow) → Sound p → (made_cap (image_of p) 0).tag ≡ true
-        → cap_seal (made_cap (image_of p) 0) ≡ 5 }
+        → cap_seal (made_cap (image_of p) 0) ≡ RETURN_ENABLE }
 {}

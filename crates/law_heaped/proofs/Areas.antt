@@ -1,5 +1,6 @@
 -- A slice over memory is the slice over the frames and the registers that stand there.
 use Rattle.std.proofs.Common.{ℕ, zero, suc, ◌≡◌, ◌+◌, ◌*◌, ◌/◌, ◌%◌, ◌^◌, ◌&&◌, inl, inr, Bool, true, false, cond, nat_le, nat_lt, List, [], ◌∷◌, length, refl, sym, ap, ◌∙◌, arith}
+use Rattle.def_profile.specs.Areas.{frame_after}
 use Rattle.law_lists.proofs.Tests.{bool_tells}
 use Rattle.def_words.specs.declared.Cap.{Cap}
 use Rattle.def_words.specs.Capability.{untagged}
@@ -64,9 +65,9 @@ frames_kept f z gs area actor top handling zero = refl
 frames_kept f z gs area actor top handling (suc j) =
     let k : ℕ = frame_place area j in
     let count = frames_count gs area (caller_actor gs (frame_place area j)) (caller_top gs (frame_place area j)) (caller_handling gs (frame_place area j)) j in
-    let place : 8 * frame_place area j ≡ 8 * area + 160 + 64 * j = omega arith in
+    let place : 8 * frame_place area j ≡ frame_after (8 * area) j = omega arith in
     let more = frames_kept f z gs area (caller_actor gs (frame_place area j)) (caller_top gs (frame_place area j)) (caller_handling gs (frame_place area j)) j in
-    let first : frame_at (kept_granules f 0 gs) (frame_place area j) actor top handling ≡ kept_frame f (8 * area + 160 + 64 * j) (frame_at gs (frame_place area j) actor top handling) =
+    let first : frame_at (kept_granules f 0 gs) (frame_place area j) actor top handling ≡ kept_frame f (frame_after (8 * area) j) (frame_at gs (frame_place area j) actor top handling) =
     frame_kept f z gs (frame_place area j) actor top handling ∙ ap (λ m. kept_frame f m (frame_at gs (frame_place area j) actor top handling)) place in
     rw (high_kept f z gs (frame_place area j + 5), low_kept f z gs (frame_place area j + 6), low_kept f z gs (frame_place area j + 7), first, more, count) refl
 

@@ -1,6 +1,7 @@
 -- A slice of a sweep over granules, and over frames and registers that stand in a thread's area.
-use Rattle.std.specs.Prelude.{ℕ, ◌+◌, ◌*◌, ◌≡◌, ◌&&◌, cond, nat_le, nat_lt, List, [], ◌∷◌, length}
-use Rattle.def_profile.specs.declared.layout.TheConstants.{GRANULE, AREA_HEAD, FRAME_SIZE}
+use Rattle.std.specs.Prelude.{ℕ, ◌+◌, ◌≡◌, ◌&&◌, cond, nat_le, nat_lt, List, [], ◌∷◌, length}
+use Rattle.def_profile.specs.Areas.{frame_after}
+use Rattle.def_profile.specs.declared.layout.TheConstants.{GRANULE}
 use Rattle.def_words.specs.declared.Cap.{Cap}
 use Rattle.def_memory.specs.declared.Granule.{Granule}
 use Rattle.def_memory.specs.Granules.{plain}
@@ -32,7 +33,7 @@ kept_frame keep at f = record f {
 abbrev pub kept_frames : (ℕ → Cap → Cap) → ℕ → List Frame → List Frame
 kept_frames keep area [] = []
 kept_frames keep area (f ∷ fs) =
-    kept_frame keep (area + AREA_HEAD + FRAME_SIZE * length fs) f ∷ kept_frames keep area fs
+    kept_frame keep (frame_after area (length fs)) f ∷ kept_frames keep area fs
 
 abbrev pub kept_registers : (ℕ → Cap → Cap) → ℕ → List Cap → List Cap
 kept_registers keep at [] = []

@@ -27,7 +27,7 @@ use Rattle.law_reuse.specs.Reuse.{IsRow, Waits, SweepsWhole}
 use Rattle.law_reuse.proofs.Same.{Same, quarantined_stays, ready_same}
 use Rattle.law_reuse.proofs.Waiting.{waiting}
 use Rattle.law_events.proofs.Events.{ready_keeps}
-use Rattle.law_run.proofs.Running.{run_keeps}
+use Rattle.law_events.proofs.Running.{run_keeps}
 use Rattle.law_blank.proofs.Events.{run_blank}
 use Rattle.law_history.specs.Each.{ready}
 use Rattle.law_history.specs.Chunks.{ChunksMeet, chunk_at}

@@ -15,7 +15,7 @@ use Rattle.def_step.specs.declared.Event.TheVariants.{Step}
 use Rattle.def_step.specs.Events.{happens, run}
 use Rattle.def_step.specs.Instructions.{Board}
 use Rattle.law_events.proofs.Events.{event_keeps}
-use Rattle.law_run.proofs.Running.{run_keeps}
+use Rattle.law_events.proofs.Running.{run_keeps}
 use Rattle.law_blank.proofs.Events.{event_blank, run_blank}
 use Rattle.law_reuse.specs.Reuse.{SweepsWhole}
 use Rattle.law_history.specs.Each.{EachEvent}

@@ -20,7 +20,8 @@ use Rattle.def_step.specs.declared.Class.{Class}
 use Rattle.def_step.specs.declared.Class.TheVariants as class
 use Rattle.def_step.specs.declared.Next.{Next}
 use Rattle.def_step.specs.declared.TheConstants.{LAST_ROUTINE}
-use Rattle.def_step.specs.Accesses.{Space, Accessed, access_of, access_address, access_checks, access_result, accessed, in_ram, on_device, is_ram, deed_at, unless}
+use Rattle.law_routines.proofs.Accesses.{by_access}
+use Rattle.def_step.specs.Accesses.{Space, access_of, access_address, access_checks, access_result, accessed, deed_at, unless}
 use Rattle.def_step.specs.Checks.{first_failed}
 use Rattle.def_step.specs.Devices.{found}
 use Rattle.def_step.specs.Jumps.{Flowed}
@@ -76,9 +77,8 @@ device_acts : (p : Space) (at : ℕ) (a : Act) → IsAccess a → IfAccess (deed
 device_acts p at a h = chosen IfAccess (is_some (found p.bank.bases at)) (Some a) None (λ is. h) (λ not. tt)
 
 accessed_acts : (a : Access) (x y : Cap) (at : ℕ) (p : Space) → IfAccess (accessed a x y at p).act
-accessed_acts a x y at p = chosen (λ (m : Accessed). IfAccess m.act) (is_ram p at a.width) (in_ram a x y at p) (on_device a x y at p)
-    (λ is. chosen (λ (m : Accessed). IfAccess m.act) a.loads _ _ (λ loads. tt) (λ stores. tt))
-    (λ not. chosen (λ (m : Accessed). IfAccess m.act) a.loads _ _ (λ loads. device_acts p at _ tt) (λ stores. device_acts p at _ tt))
+accessed_acts a x y at p = by_access (λ m. IfAccess m.act) a x y at p
+    (record { loads = λ ram loads. tt; stores = λ ram stores. tt; reads = λ loads. device_acts p at _ tt; writes = λ stores. device_acts p at _ tt })
 
 access_acts : (a : Around) (to : ℕ) (k : Instr) (x y : Cap) (p : Space) → IfDone (accesses a to (access_result k x y p))
 unfolding access_result

@@ -3,6 +3,7 @@ pub mod Passing
 pub mod Laying
 pub mod Members
 pub mod Rows
+pub mod Holding
 pub mod Limited
 pub mod Named
 pub mod Owners

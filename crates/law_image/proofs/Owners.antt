@@ -1,6 +1,7 @@
 -- What the limits of an image's fields say of compartments and libraries, their slots and their exports.
-use Rattle.std.proofs.Common.{ℕ, ◌≡◌, ◌+◌, ◌*◌, ◌<◌, ◌≤◌, ◌^◌, ◌%◌, ◌||◌, not, Bool, true, false, nat_le, nat_lt, nat_eq, List, [], ◌∷◌, ◌++◌, length, map, take, Some, None, slice_get, refl, sym, ap, ◌∙◌, subst, arith, inl, inr}
+use Rattle.std.proofs.Common.{ℕ, ◌≡◌, ◌+◌, ◌*◌, ◌<◌, ◌≤◌, ◌^◌, ◌%◌, ◌||◌, not, Bool, true, false, nat_le, nat_lt, nat_eq, List, [], ◌++◌, length, map, take, Some, None, slice_get, refl, sym, ap, ◌∙◌, subst, arith, inl, inr}
 use Rattle.std.proofs.lemmas.List.{length-map}
+use Rattle.def_profile.specs.declared.limits.TheConstants.{MOST_BYTES}
 use Rattle.law_lists.proofs.Tests.{le_tells}
 use Rattle.ct_entry.specs.declared.rows.Mode.{Mode}
 use Rattle.ct_entry.specs.declared.rows.Mode.TheVariants.{Inherit, Disabled, Enabled}
@@ -10,18 +11,19 @@ use Rattle.def_image.specs.declared.format.TheConstants.{ENTRY, COMPARTMENT_HEAD
 use Rattle.def_image.specs.Parts.{SlotRow, GateRow, CodeRow, CompartmentRow, PartsRow}
 use Rattle.def_image.specs.Spelling.{raw_of, raw_slot, raw_gate, raw_compartment, raw_code, import_field, export_field, kind_byte, posture_byte, passes_byte}
 use Rattle.def_image.specs.Shapes.{SpellableSlot, SpellableGate}
-use Rattle.def_image.specs.Sizes.{sum_of, compartment_size, library_size, compartments_at, libraries_at, tables_size, entries_size}
+use Rattle.def_image.specs.Sizes.{sum_of, compartment_size, library_size, compartments_at, libraries_at, entries_size}
 use Rattle.def_image.specs.Profile.{outside}
-use Rattle.def_image.specs.Checks.{first, walked, check}
+use Rattle.def_image.specs.Checks.{first, walked}
 use Rattle.def_image.specs.Limits as lim
-use Rattle.def_image.specs.Limits.{name_checks, code_limits, row_limits, gate_limits, own_slot_limits, slot_limits, export_limits, own_slots_limits, slots_limits, exports_limits, compartment_limits, compartment_limits_by, library_limits, library_limits_by, Bounds, compartment_bounds, library_bounds, byte_at, number_at, misnumbered, is_misnamed, is_unnamed_key, entry_name, are_zeros}
+use Rattle.def_image.specs.Limits.{name_checks, code_limits, row_limits, gate_limits, own_slot_limits, slot_limits, export_limits, own_numbers, compartment_limits, compartment_limits_by, library_numbers, library_limits, library_limits_by, Bounds, compartment_bounds, library_bounds, byte_at, number_at, misnumbered, is_misnamed, is_unnamed_key, entry_name}
 use Rattle.def_image.specs.Members as mem
 use Rattle.def_image.specs.Sound.{IsWithin, CodeFits, ExportFits, LibraryExportFits}
 use Rattle.law_image.proofs.Tells.{lt_not, eq_is, not_false, or_left, or_right, within_is}
-use Rattle.law_image.proofs.Passing.{left_none, right_none, head_none, all_pass}
+use Rattle.law_image.proofs.Passing.{left_none, all_pass}
 use Rattle.law_image.proofs.Members.{taken, sum_map, number_is}
 use Rattle.law_image.proofs.Rows.{first_at, offset_at, stack_at, entry_at}
-use Rattle.law_image.proofs.Limited.{Limited, asked_of}
+use Rattle.law_image.proofs.Holding.{Limited, compartment_holds, library_holds}
+use Rattle.law_image.proofs.Limited.{asked_of}
 
 -- ---- rows
 
@@ -94,7 +96,7 @@ gate_numbered b text entry at gates e j x is small =
 pub record CompartmentLimited (c : CompartmentRow) (entry : ℕ) : Type 0 where
   pub code : CodeFits c.code
   pub slots : IsWithin 1 148 (length c.code.slots)
-  pub globals : IsWithin 16 1048576 c.globals_length
+  pub globals : IsWithin 16 MOST_BYTES c.globals_length
   pub initial : length c.initial ≤ c.globals_length
   pub slot : (j : ℕ) (s : SlotRow) → slice_get c.code.slots j ≡ Some s → SpellableSlot s → misnumbered (kind_byte s.row.kind) s.row.first ≡ false
   pub export : (j : ℕ) (x : GateRow) → slice_get c.code.exports j ≡ Some x → SpellableGate x → GateLimited compartment_bounds (length c.code.text) (entry + 2 + length c.code.slots + j) x.row
@@ -105,50 +107,33 @@ code_fits at c e few =
     let slots : length (map raw_slot c.slots) ≡ length c.slots = length-map c.slots raw_slot in
     let fits = lt_not c.length (8 * length (map raw_slot c.slots) + length c.text) h.0 in
     let words = nat_eq (length c.text % 4) 0 in
-    let long = nat_lt 1048576 (length c.text) in
+    let long = nat_lt MOST_BYTES (length c.text) in
     record {
       fits = subst (λ n. 8 * n + length c.text ≤ c.length) slots fits;
       words = eq_is (length c.text % 4) 0 (not_false words (or_right long (not words) h.1.0));
-      text = lt_not 1048576 (length c.text) (or_left long (not words) h.1.0);
+      text = lt_not MOST_BYTES (length c.text) (or_left long (not words) h.1.0);
       exports = few;
     }
 
 compartment_limited_by : (c : CompartmentRow) (entry at : ℕ) (seen : List (List ℕ)) → first (compartment_limits_by entry at seen (raw_compartment c)) ≡ None → CompartmentLimited c entry
-unfolding compartment_limits_by
 compartment_limited_by c entry at seen e =
     let r = raw_compartment c in
-    let n = name_checks at false seen r.code.name in
-    let k = code_limits at r.code in
-    let c1 = check (at + 52) (outside 16 1048576 c.globals_length) in
-    let c2 = check (at + 56) (nat_lt 1048576 (length c.initial) || nat_lt c.globals_length (length c.initial)) in
-    let c3 = check (at + 60) (outside 1 148 (length r.code.slots)) in
-    let c4 = check (at + 64) (nat_lt 64 (length r.code.exports)) in
-    let own = own_slots_limits (at + COMPARTMENT_HEAD) r.code in
-    let m = c1 ∷ c2 ∷ c3 ∷ c4 ∷ own in
-    let x = exports_limits compartment_bounds (entry + 2 + length r.code.slots) (at + COMPARTMENT_HEAD + entries_size r.code.slots) r.code in
-    let z = check (at + COMPARTMENT_HEAD + tables_size r.code + length r.initial) (not (are_zeros r.padding)) ∷ [] in
-    let e1 = left_none (n ++ k ++ m ++ x) z e in
-    let e2 = left_none (n ++ k ++ m) x e1 in
-    let gates = right_none (n ++ k ++ m) x e1 in
-    let mid = right_none (n ++ k) m e2 in
-    let code = right_none n k (left_none (n ++ k) m e2) in
-    let h1 = head_none c1 (c2 ∷ c3 ∷ c4 ∷ own) mid in
-    let h2 = head_none c2 (c3 ∷ c4 ∷ own) h1.1 in
-    let h3 = head_none c3 (c4 ∷ own) h2.1 in
-    let h4 = head_none c4 own h3.1 in
+    let h = compartment_holds entry at seen r e in
+    let each = all_pass (own_numbers at r) h.numbers in
     let slots : length r.code.slots ≡ length c.code.slots = length-map c.code.slots raw_slot in
     let exports : length r.code.exports ≡ length c.code.exports = length-map c.code.exports raw_gate in
     record {
-      code = code_fits at c.code code (subst (λ n. n ≤ 64) exports (lt_not 64 (length r.code.exports) h4.0));
-      slots = within_is 1 148 (length c.code.slots) (subst (λ n. outside 1 148 n ≡ false) slots h3.0);
-      globals = within_is 16 1048576 c.globals_length h1.0;
-      initial = lt_not c.globals_length (length c.initial) (or_right (nat_lt 1048576 (length c.initial)) (nat_lt c.globals_length (length c.initial)) h2.0);
-      slot = λ j s is small. own_numbered (at + COMPARTMENT_HEAD) c.code.slots h4.1 j s is small;
+      code = code_fits at c.code h.code (subst (λ n. n ≤ 64) exports (lt_not 64 (length r.code.exports) each.1.1.1.0));
+      slots = within_is 1 148 (length c.code.slots) (subst (λ n. outside 1 148 n ≡ false) slots each.1.1.0);
+      globals = within_is 16 MOST_BYTES c.globals_length each.0;
+      initial = lt_not c.globals_length (length c.initial) (or_right (nat_lt MOST_BYTES (length c.initial)) (nat_lt c.globals_length (length c.initial)) each.1.0);
+      slot = λ j s is small. own_numbered (at + COMPARTMENT_HEAD) c.code.slots h.slots j s is small;
       export = λ j x is small. subst (λ n. GateLimited compartment_bounds (length c.code.text) (entry + 2 + n + j) x.row) slots
-          (gate_numbered compartment_bounds (length c.code.text) (entry + 2 + length r.code.slots) (at + COMPARTMENT_HEAD + entries_size r.code.slots) c.code.exports gates j x is small);
+          (gate_numbered compartment_bounds (length c.code.text) (entry + 2 + length r.code.slots) (at + COMPARTMENT_HEAD + entries_size r.code.slots) c.code.exports h.gates j x is small);
     }
 
-pub compartment_limited : (p : PartsRow) → Limited p → (b : ℕ) (c : CompartmentRow) → slice_get p.compartments b ≡ Some c → CompartmentLimited c (mem.code_number p b)
+pub compartment_limited : (p : PartsRow) → Limited (raw_of p) → (b : ℕ) (c : CompartmentRow) → slice_get p.compartments b ≡ Some c → CompartmentLimited c (mem.code_number p b)
+unfolding raw_of
 compartment_limited p h b c is =
     let a = asked_of raw_compartment compartment_limits compartment_size (compartments_at (raw_of p)) p.compartments h.compartments b c is in
     let sums : sum_of lim.compartment_entries (map raw_compartment (take b p.compartments)) ≡ sum_of mem.compartment_entries (take b p.compartments) =
@@ -166,33 +151,21 @@ pub record LibraryLimited (c : CodeRow) (entry : ℕ) : Type 0 where
   pub export : (j : ℕ) (x : GateRow) → slice_get c.exports j ≡ Some x → SpellableGate x → GateLimited library_bounds (length c.text) (entry + 1 + length c.slots + j) x.row
 
 library_limited_by : (c : CodeRow) (entry at : ℕ) (seen : List (List ℕ)) → first (library_limits_by entry at seen (raw_code c)) ≡ None → LibraryLimited c entry
-unfolding library_limits_by
 library_limited_by c entry at seen e =
     let r = raw_code c in
-    let n = name_checks at false seen r.name in
-    let k = code_limits at r in
-    let c1 = check (at + 44) (nat_lt 128 (length r.slots)) in
-    let c2 = check (at + 48) (nat_lt 64 (length r.exports)) in
-    let own = slots_limits (at + LIBRARY_HEAD) r in
-    let m = c1 ∷ c2 ∷ own in
-    let x = exports_limits library_bounds (entry + 1 + length r.slots) (at + LIBRARY_HEAD + entries_size r.slots) r in
-    let e1 = left_none (n ++ k ++ m) x e in
-    let gates = right_none (n ++ k ++ m) x e in
-    let mid = right_none (n ++ k) m e1 in
-    let code = right_none n k (left_none (n ++ k) m e1) in
-    let h1 = head_none c1 (c2 ∷ own) mid in
-    let h2 = head_none c2 own h1.1 in
+    let h = library_holds entry at seen r e in
+    let each = all_pass (library_numbers at r) h.numbers in
     let slots : length r.slots ≡ length c.slots = length-map c.slots raw_slot in
     let exports : length r.exports ≡ length c.exports = length-map c.exports raw_gate in
     record {
-      code = code_fits at c code (subst (λ n. n ≤ 64) exports (lt_not 64 (length r.exports) h2.0));
-      slots = subst (λ n. n ≤ 128) slots (lt_not 128 (length r.slots) h1.0);
-      slot = λ j s is small. slot_numbered (at + LIBRARY_HEAD) c.slots h2.1 j s is small;
+      code = code_fits at c h.code (subst (λ n. n ≤ 64) exports (lt_not 64 (length r.exports) each.1.0));
+      slots = subst (λ n. n ≤ 128) slots (lt_not 128 (length r.slots) each.0);
+      slot = λ j s is small. slot_numbered (at + LIBRARY_HEAD) c.slots h.slots j s is small;
       export = λ j x is small. subst (λ n. GateLimited library_bounds (length c.text) (entry + 1 + n + j) x.row) slots
-          (gate_numbered library_bounds (length c.text) (entry + 1 + length r.slots) (at + LIBRARY_HEAD + entries_size r.slots) c.exports gates j x is small);
+          (gate_numbered library_bounds (length c.text) (entry + 1 + length r.slots) (at + LIBRARY_HEAD + entries_size r.slots) c.exports h.gates j x is small);
     }
 
-pub library_limited : (p : PartsRow) → Limited p → (l : ℕ) (c : CodeRow) → slice_get p.libraries l ≡ Some c → LibraryLimited c (mem.library_number p l)
+pub library_limited : (p : PartsRow) → Limited (raw_of p) → (l : ℕ) (c : CodeRow) → slice_get p.libraries l ≡ Some c → LibraryLimited c (mem.library_number p l)
 unfolding raw_of
 library_limited p h l c is =
     let a = asked_of raw_code (library_limits (raw_of p)) library_size (libraries_at (raw_of p)) p.libraries h.libraries l c is in

@@ -17,7 +17,8 @@ use Rattle.def_image.specs.Sound.{IsWithin, Sound, RamFits, HeapFits, Compartmen
 use Rattle.law_lists.proofs.Tests.{both_left, both_right}
 use Rattle.law_image.proofs.Members.{all_at, all_back}
 use Rattle.law_image.proofs.Laying.{Checked, checked, are_laid, heap_even, heap_inside, trusted_below, trusted_low, device_fits, devices_apart, away}
-use Rattle.law_image.proofs.Limited.{Limited, limited, HeaderFits, header_fits, shared_fits, sealed_fits, thread_fits}
+use Rattle.law_image.proofs.Holding.{Limited, limited}
+use Rattle.law_image.proofs.Limited.{HeaderFits, header_fits, shared_fits, sealed_fits, thread_fits}
 use Rattle.law_image.proofs.Named.{Indexed, indexed, Righted, righted, own_slot_fits, library_slot_fits, thread_enters}
 use Rattle.def_image.specs.Limits.{compartment_bounds, library_bounds}
 use Rattle.law_image.proofs.Owners.{GateLimited, compartment_limited, library_limited, export_fits, library_export_fits}
@@ -36,8 +37,8 @@ pub library_is : (p : PartsRow) (l : ℕ) (c : CodeRow) → slice_get p.librarie
 library_is p l c is = ap (λ (o : Option CodeRow). unwrap_or o no_code) is
 
 module _ (p : PartsRow) (f : IsFaultless p) where
-  limits : Limited p
-  limits = limited p f.limits
+  limits : Limited (raw_of p)
+  limits = limited (raw_of p) f.limits
 
   header : HeaderFits p
   header = header_fits p limits.header

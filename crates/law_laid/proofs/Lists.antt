@@ -1,13 +1,13 @@
--- The regions of an image's list, by what each is of: both ways.
-use Rattle.std.proofs.Common.{ℕ, zero, suc, ◌≡◌, ◌+◌, List, [], ◌∷◌, ◌++◌, length, Some, slice_get, refl, ap, ◌∙◌, subst, arith}
+-- The regions of an image's list, by what each is of.
+use Rattle.std.proofs.Common.{ℕ, zero, suc, ◌≡◌, ◌+◌, List, [], ◌∷◌, ◌++◌, Some, slice_get, refl, ap, ◌∙◌, subst, arith}
 use Rattle.ct_entry.specs.declared.rows.Owner.TheVariants.{Compartment}
 use Rattle.def_image.specs.declared.format.TheConstants.{SHARED, THREAD}
 use Rattle.def_image.specs.Parts.{SharedRow, SealedRow, CodeRow, CompartmentRow, ThreadRow, PartsRow}
-use Rattle.def_image.specs.Sizes.{shared_at, sealed_at, sealed_size, compartments_at, compartment_size, library_size, threads_at}
-use Rattle.def_image.specs.Spelling.{raw_of, raw_sealed, raw_compartment, raw_code}
-use Rattle.def_image.specs.Regions.{Holder, CodeOf, TableOf, GlobalsOf, SharedOf, SealedOf, StackOf, RegionRow, region, shared_regions, sealed_regions, compartment_regions, library_regions, stack_regions, trusted_region, later_regions, regions_of, table_length}
+use Rattle.def_image.specs.Sizes.{sealed_size, compartment_size, library_size}
+use Rattle.def_image.specs.Spelling.{raw_sealed, raw_compartment, raw_code}
+use Rattle.def_image.specs.Regions.{Holder, CodeOf, TableOf, GlobalsOf, RegionRow, region, shared_regions, sealed_regions, compartment_regions, library_regions, stack_regions, trusted_region, later_regions, regions_of, table_length}
 use Rattle.def_image.specs.Laid.{IsRegion}
-use Rattle.law_listed.proofs.Regions.{shared_part, sealed_part, own_part, library_part, stack_part, objects, with_own, with_libraries, Among, left, right, next}
+use Rattle.law_listed.proofs.Regions.{shared_part, sealed_part, own_part, library_part, stack_part, objects, with_own, with_libraries}
 use Rattle.law_laid.specs.Held.{IsOf, Spans}
 
 -- ---- each region of a list
@@ -85,83 +85,3 @@ held p =
     (own_are p _ 0 p.compartments (rest_all p.compartments)))
     (library_are p _ 0 p.libraries (rest_all p.libraries)))
     (stack_are p _ 0 p.threads (rest_all p.threads)))
-
--- ---- the region of each member
-
-globals_in : (at n : ℕ) (cs : List CompartmentRow) (k : ℕ) (c : CompartmentRow) → slice_get cs k ≡ Some c → Among (compartment_regions at n cs) (GlobalsOf (n + k)) c.globals c.globals_length
-globals_in at n [] k c is = cc
-globals_in at n (d ∷ ds) zero c is =
-    let same : d ≡ c = cc in
-    let index : n ≡ n + 0 = omega arith in
-    let one : Among (compartment_regions at n (d ∷ ds)) (GlobalsOf n) d.globals d.globals_length = record { index = 2; place = at + 48; is = refl } in
-    subst (λ (z : CompartmentRow). Among (compartment_regions at n (d ∷ ds)) (GlobalsOf (n + 0)) z.globals z.globals_length) same
-    (subst (λ m. Among (compartment_regions at n (d ∷ ds)) (GlobalsOf m) d.globals d.globals_length) index one)
-globals_in at n (d ∷ ds) (suc k) c is =
-    let index : n + 1 + k ≡ n + suc k = omega arith in
-    let more = globals_in (at + compartment_size (raw_compartment d)) (n + 1) ds k c is in
-    subst (λ m. Among (compartment_regions at n (d ∷ ds)) (GlobalsOf m) c.globals c.globals_length) index
-    (record { index = suc (suc (suc more.index)); place = more.place; is = more.is })
-
-shared_in : (at n : ℕ) (ss : List SharedRow) (k : ℕ) (s : SharedRow) → slice_get ss k ≡ Some s → Among (shared_regions at n ss) (SharedOf (n + k)) s.base s.length
-shared_in at n [] k s is = cc
-shared_in at n (r ∷ rs) zero s is =
-    let same : r ≡ s = cc in
-    let index : n ≡ n + 0 = omega arith in
-    let one : Among (shared_regions at n (r ∷ rs)) (SharedOf n) r.base r.length = record { index = 0; place = at + 32; is = refl } in
-    subst (λ (z : SharedRow). Among (shared_regions at n (r ∷ rs)) (SharedOf (n + 0)) z.base z.length) same
-    (subst (λ m. Among (shared_regions at n (r ∷ rs)) (SharedOf m) r.base r.length) index one)
-shared_in at n (r ∷ rs) (suc k) s is =
-    let index : n + 1 + k ≡ n + suc k = omega arith in
-    subst (λ m. Among (shared_regions at n (r ∷ rs)) (SharedOf m) s.base s.length) index (next _ _ _ _ _ (shared_in (at + SHARED) (n + 1) rs k s is))
-
-sealed_in : (at n : ℕ) (ss : List SealedRow) (k : ℕ) (s : SealedRow) → slice_get ss k ≡ Some s → Among (sealed_regions at n ss) (SealedOf (n + k)) s.base s.length
-sealed_in at n [] k s is = cc
-sealed_in at n (r ∷ rs) zero s is =
-    let same : r ≡ s = cc in
-    let index : n ≡ n + 0 = omega arith in
-    let one : Among (sealed_regions at n (r ∷ rs)) (SealedOf n) r.base r.length = record { index = 0; place = at + 32; is = refl } in
-    subst (λ (z : SealedRow). Among (sealed_regions at n (r ∷ rs)) (SealedOf (n + 0)) z.base z.length) same
-    (subst (λ m. Among (sealed_regions at n (r ∷ rs)) (SealedOf m) r.base r.length) index one)
-sealed_in at n (r ∷ rs) (suc k) s is =
-    let index : n + 1 + k ≡ n + suc k = omega arith in
-    subst (λ m. Among (sealed_regions at n (r ∷ rs)) (SealedOf m) s.base s.length) index (next _ _ _ _ _ (sealed_in (at + sealed_size (raw_sealed r)) (n + 1) rs k s is))
-
-stack_in : (at n : ℕ) (xs : List ThreadRow) (k : ℕ) (x : ThreadRow) → slice_get xs k ≡ Some x → Among (stack_regions at n xs) (StackOf (n + k)) x.stack x.stack_length
-stack_in at n [] k x is = cc
-stack_in at n (y ∷ ys) zero x is =
-    let same : y ≡ x = cc in
-    let index : n ≡ n + 0 = omega arith in
-    let one : Among (stack_regions at n (y ∷ ys)) (StackOf n) y.stack y.stack_length = record { index = 0; place = at + 32; is = refl } in
-    subst (λ (z : ThreadRow). Among (stack_regions at n (y ∷ ys)) (StackOf (n + 0)) z.stack z.stack_length) same
-    (subst (λ m. Among (stack_regions at n (y ∷ ys)) (StackOf m) y.stack y.stack_length) index one)
-stack_in at n (y ∷ ys) (suc k) x is =
-    let index : n + 1 + k ≡ n + suc k = omega arith in
-    subst (λ m. Among (stack_regions at n (y ∷ ys)) (StackOf m) x.stack x.stack_length) index (next _ _ _ _ _ (stack_in (at + THREAD) (n + 1) ys k x is))
-
-at_zero : (rs : List RegionRow) (h : ℕ → Holder) (k base size : ℕ) → Among rs (h (0 + k)) base size → Among rs (h k) base size
-at_zero rs h k base size a = let same : 0 + k ≡ k = omega arith in subst (λ m. Among rs (h m) base size) same a
-
-in_objects : (p : PartsRow) (h : Holder) (base size : ℕ) → Among (objects p) h base size → Among (regions_of p) h base size
-unfolding regions_of
-in_objects p h base size a =
-    next (trusted_region p) (later_regions p) h base size
-    (left (with_libraries p) (stack_part p) h base size (left (with_own p) (library_part p) h base size (left (objects p) (own_part p) h base size a)))
-
-pub shared_there : (p : PartsRow) (n : ℕ) (s : SharedRow) → slice_get p.shared n ≡ Some s → Among (regions_of p) (SharedOf n) s.base s.length
-shared_there p n s is = in_objects p _ _ _ (left (shared_part p) (sealed_part p) _ _ _ (at_zero _ SharedOf n _ _ (shared_in (shared_at (raw_of p)) 0 p.shared n s is)))
-
-pub sealed_there : (p : PartsRow) (n : ℕ) (s : SealedRow) → slice_get p.sealed n ≡ Some s → Among (regions_of p) (SealedOf n) s.base s.length
-sealed_there p n s is = in_objects p _ _ _ (right (shared_part p) (sealed_part p) _ _ _ (at_zero _ SealedOf n _ _ (sealed_in (sealed_at (raw_of p)) 0 p.sealed n s is)))
-
-pub globals_there : (p : PartsRow) (b : ℕ) (c : CompartmentRow) → slice_get p.compartments b ≡ Some c → Among (regions_of p) (GlobalsOf b) c.globals c.globals_length
-unfolding regions_of
-globals_there p b c is =
-    next (trusted_region p) (later_regions p) _ _ _
-    (left (with_libraries p) (stack_part p) _ _ _ (left (with_own p) (library_part p) _ _ _
-    (right (objects p) (own_part p) _ _ _ (at_zero _ GlobalsOf b _ _ (globals_in (compartments_at (raw_of p)) 0 p.compartments b c is)))))
-
-pub stack_there : (p : PartsRow) (t : ℕ) (x : ThreadRow) → slice_get p.threads t ≡ Some x → Among (regions_of p) (StackOf t) x.stack x.stack_length
-unfolding regions_of
-stack_there p t x is =
-    next (trusted_region p) (later_regions p) _ _ _
-    (right (with_libraries p) (stack_part p) _ _ _ (at_zero _ StackOf t _ _ (stack_in (threads_at (raw_of p)) 0 p.threads t x is)))

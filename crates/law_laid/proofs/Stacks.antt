@@ -18,7 +18,8 @@ use Rattle.law_listed.proofs.Standing.{stack_of}
 use Rattle.law_grants.proofs.Sets.{no_way}
 use Rattle.law_grants.proofs.Own.{stack_entry_is, few}
 use Rattle.law_laid.specs.Held.{IsOf}
-use Rattle.law_laid.proofs.Lists.{held, stack_there}
+use Rattle.law_listed.proofs.Regions.{stack_there}
+use Rattle.law_laid.proofs.Lists.{held}
 use Rattle.law_laid.proofs.Found.{none_there, back}
 use Rattle.law_laid.proofs.Granules.{in_ram, past_ram, at_region}
 

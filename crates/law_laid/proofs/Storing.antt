@@ -27,11 +27,10 @@ use Rattle.def_boot.specs.Gates.{entries_of}
 use Rattle.def_boot.specs.Boot.{image_of}
 use Rattle.law_listed.specs.Rows.{HasRow, EntryIs, is_nothing, is_trusted, is_code, is_globals, is_slot, is_export, is_library, is_library_slot, is_library_export, is_stack}
 use Rattle.law_listed.proofs.Listing.{entry_of}
-use Rattle.law_listed.proofs.Regions.{Among}
+use Rattle.law_listed.proofs.Regions.{Among, globals_there, sealed_there, shared_there, stack_there}
 use Rattle.law_grants.proofs.Sets.{clash_of, no_way}
 use Rattle.law_grants.proofs.Making.{device_base_is}
 use Rattle.law_grants.proofs.Own.{stack_entry_is}
-use Rattle.law_laid.proofs.Lists.{shared_there, sealed_there, globals_there, stack_there}
 use Rattle.law_laid.proofs.Granules.{of_address, past_address}
 
 -- ---- rights

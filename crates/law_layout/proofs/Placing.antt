@@ -2,6 +2,7 @@
 use Rattle.std.proofs.Common.{ℕ, zero, suc, ◌+◌, ◌-◌, ◌*◌, ◌/◌, ◌%◌, ◌^◌, ◌<◌, ◌≤◌, ◌≡◌, max, true, List, [], ◌∷◌, length, Some, slice_get, refl, ap, sym, subst, ◌∙◌, arith, inl, inr}
 use Rattle.std.proofs.lemmas.Nat.{pow_pos, mul-le, div-add-mod'}
 use Rattle.std.proofs.Math.Nat.{mul-mod_left, add-mul-mod_self_right}
+use Rattle.def_profile.specs.declared.bounds.TheConstants.{LAST_EXPONENT, MOST_UNITS}
 use Rattle.law_lists.proofs.Tests.{le_tells}
 use Rattle.def_words.specs.LeastBounds.{floor_units, ceil_units, exponent_for, rounded_of}
 use Rattle.law_words.proofs.Leasts.{exponent_is, ceil_le, floor_under}
@@ -94,7 +95,7 @@ whole_few n le = by ((n + 16 - 1) / 16) ((n + 16 - 1) % 16) (div-add-mod' (n + 1
     by : (k rest : ℕ) → k * 16 + rest ≡ n + 16 - 1 → max 16 (k * 16) ≤ 2097152
     by k rest split = omega (arith, split, le)
 
-exponent_small : (w : ℕ) → w ≤ 2097152 → exponent_for 0 w ≤ 14
+exponent_small : (w : ℕ) → w ≤ 2097152 → exponent_for 0 w ≤ LAST_EXPONENT
 exponent_small w le = no_larger 0 w 14 (omega arith) (omega (arith, le))
 
 nothing_below : (e : ℕ) → floor_units 0 e ≡ 0
@@ -104,7 +105,7 @@ nothing_below e = let low = floor_under 0 e in let some : 0 < 2 ^ e = pow_pos e 
     no_product zero b le some = refl
     no_product (suc a) b le some = absurd (let more : 1 * b ≤ suc a * b = mul-le 1 b (suc a) b (omega arith) (omega arith) in omega (arith, le, some, more))
 
-few_units : (w : ℕ) → w ≤ 2097152 → ceil_units w (exponent_for 0 w) ≤ 511
+few_units : (w : ℕ) → w ≤ 2097152 → ceil_units w (exponent_for 0 w) ≤ MOST_UNITS
 few_units w le = elim (exponent_is 0 w).serves [
   | inl s ↦ (let few = s.1 in let none : floor_units 0 (exponent_for 0 w) ≡ 0 = nothing_below (exponent_for 0 w) in omega (arith, few, none))
   | inr is ↦ absurd (let small = exponent_small w le in omega (arith, small, is))
@@ -125,7 +126,7 @@ length_whole n = by (exponent_for 0 (whole_size n)) refl
     ]
 
 -- a range of at most 511 units of 2^e, at whole units
-pub exact_units : (base k e : ℕ) → e ≤ 14 → base % 2 ^ e ≡ 0 → k ≤ 511 → (rounded_of base (base + k * 2 ^ e)).exact ≡ true
+pub exact_units : (base k e : ℕ) → e ≤ LAST_EXPONENT → base % 2 ^ e ≡ 0 → k ≤ MOST_UNITS → (rounded_of base (base + k * 2 ^ e)).exact ≡ true
 exact_units base k e small even few =
     let top = base + k * 2 ^ e in
     let ends : top % 2 ^ e ≡ 0 = add-mul-mod_self_right base k (2 ^ e) ∙ even in

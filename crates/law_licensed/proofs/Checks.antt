@@ -1,11 +1,11 @@
 -- Checks of instructions and of native routines: those that failed give a trap that may be told; those that passed say so.
-use Rattle.std.proofs.Common.{ℕ, ◌≡◌, ◌<◌, ◌⊎◌, Bool, true, false, List, [], ◌∷◌, Option, Some, None, inl, inr, refl, if◌then◌else◌}
+use Rattle.std.proofs.Common.{ℕ, ◌≡◌, ◌<◌, Bool, true, false, List, [], ◌∷◌, Option, Some, None, inl, inr, refl, if◌then◌else◌}
 use Rattle.law_lists.proofs.Tests.{chosen}
 use Rattle.def_words.specs.declared.Trap.{Trap}
 use Rattle.def_words.specs.Traps.{capability_trap, plain_trap}
 use Rattle.def_profile.specs.declared.traps.TheConstants.{PCC_REGISTER}
 use Rattle.def_step.specs.Checks.{Check, first_failed}
-use Rattle.def_confined.specs.Licensed.{IsTrap}
+use Rattle.def_confined.specs.Licensed.{IsCodeOfPcc, IsCodeOfRegister, IsPlainCause, IsTrap}
 
 -- a trap as a deed may tell it
 abbrev pub MayTell : Trap → Type 0
@@ -36,11 +36,11 @@ all_pass (c ∷ cs) e = by_test c.0 refl e (λ later. all_pass cs later)
 
 -- ---- the traps of checks
 
-pub register_tells : (code register : ℕ) → register < 16 → ((code ≡ 1) ⊎ (code ≡ 2) ⊎ (code ≡ 3) ⊎ (code ≡ 17) ⊎ (code ≡ 18) ⊎ (code ≡ 19) ⊎ (code ≡ 21)) → MayTell (capability_trap code register)
+pub register_tells : (code register : ℕ) → register < PCC_REGISTER → IsCodeOfRegister code → MayTell (capability_trap code register)
 register_tells code register small is = inr (inr (refl, small, is))
 
-pub counter_tells : (code : ℕ) → ((code ≡ 1) ⊎ (code ≡ 2) ⊎ (code ≡ 3) ⊎ (code ≡ 17) ⊎ (code ≡ 24)) → MayTell (capability_trap code PCC_REGISTER)
+pub counter_tells : (code : ℕ) → IsCodeOfPcc code → MayTell (capability_trap code PCC_REGISTER)
 counter_tells code is = inr (inl (refl, refl, is))
 
-pub plain_tells : (cause : ℕ) → ((cause ≡ 0) ⊎ (cause ≡ 2) ⊎ (cause ≡ 3) ⊎ (cause ≡ 4) ⊎ (cause ≡ 6) ⊎ (cause ≡ 11)) → MayTell (plain_trap cause)
+pub plain_tells : (cause : ℕ) → IsPlainCause cause → MayTell (plain_trap cause)
 plain_tells cause is = inl (is, refl, refl)

@@ -1,5 +1,6 @@
 -- Deeds of the running thread, read off the state.
-use Rattle.std.proofs.Common.{ℕ, ◌≡◌, ◌+◌, ◌≤◌, true, false, List, ◌∷◌, Some, refl, sym, ap, ◌∙◌, subst, arith}
+use Rattle.std.proofs.Common.{ℕ, ◌≡◌, ◌+◌, ◌≤◌, ◌<◌, true, false, List, ◌∷◌, Some, refl, sym, ap, ◌∙◌, subst, arith}
+use Rattle.def_words.specs.declared.Cap.{Cap}
 use Rattle.def_words.specs.Authority.{cap_base, cap_top}
 use Rattle.def_words.specs.Permissions.{has, load_data, store_data}
 use Rattle.def_words.specs.Seals.{cap_seal}
@@ -8,10 +9,10 @@ use Rattle.ct_entry.specs.declared.acts.Act.{Act}
 use Rattle.ct_entry.specs.declared.acts.Act.TheVariants as acts
 use Rattle.def_reach.specs.Roots.{Listing, is_owned}
 use Rattle.def_machine.specs.Image.{Image, root}
-use Rattle.def_machine.specs.State.{State, Frame, thread, register}
-use Rattle.def_machine.specs.Objects.{charges}
+use Rattle.def_machine.specs.State.{State, Frame, Object, thread, register}
+use Rattle.def_machine.specs.Objects.{Any, charges}
 use Rattle.def_confined.specs.Capabilities.{heap_cap}
-use Rattle.def_confined.specs.Places.{Placed, InFrames, OwnStack}
+use Rattle.def_confined.specs.Places.{Placed, InFrames, LiveCovers, OwnStack}
 use Rattle.def_confined.specs.Confined.{Confined, IsPcc, PostureFits}
 use Rattle.def_confined.specs.Licensed.{Licensed, OffLicensed, IsDeviceAccess}
 use Rattle.law_licensed.specs.Uses.{IsUse, GatesOfExports}
@@ -21,34 +22,26 @@ use Rattle.law_registers.proofs.Derives.{code_no_heap}
 placed : (i : Image) (s : State) (t n : ℕ) (f : Frame) (fs : List Frame) → Confined i s → (thread s t).frames ≡ f ∷ fs → (register (thread s t) n).tag ≡ true → Placed i s.objects (λ d. d ≡ f.actor) (OwnStack i t (f ∷ fs)) (register (thread s t) n)
 placed i s t n f fs h frames tagged = (subst (λ (gs : List Frame). InFrames i s.objects t gs (register (thread s t) n)) frames (h.registers t n)) tagged
 
+-- what stands in a place of the thread is used as its root says
+used : (i : Image) (objects : List Object) (t : ℕ) (f : Frame) (fs : List Frame) (c : Cap) → Placed i objects (λ d. d ≡ f.actor) (OwnStack i t (f ∷ fs)) c → (heap_cap i c ≡ true → cap_base c < cap_top c → Any (LiveCovers c) objects) → IsUse i objects t f.actor c
+used i objects t f fs c p live = record {
+  owner = λ owned. p.owner owned f.actor refl;
+  own = λ stack. (p.own stack).0;
+  range = p.rooted.range;
+  rights = p.rooted.rights;
+  heap = p.rooted.heap;
+  heap_rights = p.rooted.heap_rights;
+  live = live;
+}
+
 pub register_used : (i : Image) (s : State) (t n : ℕ) (f : Frame) (fs : List Frame) → Confined i s → s.running ≡ Some t → (thread s t).frames ≡ f ∷ fs → (register (thread s t) n).tag ≡ true → IsUse i s.objects t f.actor (register (thread s t) n)
-register_used i s t n f fs h runs frames tagged =
-    let p = placed i s t n f fs h frames tagged in
-    record {
-      owner = λ owned. p.owner owned f.actor refl;
-      own = λ stack. (p.own stack).0;
-      range = p.rooted.range;
-      rights = p.rooted.rights;
-      heap = p.rooted.heap;
-      heap_rights = p.rooted.heap_rights;
-      live = λ heap some. h.live t runs n tagged heap some;
-    }
+register_used i s t n f fs h runs frames tagged = used i s.objects t f fs (register (thread s t) n) (placed i s t n f fs h frames tagged) (h.live t runs n tagged)
 
 pub pcc_used : (i : Image) (s : State) (t : ℕ) (f : Frame) (fs : List Frame) → Confined i s → (thread s t).frames ≡ f ∷ fs → (thread s t).pcc.tag ≡ true → IsUse i s.objects t f.actor (thread s t).pcc × IsPcc i (thread s t).pcc
 pcc_used i s t f fs h frames tagged =
     let p : Placed i s.objects (λ d. d ≡ f.actor) (OwnStack i t (f ∷ fs)) (thread s t).pcc = (subst (λ (gs : List Frame). InFrames i s.objects t gs (thread s t).pcc) frames (h.pcc t)) tagged in
-    let none : heap_cap i (thread s t).pcc ≡ false = code_no_heap i (thread s t).pcc (h.runs t tagged).code in (
-      record {
-        owner = λ owned. p.owner owned f.actor refl;
-        own = λ stack. (p.own stack).0;
-        range = p.rooted.range;
-        rights = p.rooted.rights;
-        heap = p.rooted.heap;
-        heap_rights = p.rooted.heap_rights;
-        live = λ heap some. absurd (let clash : true ≡ false = sym heap ∙ none in cc);
-      },
-      h.runs t tagged,
-    )
+    let none : heap_cap i (thread s t).pcc ≡ false = code_no_heap i (thread s t).pcc (h.runs t tagged).code in
+    (used i s.objects t f fs (thread s t).pcc p (λ heap some. absurd (let clash : true ≡ false = sym heap ∙ none in cc)), h.runs t tagged)
 
 pub call_licensed : (i : Image) (s : State) (t n : ℕ) (f : Frame) (fs : List Frame) → Confined i s → (thread s t).frames ≡ f ∷ fs → (register (thread s t) n).tag ≡ true → cap_seal (register (thread s t) n) ≡ 9
     → Licensed i.entries (record { thread = t; actor = f.actor; entry = (register (thread s t) n).shadow.root; act = acts.Call (root i (register (thread s t) n).shadow.root).of })

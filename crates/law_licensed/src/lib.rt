@@ -4,6 +4,7 @@
 #![tactic(auto)]
 
 ghost use Rattle.std.specs.Prelude.{◌≡◌, ℕ, List, ◌∷◌, Option, Some, true};
+ghost use Rattle.def_profile.specs.declared.seals.TheConstants.{EXPORT_TYPE};
 ghost use Rattle.def_words.specs.Permissions.{load_data, store_data};
 ghost use Rattle.def_words.specs.Seals.{cap_seal};
 ghost use Rattle.ct_entry.specs.declared.acts.Act.TheVariants.{Call, Load, Store, Allocate, Free};
@@ -29,7 +30,7 @@ pub fn uses_reach()
 /// those of the state after the deed.
 pub fn deeds_licensed()
     ensures call { (i : Image) (s : State) (t n : ℕ) (f : Frame) (fs : List Frame)
-        → Confined i s → Holds s t n f fs → cap_seal (register (thread s t) n) ≡ 9
+        → Confined i s → Holds s t n f fs → cap_seal (register (thread s t) n) ≡ EXPORT_TYPE
         → Licensed i.entries (deed_by s t n f
         (Call (root i (register (thread s t) n).shadow.root).of)) }
     ensures load { (i : Image) (s : State) (t n address width value : ℕ)

@@ -1,8 +1,9 @@
 -- The exports of what is linked keep the limits of an image's rows.
-use Rattle.std.proofs.Common.{ℕ, ◌≡◌, ◌+◌, ◌%◌, ◌^◌, ◌<◌, ◌≤◌, true, false, List, [], ◌∷◌, ◌++◌, length, map, refl, sym, ap, ◌∙◌, subst, arith}
+use Rattle.std.proofs.Common.{ℕ, ◌≡◌, ◌+◌, ◌%◌, ◌^◌, ◌<◌, ◌≤◌, true, false, List, [], ◌∷◌, ◌++◌, length, map, refl, sym, ap, ap₂, ◌∙◌, subst, arith}
 use Rattle.std.proofs.lemmas.List.{length-append}
 use Rattle.std.specs.Prelude.{unwrap_or}
 use Rattle.std.specs.List.{AllByRecursion}
+use Rattle.def_profile.specs.declared.limits.TheConstants.{MOST_BYTES}
 use Rattle.ct_entry.specs.declared.rows.Mode.{Mode}
 use Rattle.ct_entry.specs.declared.rows.Mode.TheVariants.{Inherit, Disabled, Enabled}
 use Rattle.def_names.specs.Names.{is_name}
@@ -41,7 +42,7 @@ passes_within Data = refl
 begin_is : (b : Built) (at : AtRow) → (h : Begins b at) → unwrap_or (begin_of b at) 0 ≡ h.offset
 begin_is b at h = ap (λ o. unwrap_or o 0) h.is
 
-pub gate_good : (b : Built) (entry : ℕ) (x : ExportRow) → length b.text ≤ 1048576 → entry < 2 ^ 32 → Begins b x.at → IsLawfulExport x → is_name x.name ≡ true
+pub gate_good : (b : Built) (entry : ℕ) (x : ExportRow) → length b.text ≤ MOST_BYTES → entry < 2 ^ 32 → Begins b x.at → IsLawfulExport x → is_name x.name ≡ true
     → GateGood compartment_bounds (length b.text) (export_gate b entry x)
 gate_good b entry x small few at law formed =
     let is = begin_is b x.at at in
@@ -58,7 +59,7 @@ gate_good b entry x small few at law formed =
       entry_small = few;
     }
 
-pub lexport_good : (b : Built) (entry : ℕ) (x : LexportRow) → length b.text ≤ 1048576 → entry < 2 ^ 32 → Begins b x.at → is_name x.name ≡ true
+pub lexport_good : (b : Built) (entry : ℕ) (x : LexportRow) → length b.text ≤ MOST_BYTES → entry < 2 ^ 32 → Begins b x.at → is_name x.name ≡ true
     → GateGood library_bounds (length b.text) (lexport_gate b entry x)
 lexport_good b entry x small few at formed =
     let is = begin_is b x.at at in
@@ -77,14 +78,14 @@ lexport_good b entry x small few at formed =
 
 -- ---- the exports of an owner, numbered on from an entry
 
-gates_good : (b : Built) (entry : ℕ) (xs : List ExportRow) → length b.text ≤ 1048576 → entry + length xs < 2 ^ 32
+gates_good : (b : Built) (entry : ℕ) (xs : List ExportRow) → length b.text ≤ MOST_BYTES → entry + length xs < 2 ^ 32
     → AllByRecursion (Begins b) (map (λ (e : ExportRow). e.at) xs) → AllByRecursion IsLawfulExport xs → AllByRecursion (λ n. is_name n ≡ true) (map (λ (e : ExportRow). e.name) xs)
     → AllByRecursion (GateGood compartment_bounds (length b.text)) (numbered (export_gate b) entry xs)
 gates_good b entry [] small few at law formed = tt
 gates_good b entry (x ∷ xs) small few at law formed =
     (gate_good b entry x small (omega (arith, few)) at.0 law.0 formed.0, gates_good b (entry + 1) xs small (omega (arith, few)) at.1 law.1 formed.1)
 
-lexports_good : (b : Built) (entry : ℕ) (xs : List LexportRow) → length b.text ≤ 1048576 → entry + length xs < 2 ^ 32
+lexports_good : (b : Built) (entry : ℕ) (xs : List LexportRow) → length b.text ≤ MOST_BYTES → entry + length xs < 2 ^ 32
     → AllByRecursion (Begins b) (map (λ (e : LexportRow). e.at) xs) → AllByRecursion (λ n. is_name n ≡ true) (map (λ (e : LexportRow). e.name) xs)
     → AllByRecursion (GateGood library_bounds (length b.text)) (numbered (lexport_gate b) entry xs)
 lexports_good b entry [] small few at formed = tt
@@ -94,32 +95,19 @@ lexports_good b entry (x ∷ xs) small few at formed =
 unfoldable pub gate_title : GateRow → List ℕ
 gate_title x = x.name
 
-gate_titles : (b : Built) (entry : ℕ) (xs : List ExportRow) → map gate_title (numbered (export_gate b) entry xs) ≡ map (λ (e : ExportRow). e.name) xs
-unfolding gate_title
-gate_titles b entry [] = refl
-gate_titles b entry (x ∷ xs) = ap (λ l. x.name ∷ l) (gate_titles b (entry + 1) xs)
-
-lexport_titles : (b : Built) (entry : ℕ) (xs : List LexportRow) → map gate_title (numbered (lexport_gate b) entry xs) ≡ map (λ (e : LexportRow). e.name) xs
-unfolding gate_title
-lexport_titles b entry [] = refl
-lexport_titles b entry (x ∷ xs) = ap (λ l. x.name ∷ l) (lexport_titles b (entry + 1) xs)
+titles_kept : {A : Type 0} (gate : ℕ → A → GateRow) (name : A → List ℕ) → ((n : ℕ) (x : A) → gate_title (gate n x) ≡ name x)
+    → (n : ℕ) (xs : List A) → map gate_title (numbered gate n xs) ≡ map name xs
+titles_kept gate name is n [] = refl
+titles_kept gate name is n (x ∷ xs) = ap₂ (λ t l. t ∷ l) (is n x) (titles_kept gate name is (n + 1) xs)
 
 -- each has the number of its entry, counted on from the first
-pub gates_numbered : (b : Built) (first n : ℕ) (earlier : List RawEntry) (xs : List ExportRow) → n ≡ first + length earlier
-    → Along raw_gate (λ before (x : GateRow). x.row.entry ≡ first + length before) earlier (numbered (export_gate b) n xs)
+entries_numbered : {A : Type 0} (gate : ℕ → A → GateRow) → ((n : ℕ) (x : A) → (gate n x).row.entry ≡ n) → (first n : ℕ) (earlier : List RawEntry) (xs : List A) → n ≡ first + length earlier
+    → Along raw_gate (λ before (x : GateRow). x.row.entry ≡ first + length before) earlier (numbered gate n xs)
 unfolding Along
-gates_numbered b first n earlier [] is = tt
-gates_numbered b first n earlier (x ∷ xs) is =
-    let one = length-append earlier (raw_gate (export_gate b n x) ∷ []) in
-    (is, gates_numbered b first (n + 1) (earlier ++ raw_gate (export_gate b n x) ∷ []) xs (omega (arith, is, one)))
-
-pub lexports_numbered : (b : Built) (first n : ℕ) (earlier : List RawEntry) (xs : List LexportRow) → n ≡ first + length earlier
-    → Along raw_gate (λ before (x : GateRow). x.row.entry ≡ first + length before) earlier (numbered (lexport_gate b) n xs)
-unfolding Along
-lexports_numbered b first n earlier [] is = tt
-lexports_numbered b first n earlier (x ∷ xs) is =
-    let one = length-append earlier (raw_gate (lexport_gate b n x) ∷ []) in
-    (is, lexports_numbered b first (n + 1) (earlier ++ raw_gate (lexport_gate b n x) ∷ []) xs (omega (arith, is, one)))
+entries_numbered gate has first n earlier [] is = tt
+entries_numbered gate has first n earlier (x ∷ xs) is =
+    let one = length-append earlier (raw_gate (gate n x) ∷ []) in
+    (has n x ∙ is, entries_numbered gate has first (n + 1) (earlier ++ raw_gate (gate n x) ∷ []) xs (omega (arith, is, one)))
 
 -- good exports, under new names, each with its entry's number
 pub record Gates (b : Bounds) (text first : ℕ) (gates : List GateRow) : Type 0 where
@@ -127,20 +115,22 @@ pub record Gates (b : Bounds) (text first : ℕ) (gates : List GateRow) : Type 0
   pub new : New [] (map gate_title gates)
   pub numbered : Along raw_gate (λ before (x : GateRow). x.row.entry ≡ first + length before) [] gates
 
-pub compartment_gates_good : (b : Built) (entry : ℕ) (c : CompartmentRow) → length b.text ≤ 1048576 → entry + length c.exports < 2 ^ 32
+pub compartment_gates_good : (b : Built) (entry : ℕ) (c : CompartmentRow) → length b.text ≤ MOST_BYTES → entry + length c.exports < 2 ^ 32
     → AllByRecursion (Begins b) (map (λ (e : ExportRow). e.at) c.exports) → AllByRecursion IsLawfulExport c.exports → AreNames (export_names c)
     → Gates compartment_bounds (length b.text) entry (compartment_gates b entry c)
+unfolding gate_title
 compartment_gates_good b entry c small few at law names = record {
   each = gates_good b entry c.exports small few at law names.formed;
-  new = subst (New []) (sym (gate_titles b entry c.exports)) (all_new (export_names c) names.once);
-  numbered = gates_numbered b entry entry [] c.exports (omega arith);
+  new = subst (New []) (sym (titles_kept (export_gate b) (λ (e : ExportRow). e.name) (λ n x. refl) entry c.exports)) (all_new (export_names c) names.once);
+  numbered = entries_numbered (export_gate b) (λ n x. refl) entry entry [] c.exports (omega arith);
 }
 
-pub library_gates_good : (b : Built) (entry : ℕ) (l : LibraryRow) → length b.text ≤ 1048576 → entry + length l.exports < 2 ^ 32
+pub library_gates_good : (b : Built) (entry : ℕ) (l : LibraryRow) → length b.text ≤ MOST_BYTES → entry + length l.exports < 2 ^ 32
     → AllByRecursion (Begins b) (map (λ (e : LexportRow). e.at) l.exports) → AreNames (library_export_names l)
     → Gates library_bounds (length b.text) entry (library_gates b entry l)
+unfolding gate_title
 library_gates_good b entry l small few at names = record {
   each = lexports_good b entry l.exports small few at names.formed;
-  new = subst (New []) (sym (lexport_titles b entry l.exports)) (all_new (library_export_names l) names.once);
-  numbered = lexports_numbered b entry entry [] l.exports (omega arith);
+  new = subst (New []) (sym (titles_kept (lexport_gate b) (λ (e : LexportRow). e.name) (λ n x. refl) entry l.exports)) (all_new (library_export_names l) names.once);
+  numbered = entries_numbered (lexport_gate b) (λ n x. refl) entry entry [] l.exports (omega arith);
 }

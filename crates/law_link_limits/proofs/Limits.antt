@@ -3,6 +3,7 @@ use Rattle.std.proofs.Common.{ℕ, suc, ◌≡◌, ◌+◌, ◌*◌, ◌%◌, �
 use Rattle.std.specs.List.{AllByRecursion}
 use Rattle.std.proofs.lemmas.List.{length-map}
 use Rattle.std.proofs.lemmas.Bool.{le-ltb, eq-eqb}
+use Rattle.def_profile.specs.declared.limits.TheConstants.{RAM_END}
 use Rattle.ct_entry.specs.Listed.{DeviceRow}
 use Rattle.def_profile.specs.Versions as version
 use Rattle.def_names.specs.Names.{is_name, among}
@@ -103,7 +104,7 @@ pub record HeaderGood (p : PartsRow) : Type 0 where
   pub ram : p.ram % 16 ≡ 0
   pub size : p.size % 16 ≡ 0
   pub sized : outside 256 (version.most_ram p.version) p.size ≡ false
-  pub end : p.ram + p.size ≤ 4294967280
+  pub end : p.ram + p.size ≤ RAM_END
   pub sweep : outside (version.least_sweep p.version) (version.most_sweep p.version) p.sweep ≡ false
   pub named : is_name p.name ≡ true
 
@@ -125,7 +126,7 @@ header_pass p h =
     let c9 = check 40 (is_missized r) in
     let c10 = check 52 (outside (version.least_sweep p.version) (version.most_sweep p.version) p.sweep) in
     let n = name_checks (52 + rate_size p.version) false [] (name_field p.name) in
-    let missized : is_missized r ≡ false = rw (h.sized, eq-eqb (p.size % 16) 0 h.size, le-ltb 4294967280 (p.ram + p.size) h.end) refl in
+    let missized : is_missized r ≡ false = rw (h.sized, eq-eqb (p.size % 16) 0 h.size, le-ltb RAM_END (p.ram + p.size) h.end) refl in
     next_none c1 (c2 ∷ c3 ∷ c4 ∷ c5 ∷ c6 ∷ c7 ∷ c8 ∷ c9 ∷ c10 ∷ n) (few raw_device p.devices 16 h.devices)
     (next_none c2 (c3 ∷ c4 ∷ c5 ∷ c6 ∷ c7 ∷ c8 ∷ c9 ∷ c10 ∷ n) (few raw_shared p.shared 64 h.shared)
     (next_none c3 (c4 ∷ c5 ∷ c6 ∷ c7 ∷ c8 ∷ c9 ∷ c10 ∷ n) (few raw_sealed p.sealed 64 h.sealed)

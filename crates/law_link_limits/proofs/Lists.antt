@@ -2,6 +2,7 @@
 use Rattle.std.proofs.Common.{ℕ, ◌≡◌, ◌+◌, ◌<◌, ◌≤◌, ◌||◌, not, true, false, nat_lt, List, [], ◌∷◌, ◌++◌, length, map, drop, None, refl, sym, ap, ap₂, subst, append-nil, arith}
 use Rattle.std.specs.List.{AllByRecursion}
 use Rattle.std.proofs.lemmas.Bool.{le-ltb}
+use Rattle.def_profile.specs.declared.limits.TheConstants.{MOST_BYTES}
 use Rattle.ct_entry.specs.Listed.{DeviceRow}
 use Rattle.ct_entry.specs.declared.hardware.DeviceKind.{DeviceKind}
 use Rattle.ct_entry.specs.declared.hardware.DeviceKind.TheVariants.{Uart, Timer, Gpio}
@@ -63,7 +64,7 @@ shared_title s = s.name
 
 pub record SharedGood (s : SharedPart) : Type 0 where
   pub named : is_name s.name ≡ true
-  pub sized : IsWithin 1 1048576 s.length
+  pub sized : IsWithin 1 MOST_BYTES s.length
 
 pub shared_good : (end : ℕ) (rest : List ℕ) (ss : List SharedRow) → AllByRecursion IsLawfulShared ss → AllByRecursion (λ n. is_name n ≡ true) (map (λ (s : SharedRow). s.name) ss)
     → AllByRecursion SharedGood (shared_parts (placed end (map (λ (s : SharedRow). s.size) ss ++ rest)) ss)
@@ -90,8 +91,8 @@ shared_back (s ∷ ss) h = (name_back s.name (name_is s.name h.0.named), shared_
 shared_passes : (at : ℕ) (earlier : List RawShared) (s : SharedPart) → SharedGood s → among s.name (map shared_name earlier) ≡ false → first (shared_limits at earlier (raw_shared s)) ≡ None
 unfolding shared_limits
 shared_passes at earlier s h new =
-    joined_none (name_checks at false (map shared_name earlier) (raw_shared s).name) (check (at + 36) (outside 1 1048576 s.length) ∷ [])
-    (name_passes at false (map shared_name earlier) s.name h.named new refl) (one_none (at + 36) (outside 1 1048576 s.length) (inside 1 1048576 s.length h.sized))
+    joined_none (name_checks at false (map shared_name earlier) (raw_shared s).name) (check (at + 36) (outside 1 MOST_BYTES s.length) ∷ [])
+    (name_passes at false (map shared_name earlier) s.name h.named new refl) (one_none (at + 36) (outside 1 MOST_BYTES s.length) (inside 1 MOST_BYTES s.length h.sized))
 
 pub shared_pass : (at : ℕ) (ss : List SharedPart) → AllByRecursion SharedGood ss → New [] (map shared_title ss) → first (walked shared_limits (λ s. SHARED) at [] (map raw_shared ss)) ≡ None
 unfolding shared_title
@@ -109,9 +110,9 @@ sealed_title s = s.name
 
 pub record SealedGood (s : SealedPart) : Type 0 where
   pub named : is_name s.name ≡ true
-  pub sized : IsWithin 1 1048576 s.length
+  pub sized : IsWithin 1 MOST_BYTES s.length
   pub seal : IsWithin 13 15 s.seal
-  pub few : IsWithin 1 1048576 (length s.bytes)
+  pub few : IsWithin 1 MOST_BYTES (length s.bytes)
   pub fits : length s.bytes ≤ s.length
   pub bytes : AllByRecursion (λ b. b < 256) s.bytes
 
@@ -142,15 +143,15 @@ sealed_passes : (at : ℕ) (earlier : List RawSealed) (s : SealedPart) → Seale
 unfolding sealed_limits
 sealed_passes at earlier s h new =
     let r = raw_sealed s in
-    let c1 = check (at + 36) (outside 1 1048576 s.length) in
+    let c1 = check (at + 36) (outside 1 MOST_BYTES s.length) in
     let c2 = check (at + 40) (outside 13 15 s.seal) in
     let c3 = check (at + 44) (overfills r) in
     let c4 = check (at + 48 + length s.bytes) (not (are_zeros r.padding)) in
     joined_none (name_checks at false (map sealed_name earlier) r.name) (c1 ∷ c2 ∷ c3 ∷ c4 ∷ [])
     (name_passes at false (map sealed_name earlier) s.name h.named new refl)
-    (next_none c1 (c2 ∷ c3 ∷ c4 ∷ []) (inside 1 1048576 s.length h.sized)
+    (next_none c1 (c2 ∷ c3 ∷ c4 ∷ []) (inside 1 MOST_BYTES s.length h.sized)
     (next_none c2 (c3 ∷ c4 ∷ []) (inside 13 15 s.seal h.seal)
-    (next_none c3 (c4 ∷ []) (ap₂ (λ a b. a || b) (inside 1 1048576 (length s.bytes) h.few) (le-ltb s.length (length s.bytes) h.fits))
+    (next_none c3 (c4 ∷ []) (ap₂ (λ a b. a || b) (inside 1 MOST_BYTES (length s.bytes) h.few) (le-ltb s.length (length s.bytes) h.fits))
     (one_none (at + 48 + length s.bytes) (not (are_zeros r.padding)) (ap not (zeros_are (padding_after (length s.bytes))))))))
 
 pub sealed_pass : (at : ℕ) (ss : List SealedPart) → AllByRecursion SealedGood ss → New [] (map sealed_title ss) → first (walked sealed_limits sealed_size at [] (map raw_sealed ss)) ≡ None

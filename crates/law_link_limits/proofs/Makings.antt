@@ -3,11 +3,12 @@ use Rattle.std.proofs.Common.{ℕ, ◌≡◌, ◌+◌, ◌*◌, ◌^◌, ◌<◌
 use Rattle.std.specs.Prelude.{codes}
 use Rattle.std.specs.List.{AllByRecursion}
 use Rattle.std.proofs.lemmas.List.{length-map}
+use Rattle.def_profile.specs.declared.limits.TheConstants.{MOST_COMPARTMENT_ENTRIES, MOST_LIBRARY_ENTRIES}
 use Rattle.def_layout.specs.declared.Region.{Region}
-use Rattle.def_layout.specs.Placement.{region_length, region_base, placed}
+use Rattle.def_layout.specs.Placement.{region_length, region_base, placed, last_end}
 use Rattle.def_names.specs.Names.{is_name}
 use Rattle.def_image.specs.Raw.{RawCode, RawCompartment}
-use Rattle.def_image.specs.Parts.{CodeRow as CodePart, CompartmentRow as CompartmentPart}
+use Rattle.def_image.specs.Parts.{SlotRow, GateRow, CodeRow as CodePart, CompartmentRow as CompartmentPart}
 use Rattle.def_image.specs.Spelling.{raw_slot, raw_gate, raw_code, raw_compartment}
 use Rattle.def_image.specs.Sizes.{sum_of}
 use Rattle.def_image.specs.Limits as lim
@@ -19,16 +20,25 @@ use Rattle.def_link.specs.Slots.{slot, switch_row, import_slot, quota_slot, key_
 use Rattle.def_link.specs.Linked.{BuiltCompartment, BuiltLibrary, compartment_slot_count, compartment_code_size, library_code_size, compartment_sizes, compartment_part, compartment_parts, compartment_entries, library_part, library_parts, library_entries}
 use Rattle.law_link.proofs.Linkeds.{GoodCompartment, GoodLibrary}
 use Rattle.law_link.proofs.Indexed.{numbered_length}
+use Rattle.law_link_regions.proofs.Texts.{IsText}
 use Rattle.law_link_regions.proofs.Builts.{UnitSound, unit_sound}
 use Rattle.law_link_limits.proofs.Lengths.{size_fits, unit_fits, bytes_kept}
 use Rattle.law_link_limits.proofs.Along.{Along}
 use Rattle.law_link_limits.proofs.Slots.{own_slots, library_slots_good, slot_count, library_slot_count}
 use Rattle.law_link_limits.proofs.Gates.{Gates, compartment_gates_good, library_gates_good}
-use Rattle.law_link_limits.proofs.Owners.{CompartmentGood, LibraryGood}
+use Rattle.law_link_limits.proofs.Owners.{CodeGood, CompartmentGood, LibraryGood}
 
 sum_end : {A : Type 0} (f : A → ℕ) (xs : List A) (y : A) → sum_of f (xs ++ y ∷ []) ≡ sum_of f xs + f y
 sum_end f [] y = omega arith
 sum_end f (x ∷ xs) y = let rest = sum_end f xs y in omega (arith, rest)
+
+-- slots and exports are as many as their fields
+fields_count : (slots : List SlotRow) (gates : List GateRow) → length (map raw_slot slots) + length (map raw_gate gates) ≡ length slots + length gates
+fields_count slots gates = let a = length-map slots raw_slot in let b = length-map gates raw_gate in omega (arith, a, b)
+
+-- code of an assembled text
+code_good : (c : CodePart) (initial : List ℕ) → is_name c.name ≡ true → IsText c.text initial → 8 * length c.slots + length c.text ≤ c.length → length c.exports ≤ 64 → CodeGood c
+code_good c initial name text fits few = record { named = name; fits = fits; few = text.few; words = text.words; bytes = text.bytes; exports = few }
 
 -- ---- compartments
 
@@ -54,17 +64,11 @@ compartment_good d entry end rest x name law g small =
     let code_fits = size_fits (compartment_code_size x) in
     let n = max x.row.globals (length x.built.initial) in
     let fits = size_fits n in
+    let regions = placed end (compartment_code_size x ∷ (16 + 16 * length x.row.exports) ∷ n ∷ rest) in
     let first = entry + 2 + compartment_slot_count x.row in
     let same : first ≡ entry + 2 + length (compartment_slots d x.row) = omega (arith, count) in
     record {
-      code = record {
-        named = name;
-        fits = omega (arith, code_fits, count);
-        few = text.few;
-        words = text.words;
-        bytes = text.bytes;
-        exports = omega (arith, e, gates);
-      };
+      code = code_good (compartment_part d entry regions x).code x.built.initial name text (omega (arith, code_fits, count)) (omega (arith, e, gates));
       globals = (unit_fits n, bytes_kept n (omega (arith, globals, initial)));
       initial_few = initial;
       initial_bytes = text.initial_bytes;
@@ -80,14 +84,13 @@ compartment_good d entry end rest x name law g small =
 
 raw_count : (d : DescRow) (entry : ℕ) (regions : List Region) (x : BuiltCompartment) → lim.compartment_entries (raw_compartment (compartment_part d entry regions x)) ≡ compartment_entries x
 raw_count d entry regions x =
-    let a : length (map raw_slot (compartment_slots d x.row)) ≡ length (compartment_slots d x.row) = length-map (compartment_slots d x.row) raw_slot in
-    let b = slot_count d x.row in
-    let gates = compartment_gates x.built (entry + 2 + compartment_slot_count x.row) x.row in
-    let c : length (map raw_gate gates) ≡ length gates = length-map gates raw_gate in
-    let e = numbered_length (export_gate x.built) (entry + 2 + compartment_slot_count x.row) x.row.exports in
-    omega (arith, a, b, c, e)
+    let first = entry + 2 + compartment_slot_count x.row in
+    let fields = fields_count (compartment_slots d x.row) (compartment_gates x.built first x.row) in
+    let slots = slot_count d x.row in
+    let gates = numbered_length (export_gate x.built) first x.row.exports in
+    omega (arith, fields, slots, gates)
 
-entries_few : (d : DescRow) (x : BuiltCompartment) → GoodCompartment d x → compartment_entries x ≤ 214
+entries_few : (d : DescRow) (x : BuiltCompartment) → GoodCompartment d x → compartment_entries x ≤ MOST_COMPARTMENT_ENTRIES
 entries_few d x g =
     let row = g.row in
     let i = row.imports in
@@ -101,25 +104,18 @@ unfoldable pub Numbered : List RawCompartment → CompartmentPart → Type 0
 Numbered before c = CompartmentGood (1 + sum_of lim.compartment_entries before) c
 
 pub compartments_along : (d : DescRow) → IsLawful d → (entry end : ℕ) (rest : List ℕ) (earlier : List RawCompartment) (cs : List BuiltCompartment)
-    → entry ≡ 1 + sum_of lim.compartment_entries earlier → entry + 214 * length cs ≤ 100000
+    → entry ≡ 1 + sum_of lim.compartment_entries earlier → entry + MOST_COMPARTMENT_ENTRIES * length cs ≤ 100000
     → AllByRecursion (GoodCompartment d) cs → AllByRecursion (λ (x : BuiltCompartment). is_name x.row.name ≡ true) cs
     → Along raw_compartment Numbered earlier (compartment_parts d entry (placed end (compartment_sizes cs ++ rest)) cs)
-unfolding compartment_parts Along Numbered placed
+unfolding compartment_parts Along Numbered placed last_end
 compartments_along d law entry end rest earlier [] is small good names = tt
 compartments_along d law entry end rest earlier (x ∷ xs) is small good names =
-    let n1 = compartment_code_size x in
-    let n2 = 16 + 16 * length x.row.exports in
-    let n3 = max x.row.globals (length x.built.initial) in
-    let e1 = region_base end n1 + region_length n1 in
-    let e2 = region_base e1 n2 + region_length n2 in
-    let e3 = region_base e2 n3 + region_length n3 in
-    let regions = placed end (compartment_sizes (x ∷ xs) ++ rest) in
-    let part = compartment_part d entry regions x in
+    let part = compartment_part d entry (placed end (compartment_sizes (x ∷ xs) ++ rest)) x in
     let few = entries_few d x good.0 in
-    let count = raw_count d entry regions x in
+    let count = raw_count d entry (placed end (compartment_sizes (x ∷ xs) ++ rest)) x in
     let sum = sum_end lim.compartment_entries earlier (raw_compartment part) in (
       subst (λ n. CompartmentGood n part) is (compartment_good d entry end (compartment_sizes xs ++ rest) x names.0 law good.0 (omega (arith, small))),
-      compartments_along d law (entry + compartment_entries x) e3 rest (earlier ++ raw_compartment part ∷ []) xs (omega (arith, is, count, sum)) (omega (arith, small, few)) good.1 names.1,
+      compartments_along d law (entry + compartment_entries x) (last_end end (compartment_sizes (x ∷ []))) rest (earlier ++ raw_compartment part ∷ []) xs (omega (arith, is, count, sum)) (omega (arith, small, few)) good.1 names.1,
     )
 
 -- ---- libraries
@@ -142,14 +138,7 @@ library_good d entry end rest x name law g small =
     let code_fits = size_fits (library_code_size x) in
     let same : first ≡ entry + 1 + length (library_slots d x.row) = omega (arith, count) in
     record {
-      code = record {
-        named = name;
-        fits = omega (arith, code_fits, count);
-        few = text.few;
-        words = text.words;
-        bytes = text.bytes;
-        exports = omega (arith, e, gates);
-      };
+      code = code_good (library_part d entry (placed end (library_code_size x ∷ rest)) x) x.built.initial name text (omega (arith, code_fits, count)) (omega (arith, e, gates));
       few = omega (arith, count, i);
       slots = library_slots_good d law x.row row;
       gates = subst (λ m. Gates library_bounds (length x.built.text) m (library_gates x.built first x.row)) same
@@ -158,18 +147,17 @@ library_good d entry end rest x name law g small =
 
 raw_library_count : (d : DescRow) (entry : ℕ) (regions : List Region) (x : BuiltLibrary) → lim.library_entries (raw_code (library_part d entry regions x)) ≡ library_entries x
 raw_library_count d entry regions x =
-    let a : length (map raw_slot (library_slots d x.row)) ≡ length (library_slots d x.row) = length-map (library_slots d x.row) raw_slot in
-    let b = library_slot_count d x.row in
-    let gates = library_gates x.built (entry + 1 + length x.row.imports) x.row in
-    let c : length (map raw_gate gates) ≡ length gates = length-map gates raw_gate in
-    let e = numbered_length (lexport_gate x.built) (entry + 1 + length x.row.imports) x.row.exports in
-    omega (arith, a, b, c, e)
+    let first = entry + 1 + length x.row.imports in
+    let fields = fields_count (library_slots d x.row) (library_gates x.built first x.row) in
+    let slots = library_slot_count d x.row in
+    let gates = numbered_length (lexport_gate x.built) first x.row.exports in
+    omega (arith, fields, slots, gates)
 
 unfoldable pub NumberedAfter : ℕ → List RawCode → CodePart → Type 0
 NumberedAfter first before c = LibraryGood (first + sum_of lim.library_entries before) c
 
 pub libraries_along : (d : DescRow) → IsLawful d → (first entry end : ℕ) (rest : List ℕ) (earlier : List RawCode) (ls : List BuiltLibrary)
-    → entry ≡ first + sum_of lim.library_entries earlier → entry + 193 * length ls ≤ 200000
+    → entry ≡ first + sum_of lim.library_entries earlier → entry + MOST_LIBRARY_ENTRIES * length ls ≤ 200000
     → AllByRecursion (GoodLibrary d) ls → AllByRecursion (λ (x : BuiltLibrary). is_name x.row.name ≡ true) ls
     → Along raw_code (NumberedAfter first) earlier (library_parts d entry (placed end (map library_code_size ls ++ rest)) ls)
 unfolding library_parts Along NumberedAfter placed
@@ -189,7 +177,7 @@ libraries_along d law first entry end rest earlier (x ∷ xs) is small good name
     )
 
 -- how many entries compartments have, at most
-pub entries_most : (d : DescRow) (cs : List BuiltCompartment) → AllByRecursion (GoodCompartment d) cs → sum_of compartment_entries cs ≤ 214 * length cs
+pub entries_most : (d : DescRow) (cs : List BuiltCompartment) → AllByRecursion (GoodCompartment d) cs → sum_of compartment_entries cs ≤ MOST_COMPARTMENT_ENTRIES * length cs
 entries_most d [] good = omega arith
 entries_most d (x ∷ xs) good = let few = entries_few d x good.0 in let rest = entries_most d xs good.1 in omega (arith, few, rest)
 

@@ -1,8 +1,9 @@
 -- Compartments and libraries of what is linked keep the limits of an image.
-use Rattle.std.proofs.Common.{ℕ, suc, ◌≡◌, ◌+◌, ◌*◌, ◌%◌, ◌<◌, ◌≤◌, ◌==◌, ◌||◌, not, true, false, nat_lt, List, [], ◌∷◌, ◌++◌, length, map, None, refl, sym, ap, ap₂, ◌∙◌, subst, arith}
+use Rattle.std.proofs.Common.{ℕ, suc, ◌≡◌, ◌+◌, ◌*◌, ◌%◌, ◌<◌, ◌≤◌, ◌==◌, ◌||◌, not, true, false, nat_lt, List, [], ◌∷◌, ◌++◌, length, map, drop, None, refl, sym, ap, ap₂, ◌∙◌, subst, arith}
 use Rattle.std.specs.List.{AllByRecursion}
 use Rattle.std.proofs.lemmas.List.{length-map}
 use Rattle.std.proofs.lemmas.Bool.{le-ltb, eq-eqb}
+use Rattle.def_profile.specs.declared.limits.TheConstants.{MOST_BYTES}
 use Rattle.def_names.specs.Names.{is_name, among}
 use Rattle.def_image.specs.declared.format.TheConstants.{ENTRY, COMPARTMENT_HEAD, LIBRARY_HEAD}
 use Rattle.def_image.specs.Parts.{SlotRow, GateRow, CodeRow as CodePart, CompartmentRow as CompartmentPart}
@@ -10,7 +11,7 @@ use Rattle.def_image.specs.Spelling.{padding_after, raw_slot, raw_gate, raw_code
 use Rattle.def_image.specs.Sizes.{entries_size, tables_size}
 use Rattle.def_image.specs.Profile.{outside}
 use Rattle.def_image.specs.Checks.{first, walked, check}
-use Rattle.def_image.specs.Limits.{name_checks, code_limits, own_slot_limits, slot_limits, export_limits, own_slots_limits, slots_limits, exports_limits, compartment_limits_by, library_limits_by, Bounds, compartment_bounds, library_bounds, entry_name, are_zeros, switch_name}
+use Rattle.def_image.specs.Limits.{name_checks, code_limits, own_slot_limits, slot_limits, export_limits, own_numbers, own_slots_limits, own_gates, dirty_padding, library_numbers, slots_limits, library_gates, exports_limits, compartment_limits_by, library_limits_by, Bounds, compartment_bounds, library_bounds, entry_name, are_zeros, switch_name}
 use Rattle.def_image.specs.Sound.{IsWithin}
 use Rattle.law_link.proofs.Walks.{joined_none, next_none, one_none}
 use Rattle.law_link_limits.proofs.Fields.{inside, zeros_are, name_passes}
@@ -71,7 +72,7 @@ gates_pass b text entry at gates h =
 pub record CodeGood (c : CodePart) : Type 0 where
   pub named : is_name c.name ≡ true
   pub fits : 8 * length c.slots + length c.text ≤ c.length
-  pub few : length c.text ≤ 1048576
+  pub few : length c.text ≤ MOST_BYTES
   pub words : length c.text % 4 ≡ 0
   pub bytes : AllByRecursion (λ b. b < 256) c.text
   pub exports : length c.exports ≤ 64
@@ -80,14 +81,14 @@ code_passes : (at : ℕ) (c : CodePart) → CodeGood c → first (code_limits at
 code_passes at c h =
     let count : length (map raw_slot c.slots) ≡ length c.slots = length-map c.slots raw_slot in
     let fits = h.fits in
-    next_none (check (at + 36) (nat_lt c.length (8 * length (map raw_slot c.slots) + length c.text))) (check (at + 40) (nat_lt 1048576 (length c.text) || not (length c.text % 4 == 0)) ∷ [])
+    next_none (check (at + 36) (nat_lt c.length (8 * length (map raw_slot c.slots) + length c.text))) (check (at + 40) (nat_lt MOST_BYTES (length c.text) || not (length c.text % 4 == 0)) ∷ [])
     (le-ltb c.length (8 * length (map raw_slot c.slots) + length c.text) (omega (arith, fits, count)))
-    (one_none (at + 40) (nat_lt 1048576 (length c.text) || not (length c.text % 4 == 0)) (ap₂ (λ a b. a || not b) (le-ltb 1048576 (length c.text) h.few) (eq-eqb (length c.text % 4) 0 h.words)))
+    (one_none (at + 40) (nat_lt MOST_BYTES (length c.text) || not (length c.text % 4 == 0)) (ap₂ (λ a b. a || not b) (le-ltb MOST_BYTES (length c.text) h.few) (eq-eqb (length c.text % 4) 0 h.words)))
 
 pub record CompartmentGood (entry : ℕ) (c : CompartmentPart) : Type 0 where
   pub code : CodeGood c.code
-  pub globals : IsWithin 16 1048576 c.globals_length
-  pub initial_few : length c.initial ≤ 1048576
+  pub globals : IsWithin 16 MOST_BYTES c.globals_length
+  pub initial_few : length c.initial ≤ MOST_BYTES
   pub initial_bytes : AllByRecursion (λ b. b < 256) c.initial
   pub initial : length c.initial ≤ c.globals_length
   pub head : SlotRow
@@ -104,28 +105,29 @@ compartment_passes entry at seen c h new =
     let r = raw_compartment c in
     let n = name_checks at false seen r.code.name in
     let k = code_limits at r.code in
-    let c1 = check (at + 52) (outside 16 1048576 c.globals_length) in
-    let c2 = check (at + 56) (nat_lt 1048576 (length c.initial) || nat_lt c.globals_length (length c.initial)) in
-    let c3 = check (at + 60) (outside 1 148 (length r.code.slots)) in
-    let c4 = check (at + 64) (nat_lt 64 (length r.code.exports)) in
+    let m = own_numbers at r in
     let own = own_slots_limits (at + COMPARTMENT_HEAD) r.code in
-    let m = c1 ∷ c2 ∷ c3 ∷ c4 ∷ own in
-    let x = exports_limits compartment_bounds (entry + 2 + length r.code.slots) (at + COMPARTMENT_HEAD + entries_size r.code.slots) r.code in
-    let z = check (at + COMPARTMENT_HEAD + tables_size r.code + length r.initial) (not (are_zeros r.padding)) ∷ [] in
+    let x = own_gates entry at r.code in
+    let z = dirty_padding at r in
     let slots : length r.code.slots ≡ length c.code.slots = length-map c.code.slots raw_slot in
     let exports : length r.code.exports ≡ length c.code.exports = length-map c.code.exports raw_gate in
     let some : 1 ≤ length c.code.slots = subst (λ l. 1 ≤ length l) (sym h.slots) (omega arith) in
     let own_none : first own ≡ None = subst (λ l. first (walked own_slot_limits (λ s. ENTRY) (at + COMPARTMENT_HEAD) [] (map raw_slot l)) ≡ None) (sym h.slots) (own_slots_pass (at + COMPARTMENT_HEAD) h.head h.others h.own) in
     let gates_none : first x ≡ None = subst (λ k. first (exports_limits compartment_bounds (entry + 2 + k) (at + COMPARTMENT_HEAD + entries_size r.code.slots) r.code) ≡ None) (sym slots)
     (gates_pass compartment_bounds (length c.code.text) (entry + 2 + length c.code.slots) (at + COMPARTMENT_HEAD + entries_size r.code.slots) c.code.exports h.gates) in
-    joined_none (n ++ k ++ m ++ x) z
-    (joined_none (n ++ k ++ m) x
+    let long = nat_lt MOST_BYTES (length c.initial) || nat_lt c.globals_length (length c.initial) in
+    let numbers_none : first m ≡ None =
+    next_none (check (at + 52) (outside 16 MOST_BYTES c.globals_length)) (drop 1 m) (inside 16 MOST_BYTES c.globals_length h.globals)
+    (next_none (check (at + 56) long) (drop 2 m) (ap₂ (λ a b. a || b) (le-ltb MOST_BYTES (length c.initial) h.initial_few) (le-ltb c.globals_length (length c.initial) h.initial))
+    (next_none (check (at + 60) (outside 1 148 (length r.code.slots))) (drop 3 m) (subst (λ n. outside 1 148 n ≡ false) (sym slots) (inside 1 148 (length c.code.slots) (some, h.slots_few)))
+    (one_none (at + 64) (nat_lt 64 (length r.code.exports)) (subst (λ n. nat_lt 64 n ≡ false) (sym exports) (le-ltb 64 (length c.code.exports) h.code.exports))))) in
+    joined_none (n ++ k ++ m ++ own ++ x) z
+    (joined_none (n ++ k ++ m ++ own) x
+    (joined_none (n ++ k ++ m) own
     (joined_none (n ++ k) m
     (joined_none n k (name_passes at false seen c.code.name h.code.named new refl) (code_passes at c.code h.code))
-    (next_none c1 (c2 ∷ c3 ∷ c4 ∷ own) (inside 16 1048576 c.globals_length h.globals)
-    (next_none c2 (c3 ∷ c4 ∷ own) (ap₂ (λ a b. a || b) (le-ltb 1048576 (length c.initial) h.initial_few) (le-ltb c.globals_length (length c.initial) h.initial))
-    (next_none c3 (c4 ∷ own) (subst (λ n. outside 1 148 n ≡ false) (sym slots) (inside 1 148 (length c.code.slots) (some, h.slots_few)))
-    (next_none c4 own (subst (λ n. nat_lt 64 n ≡ false) (sym exports) (le-ltb 64 (length c.code.exports) h.code.exports)) own_none)))))
+    numbers_none)
+    own_none)
     gates_none)
     (one_none (at + COMPARTMENT_HEAD + tables_size r.code + length r.initial) (not (are_zeros r.padding)) (ap not (zeros_are (padding_after (length c.initial)))))
 
@@ -143,18 +145,18 @@ library_passes entry at seen c h new =
     let r = raw_code c in
     let n = name_checks at false seen r.name in
     let k = code_limits at r in
-    let c1 = check (at + 44) (nat_lt 128 (length r.slots)) in
-    let c2 = check (at + 48) (nat_lt 64 (length r.exports)) in
+    let m = library_numbers at r in
     let own = slots_limits (at + LIBRARY_HEAD) r in
-    let m = c1 ∷ c2 ∷ own in
-    let x = exports_limits library_bounds (entry + 1 + length r.slots) (at + LIBRARY_HEAD + entries_size r.slots) r in
+    let x = library_gates entry at r in
     let slots : length r.slots ≡ length c.slots = length-map c.slots raw_slot in
     let exports : length r.exports ≡ length c.exports = length-map c.exports raw_gate in
     let gates_none : first x ≡ None = subst (λ k. first (exports_limits library_bounds (entry + 1 + k) (at + LIBRARY_HEAD + entries_size r.slots) r) ≡ None) (sym slots)
     (gates_pass library_bounds (length c.text) (entry + 1 + length c.slots) (at + LIBRARY_HEAD + entries_size r.slots) c.exports h.gates) in
-    joined_none (n ++ k ++ m) x
+    joined_none (n ++ k ++ m ++ own) x
+    (joined_none (n ++ k ++ m) own
     (joined_none (n ++ k) m
     (joined_none n k (name_passes at false seen c.name h.code.named new refl) (code_passes at c h.code))
-    (next_none c1 (c2 ∷ own) (subst (λ n. nat_lt 128 n ≡ false) (sym slots) (le-ltb 128 (length c.slots) h.few))
-    (next_none c2 own (subst (λ n. nat_lt 64 n ≡ false) (sym exports) (le-ltb 64 (length c.exports) h.code.exports)) (library_slots_pass (at + LIBRARY_HEAD) c.slots h.slots))))
+    (next_none (check (at + 44) (nat_lt 128 (length r.slots))) (drop 1 m) (subst (λ n. nat_lt 128 n ≡ false) (sym slots) (le-ltb 128 (length c.slots) h.few))
+    (one_none (at + 48) (nat_lt 64 (length r.exports)) (subst (λ n. nat_lt 64 n ≡ false) (sym exports) (le-ltb 64 (length c.exports) h.code.exports)))))
+    (library_slots_pass (at + LIBRARY_HEAD) c.slots h.slots))
     gates_none

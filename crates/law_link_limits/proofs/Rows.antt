@@ -3,6 +3,7 @@ use Rattle.std.proofs.Common.{ℕ, suc, ◌≡◌, ◌+◌, ◌%◌, ◌^◌, �
 use Rattle.std.specs.Prelude.{bytes_eq}
 use Rattle.std.proofs.lemmas.Slice.Eq.{bytes_eq-Decides}
 use Rattle.std.proofs.lemmas.Bool.{lt-leb, le-ltb, eq-eqb}
+use Rattle.def_profile.specs.declared.limits.TheConstants.{MOST_BYTES}
 use Rattle.law_lists.proofs.Tests.{eq_tells}
 use Rattle.def_names.specs.Names.{is_name, among}
 use Rattle.def_image.specs.declared.ImportRow.{ImportRow as SlotImport}
@@ -21,14 +22,18 @@ use Rattle.law_link_limits.proofs.Fields.{name_is, name_back, name_passes}
 
 -- ---- rows of slots
 
-pub record SlotGood (s : SlotRow) : Type 0 where
-  pub named : is_name s.name ≡ true
+-- what is asked of a row, beside the form of its name
+pub record SlotSized (s : SlotRow) : Type 0 where
   pub rights : s.row.rights ≤ 63
   pub first_small : s.row.first < 2 ^ 32
   pub second_small : s.row.second < 2 ^ 32
   pub numbered : misnumbered (kind_byte s.row.kind) s.row.first ≡ false
   pub second : (not (has_second (kind_byte s.row.kind)) && not (s.row.second == 0)) ≡ false
   pub key : (nat_eq (kind_byte s.row.kind) 8 && not (bytes_eq s.name (key_name s.row.first))) ≡ false
+
+pub record SlotGood (s : SlotRow) : Type 0 where
+  pub named : is_name s.name ≡ true
+  pub sized : SlotSized s
 
 kind_within : (k : SlotKind) → outside 1 8 (kind_byte k) ≡ false
 kind_within kind.Service = refl
@@ -57,10 +62,10 @@ row_passes at s h =
     let c5 = check (at + 8) (not (has_second (byte_at row 0)) && not (number_at row 8 == 0)) in
     let c6 = check (at + 12) (not (number_at row 12 == 0)) in
     next_none c1 (c2 ∷ c3 ∷ c4 ∷ c5 ∷ c6 ∷ []) (kind_within s.row.kind)
-    (next_none c2 (c3 ∷ c4 ∷ c5 ∷ c6 ∷ []) (le-ltb 63 s.row.rights h.rights)
+    (next_none c2 (c3 ∷ c4 ∷ c5 ∷ c6 ∷ []) (le-ltb 63 s.row.rights h.sized.rights)
     (next_none c3 (c4 ∷ c5 ∷ c6 ∷ []) refl
-    (next_none c4 (c5 ∷ c6 ∷ []) (ap (misnumbered (kind_byte s.row.kind)) (first_at s.row h.first_small) ∙ h.numbered)
-    (next_none c5 (c6 ∷ []) (ap (λ n. not (has_second (kind_byte s.row.kind)) && not (n == 0)) (second_at s.row h.second_small) ∙ h.second)
+    (next_none c4 (c5 ∷ c6 ∷ []) (ap (misnumbered (kind_byte s.row.kind)) (first_at s.row h.sized.first_small) ∙ h.sized.numbered)
+    (next_none c5 (c6 ∷ []) (ap (λ n. not (has_second (kind_byte s.row.kind)) && not (n == 0)) (second_at s.row h.sized.second_small) ∙ h.sized.second)
     (one_none (at + 12) (not (number_at row 12 == 0)) (ap (λ n. not (n == 0)) (third_at s.row)))))))
 
 -- ---- slots
@@ -70,7 +75,7 @@ slot_name_back s e = name_back s.name (name_is s.name e)
 
 key_named : (s : SlotRow) → SlotGood s → is_unnamed_key (raw_slot s) ≡ false
 key_named s h =
-    ap₂ (λ n k. nat_eq (kind_byte s.row.kind) 8 && not (bytes_eq n (key_name k))) (slot_name_back s h.named) (first_at s.row h.first_small) ∙ h.key
+    ap₂ (λ n k. nat_eq (kind_byte s.row.kind) 8 && not (bytes_eq n (key_name k))) (slot_name_back s h.named) (first_at s.row h.sized.first_small) ∙ h.sized.key
 
 pub first_slot_passes : (at : ℕ) (s : SlotRow) → SlotGood s → s.name ≡ switch_name → first (own_slot_limits at [] (raw_slot s)) ≡ None
 unfolding own_slot_limits
@@ -103,7 +108,7 @@ pub record GateGood (b : Bounds) (text : ℕ) (x : GateRow) : Type 0 where
   pub named : is_name x.name ≡ true
   pub even : x.row.offset % 4 ≡ 0
   pub inside : x.row.offset < text
-  pub small : text ≤ 1048576
+  pub small : text ≤ MOST_BYTES
   pub stack : x.row.stack ≤ b.stack
   pub most : b.stack < 2 ^ 32
   pub args : x.row.args ≤ b.args

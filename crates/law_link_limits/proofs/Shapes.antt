@@ -44,7 +44,7 @@ passes_small false = omega arith
 
 slot_entry : (s : SlotRow) → SlotGood s → IsEntry (raw_slot s)
 slot_entry s h =
-    let rights = h.rights in (
+    let rights = h.sized.rights in (
       record {
         size = refl;
         each = (
@@ -71,7 +71,7 @@ slots_entries (s ∷ ss) h = (slot_entry s h.0, slots_entries ss h.1)
 
 pub slots_spellable : (slots : List SlotRow) → AllByRecursion SlotGood slots → AllByRecursion SpellableSlot slots
 slots_spellable [] h = tt
-slots_spellable (s ∷ ss) h = (((name_is s.name h.0.named).clean, h.0.first_small, h.0.second_small), slots_spellable ss h.1)
+slots_spellable (s ∷ ss) h = (((name_is s.name h.0.named).clean, h.0.sized.first_small, h.0.sized.second_small), slots_spellable ss h.1)
 
 gate_entry : (b : Bounds) (text : ℕ) (x : GateRow) → b.args ≤ 6 → GateGood b text x → IsEntry (raw_gate x)
 gate_entry b text x most h =

@@ -1,6 +1,6 @@
 -- The rows that slots of a lawful description have keep the limits of an image's rows.
-use Rattle.std.proofs.Common.{ℕ, ◌≡◌, ◌+◌, ◌^◌, ◌<◌, ◌≤◌, ◌==◌, ◌&&◌, not, true, false, nat_eq, List, [], ◌∷◌, ◌++◌, length, map, Option, refl, sym, ap, ap₂, ◌∙◌, subst, arith, inl, inr}
-use Rattle.std.specs.Prelude.{codes, bytes_eq, unwrap_or}
+use Rattle.std.proofs.Common.{ℕ, ◌≡◌, ◌+◌, ◌≤◌, not, true, List, [], ◌∷◌, ◌++◌, length, map, Option, refl, sym, ap, ap₂, ◌∙◌, subst, arith, inl, inr}
+use Rattle.std.specs.Prelude.{codes, unwrap_or}
 use Rattle.std.specs.List.{AllByRecursion}
 use Rattle.std.specs.Fmt.{digits}
 use Rattle.std.proofs.lemmas.List.{length-append, length-map, map-append}
@@ -12,8 +12,7 @@ use Rattle.ct_entry.specs.Listed.{DeviceRow}
 use Rattle.def_words.specs.Permissions.{bit, set_where, form_of, packed}
 use Rattle.def_names.specs.Names.{is_name, among}
 use Rattle.def_image.specs.Parts.{SlotRow}
-use Rattle.def_image.specs.Spelling.{kind_byte}
-use Rattle.def_image.specs.Limits.{misnumbered, has_second, key_name, switch_name}
+use Rattle.def_image.specs.Limits.{key_name, switch_name}
 use Rattle.def_image.specs.Sound.{IsWithin}
 use Rattle.law_image.proofs.Members.{all_at}
 use Rattle.def_description.specs.declared.tables.Form.{Form}
@@ -30,16 +29,7 @@ use Rattle.law_link.proofs.Granted.{one_of}
 use Rattle.law_link.proofs.Found.{exporter_of, library_exporter_of, index_less, call_found, lent_found}
 use Rattle.law_link.proofs.Walks.{all_joined, all_mapped, all_so}
 use Rattle.law_link_limits.proofs.Fields.{inside, New, all_new}
-use Rattle.law_link_limits.proofs.Rows.{SlotGood}
-
--- what is asked of a row, beside the form of its name
-pub record SlotSized (s : SlotRow) : Type 0 where
-  pub rights : s.row.rights ≤ 63
-  pub first_small : s.row.first < 2 ^ 32
-  pub second_small : s.row.second < 2 ^ 32
-  pub numbered : misnumbered (kind_byte s.row.kind) s.row.first ≡ false
-  pub second : (not (has_second (kind_byte s.row.kind)) && not (s.row.second == 0)) ≡ false
-  pub key : (nat_eq (kind_byte s.row.kind) 8 && not (bytes_eq s.name (key_name s.row.first))) ≡ false
+use Rattle.law_link_limits.proofs.Rows.{SlotSized, SlotGood}
 
 -- ---- what is named has a small number
 
@@ -201,7 +191,7 @@ good_slots : (slots : List SlotRow) → AllByRecursion SlotSized slots → AllBy
 unfolding title
 good_slots [] h k = tt
 good_slots (s ∷ ss) h k = (
-  record { named = k.0; rights = h.0.rights; first_small = h.0.first_small; second_small = h.0.second_small; numbered = h.0.numbered; second = h.0.second; key = h.0.key },
+  record { named = k.0; sized = h.0 },
   good_slots ss h.1 k.1,
 )
 

@@ -33,7 +33,7 @@ use Rattle.law_link.proofs.Linkeds.{Parts, parts, compartments_good, libraries_g
 use Rattle.law_link.proofs.Granted.{rights_pass}
 use Rattle.law_link.proofs.Indexed.{indexes_pass}
 use Rattle.law_link_regions.proofs.Orders.{all_to}
-use Rattle.law_link_regions.proofs.Lying.{ends, Stretches, stretches, orders, threads_most, regions_pass}
+use Rattle.law_link_regions.proofs.Lying.{ends, Stretches, stretches, orders, threads_most, heap_inside, regions_pass}
 use Rattle.law_link_limits.proofs.Fields.{name_is, name_is_field, padded}
 use Rattle.law_link_limits.proofs.Along.{along_each}
 use Rattle.law_link_limits.proofs.Rows.{SlotGood}
@@ -184,27 +184,25 @@ record Bounded (p : PartsRow) : Type 0 where
   pub bases : AllByRecursion (λ (d : DeviceRow). d.base < 2 ^ 32) p.devices
   pub enters : AllByRecursion EntersFew p.threads
 
+below : (a b : ℕ) → a ≤ b → b < 2 ^ 32 → a < 2 ^ 32
+below a b le lt = omega (arith, le, lt)
+
 shaped : (p : PartsRow) → PartsGood p → (s : Stretches p) → Bounded p → IsShaped (raw_of p)
 unfolding raw_of
 shaped p g s k =
     let r = raw_of p in
     let o = orders p s in
-    let o1 = o.o1 in
-    let o2 = o.o2 in
-    let o3 = o.o3 in
-    let o4 = o.o4 in
-    let o5 = o.o5 in
-    let o6 = o.o6 in
     let end = g.header.end in
     let heap = k.heap in
     let version = k.version in
     let sweep = k.sweep in
     let quantum = k.quantum in
-    let e5_small : s.e5 < 2 ^ 32 = omega (arith, o5, o6, heap, end) in
-    let e4_small : s.e4 < 2 ^ 32 = omega (arith, o4, e5_small) in
-    let e3_small : s.e3 < 2 ^ 32 = omega (arith, o3, e4_small) in
-    let e2_small : s.e2 < 2 ^ 32 = omega (arith, o2, e3_small) in
-    let e1_small : s.e1 < 2 ^ 32 = omega (arith, o1, e2_small) in
+    let trusted_small = below p.trusted p.heap o.o6 (omega (arith, heap, end)) in
+    let e5_small = below s.e5 p.trusted o.o5 trusted_small in
+    let e4_small = below s.e4 s.e5 o.o4 e5_small in
+    let e3_small = below s.e3 s.e4 o.o3 e4_small in
+    let e2_small = below s.e2 s.e3 o.o2 e3_small in
+    let e1_small = below s.e1 s.e2 o.o1 e2_small in
     let cs = along_each raw_compartment Numbered [] p.compartments g.compartments in
     let first = 1 + sum_of lim.compartment_entries (map raw_compartment p.compartments) in
     let ls = along_each raw_code (NumberedAfter first) [] p.libraries g.libraries in
@@ -228,7 +226,7 @@ shaped p g s k =
       quantum = omega (arith, quantum);
       ram = omega (arith, end);
       size = omega (arith, end);
-      trusted = omega (arith, o6, heap, end);
+      trusted = trusted_small;
       heap = omega (arith, heap, end);
       name = name_is_field p.name (name_is p.name g.header.named);
       devices = (omega (arith, n1, c1), devices_shaped p.devices g.device_names k.bases);
@@ -275,23 +273,13 @@ bounded : (d : DescRow) (p : PartsRow) (law : IsLawful d) (s : Parts d p) → Bo
 unfolding parts_of
 bounded d p law s =
     let all = placed d.ram.base (sizes_of d s.cs s.ls) in
-    let q = parts_of d s.cs s.ls all (last_end d.ram.base (sizes_of d s.cs s.ls)) in
     let x = stretches d s.cs s.ls law (compartments_good d p law.compartment s) (libraries_good d p law.library s) (ends d s.cs s.ls) in
-    let o = orders q x in
-    let o0 = o.o0 in
-    let o1 = o.o1 in
-    let o2 = o.o2 in
-    let o3 = o.o3 in
-    let o4 = o.o4 in
-    let o5 = o.o5 in
-    let o6 = o.o6 in
-    let room = s.room in
     record {
       version = law.version.1;
       rate = rate_is d.version d.sweep law.sweep.0 law.sweep.1;
       sweep = rate_most d.version d.sweep law.sweep.1;
       quantum = law.quantum.1;
-      heap = omega (arith, room, o0, o1, o2, o3, o4, o5, o6);
+      heap = heap_inside d p s x;
       bases = all_so (IsLawfulDevice d.ram) (λ (v : DeviceRow). v.base < 2 ^ 32) d.devices (λ v h. h.base) law.device;
       enters = threads_enter d law (drop (3 * length s.cs + length s.ls + length d.shared + length d.sealed) all) d.threads law.thread;
     }

@@ -5,38 +5,30 @@ use Rattle.def_layout.specs.declared.Region.{Region}
 use Rattle.def_layout.specs.Placement.{region, region_length, region_base, placed, last_end}
 use Rattle.def_image.specs.Parts.{PartsRow, CompartmentRow as CompartmentPart, CodeRow as CodePart}
 use Rattle.def_image.specs.Sizes.{sum_of}
-use Rattle.def_image.specs.Regions.{table_length, trusted_length}
+use Rattle.def_image.specs.Regions.{trusted_length}
 use Rattle.def_description.specs.Rows.{SharedRow, SealedRow, LimportRow, CompartmentRow, LibraryRow, ThreadRow, DescRow}
 use Rattle.def_link.specs.Slots.{slot, form_row, import_slot, quota_slot, key_slot, compartment_slots, library_slots, export_gate}
 use Rattle.def_description.specs.declared.tables.Form.TheVariants as form
-use Rattle.def_link.specs.Linked.{BuiltCompartment, BuiltLibrary, compartment_slot_count, compartment_code_size, library_code_size, compartment_sizes, sizes_of, area_size, compartment_part, compartment_parts, compartment_entries, library_parts, library_entries, shared_parts, sealed_parts, thread_parts, parts_of}
+use Rattle.def_link.specs.Linked.{BuiltCompartment, BuiltLibrary, compartment_slot_count, library_code_size, compartment_sizes, sizes_of, compartment_part, compartment_parts, compartment_entries, library_parts, library_entries, shared_parts, sealed_parts, thread_parts, parts_of}
 use Rattle.law_link.specs.Links.{Links}
 use Rattle.law_link.proofs.Linkeds.{parts}
 use Rattle.law_link.proofs.Indexed.{numbered_length}
-use Rattle.law_link_regions.proofs.Placings.{areas}
+use Rattle.law_link_regions.proofs.Placings.{table_is, areas}
 use Rattle.law_link_regions.proofs.Lying.{shared_sizes, sealed_sizes, stack_sizes, trusted_size, Ends, ends}
 use Rattle.law_link_parts.specs.Places.{own_places, code_place, shared_place, sealed_place, stack_place, places, code_size, own_sizes, sizes}
 
 -- ---- each list
-
-table_is : (d : DescRow) (entry : ℕ) (regions : List Region) (x : BuiltCompartment) → table_length (compartment_part d entry regions x) ≡ region_length (16 + 16 * length x.row.exports)
-table_is d entry regions x =
-    ap (λ n. region_length (16 + 16 * n)) (numbered_length (export_gate x.built) (entry + 2 + compartment_slot_count x.row) x.row.exports)
 
 compartments_placed : (d : DescRow) (entry end : ℕ) (rest : List ℕ) (cs : List BuiltCompartment)
     → own_places (compartment_parts d entry (placed end (compartment_sizes cs ++ rest)) cs) ++ placed (last_end end (compartment_sizes cs)) rest ≡ placed end (compartment_sizes cs ++ rest)
 unfolding compartment_parts placed last_end
 compartments_placed d entry end rest [] = refl
 compartments_placed d entry end rest (x ∷ xs) =
-    let n1 = compartment_code_size x in
-    let n2 = 16 + 16 * length x.row.exports in
-    let n3 = max x.row.globals (length x.built.initial) in
-    let e1 = region_base end n1 + region_length n1 in
-    let e2 = region_base e1 n2 + region_length n2 in
-    let e3 = region_base e2 n3 + region_length n3 in
-    ap₂ (λ k (l : List Region). region (region_base end n1) (region_length n1) ∷ region (region_base e1 n2) k ∷ region (region_base e2 n3) (region_length n3) ∷ l)
-    (table_is d entry (placed end (compartment_sizes (x ∷ xs) ++ rest)) x)
-    (compartments_placed d (entry + compartment_entries x) e3 rest xs)
+    let regions = placed end (compartment_sizes (x ∷ xs) ++ rest) in
+    let c = compartment_part d entry regions x in
+    ap₂ (λ k (l : List Region). region c.code.base c.code.length ∷ region c.table k ∷ region c.globals c.globals_length ∷ l)
+    (table_is d entry regions x)
+    (compartments_placed d (entry + compartment_entries x) (last_end end (compartment_sizes (x ∷ []))) rest xs)
 
 libraries_placed : (d : DescRow) (entry end : ℕ) (rest : List ℕ) (ls : List BuiltLibrary)
     → map code_place (library_parts d entry (placed end (map library_code_size ls ++ rest)) ls) ++ placed (last_end end (map library_code_size ls)) rest ≡ placed end (map library_code_size ls ++ rest)
@@ -125,12 +117,12 @@ unfolding parts_in parts_of shared_sizes sealed_sizes stack_sizes trusted_size p
 places_are d cs ls e =
     let all = placed d.ram.base (sizes_of d cs ls) in
     let p = parts_of d cs ls all (last_end d.ram.base (sizes_of d cs ls)) in
-    let n = 16 + sum_of area_size d.threads in
+    let n = trusted_size d in
     let z = n ∷ [] in
     let l = map library_code_size ls in
-    let s = map (λ (s : SharedRow). s.size) d.shared in
-    let x = map (λ (s : SealedRow). length s.bytes) d.sealed in
-    let t = map (λ (t : ThreadRow). t.stack) d.threads in
+    let s = shared_sizes d in
+    let x = sealed_sizes d in
+    let t = stack_sizes d in
     let entry = 1 + sum_of compartment_entries cs in
     let own = own_places p.compartments in
     let codes = map code_place p.libraries in

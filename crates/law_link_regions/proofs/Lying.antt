@@ -25,7 +25,7 @@ use Rattle.def_link.specs.Linked.{BuiltCompartment, BuiltLibrary, library_code_s
 use Rattle.law_image.proofs.Members.{all_at}
 use Rattle.law_link.specs.Links.{Links}
 use Rattle.law_link.proofs.Walks.{joined_none, next_none, one_none, walk_each, walk_joined, all_joined, all_so}
-use Rattle.law_link.proofs.Linkeds.{parts, GoodCompartment, GoodLibrary, compartments_good, libraries_good}
+use Rattle.law_link.proofs.Linkeds.{Parts, parts, GoodCompartment, GoodLibrary, compartments_good, libraries_good}
 use Rattle.law_link_regions.proofs.Builts.{unit_sound}
 use Rattle.law_link_regions.proofs.Orders.{third_false, fourth_false, last_joined, left_after, last_base, Stands, stands, Between, grows, all_from, all_to, clear_after, clear_before, clear_joined, laid_so, stretch_passes}
 use Rattle.law_link_regions.proofs.Placings.{AreSized, compartments_between, libraries_between, shared_between, sealed_between, stacks_between, compartment_count, areas, few_areas}
@@ -246,6 +246,15 @@ orders p s = record {
   o6 = (let h = s.heap in omega (arith, h));
 }
 
+-- RAM begins before the stacks end
+begins_below : (p : PartsRow) (s : Stretches p) → p.ram ≤ s.e5
+begins_below p s =
+    let o = orders p s in
+    up p.ram s.e1 s.e5 o.o0 (up s.e1 s.e2 s.e5 o.o1 (up s.e2 s.e3 s.e5 o.o2 (up s.e3 s.e4 s.e5 o.o3 o.o4)))
+  where
+    up : (a b c : ℕ) → a ≤ b → b ≤ c → a ≤ c
+    up a b c low high = omega (arith, low, high)
+
 later_pass : (p : PartsRow) (s : Stretches p) → p.heap ≤ p.ram + p.size → first (walked (region_asked p) (λ r. 0) 0 [] (later_regions p)) ≡ None
 later_pass p s top =
     let o = orders p s in
@@ -335,16 +344,11 @@ all_pass : (p : PartsRow) (r : Ram) (s : Stretches p) → p.ram ≡ r.base → p
     → AllByRecursion (IsLawfulDevice r) p.devices → AreApart p.devices → first (region_checks p) ≡ None
 unfolding region_checks
 all_pass p r s base size top native each apart =
-    let o = orders p s in
-    let o0 = o.o0 in
-    let o1 = o.o1 in
-    let o2 = o.o2 in
-    let o3 = o.o3 in
-    let o4 = o.o4 in
+    let below = begins_below p s in
     let heap = s.heap in
     let even = s.trusted.even in
     let whole = s.trusted.whole in
-    let laid : is_laid p [] (trusted_region p) ≡ true = laid_so p [] s.e5 (trusted_region p) s.trusted (omega (arith, o0, o1, o2, o3, o4)) (omega (arith, heap, top)) refl in
+    let laid : is_laid p [] (trusted_region p) ≡ true = laid_so p [] s.e5 (trusted_region p) s.trusted below (omega (arith, heap, top)) refl in
     let heap_laid : is_heap_laid p ≡ true = rw (eq-eqb (p.heap % 16) 0 (omega (arith, heap, even, whole)), le-leb p.heap (p.ram + p.size) top, le-leb (p.trusted + trusted_length p) p.heap (omega (arith, heap))) refl in
     let v = walked (device_asked p) (λ d. DEVICE) (header_size p.version) [] p.devices in
     let w = walked (region_asked p) (λ r. 0) 0 [] (later_regions p) in
@@ -353,6 +357,18 @@ all_pass p r s base size top native each apart =
     (next_none (check 48 (not (is_heap_laid p))) (v ++ w) (ap not heap_laid)
     (joined_none v w (devices_pass p r p.devices (header_size p.version) base size each apart) (later_pass p s top))))
 
+-- the heap begins within RAM: the regions have room there
+pub heap_inside : (d : DescRow) (p : PartsRow) (s : Parts d p) → Stretches (parts_of d s.cs s.ls (placed d.ram.base (sizes_of d s.cs s.ls)) (last_end d.ram.base (sizes_of d s.cs s.ls)))
+    → last_end d.ram.base (sizes_of d s.cs s.ls) ≤ d.ram.base + d.ram.size
+unfolding parts_of
+heap_inside d p s x =
+    let q = parts_of d s.cs s.ls (placed d.ram.base (sizes_of d s.cs s.ls)) (last_end d.ram.base (sizes_of d s.cs s.ls)) in
+    let below = begins_below q x in
+    let trusted = x.trusted.low in
+    let heap = x.heap in
+    let room = s.room in
+    omega (arith, room, below, trusted, heap)
+
 pub regions_pass : (d : DescRow) (sources : List (List ℕ)) (p : PartsRow) → Links d sources p → first (region_checks p) ≡ None
 unfolding parts_of
 regions_pass d sources p h =
@@ -360,14 +376,5 @@ regions_pass d sources p h =
     let law = h.lawful in
     let all = parts_of d s.cs s.ls (placed d.ram.base (sizes_of d s.cs s.ls)) (last_end d.ram.base (sizes_of d s.cs s.ls)) in
     let x = stretches d s.cs s.ls law (compartments_good d p law.compartment s) (libraries_good d p law.library s) (ends d s.cs s.ls) in
-    let o = orders all x in
-    let o0 = o.o0 in
-    let o1 = o.o1 in
-    let o2 = o.o2 in
-    let o3 = o.o3 in
-    let o4 = o.o4 in
-    let o5 = o.o5 in
-    let o6 = o.o6 in
-    let room = s.room in
     subst (λ q. first (region_checks q) ≡ None) (sym s.parts)
-    (all_pass all d.ram x refl refl (omega (arith, room, o0, o1, o2, o3, o4, o5, o6)) law.ram.native law.device law.apart)
+    (all_pass all d.ram x refl refl (heap_inside d p s x) law.ram.native law.device law.apart)

@@ -1,25 +1,19 @@
 -- What is built of an owner's code: a text of words, and initial bytes, both within their limits.
-use Rattle.std.proofs.Common.{ℕ, zero, suc, ◌≡◌, ◌+◌, ◌*◌, ◌%◌, ◌<◌, ◌≤◌, ◌&&◌, not, Bool, true, false, cond, List, [], ◌∷◌, ◌++◌, length, Option, Some, None, refl, sym, ap, ◌∙◌, subst, arith, inl, inr, append_assoc, add-zero}
+use Rattle.std.proofs.Common.{ℕ, zero, suc, ◌≡◌, ◌+◌, ◌*◌, ◌%◌, ◌<◌, ◌≤◌, ◌&&◌, Bool, true, false, cond, List, [], ◌∷◌, length, Option, Some, None, refl, sym, ap, ◌∙◌, subst, arith, inl, inr, add-zero}
 use Rattle.std.proofs.lemmas.List.{length-append, length-replicate}
-use Rattle.std.specs.Prelude.{⊤, Result, Ok, Err, replicate}
+use Rattle.std.specs.Prelude.{Ok, replicate}
 use Rattle.std.specs.List.{AllByRecursion, flat_map}
-use Rattle.std.proofs.lemmas.Bool.{and_from}
+use Rattle.def_profile.specs.declared.limits.TheConstants.{MOST_BYTES}
 use Rattle.law_lists.proofs.Tests.{lt_tells, both_left, both_right}
 use Rattle.def_instr.specs.declared.Instr.{Instr}
 use Rattle.def_instr.specs.declared.Instr.TheVariants as instr
 use Rattle.def_instr.specs.Table.{word_of}
-use Rattle.def_source.specs.declared.AsmFault.{AsmFault}
-use Rattle.def_source.specs.declared.AsmFault.TheVariants as asm
-use Rattle.def_source.specs.declared.words.Head.{Head}
-use Rattle.def_source.specs.declared.words.Directive.{Directive}
-use Rattle.def_source.specs.declared.parts.Token.TheVariants as token
+use Rattle.ct_source.proofs.ProgramsOf.{program_lawful}
 use Rattle.def_source.specs.declared.parts.Section.{Section}
 use Rattle.def_source.specs.declared.parts.Section.TheVariants as section
 use Rattle.def_source.specs.declared.parts.Part.{Part}
 use Rattle.def_source.specs.declared.parts.Part.TheVariants as part
-use Rattle.def_source.specs.declared.parts.Line.{Line}
-use Rattle.def_source.specs.Source.{result_map, Name, Row, Statements, in_section, numbers_fit, registers_exist, is_lawful, lawful_or_fault, formed, headed, directed, head_of, directive_of, form_of, directive_form, statement_of, after_label, label_of, row_line, tokens_line, line_tokens, line_of, lines_of, section_after, label_statements, part_statements, line_statements, goes_on, program_from, program_of, lawful_from, or_else}
-use Rattle.def_source.specs.Source.{with_front as with_statements}
+use Rattle.def_source.specs.Source.{Name, Statements, in_section, numbers_fit, registers_exist, is_lawful, lines_of, section_after, program_of, lawful_from, or_else}
 use Rattle.def_object.specs.declared.Place.{Place}
 use Rattle.def_object.specs.declared.Fault.{Fault}
 use Rattle.def_object.specs.Object.{Labels, size_at, offset, advanced, start, label_in, size_fault, reference_fault, statement_fault, on_line, lesser, is_least, fault_from, fault_in, number_word, is_short, upper_part, rest_part, padding, same_section, instructions_at, word_bytes, instruction_bytes, bytes_at, section_bytes, bytes_from, text_of, initial_of}
@@ -27,100 +21,6 @@ use Rattle.law_link.proofs.Walks.{all_joined}
 
 Bytes : List ℕ → Type 0
 Bytes bs = AllByRecursion (λ b. b < 256) bs
-
--- a fault is no answer
-not_ok : {A : Type 0} (n : ℕ) (x : A) → ◌≡◌ {A = Result A ℕ} (Err n) (Ok x) → ⊥
-not_ok n x e = absurd (cc)
-
--- ---- lawful statements
-
--- a statement, if there is one, is lawful in its section
-IsFine : Section → Option (Part Name) → Type 0
-IsFine s None = ⊤
-IsFine s (Some p) = is_lawful s p ≡ true
-
-lawful_one : (s : Section) (p q : Part Name) → lawful_or_fault s p ≡ Ok q → is_lawful s q ≡ true
-lawful_one s p q e = by (in_section s p) (numbers_fit p) (registers_exist p) refl refl refl e
-  where
-    by : (a b c : Bool) → in_section s p ≡ a → numbers_fit p ≡ b → registers_exist p ≡ c
-        → cond {A = Result (Part Name) ℕ} (not a) (Err 3) (cond {A = Result (Part Name) ℕ} (not b) (Err 4) (cond {A = Result (Part Name) ℕ} (not c) (Err 7) (Ok p))) ≡ Ok q → is_lawful s q ≡ true
-    by false b c x y z h = absurd (not_ok 3 q h)
-    by true false c x y z h = absurd (not_ok 4 q h)
-    by true true false x y z h = absurd (not_ok 7 q h)
-    by true true true x y z h = let same : p ≡ q = cc in subst (λ r. is_lawful s r ≡ true) same (rw (x, y, z) refl)
-
-formed_fine : (s : Section) (o : Option (Part Name)) (r : Option (Part Name)) → formed s o ≡ Ok r → IsFine s r
-unfolding IsFine
-formed_fine s None r e = absurd (not_ok 3 r e)
-formed_fine s (Some p) r e = by (lawful_or_fault s p) refl e
-  where
-    by : (o : Result (Part Name) ℕ) → lawful_or_fault s p ≡ o → result_map (λ q. Some q) o ≡ Ok r → IsFine s r
-    by (Err n) is h = absurd (let no : Err n ≡ Ok r = h in cc)
-    by (Ok q) is h = let same : Some q ≡ r = cc in subst (IsFine s) same (lawful_one s p q is)
-
-headed_fine : (s : Section) (ts : Row) (o : Option Head) (r : Option (Part Name)) → headed s ts o ≡ Ok r → IsFine s r
-headed_fine s ts None r e = absurd (not_ok 2 r e)
-headed_fine s ts (Some h) r e = formed_fine s (form_of h ts) r e
-
-directed_fine : (s : Section) (ts : Row) (o : Option Directive) (r : Option (Part Name)) → directed s ts o ≡ Ok r → IsFine s r
-directed_fine s ts None r e = absurd (not_ok 2 r e)
-directed_fine s ts (Some h) r e = formed_fine s (directive_form h ts) r e
-
-statement_fine : (s : Section) (ts : Row) (r : Option (Part Name)) → statement_of s ts ≡ Ok r → IsFine s r
-unfolding IsFine
-statement_fine s [] r e = let same : None ≡ r = cc in subst (IsFine s) same tt
-statement_fine s (token.Name n ∷ ts) r e = headed_fine s ts (head_of n) r e
-statement_fine s (token.Directive n ∷ ts) r e = directed_fine s ts (directive_of n) r e
-statement_fine s _ r e = absurd (not_ok 2 r e)
-
-row_fine : (s : Section) (ts : Row) (l : Line Name) → row_line s ts ≡ Ok l → IsFine s l.part
-unfolding row_line
-row_fine s ts l e = by (statement_of s (after_label ts)) refl e
-  where
-    by : (o : Result (Option (Part Name)) ℕ) → statement_of s (after_label ts) ≡ o → result_map (λ p. record { label = label_of ts; part = p }) o ≡ Ok l → IsFine s l.part
-    by (Err n) is h = absurd (let no : Err n ≡ Ok l = h in cc)
-    by (Ok p) is h =
-        let here : Line Name = record { label = label_of ts; part = p } in
-        let same : here ≡ l = cc in
-        subst (λ (k : Line Name). IsFine s k.part) same (statement_fine s (after_label ts) p is)
-
-line_fine : (s : Section) (bytes : List ℕ) (l : Line Name) → line_of s bytes ≡ Ok l → IsFine s l.part
-unfolding line_of
-line_fine s bytes l e = by (line_tokens bytes) e
-  where
-    by : (o : Option Row) → tokens_line s o ≡ Ok l → IsFine s l.part
-    by None h = absurd (not_ok 1 l h)
-    by (Some ts) h = row_fine s ts l h
-
-part_lawful : (s : Section) (n : ℕ) (o : Option (Part Name)) (rest : Statements) → IsFine s o → lawful_from (section_after s o) rest ≡ true → lawful_from s (part_statements n o ++ rest) ≡ true
-unfolding IsFine
-part_lawful s n None rest f h = h
-part_lawful s n (Some p) rest f h = and_from (is_lawful s p) (lawful_from (section_after s (Some p)) rest) f h
-
-label_lawful : (s : Section) (n : ℕ) (o : Option Name) (rest : Statements) → lawful_from s rest ≡ true → lawful_from s (label_statements n o ++ rest) ≡ true
-label_lawful s n None rest h = h
-label_lawful s n (Some name) rest h = h
-
-line_lawful : (s : Section) (n : ℕ) (l : Line Name) (rest : Statements) → IsFine s l.part → lawful_from (section_after s l.part) rest ≡ true → lawful_from s (line_statements n l ++ rest) ≡ true
-line_lawful s n l rest f h =
-    subst (λ z. lawful_from s z ≡ true) (sym (append_assoc (label_statements n l.label) (part_statements n l.part) rest))
-    (label_lawful s n l.label (part_statements n l.part ++ rest) (part_lawful s n l.part rest f h))
-
-program_lawful : (s : Section) (n : ℕ) (lines : List (List ℕ)) (ss : Statements) → program_from s n lines ≡ Ok ss → lawful_from s ss ≡ true
-program_lawful s n [] ss e = let same : [] ≡ ss = cc in subst (λ z. lawful_from s z ≡ true) same refl
-program_lawful s n (b ∷ bs) ss e = by (line_of s b) refl e (λ t rest h. program_lawful t (n + 1) bs rest h)
-  where
-    on : (l : Line Name) → line_of s b ≡ Ok l → (o : Result Statements AsmFault) → program_from (section_after s l.part) (n + 1) bs ≡ o
-        → with_statements (line_statements n l) o ≡ Ok ss → ((t : Section) (rest : Statements) → program_from t (n + 1) bs ≡ Ok rest → lawful_from t rest ≡ true) → lawful_from s ss ≡ true
-    on l is (Err f) at h so = absurd (let no : Err f ≡ Ok ss = h in cc)
-    on l is (Ok rest) at h so =
-        let same : line_statements n l ++ rest ≡ ss = cc in
-        subst (λ z. lawful_from s z ≡ true) same (line_lawful s n l rest (line_fine s b l is) (so (section_after s l.part) rest at))
-
-    by : (o : Result (Line Name) ℕ) → line_of s b ≡ o → goes_on n s o (λ t. program_from t (n + 1) bs) ≡ Ok ss
-        → ((t : Section) (rest : Statements) → program_from t (n + 1) bs ≡ Ok rest → lawful_from t rest ≡ true) → lawful_from s ss ≡ true
-    by (Err k) is h so = absurd (let no : Err (asm.At k n) ≡ Ok ss = h in cc)
-    by (Ok l) is h so = on l is (program_from (section_after s l.part) (n + 1) bs) refl h so
 
 pub source_lawful : (text : List ℕ) (ss : Statements) → program_of text ≡ Ok ss → lawful_from section.Text ss ≡ true
 unfolding program_of
@@ -212,8 +112,8 @@ filled_on section.Data section.Data t i labels slots q = ap (λ n. i + n) (state
 
 -- ---- limits
 
-size_kept : (at : ℕ) (q : Part Name) → size_fault at q ≡ None → at + size_at q at ≤ 1048576
-size_kept at q e = elim (lt_tells 1048576 (at + size_at q at)) [
+size_kept : (at : ℕ) (q : Part Name) → size_fault at q ≡ None → at + size_at q at ≤ MOST_BYTES
+size_kept at q e = elim (lt_tells MOST_BYTES (at + size_at q at)) [
   | inl h ↦ absurd (let is : size_fault at q ≡ Some 8 = ap (λ b. cond b (Some 8) None) h.0 in let no : Some 8 ≡ None = sym is ∙ e in cc)
   | inr h ↦ h.1
 ]
@@ -239,7 +139,7 @@ lesser_none (Some a) (Some b) e = by (is_least a b) e
     by false h = absurd (let no : Some b ≡ None = h in cc)
 
 -- after a statement that keeps the limit
-filled_kept : (w s : Section) (t i : ℕ) (q : Part Name) → filled w (at_place s t i) ≤ 1048576 → size_fault (offset (at_place s t i)) q ≡ None → filled w (advanced (at_place s t i) q) ≤ 1048576
+filled_kept : (w s : Section) (t i : ℕ) (q : Part Name) → filled w (at_place s t i) ≤ MOST_BYTES → size_fault (offset (at_place s t i)) q ≡ None → filled w (advanced (at_place s t i) q) ≤ MOST_BYTES
 unfolding filled at_place
 filled_kept section.Text section.Text t i part.Text h e = h
 filled_kept section.Text section.Text t i part.Data h e = h
@@ -254,8 +154,8 @@ filled_kept section.Data section.Data t i part.Text h e = h
 filled_kept section.Data section.Data t i part.Data h e = h
 filled_kept section.Data section.Data t i q h e = size_kept i q e
 
-section_few : (w : Section) (labels : Labels) (slots : List Name) (p : Place) (k : ℕ) (ss : Statements) → filled w p ≤ 1048576 → fault_from labels p k ss ≡ None
-    → filled w p + length (bytes_from w labels slots p ss) ≤ 1048576
+section_few : (w : Section) (labels : Labels) (slots : List Name) (p : Place) (k : ℕ) (ss : Statements) → filled w p ≤ MOST_BYTES → fault_from labels p k ss ≡ None
+    → filled w p + length (bytes_from w labels slots p ss) ≤ MOST_BYTES
 unfolding at_place
 section_few w labels slots p k [] h e = rw (add-zero (filled w p)) h
 section_few w labels slots p k (s ∷ ss) h e =
@@ -305,9 +205,9 @@ text_words labels slots p (s ∷ ss) e =
 
 pub record IsText (text initial : List ℕ) : Type 0 where
   pub words : length text % 4 ≡ 0
-  pub few : length text ≤ 1048576
+  pub few : length text ≤ MOST_BYTES
   pub bytes : AllByRecursion (λ b. b < 256) text
-  pub initial_few : length initial ≤ 1048576
+  pub initial_few : length initial ≤ MOST_BYTES
   pub initial_bytes : AllByRecursion (λ b. b < 256) initial
 
 pub object_text : (ss : Statements) (slots : List Name) → lawful_from section.Text ss ≡ true → fault_in ss ≡ None → IsText (text_of ss slots) (initial_of ss slots)

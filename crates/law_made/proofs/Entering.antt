@@ -1,18 +1,15 @@
 -- What the switcher gives a callee meets what the law of a call takes.
-use Rattle.std.proofs.Common.{ℕ, ◌≡◌, ◌%◌, ◌^◌, ◌≤◌, ◌<◌, inl, inr, true, false, List, ◌∷◌, Some, refl, sym, ap, ◌∙◌, subst, arith}
+use Rattle.std.proofs.Common.{ℕ, ◌≡◌, ◌^◌, ◌<◌, inl, inr, true, false, List, ◌∷◌, refl, sym, ap, ◌∙◌, subst, arith}
 use Rattle.def_words.specs.declared.Shadow.{Shadow}
 use Rattle.def_words.specs.Capability.{with_address}
-use Rattle.def_words.specs.Permissions.{has, store_local}
-use Rattle.def_words.specs.Seals.{cap_seal}
 use Rattle.law_words.proofs.Narrowing.{addressed}
 use Rattle.ct_entry.specs.declared.rows.Owner.TheVariants.{Compartment}
 use Rattle.ct_entry.specs.declared.rows.Kind.TheVariants as kinds
 use Rattle.ct_entry.specs.Listed.{Listed}
 use Rattle.def_reach.specs.Roots.{TrustedPart, Listing, root_of, gate_for, is_root, is_code, is_native}
-use Rattle.def_machine.specs.Image.{Image, root, made_cap, code_entry, globals_entry, stack_base}
+use Rattle.def_machine.specs.Image.{Image, root, made_cap, code_entry, globals_entry}
 use Rattle.def_machine.specs.State.{State, Frame, thread, register}
 use Rattle.def_machine.specs.Frames.{given}
-use Rattle.def_confined.specs.Capabilities.{IsReturnType}
 use Rattle.def_confined.specs.Places.{Placed, InFrames, OwnStack}
 use Rattle.def_confined.specs.Confined.{Confined, FramesHold, IsPcc}
 use Rattle.def_confined.specs.Partitioned.{Partitioned, BootMade}
@@ -20,6 +17,7 @@ use Rattle.def_confined.specs.Made.{IsOwn, IsReturnSentry, IsDerived}
 use Rattle.def_confined.specs.Changes.{Enters}
 use Rattle.law_registers.proofs.Derives.{derived_rooted}
 use Rattle.law_made.proofs.Results.{address_derived, address_runs}
+use Rattle.law_made.specs.Calling.{PassesChecks}
 use Rattle.law_made.proofs.Makes.{stack_made}
 
 trusted_is : (e : Listed) → (root_of e 0).origin ≡ TrustedPart
@@ -64,27 +62,16 @@ pcc_made i callee export p owner tagged =
       record { unsealed = says.0; executes = says.1; code = ap is_code kind_is },
     )
 
-pub given_enters : (i : Image) (s : State) (t : ℕ) (g : Frame) (gs : List Frame) (callee export high : ℕ) → Partitioned i → Confined i s → s.running ≡ Some t → (thread s t).frames ≡ g ∷ gs → (register (thread s t) 1).tag ≡ true → IsReturnType (cap_seal (register (thread s t) 1))
-    → (register (thread s t) 6).tag ≡ true → cap_seal (register (thread s t) 6) ≡ 9 → (root i (register (thread s t) 6).shadow.root).of ≡ export → (root i export).owner ≡ Compartment callee → (register (thread s t) 2).tag ≡ true → has (register (thread s t) 2) store_local ≡ true
-    → high % 16 ≡ 0 → stack_base i t ≤ high → high ≤ g.top → Enters i s t g gs callee export high (given i (thread s t) t callee export high)
-given_enters i s t g gs callee export high p h runs frames c1_tagged c1_sealed c6_tagged c6_sealed gate owner c2_tagged c2_local even low under =
-    let below : FramesHold i s.objects t (g ∷ gs) = subst (λ (fs : List Frame). FramesHold i s.objects t fs) frames (h.frames t) in
+pub given_enters : (i : Image) (s : State) (t : ℕ) (g : Frame) (gs : List Frame) (callee export high : ℕ) → Partitioned i → Confined i s → PassesChecks i s t g gs callee export high
+    → Enters i s t g gs callee export high (given i (thread s t) t callee export high)
+given_enters i s t g gs callee export high p h x =
+    let below : FramesHold i s.objects t (g ∷ gs) = subst (λ (fs : List Frame). FramesHold i s.objects t fs) x.call.caller (h.frames t) in
     let stack : Placed i s.objects (λ d. d ≡ g.actor) (OwnStack i t (g ∷ gs)) (register (thread s t) 2) =
-    (subst (λ (fs : List Frame). InFrames i s.objects t fs (register (thread s t) 2)) frames (h.registers t 2)) c2_tagged in
+    (subst (λ (fs : List Frame). InFrames i s.objects t fs (register (thread s t) 2)) x.call.caller (h.registers t 2)) x.stack_tagged in
     record {
-      running = runs;
-      caller = frames;
-      return_tagged = c1_tagged;
-      return_sealed = c1_sealed;
-      gate_tagged = c6_tagged;
-      gate_sealed = c6_sealed;
-      gate = gate;
-      callee_is = owner;
-      even = even;
-      low = low;
-      under = under;
-      pcc = pcc_made i callee export p owner;
-      globals = globals_made i callee export p owner;
+      call = x.call;
+      pcc = pcc_made i callee export p x.call.callee_is;
+      globals = globals_made i callee export p x.call.callee_is;
       back = back_made i p;
-      stack = stack_made i t high (register (thread s t) 2).shadow p below.0.stack (stack.own (stack.rooted.local c2_local)).0 low (omega (arith, under, below.0.high));
+      stack = stack_made i t high (register (thread s t) 2).shadow p below.0.stack (stack.own (stack.rooted.local x.stack_local)).0 x.call.low (let under = x.call.under in let top = below.0.high in omega (arith, under, top));
     }

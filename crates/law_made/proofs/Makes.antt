@@ -1,16 +1,16 @@
 -- Capabilities that derivation makes.
-use Rattle.std.proofs.Common.{ℕ, ◌≡◌, ◌+◌, ◌-◌, ◌^◌, ◌≤◌, ◌<◌, inl, inr, ◌&&◌, true, false, not, nat_eq, min, bit_and, refl, sym, ap, ◌∙◌, subst, arith}
+use Rattle.std.proofs.Common.{ℕ, ◌≡◌, ◌+◌, ◌-◌, ◌^◌, ◌≤◌, ◌<◌, inl, inr, ◌&&◌, true, false, not, nat_eq, min, refl, sym, ap, ◌∙◌, subst, arith}
 use Rattle.law_lists.proofs.Tests.{bool_tells, eq_tells}
 use Rattle.def_words.specs.declared.Cap.{Cap}
 use Rattle.def_words.specs.declared.Shadow.{Shadow}
-use Rattle.def_words.specs.Authority.{cap_address, cap_base, cap_top, permission_bits}
+use Rattle.def_words.specs.Authority.{cap_address, cap_base, cap_top}
 use Rattle.def_words.specs.Capability.{with_address, with_exact_bounds, masked, end_at}
 use Rattle.def_words.specs.LeastBounds.{rounded_of}
-use Rattle.def_words.specs.Permissions.{IsLegal, Within, bit, has, cap_perms, global, store_local, execute, normal_set, set_where, form_of, unpacked}
+use Rattle.def_words.specs.Permissions.{IsLegal, Within, bit, has, cap_perms, global, store_local, execute}
 use Rattle.def_words.specs.Derive.{derive, memory_root, root_cap}
 use Rattle.def_words.specs.Narrows.{IsMade}
 use Rattle.law_words.specs.Facts.{Spells}
-use Rattle.law_words.proofs.Rights.{heap_legal, heap_not_local, heap_spelled, memory_is_root, stack_legal, stack_not_global, stack_spelled}
+use Rattle.law_words.proofs.Rights.{heap_not_local, memory_is_root, stack_not_global, taken}
 use Rattle.law_words.proofs.Narrowing.{addressed, exact_set}
 use Rattle.law_words.proofs.Making.{derive_makes}
 use Rattle.law_words.proofs.Away.{address_away, masked_away}
@@ -137,7 +137,7 @@ pub stack_made : (i : Image) (t high : ℕ) (from : Shadow) → Partitioned i �
 stack_made i t high from p kind_is roots low ends tagged =
     let are = p.stacks_are (stack_entry i t) kind_is in
     let end : stack_base i t + (high - stack_base i t) ≡ high = omega (arith, low) in
-    let made = memory_made (stack_base i t) (high - stack_base i t) STACK_RIGHTS high from stack_spelled (omega (arith, low, ends, are.1)) (omega (arith, low, ends, are.1)) low (omega (arith, low)) (omega (arith, ends, are.1)) tagged in
+    let made = memory_made (stack_base i t) (high - stack_base i t) STACK_RIGHTS high from taken.stack.1 (omega (arith, low, ends, are.1)) (omega (arith, low, ends, are.1)) low (omega (arith, low)) (omega (arith, ends, are.1)) tagged in
     let d : Cap = derive memory_root (stack_base i t) (high - stack_base i t) STACK_RIGHTS high 0 from in
     let is : (root i from.root).origin ≡ Listing kinds.Stack = let P : ℕ → Type 0 = λ n. (root i n).origin ≡ Listing kinds.Stack in subst P (sym roots) kind_is in
     let no_heap : of_heap i from ≡ false = ap (λ b. b && not (nat_eq from.source 0)) (ap is_quota is) in
@@ -146,7 +146,7 @@ stack_made i t high from p kind_is roots low ends tagged =
       order = omega (arith, low);
       roots = ap is_root is;
       home = ap (λ o. is_home o (root i from.root).owner) is;
-      legal = stack_legal;
+      legal = taken.stack.0;
       range = λ no. let P : ℕ → Type 0 = λ n. ((root i n).base ≤ stack_base i t) × (stack_base i t + (high - stack_base i t) ≤ (root i n).top) in subst P (sym roots) (omega arith, omega (arith, low, ends));
       heap = λ heap. absurd (let clash : true ≡ false = sym heap ∙ no_heap in cc);
       rights = λ no b there. let P : ℕ → Type 0 = λ n. bit (root i n).rights b ≡ true in let Q : ℕ → Type 0 = λ n. bit n b ≡ true in subst P (sym roots) (subst Q (sym are.0) there);
@@ -171,14 +171,14 @@ pub object_made : (i : Image) (next : ℕ) (r : Object) → Partitioned i → (r
 object_made i next r p kind_is f some tagged =
     let small = p.heap_small in
     let from : Shadow = record { root = r.quota; source = r.number } in
-    let made = memory_made r.base r.length HEAP_RIGHTS r.base (record { root = r.quota; source = r.number }) heap_spelled (omega (arith, f.high, small, some)) (omega (arith, f.high, small)) (omega arith) (omega arith) (omega (arith, f.high, small, some)) tagged in
+    let made = memory_made r.base r.length HEAP_RIGHTS r.base (record { root = r.quota; source = r.number }) taken.heap.1 (omega (arith, f.high, small, some)) (omega (arith, f.high, small)) (omega arith) (omega arith) (omega (arith, f.high, small, some)) tagged in
     let numbered : not (nat_eq r.number 0) ≡ true = elim (eq_tells r.number 0) [ inl e ↦ absurd (omega (arith, e.1, f.first)) | inr e ↦ ap not e.0 ] in
     let in_heap : of_heap i (record { root = r.quota; source = r.number }) ≡ true = ap (λ b. b && not (nat_eq r.number 0)) (ap is_quota kind_is) ∙ numbered in
     let rooted : Rooted i (object_cap r) = made_rooted i (object_cap r) (record { root = r.quota; source = r.number }) r.base (r.base + r.length) HEAP_RIGHTS r.base 0 made.0 made.1 (record {
       order = omega arith;
       roots = ap is_root kind_is;
       home = ap (λ o. is_home o (root i r.quota).owner) kind_is;
-      legal = heap_legal;
+      legal = taken.heap.0;
       range = λ no. absurd (let clash : true ≡ false = sym in_heap ∙ no in cc);
       heap = λ is. (omega (arith, f.low), f.high);
       rights = λ no. absurd (let clash : true ≡ false = sym in_heap ∙ no in cc);

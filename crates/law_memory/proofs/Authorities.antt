@@ -1,5 +1,5 @@
 -- What an authorising capability's root says.
-use Rattle.std.proofs.Common.{ℕ, ◌≡◌, ◌+◌, ◌%◌, ◌≤◌, ◌<◌, inr, true, false, not, nat_eq, List, [], ◌∷◌, refl, sym, ap, ◌∙◌, subst, arith}
+use Rattle.std.proofs.Common.{ℕ, ◌≡◌, ◌+◌, ◌%◌, ◌≤◌, ◌<◌, inr, true, false, not, nat_eq, List, [], ◌∷◌, Some, refl, sym, ap, ◌∙◌, subst, arith}
 use Rattle.law_lists.proofs.Tests.{both_left}
 use Rattle.def_words.specs.declared.Cap.{Cap}
 use Rattle.def_words.specs.Authority.{cap_base, cap_top}
@@ -10,7 +10,7 @@ use Rattle.ct_entry.specs.declared.rows.Kind.TheVariants.{Code, Globals, Stack, 
 use Rattle.def_reach.specs.Roots.{Origin, Unknown, TrustedPart, Listing, is_quota, is_stack, is_owned}
 use Rattle.def_reach.specs.Sharing.{Joined, Reaches, SharesC}
 use Rattle.def_machine.specs.Image.{Image, root, granule_of, address_of}
-use Rattle.def_machine.specs.State.{State, Frame, Object, thread}
+use Rattle.def_machine.specs.State.{State, Frame, Object, thread, register}
 use Rattle.def_machine.specs.Objects.{Any}
 use Rattle.def_confined.specs.Capabilities.{heap_cap, stack_cap}
 use Rattle.def_confined.specs.Places.{Placed, LiveCovers, LiveAt, HeapDomain, InFrames, OwnStack}
@@ -104,3 +104,36 @@ pub record Reaching (i : Image) (s : State) (t : ℕ) (f : Frame) (gs : List Fra
   pub low : cap_base by ≤ x
   pub high : x < cap_top by
   pub aligned : x % 8 ≡ 0
+
+-- the frame that holds a tagged register of the running thread, those under it, and what stands there so
+pub record Holder (i : Image) (s : State) (t : ℕ) (c : Cap) : Type 0 where
+  pub frame : Frame
+  pub under : List Frame
+  pub frames : (thread s t).frames ≡ frame ∷ under
+  pub placed : Placed i s.objects (λ d. d ≡ frame.actor) (OwnStack i t (frame ∷ under)) c
+
+pub holder : (i : Image) (s : State) (t at : ℕ) → Confined i s → (register (thread s t) at).tag ≡ true → Holder i s t (register (thread s t) at)
+holder i s t at h tagged =
+    let head = headed i s.objects t (thread s t).frames (register (thread s t) at) (h.registers t at) tagged in
+    record {
+      frame = head.0;
+      under = head.1.0;
+      frames = head.1.1;
+      placed = (subst (λ (fs : List Frame). InFrames i s.objects t fs (register (thread s t) at)) head.1.1 (h.registers t at)) tagged;
+    }
+
+-- such a register that authorises the move of a capability
+pub reaching : (i : Image) (s : State) (t at x : ℕ) (w : Holder i s t (register (thread s t) at)) → Partitioned i → Confined i s → s.running ≡ Some t → (register (thread s t) at).tag ≡ true → has (register (thread s t) at) memory_capability ≡ true
+    → i.ram ≤ x → cap_base (register (thread s t) at) ≤ x → x < cap_top (register (thread s t) at) → x % 8 ≡ 0 → Reaching i s t w.frame w.under (register (thread s t) at) x
+reaching i s t at x w p h runs tagged carries inside low high aligned = record {
+  parts = p;
+  held = h;
+  frames = w.frames;
+  authority = w.placed;
+  live = h.live t runs at tagged;
+  carries = carries;
+  inside = inside;
+  low = low;
+  high = high;
+  aligned = aligned;
+}

@@ -21,7 +21,7 @@ use Rattle.law_reach.proofs.Joins.{reaches_on}
 use Rattle.law_places.proofs.Places.{carry, tops_back, plain_in}
 use Rattle.law_registers.proofs.Derives.{kept_bound, derived_in, derived_kept}
 use Rattle.law_registers.proofs.Filters.{filter_in, filter_kept, filter_live, in_object}
-use Rattle.law_memory.proofs.Authorities.{Reaching, owner_joined, whole_granule, domain_joined, headed}
+use Rattle.law_memory.proofs.Authorities.{Reaching, owner_joined, whole_granule, domain_joined, holder, reaching}
 
 -- from one compartment of a domain to one that it is joined to
 given_from : (i : Image) (objects : List Object) (D : ℕ → Type 0) (S : Cap → Type 0) (f d : ℕ) (c : Cap) → D d → Joined i.entries d f → (S c → ⊥) → (T : Cap → Type 0) → Placed i objects D S c → Placed i objects (λ y. y ≡ f) T c
@@ -101,26 +101,10 @@ pub load_stands : (i : Image) (s : State) (t at x : ℕ) (d : Cap) → Partition
     → Puts i s t (filtered i s d)
 load_stands i s t at x d p h runs inside tagged loads low high aligned derived carries = elim (bool_tells d.tag) [
   | inl there ↦
-      let head = headed i s.objects t (thread s t).frames (register (thread s t) at) (h.registers t at) tagged in
-      let frames : (thread s t).frames ≡ head.0 ∷ head.1.0 = head.1.1 in
-      let authority : Placed i s.objects (λ y. y ≡ head.0.actor) (OwnStack i t (head.0 ∷ head.1.0)) (register (thread s t) at) =
-      (subst (λ (fs : List Frame). InFrames i s.objects t fs (register (thread s t) at)) frames (h.registers t at)) tagged in
-      let found : InFrames i s.objects t (head.0 ∷ head.1.0) (granule s (granule_of i x)).cap = load_in i s t head.0 head.1.0 (register (thread s t) at) x (record {
-        to = record {
-          parts = p;
-          held = h;
-          frames = frames;
-          authority = authority;
-          live = h.live t runs at tagged;
-          carries = carries there;
-          inside = inside;
-          low = low;
-          high = high;
-          aligned = aligned;
-        };
-        loads = loads;
-      }) in
-      let mine : InFrames i s.objects t (thread s t).frames (granule s (granule_of i x)).cap = subst (λ (fs : List Frame). InFrames i s.objects t fs (granule s (granule_of i x)).cap) (sym frames) found in
+      let w = holder i s t at h tagged in
+      let found : InFrames i s.objects t (w.frame ∷ w.under) (granule s (granule_of i x)).cap = load_in i s t w.frame w.under (register (thread s t) at) x
+      (record { to = reaching i s t at x w p h runs tagged (carries there) inside low high aligned; loads = loads }) in
+      let mine : InFrames i s.objects t (thread s t).frames (granule s (granule_of i x)).cap = subst (λ (fs : List Frame). InFrames i s.objects t fs (granule s (granule_of i x)).cap) (sym w.frames) found in
       let bound = λ (is : (granule s (granule_of i x)).cap.tag ≡ true). kept_bound i (granule s (granule_of i x)).cap is (h.kept.granules (granule_of i x)) in
       let placed : InFrames i s.objects t (thread s t).frames d = derived_in i s.objects t (thread s t).frames (granule s (granule_of i x)).cap d bound derived mine in
       record {

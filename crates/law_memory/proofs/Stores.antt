@@ -21,7 +21,7 @@ use Rattle.def_confined.specs.Partitioned.{Partitioned, Open, Carries}
 use Rattle.law_reach.proofs.Joins.{joined_sym}
 use Rattle.law_places.proofs.Places.{given, carry, outer_joins}
 use Rattle.law_places.proofs.Puts.{plain_kept, plain_region, put_confined}
-use Rattle.law_memory.proofs.Authorities.{Reaching, heap_quota, no_stack_of, owner_joined, whole_granule, domain_there, domain_joined, share_joined, headed}
+use Rattle.law_memory.proofs.Authorities.{Reaching, heap_quota, no_stack_of, owner_joined, whole_granule, domain_there, domain_joined, share_joined, holder, reaching}
 
 -- what is known of a store's two registers, where the value is tagged
 pub record Storing (i : Image) (s : State) (t : ℕ) (f : Frame) (gs : List Frame) (by v : Cap) (x : ℕ) : Type 0 where
@@ -117,36 +117,19 @@ pub store_cap_confined : (i : Image) (s : State) (t at from x : ℕ) → Partiti
     → ((register (thread s t) from).tag ≡ true → has (register (thread s t) at) memory_capability ≡ true) → cap_base (register (thread s t) at) ≤ x → x < cap_top (register (thread s t) at) → x % 8 ≡ 0
     → Confined i (cap_stored i s x (register (thread s t) at) (register (thread s t) from))
 store_cap_confined i s t at from x p h runs inside tagged stores carries low high aligned =
-    let by = register (thread s t) at in
-    let v = register (thread s t) from in
-    let head = headed i s.objects t (thread s t).frames (register (thread s t) at) (h.registers t at) tagged in
-    let frames : (thread s t).frames ≡ head.0 ∷ head.1.0 = head.1.1 in
-    let authority : Placed i s.objects (λ d. d ≡ head.0.actor) (OwnStack i t (head.0 ∷ head.1.0)) (register (thread s t) at) =
-    (subst (λ (fs : List Frame). InFrames i s.objects t fs (register (thread s t) at)) frames (h.registers t at)) tagged in
-    let closed : region i (granule_of i x) ≡ Fixed → ⊥ = open_there i s.objects (λ d. d ≡ head.0.actor) (OwnStack i t (head.0 ∷ head.1.0)) (register (thread s t) at) x p authority inside stores low high in
-    let mark = (granule s (granule_of i x)).mark in
+    let w = holder i s t at h tagged in
+    let closed : region i (granule_of i x) ≡ Fixed → ⊥ = open_there i s.objects (λ d. d ≡ w.frame.actor) (OwnStack i t (w.frame ∷ w.under)) (register (thread s t) at) x p w.placed inside stores low high in
     put_confined i s (granule_of i x) (stored_through (register (thread s t) at) (register (thread s t) from)) h
     (through_case (λ c. InRegion i s (granule_of i x) (region i (granule_of i x)) (record { cap = c; mark = (granule s (granule_of i x)).mark })) (register (thread s t) at) (register (thread s t) from)
     (plain_region i s (granule_of i x) (region i (granule_of i x)) (record { cap = untagged (register (thread s t) from); mark = (granule s (granule_of i x)).mark }) closed refl)
     (λ local. elim (bool_tells (register (thread s t) from).tag) [
       | inl there ↦
-          let value : Placed i s.objects (λ d. d ≡ head.0.actor) (OwnStack i t (head.0 ∷ head.1.0)) (register (thread s t) from) =
-          (subst (λ (fs : List Frame). InFrames i s.objects t fs (register (thread s t) from)) frames (h.registers t from)) there in
-          store_in i s t head.0 head.1.0 (register (thread s t) at) (register (thread s t) from) x (granule s (granule_of i x)).mark (record {
-            to = record {
-              parts = p;
-              held = h;
-              frames = frames;
-              authority = authority;
-              live = h.live t runs at tagged;
-              carries = carries there;
-              inside = inside;
-              low = low;
-              high = high;
-              aligned = aligned;
-            };
+          let value : Placed i s.objects (λ d. d ≡ w.frame.actor) (OwnStack i t (w.frame ∷ w.under)) (register (thread s t) from) =
+          (subst (λ (fs : List Frame). InFrames i s.objects t fs (register (thread s t) from)) w.frames (h.registers t from)) there in
+          store_in i s t w.frame w.under (register (thread s t) at) (register (thread s t) from) x (granule s (granule_of i x)).mark (record {
+            to = reaching i s t at x w p h runs tagged (carries there) inside low high aligned;
             value = value;
-            stacks = λ stack. authority.rooted.local (local there (value.rooted.held stack));
+            stacks = λ stack. w.placed.rooted.local (local there (value.rooted.held stack));
             stores = stores;
           })
       | inr none ↦ plain_region i s (granule_of i x) (region i (granule_of i x)) (record { cap = register (thread s t) from; mark = (granule s (granule_of i x)).mark }) closed none
@@ -156,10 +139,8 @@ store_cap_confined i s t at from x p h runs inside tagged stores carries low hig
 pub store_bytes_confined : (i : Image) (s : State) (t at x width value : ℕ) → Partitioned i → Confined i s → i.ram ≤ x → (register (thread s t) at).tag ≡ true → has (register (thread s t) at) store_data ≡ true → cap_base (register (thread s t) at) ≤ x → x < cap_top (register (thread s t) at)
     → Confined i (bytes_stored i s x width value)
 store_bytes_confined i s t at x width value p h inside tagged stores low high =
-    let head = headed i s.objects t (thread s t).frames (register (thread s t) at) (h.registers t at) tagged in
-    let authority : Placed i s.objects (λ d. d ≡ head.0.actor) (OwnStack i t (head.0 ∷ head.1.0)) (register (thread s t) at) =
-    (subst (λ (fs : List Frame). InFrames i s.objects t fs (register (thread s t) at)) head.1.1 (h.registers t at)) tagged in
-    let closed : region i (granule_of i x) ≡ Fixed → ⊥ = open_there i s.objects (λ d. d ≡ head.0.actor) (OwnStack i t (head.0 ∷ head.1.0)) (register (thread s t) at) x p authority inside stores low high in
+    let w = holder i s t at h tagged in
+    let closed : region i (granule_of i x) ≡ Fixed → ⊥ = open_there i s.objects (λ d. d ≡ w.frame.actor) (OwnStack i t (w.frame ∷ w.under)) (register (thread s t) at) x p w.placed inside stores low high in
     let c : Cap = plain (with_part (granule s (granule_of i x)).cap.word ((x - i.ram) % 8) width value) in
     put_confined i s (granule_of i x) (plain (with_part (granule s (granule_of i x)).cap.word ((x - i.ram) % 8) width value)) h
     (plain_region i s (granule_of i x) (region i (granule_of i x)) (record { cap = plain (with_part (granule s (granule_of i x)).cap.word ((x - i.ram) % 8) width value); mark = (granule s (granule_of i x)).mark }) closed refl)

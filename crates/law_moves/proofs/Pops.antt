@@ -1,5 +1,6 @@
 -- Moves of one thread: a return, an unwind, the end of the thread.
 use Rattle.std.proofs.Common.{ℕ, ◌≡◌, ◌-◌, ◌≤◌, true, false, List, [], ◌∷◌, length, Some, None, refl, sym, ◌∙◌, subst, arith}
+use Rattle.def_profile.specs.declared.answers.TheConstants.{UNWOUND}
 use Rattle.def_words.specs.declared.Cap.{Cap}
 use Rattle.def_memory.specs.Granules.{plain}
 use Rattle.def_memory.specs.Ranges.{zeroed_from}
@@ -57,9 +58,9 @@ pub unwound_beside : (i : Image) (s : State) (t : ℕ) (fs : List Frame) → (th
 unwound_beside i s t [] e runs b = b
 unwound_beside i s t (f ∷ []) e runs b = moved_beside i s t (zeroed_from (stack_base i t) f.top i.ram s.granules) nobody None (clock_of s) (zeroed_left i s t f.top) (over_left i s t runs) b
 unwound_beside i s t (f ∷ g ∷ gs) e runs b =
-    moved_beside i s t (zeroed_from (stack_base i t) f.top i.ram s.granules) (left_by i s (thread s t) f (g ∷ gs) (plain 4294967295) (plain 0)) s.running (clock_of s)
+    moved_beside i s t (zeroed_from (stack_base i t) f.top i.ram s.granules) (left_by i s (thread s t) f (g ∷ gs) (plain UNWOUND) (plain 0)) s.running (clock_of s)
     (zeroed_left i s t f.top)
-    (back_left i s t f g gs (plain 4294967295) (plain 0) runs e b.bounded)
+    (back_left i s t f g gs (plain UNWOUND) (plain 0) runs e b.bounded)
     b
 
 -- ---- whole

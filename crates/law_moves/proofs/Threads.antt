@@ -21,7 +21,7 @@ use Rattle.law_registers.proofs.Moves.{put_confined}
 use Rattle.law_turns.proofs.Moves.{turn_confined}
 use Rattle.law_calls.proofs.Pushes.{push_confined}
 use Rattle.law_sweeps.proofs.Slices.{live_unpainted}
-use Rattle.law_sweeps.proofs.Moves.{RamLeft, ram_same, moved_beside}
+use Rattle.law_sweeps.proofs.Moves.{RamLeft, ram_same, running_left, moved_beside}
 use Rattle.law_moves.specs.Premises.{HasRoom, Turns}
 
 -- ---- a register
@@ -33,16 +33,7 @@ written_length rs (suc n) c = length-set rs (suc n) c
 -- the running thread's registers change: they have no place that a sweep passes
 pub registers_beside : (i : Image) (s : State) (t : ℕ) (rs : List Cap) → s.running ≡ Some t → length rs ≤ 16 → Beside i s → Beside i (with_registers s t rs)
 registers_beside i s t rs runs few h = moved_beside i s t s.granules (record (thread s t) { registers = rs }) s.running (clock_of s) (ram_same i s)
-    (record {
-      sweeps = λ w. record {
-        frames = w.frames t;
-        registers = λ idle. absurd (idle runs);
-        others = λ u other idle is. idle is;
-      };
-      deep = h.bounded.deep t;
-      few = few;
-      ends = λ e. record { over = e.over; none = e.none };
-    })
+    (running_left i s t (record (thread s t) { registers = rs }) runs refl few (λ e. record { over = e.over; none = e.none }) h)
     h
 
 pub put_beside : (i : Image) (s : State) (t n : ℕ) (c : Cap) → s.running ≡ Some t → Beside i s → Beside i (put_register s t n c)
@@ -116,13 +107,13 @@ push_keeps i s t g gs callee export high w parts k x = record {
       (record {
         sweeps = λ h. record {
           frames = (record { c1 = λ p. saved 1; c2 = λ p. saved 2; c3 = λ p. saved 3; c8 = λ p. saved 8; c9 = λ p. saved 9 }, h.frames t);
-          registers = λ idle. absurd (idle x.enters.running);
+          registers = λ idle. absurd (idle x.enters.call.running);
           others = λ u other idle is. idle is;
         };
         deep = let room = x.room in omega (arith, room);
         few = omega arith;
         ends = λ e. record {
-          over = λ is. absurd (let clash : (g ∷ gs) ≡ [] = sym x.enters.caller ∙ e.over is in cc);
+          over = λ is. absurd (let clash : (g ∷ gs) ≡ [] = sym x.enters.call.caller ∙ e.over is in cc);
           none = λ is. absurd (let clash : (pushed_frame (thread s t) callee export high ∷ (thread s t).frames) ≡ [] = is in cc);
         };
       })
@@ -130,4 +121,4 @@ push_keeps i s t g gs callee export high w parts k x = record {
 }
   where
     saved : (n : ℕ) → HasUnpainted i s.objects (register (thread s t) n)
-    saved n tagged heap some = live_unpainted i s.next s.objects (register (thread s t) n) k.confined.fits (k.confined.live t x.enters.running n tagged heap some)
+    saved n tagged heap some = live_unpainted i s.next s.objects (register (thread s t) n) k.confined.fits (k.confined.live t x.enters.call.running n tagged heap some)

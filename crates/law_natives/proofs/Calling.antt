@@ -7,6 +7,7 @@ use Rattle.std.proofs.Math.Nat.{div-mul-le_self, mul-le-mul_left, mul-mod_left}
 use Rattle.std.proofs.Math.Pow.{pow_mono}
 use Rattle.std.proofs.lemmas.Nat.{mul-le, pow_pos}
 use Rattle.std.proofs.lemmas.Bool.{leb-true, leb-false, le-leb, eqb-true, and_parts}
+use Rattle.def_profile.specs.declared.bounds.TheConstants.{LAST_EXPONENT, MOST_UNITS}
 use Rattle.law_lists.proofs.Tests.{le_tells}
 use Rattle.ct_entry.specs.declared.rows.Owner.TheVariants.{Compartment}
 use Rattle.ct_entry.specs.declared.rows.Kind.TheVariants as kind
@@ -34,19 +35,19 @@ use Rattle.law_routines.proofs.Places.{least, never}
 -- the least exponent from 4 on at which a length has at most 511 units
 record RoomIs (n e : ℕ) : Type 0 where
   pub low : 4 ≤ e
-  pub high : e ≤ 14
-  pub few : n / 2 ^ e ≤ 511
-  pub least : (k : ℕ) → 4 ≤ k → k < e → 511 < n / 2 ^ k
+  pub high : e ≤ LAST_EXPONENT
+  pub few : n / 2 ^ e ≤ MOST_UNITS
+  pub least : (k : ℕ) → 4 ≤ k → k < e → MOST_UNITS < n / 2 ^ k
 
 room_is : (n : ℕ) → n ≤ MOST_STACK_REGION → RoomIs n (room_exponent n)
-room_is n small = by_found (find (λ e. nat_le (n / 2 ^ e) 511) (range_with_len 4 11)) refl
+room_is n small = by_found (find (λ e. nat_le (n / 2 ^ e) MOST_UNITS) (range_with_len 4 11)) refl
   where
     -- at 7 there are few enough
-    seven : nat_le (n / 2 ^ 7) 511 ≡ true
+    seven : nat_le (n / 2 ^ 7) MOST_UNITS ≡ true
     seven = le-leb (n / 2 ^ 7) 511 (omega (arith, small))
 
-    by_found : (o : Option ℕ) → find (λ e. nat_le (n / 2 ^ e) 511) (range_with_len 4 11) ≡ o → RoomIs n (unwrap_or o 14)
-    by_found None none = absurd (let clash : true ≡ false = sym seven ∙ never (λ e. nat_le (n / 2 ^ e) 511) 4 11 7 none (omega arith) (omega arith) in cc)
+    by_found : (o : Option ℕ) → find (λ e. nat_le (n / 2 ^ e) MOST_UNITS) (range_with_len 4 11) ≡ o → RoomIs n (unwrap_or o LAST_EXPONENT)
+    by_found None none = absurd (let clash : true ≡ false = sym seven ∙ never (λ e. nat_le (n / 2 ^ e) MOST_UNITS) 4 11 7 none (omega arith) (omega arith) in cc)
     by_found (Some e) is =
         let l = least (λ k. nat_le (n / 2 ^ k) 511) 4 11 e is in
         record {
@@ -56,7 +57,7 @@ room_is n small = by_found (find (λ e. nat_le (n / 2 ^ e) 511) (range_with_len 
           least = λ k from below. leb-false (n / 2 ^ k) 511 (l.before k from below);
         }
       where
-        upper : (e : ℕ) → ((x : ℕ) → 4 ≤ x → x < e → nat_le (n / 2 ^ x) 511 ≡ false) → e ≤ 14
+        upper : (e : ℕ) → ((x : ℕ) → 4 ≤ x → x < e → nat_le (n / 2 ^ x) MOST_UNITS ≡ false) → e ≤ LAST_EXPONENT
         upper e before = elim (le_tells e 14) [
           | inl le ↦ le.1
           | inr gt ↦ absurd (let past = gt.1 in let clash : true ≡ false = sym seven ∙ before 7 (omega arith) (omega (arith, past)) in cc)
@@ -67,7 +68,7 @@ room_is n small = by_found (find (λ e. nat_le (n / 2 ^ e) 511) (range_with_len 
 -- a range that a word spells with exponent E begins at whole units, and has at most 511 of them
 record Spelled (base top : ℕ) : Type 0 where
   pub even : base % 2 ^ exponent_for base top ≡ 0
-  pub long : exponent_for base top ≤ 14 → top ≤ base + 511 * 2 ^ exponent_for base top
+  pub long : exponent_for base top ≤ LAST_EXPONENT → top ≤ base + MOST_UNITS * 2 ^ exponent_for base top
 
 spelled : (base top : ℕ) → base ≤ top → (rounded_of base top).exact ≡ true → Spelled base top
 spelled base top order exact =
@@ -85,7 +86,7 @@ spelled base top order exact =
     whole : (n q d : ℕ) → q * d ≡ n → n % d ≡ 0
     whole n q d is = ap (λ z. z % d) (sym is) ∙ mul-mod_left q d
 
-    span : (f c d : ℕ) → f * d ≡ base → c * d ≡ top → c - f ≤ 511 → top ≤ base + 511 * d
+    span : (f c d : ℕ) → f * d ≡ base → c * d ≡ top → c - f ≤ MOST_UNITS → top ≤ base + MOST_UNITS * d
     span f c d low high few =
         let under : c ≤ f + 511 = omega (arith, few) in
         let more : c * d ≤ (f + 511) * d = mul-le c d (f + 511) d under (omega arith) in
@@ -115,7 +116,7 @@ room_whole r n fits inside = elim (le_tells (room_exponent n) 4) [
       | inr gt ↦ absurd (too_long (room_exponent n) (exponent_for r.base r.top) some gt.1 is.high (is.least (room_exponent n - 1) (omega (arith, some)) (omega (arith, some))) (said.long (let high = is.high in let less = gt.1 in omega (arith, high, less))))
     ]
       where
-        too_long : (e k : ℕ) → 4 < e → k < e → e ≤ 14 → 511 < n / 2 ^ (e - 1) → r.top ≤ r.base + 511 * 2 ^ k → ⊥
+        too_long : (e k : ℕ) → 4 < e → k < e → e ≤ LAST_EXPONENT → MOST_UNITS < n / 2 ^ (e - 1) → r.top ≤ r.base + MOST_UNITS * 2 ^ k → ⊥
         too_long e k some less high many long =
             let power : 2 ^ k ≤ 2 ^ (e - 1) = pow_mono (omega (arith, less)) in
             let units_more : 511 * 2 ^ k ≤ 511 * 2 ^ (e - 1) = mul-le-mul_left 511 power in

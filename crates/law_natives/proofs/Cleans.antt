@@ -1,6 +1,7 @@
 -- *Clean calls*: the switch, and the end of a frame.
 use Rattle.std.proofs.Common.{ℕ, ◌≡◌, ◌≤◌, ◌<◌, true, false, inl, inr, List, [], ◌∷◌, length, Option, Some, refl, sym, ap, ◌∙◌, subst, arith}
 use Rattle.std.proofs.lemmas.List.{get_or_past, get_or-set_same}
+use Rattle.def_profile.specs.declared.answers.TheConstants.{UNWOUND}
 use Rattle.law_lists.proofs.Tests.{lt_tells}
 use Rattle.ct_entry.specs.declared.acts.Act.TheVariants.{Call}
 use Rattle.ct_entry.specs.declared.rows.Owner.TheVariants.{Compartment}
@@ -114,4 +115,4 @@ back_clean i s t f g gs frames plain_one =
     left_clean i s t f g gs (answer i (thread s t) f 10) (answer i (thread s t) f 11) frames (answer_plain i (thread s t) f 10 plain_one) (answer_plain i (thread s t) f 11 plain_one)
 
 pub unwind_clean : (i : Image) (s : State) (t : ℕ) (f g : Frame) (gs : List Frame) → (thread s t).frames ≡ f ∷ g ∷ gs → CleanReturn i s t f (unwound i s t (f ∷ g ∷ gs))
-unwind_clean i s t f g gs frames = left_clean i s t f g gs (plain 4294967295) (plain 0) frames refl refl
+unwind_clean i s t f g gs frames = left_clean i s t f g gs (plain UNWOUND) (plain 0) frames refl refl

@@ -124,7 +124,24 @@ switch_stands i s t parts facts k runs = by_failed (first_failed (switch_checks 
           push_keeps i s t head.0 head.1.0 (callee_of i (called i.entries (thread s t))) (called i.entries (thread s t)) (high_of i s t)
               (given i (thread s t) t (callee_of i (called i.entries (thread s t))) (called i.entries (thread s t)) (high_of i s t)) parts k
               (record {
-                enters = given_enters i s t head.0 head.1.0 (callee_of i (called i.entries (thread s t))) (called i.entries (thread s t)) (high_of i s t) parts k.confined runs frames says.return_tagged says.return_sealed says.gate_tagged says.gate_sealed refl callee says.stack_tagged says.stack_local even (omega arith) under;
+                enters = given_enters i s t head.0 head.1.0 (callee_of i (called i.entries (thread s t))) (called i.entries (thread s t)) (high_of i s t) parts k.confined
+                    (record {
+                      call = record {
+                        running = runs;
+                        caller = frames;
+                        return_tagged = says.return_tagged;
+                        return_sealed = says.return_sealed;
+                        gate_tagged = says.gate_tagged;
+                        gate_sealed = says.gate_sealed;
+                        gate = refl;
+                        callee_is = callee;
+                        even = even;
+                        low = omega arith;
+                        under = under;
+                      };
+                      stack_tagged = says.stack_tagged;
+                      stack_local = says.stack_local;
+                    });
                 room = (let deep = k.beside.bounded.deep t in omega (arith, deep, room));
               }),
           licensed head.0 head.1.0 frames says.gate_tagged says.gate_sealed,

@@ -1,6 +1,6 @@
 -- Two compartments that import nothing from each other. The second's export passes capabilities; a thread is in
 -- it, called from the first by nobody's leave, and holds the second's globals in c10.
-use Rattle.std.specs.Prelude.{[], ◌∷◌, Some, true, false, replicate, None}
+use Rattle.std.specs.Prelude.{[], ◌∷◌, Some, true, replicate}
 use Rattle.def_profile.specs.declared.rights.TheConstants.{CODE_RIGHTS, GLOBALS_RIGHTS, STACK_RIGHTS, SERVICE_RIGHTS, EXPORT_RIGHTS}
 use Rattle.def_profile.specs.declared.native.TheConstants.{NATIVE_LENGTH, RETURN_ENTRY}
 use Rattle.def_profile.specs.declared.seals.TheConstants.{RETURN_ENABLE}
@@ -56,30 +56,10 @@ two = record {
 }
 
 abbrev pub inner : Frame
-inner = record {
-  actor = 1;
-  export = 5;
-  top = 0x80000060;
-  handling = false;
-  c1 = sentry;
-  c2 = plain 0;
-  c3 = plain 0;
-  c8 = plain 0;
-  c9 = plain 0;
-}
+inner = record (state.outermost 1 5 0x80000060) { c1 = sentry }
 
 abbrev pub outermost : Frame
-outermost = record {
-  actor = 0;
-  export = 0;
-  top = 0x80000080;
-  handling = false;
-  c1 = plain 0;
-  c2 = plain 0;
-  c3 = plain 0;
-  c8 = plain 0;
-  c9 = plain 0;
-}
+outermost = state.outermost 0 0 0x80000080
 
 abbrev pub runner : state.Thread
 runner = record {
@@ -93,27 +73,5 @@ runner = record {
 }
 
 abbrev pub before : State
-before = record {
-  granules = replicate 16 nothing;
-  threads = runner ∷ [];
-  running = Some 0;
-  pending = false;
-  objects = [];
-  next = 1;
-  tokens = [];
-  front = None;
-  devices = [];
-  time = 0;
-  picks = 0 ∷ [];
-  counts = record {
-    steps = 0;
-    ticks = 0;
-    sweeps = 0;
-    inputs = 0;
-    calls = 0;
-    loads = 0;
-    stores = 0;
-    frees = 0;
-    traps = 0;
-  };
-}
+before =
+    record (state.at_rest (replicate 16 nothing) (runner ∷ []) [] (0 ∷ [])) { running = Some 0 }

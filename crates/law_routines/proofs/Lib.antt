@@ -2,3 +2,4 @@ pub mod Places
 pub mod Objects
 pub mod Cases
 pub mod Leaving
+pub mod Accesses

@@ -1,11 +1,13 @@
 -- Small heaps, and a state whose sweep is computed.
-use Rattle.std.specs.Prelude.{ℕ, ◌+◌, true, false, List, [], ◌∷◌, None}
+use Rattle.def_profile.specs.declared.rights.TheConstants.{QUOTA_RIGHTS}
+use Rattle.std.specs.Prelude.{ℕ, true, false, List, [], ◌∷◌}
 use Rattle.ct_entry.specs.declared.rows.Owner.TheVariants.{Compartment}
 use Rattle.ct_entry.specs.declared.rows.Kind.TheVariants.{Quota}
 use Rattle.def_memory.specs.declared.Granule.{Granule}
 use Rattle.def_memory.specs.Granules.{plain}
 use Rattle.def_machine.specs.Image.{Image}
-use Rattle.def_machine.specs.State.{State, Object}
+use Rattle.def_machine.specs.State.{State, Object, at_rest}
+use Rattle.def_machine.specs.Objects.{live_object}
 use Rattle.def_machine.specs.Heap.{object_cap}
 
 -- a heap, with one quota of so much, which is entry 1
@@ -18,7 +20,7 @@ heap_of ram base end limit rate = record {
           kind = Quota;
           base = 0;
           length = 8;
-          rights = 33;
+          rights = QUOTA_RIGHTS;
           of = 0;
           limit = limit;
         }
@@ -49,45 +51,15 @@ small_heap = heap_of 0x80000000 0x80000000 0x80000040 200 64
 
 -- no thread, RAM of these granules, and these objects
 abbrev pub state_of : List Granule → List Object → ℕ → State
-state_of granules objects next = record {
-  granules = granules;
-  threads = [];
-  running = None;
-  pending = false;
-  objects = objects;
-  next = next;
-  tokens = [];
-  front = None;
-  devices = [];
-  time = 0;
-  picks = [];
-  counts = record {
-    steps = 0;
-    ticks = 0;
-    sweeps = 0;
-    inputs = 0;
-    calls = 0;
-    loads = 0;
-    stores = 0;
-    frees = 0;
-    traps = 0;
-  };
-}
+state_of granules objects next =
+    record (at_rest granules [] [] []) { objects = objects; next = next }
 
 abbrev pub holding : List Object → ℕ → State
 holding objects next = state_of [] objects next
 
 -- an object of the quota: live, quarantined, painted
 abbrev pub object : ℕ → ℕ → ℕ → Object
-object number base length = record {
-  number = number;
-  quota = 1;
-  base = base;
-  length = length;
-  charge = length + 8;
-  live = true;
-  painted = false;
-}
+object number base length = live_object number 1 base length
 
 abbrev pub freed_object : ℕ → ℕ → ℕ → Object
 freed_object number base length = record (object number base length) { live = false }

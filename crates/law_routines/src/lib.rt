@@ -3,6 +3,7 @@
 #![tactic(auto)]
 
 ghost use Rattle.std.specs.Prelude.{◌≡◌, ◌<◌, ℕ, List, [], ◌∷◌, Option, Some, None, true, false};
+ghost use Rattle.def_profile.specs.declared.answers.TheConstants.{NO_STACK, TOO_DEEP};
 ghost use Rattle.def_words.specs.Capability.{integer};
 ghost use Rattle.def_machine.specs.Heap.{Fits, IsPlaceFor, place_of, swept};
 ghost use Rattle.def_machine.specs.Image.{Image};
@@ -63,6 +64,6 @@ pub fn switch_computed()
     ensures twice { room_of 8200 ≡ 8192 }
     ensures most { room_of 32768 ≡ 32768 }
     ensures top { new_top 0x80000200 0x80000305 ≡ 0x80000300 }
-    ensures too_deep { code 12 ≡ integer 0xFFFFFFF4 }
-    ensures no_stack { code 11 ≡ integer 0xFFFFFFF5 }
+    ensures too_deep { code TOO_DEEP ≡ integer 0xFFFFFFF4 }
+    ensures no_stack { code NO_STACK ≡ integer 0xFFFFFFF5 }
 {}

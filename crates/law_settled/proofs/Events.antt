@@ -1,6 +1,7 @@
 -- Every event settles what it makes.
 use Rattle.std.proofs.Common.{ℕ, zero, suc, ◌≡◌, ◌+◌, ◌-◌, ◌*◌, ◌&&◌, Bool, true, false, not, nat_le, nat_lt, List, [], ◌∷◌, map, slice_set, Option, Some, None, Result, Ok, Err, refl, subst}
 use Rattle.std.proofs.Math.ListN.{get_or}
+use Rattle.def_profile.specs.declared.answers.TheConstants.{UNWOUND}
 use Rattle.law_lists.proofs.Tests.{chosen}
 use Rattle.law_lists.proofs.Sets.{after_set}
 use Rattle.def_words.specs.declared.Cap.{Cap}
@@ -101,7 +102,7 @@ returned_settled i s t (f ∷ g ∷ gs) e h = back_settled i s t f g gs (answer 
 unwound_settled : (i : Image) (s : State) (t : ℕ) (fs : List Frame) → (thread s t).frames ≡ fs → Settled s → Settled (unwound i s t fs)
 unwound_settled i s t [] e h = h
 unwound_settled i s t (f ∷ []) e h = over_settled i s t f.top h
-unwound_settled i s t (f ∷ g ∷ gs) e h = back_settled i s t f g gs (plain 4294967295) (plain 0) h e (plain_settled 4294967295) (plain_settled 0)
+unwound_settled i s t (f ∷ g ∷ gs) e h = back_settled i s t f g gs (plain UNWOUND) (plain 0) h e (plain_settled UNWOUND) (plain_settled 0)
 
 trapped_settled : (b : Board) (s : State) (t : ℕ) (why : Trap) → Settled s → Settled (trapped b s t why).0
 trapped_settled b s t why h = unwound_settled b.image s t (thread s t).frames refl h

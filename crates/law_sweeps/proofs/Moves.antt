@@ -8,7 +8,7 @@ use Rattle.def_words.specs.declared.Cap.{Cap}
 use Rattle.def_memory.specs.declared.Granule.{Granule}
 use Rattle.def_memory.specs.Granules.{granule_at, nothing}
 use Rattle.def_machine.specs.Image.{Image, area_of, frames_most}
-use Rattle.def_machine.specs.State.{State, Thread, thread, register, granule, nobody}
+use Rattle.def_machine.specs.State.{State, Thread, Frame, thread, register, granule, nobody}
 use Rattle.def_machine.specs.Threads.{Clockwork, changed}
 use Rattle.def_confined.specs.Confined.{Confined}
 use Rattle.def_confined.specs.Holding.{EndFits}
@@ -45,6 +45,19 @@ pub record ThreadLeft (i : Image) (s : State) (t : ℕ) (new : Thread) (run : Op
   pub deep : length new.frames ≤ frames_most i t
   pub few : length new.registers ≤ 16
   pub ends : EndFits (thread s t) → EndFits new
+
+-- the running thread with its frames as they were: its registers have no place that a sweep passes
+pub running_left : (i : Image) (s : State) (t : ℕ) (new : Thread) → s.running ≡ Some t → new.frames ≡ (thread s t).frames → length new.registers ≤ 16 → (EndFits (thread s t) → EndFits new) → Beside i s → ThreadLeft i s t new s.running
+running_left i s t new runs same few ends h = record {
+  sweeps = λ w. record {
+    frames = subst (λ (fs : List Frame). FramesSwept i s.objects s.front (area_of i t - i.ram) fs) (sym same) (w.frames t);
+    registers = λ idle. absurd (idle runs);
+    others = λ u other idle is. idle is;
+  };
+  deep = subst (λ (fs : List Frame). length fs ≤ frames_most i t) (sym same) (h.bounded.deep t);
+  few = few;
+  ends = ends;
+}
 
 pub moved_beside : (i : Image) (s : State) (t : ℕ) (gs : List Granule) (new : Thread) (run : Option ℕ) (w : Clockwork) → RamLeft i s gs → ThreadLeft i s t new run → Beside i s → Beside i (moved s t gs new run w)
 moved_beside i s t gs new run w ram left b =

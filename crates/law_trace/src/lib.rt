@@ -5,6 +5,7 @@ ghost use Rattle.std.specs.Prelude.{◌≡◌, ◌++◌, [], ◌∷◌, codes};
 ghost use Rattle.ct_entry.specs.declared.acts.Act.TheVariants.{Call, Load, Store, Allocate, Free, Trap};
 ghost use Rattle.ct_entry.specs.declared.acts.End.TheVariants.{Limit, Finished, Idle};
 ghost use Rattle.def_trace.specs.Trace.{deed_line, off_line, summary_line};
+ghost use Rattle.law_trace.specs.Quiet.{quiet};
 
 /// A store and a load of a serial port, a call, an allocation, a free, a trap, a span with
 /// interrupts off.
@@ -34,37 +35,11 @@ pub fn lines_are_written()
 
 /// Runs that end at a limit, by all threads' end, and with none to run.
 pub fn summaries_are_written()
-    ensures limit { summary_line (record {
-      end = Limit;
-      steps = 3;
-      ticks = 0;
-      calls = 0;
-      devices = 0;
-      allocations = 0;
-      frees = 0;
-      traps = 0;
-    })
+    ensures limit { summary_line (quiet Limit 3)
         ≡ codes "end limit steps 3 ticks 0 calls 0 devices 0 allocations 0 frees 0 traps 0" ++ 10 ∷ [] }
-    ensures finished { summary_line (record {
-      end = Finished;
-      steps = 56;
-      ticks = 2;
-      calls = 2;
-      devices = 2;
-      allocations = 2;
-      frees = 0;
-      traps = 0;
-    })
+    ensures finished { summary_line
+        (record (quiet Finished 56) { ticks = 2; calls = 2; devices = 2; allocations = 2 })
         ≡ codes "end finished steps 56 ticks 2 calls 2 devices 2 allocations 2 frees 0 traps 0" ++ 10 ∷ [] }
-    ensures idle { summary_line (record {
-      end = Idle;
-      steps = 6;
-      ticks = 0;
-      calls = 0;
-      devices = 0;
-      allocations = 0;
-      frees = 0;
-      traps = 0;
-    })
+    ensures idle { summary_line (quiet Idle 6)
         ≡ codes "end idle steps 6 ticks 0 calls 0 devices 0 allocations 0 frees 0 traps 0" ++ 10 ∷ [] }
 {}

@@ -1,7 +1,8 @@
 -- I3: limits of the last version are no narrower, and the others don't depend on places.
-use Rattle.std.proofs.Common.{ℕ, ◌≡◌, ◌+◌, ◌*◌, ◌%◌, ◌==◌, ◌≤◌, ◌||◌, not, Bool, true, false, nat_lt, nat_le, nat_eq, List, [], ◌∷◌, ◌++◌, length, map, Some, None, refl, sym, ap, ◌∙◌, subst, arith, inl, inr}
+use Rattle.std.proofs.Common.{ℕ, ◌≡◌, ◌+◌, ◌*◌, ◌%◌, ◌==◌, ◌≤◌, ◌||◌, not, Bool, true, false, nat_lt, nat_le, nat_eq, List, [], ◌++◌, length, map, Some, None, refl, sym, ◌∙◌, subst, arith, inl, inr}
 use Rattle.std.specs.List.{AllByRecursion}
 use Rattle.std.proofs.lemmas.Bool.{le-ltb}
+use Rattle.def_profile.specs.declared.limits.TheConstants.{RAM_END}
 use Rattle.def_image.specs.declared.Check.{Check}
 use Rattle.def_image.specs.declared.RawEntry.{RawEntry}
 use Rattle.def_image.specs.declared.format.TheConstants.{ENTRY, DEVICE, SHARED, THREAD, COMPARTMENT_HEAD, LIBRARY_HEAD}
@@ -9,14 +10,14 @@ use Rattle.def_image.specs.Raw.{RawDevice, RawShared, RawSealed, RawCode, RawCom
 use Rattle.def_image.specs.Parts.{PartsRow, upgraded}
 use Rattle.def_image.specs.Profile.{outside}
 use Rattle.def_image.specs.Spelling.{raw_of, raw_thread}
-use Rattle.def_image.specs.Sizes.{sum_of, entries_size, tables_size, sealed_size, compartment_size, library_size, devices_at, shared_at, sealed_at, compartments_at, libraries_at, threads_at}
-use Rattle.def_image.specs.Checks.{first, walked, check}
-use Rattle.def_image.specs.Limits.{limit_checks, header_limits, name_checks, device_limits, shared_limits, sealed_limits, row_limits, gate_limits, own_slot_limits, slot_limits, export_limits, code_limits, own_slots_limits, slots_limits, exports_limits, compartment_limits_by, compartment_limits, library_limits_by, library_limits, thread_limits_by, thread_limits, Bounds, compartment_bounds, library_bounds, are_zeros, compartment_name, library_name, thread_name, owner_names, compartment_entries, library_entries, first_library_entry}
+use Rattle.def_image.specs.Sizes.{sum_of, entries_size, sealed_size, compartment_size, library_size, devices_at, shared_at, sealed_at, compartments_at, libraries_at, threads_at}
+use Rattle.def_image.specs.Checks.{first, walked}
+use Rattle.def_image.specs.Limits.{limit_checks, header_limits, name_checks, device_limits, shared_limits, sealed_limits, row_limits, gate_limits, own_slot_limits, slot_limits, export_limits, code_limits, own_numbers, own_slots_limits, own_gates, dirty_padding, library_numbers, slots_limits, library_gates, compartment_limits_by, compartment_limits, library_limits_by, library_limits, thread_limits_by, thread_limits, Bounds, compartment_bounds, library_bounds, compartment_name, library_name, thread_name, owner_names, compartment_entries, library_entries, first_library_entry}
 use Rattle.law_lists.proofs.Tests.{le_tells}
 use Rattle.law_image.proofs.Tells.{lt_not, or_left, or_right, within_is}
 use Rattle.law_image.proofs.Walks.{first_later}
 use Rattle.law_image.proofs.Passing.{left_none, right_none, all_pass}
-use Rattle.law_image.proofs.Limited.{Limited, limited}
+use Rattle.law_image.proofs.Holding.{limited}
 use Rattle.law_upgrade.proofs.Flags.{flags, joined, none_of, none_alike, walks_alike}
 
 -- ---- members
@@ -59,35 +60,36 @@ compartment_alike : (entry : ℕ) (seen : List (List ℕ)) (at place : ℕ) (c :
 unfolding compartment_limits_by
 compartment_alike entry seen at place c =
     let k = c.code in
-    let head = λ (n : ℕ). check (n + 52) (outside 16 1048576 c.globals_length) ∷ check (n + 56) (nat_lt 1048576 (length c.initial) || nat_lt c.globals_length (length c.initial))
-    ∷ check (n + 60) (outside 1 148 (length k.slots)) ∷ check (n + 64) (nat_lt 64 (length k.exports)) ∷ own_slots_limits (n + COMPARTMENT_HEAD) k in
-    let gates = λ (n : ℕ). exports_limits compartment_bounds (entry + 2 + length k.slots) (n + COMPARTMENT_HEAD + entries_size k.slots) k in
-    let padding = λ (n : ℕ). check (n + COMPARTMENT_HEAD + tables_size k + length c.initial) (not (are_zeros c.padding)) ∷ [] in
-    let slots : flags (own_slots_limits (at + COMPARTMENT_HEAD) k) ≡ flags (own_slots_limits (place + COMPARTMENT_HEAD) k) =
-    walks_alike own_slot_limits own_slot_limits (λ s. ENTRY) (λ s. ENTRY) own_slots_alike (at + COMPARTMENT_HEAD) (place + COMPARTMENT_HEAD) [] k.slots in
-    let exports : flags (gates at) ≡ flags (gates place) =
-    walks_alike (export_limits compartment_bounds (length k.text) (entry + 2 + length k.slots)) (export_limits compartment_bounds (length k.text) (entry + 2 + length k.slots)) (λ x. ENTRY) (λ x. ENTRY)
-    (exports_alike compartment_bounds (length k.text) (entry + 2 + length k.slots)) (at + COMPARTMENT_HEAD + entries_size k.slots) (place + COMPARTMENT_HEAD + entries_size k.slots) [] k.exports in
-    let a1 = joined (name_checks at false seen k.name) (code_limits at k) (name_checks place false seen k.name) (code_limits place k) (names_alike at place false seen k.name) refl in
-    let heads : flags (head at) ≡ flags (head place) = ap (λ l. outside 16 1048576 c.globals_length ∷ (nat_lt 1048576 (length c.initial) || nat_lt c.globals_length (length c.initial)) ∷ outside 1 148 (length k.slots) ∷ nat_lt 64 (length k.exports) ∷ l) slots in
-    let a2 = joined (name_checks at false seen k.name ++ code_limits at k) (head at) (name_checks place false seen k.name ++ code_limits place k) (head place) a1 heads in
-    let a3 = joined (name_checks at false seen k.name ++ code_limits at k ++ head at) (gates at) (name_checks place false seen k.name ++ code_limits place k ++ head place) (gates place) a2 exports in
-    joined (name_checks at false seen k.name ++ code_limits at k ++ head at ++ gates at) (padding at) (name_checks place false seen k.name ++ code_limits place k ++ head place ++ gates place) (padding place) a3 refl
+    let names = λ (n : ℕ). name_checks n false seen k.name in
+    let front = λ (n : ℕ). names n ++ code_limits n k in
+    let head = λ (n : ℕ). front n ++ own_numbers n c in
+    let slots = λ (n : ℕ). own_slots_limits (n + COMPARTMENT_HEAD) k in
+    let gates = λ (n : ℕ). own_gates entry n k in
+    let asked = export_limits compartment_bounds (length k.text) (entry + 2 + length k.slots) in
+    let a1 = joined (names at) (code_limits at k) (names place) (code_limits place k) (names_alike at place false seen k.name) refl in
+    let a2 = joined (front at) (own_numbers at c) (front place) (own_numbers place c) a1 refl in
+    let a3 = joined (head at) (slots at) (head place) (slots place) a2
+    (walks_alike own_slot_limits own_slot_limits (λ s. ENTRY) (λ s. ENTRY) own_slots_alike (at + COMPARTMENT_HEAD) (place + COMPARTMENT_HEAD) [] k.slots) in
+    let a4 = joined (head at ++ slots at) (gates at) (head place ++ slots place) (gates place) a3
+    (walks_alike asked asked (λ x. ENTRY) (λ x. ENTRY) (exports_alike compartment_bounds (length k.text) (entry + 2 + length k.slots))
+    (at + COMPARTMENT_HEAD + entries_size k.slots) (place + COMPARTMENT_HEAD + entries_size k.slots) [] k.exports) in
+    joined (head at ++ slots at ++ gates at) (dirty_padding at c) (head place ++ slots place ++ gates place) (dirty_padding place c) a4 refl
 
 library_alike : (entry : ℕ) (seen : List (List ℕ)) (at place : ℕ) (c : RawCode) → flags (library_limits_by entry at seen c) ≡ flags (library_limits_by entry place seen c)
 unfolding library_limits_by
 library_alike entry seen at place c =
-    let head = λ (n : ℕ). check (n + 44) (nat_lt 128 (length c.slots)) ∷ check (n + 48) (nat_lt 64 (length c.exports)) ∷ slots_limits (n + LIBRARY_HEAD) c in
-    let gates = λ (n : ℕ). exports_limits library_bounds (entry + 1 + length c.slots) (n + LIBRARY_HEAD + entries_size c.slots) c in
-    let slots : flags (slots_limits (at + LIBRARY_HEAD) c) ≡ flags (slots_limits (place + LIBRARY_HEAD) c) =
-    walks_alike slot_limits slot_limits (λ s. ENTRY) (λ s. ENTRY) slots_alike (at + LIBRARY_HEAD) (place + LIBRARY_HEAD) [] c.slots in
-    let exports : flags (gates at) ≡ flags (gates place) =
-    walks_alike (export_limits library_bounds (length c.text) (entry + 1 + length c.slots)) (export_limits library_bounds (length c.text) (entry + 1 + length c.slots)) (λ x. ENTRY) (λ x. ENTRY)
-    (exports_alike library_bounds (length c.text) (entry + 1 + length c.slots)) (at + LIBRARY_HEAD + entries_size c.slots) (place + LIBRARY_HEAD + entries_size c.slots) [] c.exports in
-    let a1 = joined (name_checks at false seen c.name) (code_limits at c) (name_checks place false seen c.name) (code_limits place c) (names_alike at place false seen c.name) refl in
-    let heads : flags (head at) ≡ flags (head place) = ap (λ l. nat_lt 128 (length c.slots) ∷ nat_lt 64 (length c.exports) ∷ l) slots in
-    let a2 = joined (name_checks at false seen c.name ++ code_limits at c) (head at) (name_checks place false seen c.name ++ code_limits place c) (head place) a1 heads in
-    joined (name_checks at false seen c.name ++ code_limits at c ++ head at) (gates at) (name_checks place false seen c.name ++ code_limits place c ++ head place) (gates place) a2 exports
+    let names = λ (n : ℕ). name_checks n false seen c.name in
+    let front = λ (n : ℕ). names n ++ code_limits n c in
+    let head = λ (n : ℕ). front n ++ library_numbers n c in
+    let slots = λ (n : ℕ). slots_limits (n + LIBRARY_HEAD) c in
+    let asked = export_limits library_bounds (length c.text) (entry + 1 + length c.slots) in
+    let a1 = joined (names at) (code_limits at c) (names place) (code_limits place c) (names_alike at place false seen c.name) refl in
+    let a2 = joined (front at) (library_numbers at c) (front place) (library_numbers place c) a1 refl in
+    let a3 = joined (head at) (slots at) (head place) (slots place) a2
+    (walks_alike slot_limits slot_limits (λ s. ENTRY) (λ s. ENTRY) slots_alike (at + LIBRARY_HEAD) (place + LIBRARY_HEAD) [] c.slots) in
+    joined (head at ++ slots at) (library_gates entry at c) (head place ++ slots place) (library_gates entry place c) a3
+    (walks_alike asked asked (λ x. ENTRY) (λ x. ENTRY) (exports_alike library_bounds (length c.text) (entry + 1 + length c.slots))
+    (at + LIBRARY_HEAD + entries_size c.slots) (place + LIBRARY_HEAD + entries_size c.slots) [] c.exports)
 
 -- ---- the header, from the first version to the last
 
@@ -103,12 +105,12 @@ within_so low high n a b = rw (le_so low n a, le_so n high b) refl
 none_or : (a b : Bool) → a ≡ false → b ≡ false → (a || b) ≡ false
 none_or a b e f = rw e f
 
-missized : (size ram : ℕ) → (outside 256 8388608 size || not (size % 16 == 0) || nat_lt 4294967280 (ram + size)) ≡ false
-    → (outside 256 67108864 size || not (size % 16 == 0) || nat_lt 4294967280 (ram + size)) ≡ false
+missized : (size ram : ℕ) → (outside 256 8388608 size || not (size % 16 == 0) || nat_lt RAM_END (ram + size)) ≡ false
+    → (outside 256 67108864 size || not (size % 16 == 0) || nat_lt RAM_END (ram + size)) ≡ false
 missized size ram e =
     let narrow = outside 256 8388608 size in
     let odd = not (size % 16 == 0) in
-    let past = nat_lt 4294967280 (ram + size) in
+    let past = nat_lt RAM_END (ram + size) in
     let front = or_left (narrow || odd) past e in
     let within = within_is 256 8388608 size (or_left narrow odd front) in
     let low = within.0 in
@@ -164,7 +166,7 @@ limits_stay p e =
     let old = the_first p in
     let r = raw_of old in
     let q = raw_of (upgraded p) in
-    let was = limited old e in
+    let was = limited r e in
     let h = header_limits q in
     let d = walked device_limits (λ d. DEVICE) (devices_at q) [] q.devices in
     let s = walked shared_limits (λ s. SHARED) (shared_at q) [] q.shared in

@@ -2,6 +2,7 @@
 use Rattle.std.proofs.Common.{ℕ, ◌≡◌, ◌≤◌, List, [], ◌∷◌, map, true, false, None, sym, subst, arith}
 use Rattle.std.specs.Prelude.{codes}
 use Rattle.std.specs.List.{AllByRecursion}
+use Rattle.def_profile.specs.declared.limits.TheConstants.{MOST_BYTES}
 use Rattle.serde_json.specs.Data.{Data}
 use Rattle.serde_json.specs.Find.{get}
 use Rattle.def_profile.specs.Versions.{most_ram}
@@ -54,10 +55,10 @@ compartment_lawful d x h s =
           (all_so (In (Good d) part.Export x i) (λ y. IsLawfulExport (export_of y)) exports (λ y g. export_lawful d x y i g.item g.itself) inner.exports);
     }
   where
-    given_globals : (d x : Data) → At (Good d) part.Compartment d x → IsWithin 0 1048576 (compartment_of x).globals
+    given_globals : (d x : Data) → At (Good d) part.Compartment d x → IsWithin 0 MOST_BYTES (compartment_of x).globals
     given_globals d x h =
         let m = (part_good part.Compartment x true true h.itself.kinds h.itself.limits).each in
-        given_or (codes "globals") 0 1048576 0 (get (codes "globals") x) (omega arith) (omega arith, omega arith) m.1.1.0.there m.1.1.0.kept
+        given_or (codes "globals") 0 MOST_BYTES 0 (get (codes "globals") x) (omega arith) (omega arith, omega arith) m.1.1.0.there m.1.1.0.kept
 
 library_lawful : (d x : Data) → At (Good d) part.Library d x → Segment part.Library x → IsLawfulLibrary (rows_of d) (library_of x)
 unfolding members_of

@@ -4,6 +4,7 @@ use Rattle.std.specs.Prelude.{codes, option_and_then, unwrap_or, is_some}
 use Rattle.std.specs.List.{AllByRecursion, list_all}
 use Rattle.std.proofs.lemmas.List.{length-map}
 use Rattle.std.proofs.lemmas.Bool.{leb-true}
+use Rattle.def_profile.specs.declared.limits.TheConstants.{RAM_END, MOST_BYTES}
 use Rattle.serde_json.specs.Data.{Data, null}
 use Rattle.serde_json.specs.Find.{get, as_str}
 use Rattle.law_lists.proofs.Tests.{both_left, both_right}
@@ -59,12 +60,12 @@ pub shared_lawful : (d x : Data) (i : ℕ) → Good d (spot (place part.Shared i
 unfolding members_of
 shared_lawful d x i g =
     let m = (part_good part.Shared x true true g.kinds g.limits).each in
-    needed (codes "size") 1 1048576 (get (codes "size") x) (omega arith) m.1.0.there m.1.0.kept
+    needed (codes "size") 1 MOST_BYTES (get (codes "size") x) (omega arith) m.1.0.there m.1.0.kept
 
-sealed_few : (o : Option Data) → is_kind_there (row (codes "bytes") (shape.Bytes 1 1048576) true) o ≡ true → keeps_there (row (codes "bytes") (shape.Bytes 1 1048576) true) o ≡ true
-    → IsWithin 1 1048576 (length (unwrap_or (option_and_then as_str o) []) / 2)
+sealed_few : (o : Option Data) → is_kind_there (row (codes "bytes") (shape.Bytes 1 MOST_BYTES) true) o ≡ true → keeps_there (row (codes "bytes") (shape.Bytes 1 MOST_BYTES) true) o ≡ true
+    → IsWithin 1 MOST_BYTES (length (unwrap_or (option_and_then as_str o) []) / 2)
 sealed_few None there kept = absurd (let no : false ≡ true = there in cc)
-sealed_few (Some v) there kept = within_is 1 1048576 (length (text_of v) / 2) kept
+sealed_few (Some v) there kept = within_is 1 MOST_BYTES (length (text_of v) / 2) kept
 
 pub sealed_lawful : (d x : Data) (i : ℕ) → Good d (spot (place part.Sealed i 0) d x) → IsLawfulSealed (sealed_of x)
 unfolding members_of
@@ -73,7 +74,7 @@ sealed_lawful d x i g =
     let text = text_or (codes "bytes") x in
     record {
       seal = needed (codes "type") 13 15 (get (codes "type") x) (omega arith) m.1.0.there m.1.0.kept;
-      few = subst (IsWithin 1 1048576) (sym (bytes_half text)) (sealed_few (get (codes "bytes") x) m.1.1.0.there m.1.1.0.kept);
+      few = subst (IsWithin 1 MOST_BYTES) (sym (bytes_half text)) (sealed_few (get (codes "bytes") x) m.1.1.0.there m.1.1.0.kept);
       bytes = bytes_small text;
     }
 
@@ -212,7 +213,7 @@ pub record RamGood (version : ℕ) (r : Ram) : Type 0 where
   pub base : r.base % 16 ≡ 0
   pub size : r.size % 16 ≡ 0
   pub sized : IsWithin 256 (most_ram version) r.size
-  pub end : r.base + r.size ≤ 4294967280
+  pub end : r.base + r.size ≤ RAM_END
 
 ram_there : (d : Data) (o : Option Data) → is_kind_there (row (codes "ram") shape.Object true) o ≡ true → AllByRecursion (Good d) (ram_spots d o)
     → Good d (spot (place part.Ram 0 0) d (unwrap_or o null))
@@ -224,17 +225,17 @@ unfolding members_of
 ram_by d x g =
     let p = part_good part.Ram x true (keeps_ram (version_of d) x) g.kinds g.limits in
     let m = p.each in
-    let base = needed_multiple (codes "base") 0 4294967280 (get (codes "base") x) (omega arith) m.0.there m.0.kept in
+    let base = needed_multiple (codes "base") 0 RAM_END (get (codes "base") x) (omega arith) m.0.there m.0.kept in
     let size = needed_multiple (codes "size") 256 67108864 (get (codes "size") x) (omega arith) m.1.0.there m.1.0.kept in
-    let b_is : (ram_of x).base ≡ number_or 0 (codes "base") x = uncut_multiple 4294967280 (get (codes "base") x) (codes "base") 0 (omega arith) m.0.there m.0.kept in
+    let b_is : (ram_of x).base ≡ number_or 0 (codes "base") x = uncut_multiple RAM_END (get (codes "base") x) (codes "base") 0 (omega arith) m.0.there m.0.kept in
     let s_is : (ram_of x).size ≡ number_or 0 (codes "size") x = uncut_multiple 67108864 (get (codes "size") x) (codes "size") 256 (omega arith) m.1.0.there m.1.0.kept in
     let a = nat_le (number_or 0 (codes "size") x) (most_ram (version_of d)) in
-    let b = nat_le (number_or 0 (codes "base") x + number_or 0 (codes "size") x) 4294967280 in
+    let b = nat_le (number_or 0 (codes "base") x + number_or 0 (codes "size") x) RAM_END in
     record {
       base = base.1;
       size = size.1;
       sized = (size.0.0, subst (λ n. n ≤ most_ram (version_of d)) (sym s_is) (leb-true (number_or 0 (codes "size") x) (most_ram (version_of d)) (both_left a b p.more_kept)));
-      end = rw (b_is, s_is) (leb-true (number_or 0 (codes "base") x + number_or 0 (codes "size") x) 4294967280 (both_right a b p.more_kept));
+      end = rw (b_is, s_is) (leb-true (number_or 0 (codes "base") x + number_or 0 (codes "size") x) RAM_END (both_right a b p.more_kept));
     }
   where
     uncut_multiple : (high : ℕ) (o : Option Data) (name : List ℕ) (low : ℕ) → high < 2 ^ 32

@@ -1,6 +1,6 @@
 -- Names that stand once: the names of each space, in the order of the walk, are fresh.
 use Rattle.std.proofs.Common.{ℕ, ◌≡◌, ◌+◌, Bool, true, false, cond, List, [], ◌∷◌, ◌++◌, map, Option, Some, None, refl, ap, ap₂, ◌∙◌, subst}
-use Rattle.std.specs.Prelude.{codes}
+use Rattle.std.specs.Prelude.{⊤, codes}
 use Rattle.std.specs.List.{AllByRecursion}
 use Rattle.serde_json.specs.Data.{Data}
 use Rattle.serde_json.specs.Find.{get}
@@ -8,8 +8,8 @@ use Rattle.def_names.specs.Names.{among, with_name}
 use Rattle.def_description.specs.declared.faults.PartWord.{PartWord}
 use Rattle.def_description.specs.declared.faults.PartWord.TheVariants as part
 use Rattle.def_description.specs.Members.{list_at}
-use Rattle.def_description.specs.Tables.{Inner, inner_lists}
-use Rattle.def_description.specs.Walk.{Spot, place, spot, items_from, inside, each_from, ram_spots, spots_of}
+use Rattle.def_description.specs.Tables.{Inner, outer_lists, inner_lists}
+use Rattle.def_description.specs.Walk.{Spot, place, spot, items_from, inside, each_from, each, ram_spots, spots_of}
 use Rattle.def_description.specs.Names.{named, name_of, Spaces, no_names, space_of, joined, first_twice}
 use Rattle.law_wellformed.proofs.Lists.{Fresh}
 use Rattle.law_wellformed.proofs.Walked.{walk_is, devices_walk, shared_walk, sealed_walk, compartments_walk, libraries_walk, threads_walk}
@@ -49,32 +49,37 @@ unfoldable pub taken_from : (PartWord → Bool) → List Spot → List (List ℕ
 taken_from mine [] = []
 taken_from mine (s ∷ ss) = cond (mine s.place.part) (name_of s ∷ taken_from mine ss) (taken_from mine ss)
 
+-- a name of one of the space's own parts is sought and kept in it; of other fine parts none changes it
+unfoldable pub Kept : (Spaces → List (List ℕ)) → PartWord → (mine fine : Bool) → Type 0
+Kept space p true fine = (n : List ℕ) (m : Spaces) → (space_of p m ≡ space m) × (space (joined p n m) ≡ with_name (space m) n)
+Kept space p false true = (n : List ℕ) (m : Spaces) → space (joined p n m) ≡ space m
+Kept space p false false = ⊤
+
 -- a space is of some parts, and of a walk over fine parts no other part changes it
-pub record IsSpace (space : Spaces → List (List ℕ)) (mine fine : PartWord → Bool) : Type 0 where
-  pub own : (p : PartWord) (m : Spaces) → mine p ≡ true → space_of p m ≡ space m
-  pub joins : (p : PartWord) (n : List ℕ) (m : Spaces) → mine p ≡ true → space (joined p n m) ≡ with_name (space m) n
-  pub others : (p : PartWord) (n : List ℕ) (m : Spaces) → mine p ≡ false → fine p ≡ true → space (joined p n m) ≡ space m
+abbrev pub IsSpace : (Spaces → List (List ℕ)) → (mine fine : PartWord → Bool) → Type 0
+IsSpace space mine fine = (p : PartWord) → Kept space p (mine p) (fine p)
 
 pub fresh_in : (space : Spaces → List (List ℕ)) (mine fine : PartWord → Bool) → IsSpace space mine fine → (m : Spaces) (ss : List Spot)
     → AllByRecursion (λ s. fine s.place.part ≡ true) ss → first_twice m ss ≡ None → Fresh (space m) (taken_from mine ss)
-unfolding taken_from Fresh
+unfolding taken_from Fresh Kept
 fresh_in space mine fine h m [] f e = tt
 fresh_in space mine fine h m (s ∷ ss) f e =
     let new = head_new m s ss e in
-    by (mine s.place.part) refl new.0 (fresh_in space mine fine h (joined s.place.part (name_of s) m) ss f.1 new.1)
+    by (mine s.place.part) (subst (Kept space s.place.part (mine s.place.part)) f.0 (h s.place.part)) new.0
+    (fresh_in space mine fine h (joined s.place.part (name_of s) m) ss f.1 new.1)
   where
-    by : (b : Bool) → mine s.place.part ≡ b → among (name_of s) (space_of s.place.part m) ≡ false
+    by : (b : Bool) → Kept space s.place.part b true → among (name_of s) (space_of s.place.part m) ≡ false
         → Fresh (space (joined s.place.part (name_of s) m)) (taken_from mine ss)
         → Fresh (space m) (cond b (name_of s ∷ taken_from mine ss) (taken_from mine ss))
-    by true is new rest = (
-      subst (λ l. among (name_of s) l ≡ false) (h.own s.place.part m is) new,
-      subst (λ l. Fresh l (taken_from mine ss)) (h.joins s.place.part (name_of s) m is) rest,
+    by true k new rest = (
+      subst (λ l. among (name_of s) l ≡ false) (k (name_of s) m).0 new,
+      subst (λ l. Fresh l (taken_from mine ss)) (k (name_of s) m).1 rest,
     )
-    by false is new rest = subst (λ l. Fresh l (taken_from mine ss)) (h.others s.place.part (name_of s) m is f.0) rest
+    by false k new rest = subst (λ l. Fresh l (taken_from mine ss)) (k (name_of s) m) rest
 
 -- ---- the names of pieces of a walk
 
-pub taken_joined : (mine : PartWord → Bool) (xs ys : List Spot) → taken_from mine (xs ++ ys) ≡ taken_from mine xs ++ taken_from mine ys
+taken_joined : (mine : PartWord → Bool) (xs ys : List Spot) → taken_from mine (xs ++ ys) ≡ taken_from mine xs ++ taken_from mine ys
 unfolding taken_from
 taken_joined mine [] ys = refl
 taken_joined mine (s ∷ ss) ys = by (mine s.place.part) (taken_joined mine ss ys)
@@ -84,78 +89,77 @@ taken_joined mine (s ∷ ss) ys = by (mine s.place.part) (taken_joined mine ss y
     by true h = ap (λ l. name_of s ∷ l) h
     by false h = h
 
-pub items_mine : (mine : PartWord → Bool) (part : PartWord) (owner : Data) (i j : ℕ) (xs : List Data) → mine part ≡ true
-    → taken_from mine (items_from part owner i j xs) ≡ map (named part) xs
-unfolding taken_from
-items_mine mine part owner i j [] e = refl
-items_mine mine part owner i j (x ∷ xs) e =
-    let rest = taken_from mine (items_from part owner i (j + 1) xs) in
-    ap (λ b. cond b (named part x ∷ rest) rest) e ∙ ap (λ l. named part x ∷ l) (items_mine mine part owner i (j + 1) xs e)
+-- the names of a list's elements, where these are of the space
+abbrev taken_of : (PartWord → Bool) → PartWord → List Data → List (List ℕ)
+taken_of mine part xs = cond (mine part) (map (named part) xs) []
 
-pub items_other : (mine : PartWord → Bool) (part : PartWord) (owner : Data) (i j : ℕ) (xs : List Data) → mine part ≡ false
-    → taken_from mine (items_from part owner i j xs) ≡ []
-unfolding taken_from
-items_other mine part owner i j [] e = refl
-items_other mine part owner i j (x ∷ xs) e =
-    let rest = taken_from mine (items_from part owner i (j + 1) xs) in
-    ap (λ b. cond b (named part x ∷ rest) rest) e ∙ items_other mine part owner i (j + 1) xs e
+-- the same of each list of an owner
+abbrev pub taken_by : (PartWord → Bool) → Data → List Inner → List (List ℕ)
+taken_by mine owner [] = []
+taken_by mine owner (l ∷ ls) = taken_of mine l.part (list_at l.key owner) ++ taken_by mine owner ls
 
-pub inside_other : (mine : PartWord → Bool) (owner : Data) (i : ℕ) (lists : List Inner) → AllByRecursion (λ (l : Inner). mine l.part ≡ false) lists
-    → taken_from mine (inside owner i lists) ≡ []
+-- one more element
+one_more : (b : Bool) (n : List ℕ) (ns : List (List ℕ)) → cond b (n ∷ cond b ns []) (cond b ns []) ≡ cond b (n ∷ ns) []
+one_more true n ns = refl
+one_more false n ns = refl
+
+no_more : (b : Bool) → ◌≡◌ {A = List (List ℕ)} [] (cond b [] [])
+no_more true = refl
+no_more false = refl
+
+items_taken : (mine : PartWord → Bool) (part : PartWord) (owner : Data) (i j : ℕ) (xs : List Data)
+    → taken_from mine (items_from part owner i j xs) ≡ taken_of mine part xs
 unfolding taken_from
-inside_other mine owner i [] h = refl
-inside_other mine owner i (l ∷ ls) h =
+items_taken mine part owner i j [] = no_more (mine part)
+items_taken mine part owner i j (x ∷ xs) =
+    ap (λ l. cond (mine part) (named part x ∷ l) l) (items_taken mine part owner i (j + 1) xs) ∙ one_more (mine part) (named part x) (map (named part) xs)
+
+pub inside_taken : (mine : PartWord → Bool) (owner : Data) (i : ℕ) (lists : List Inner) → taken_from mine (inside owner i lists) ≡ taken_by mine owner lists
+unfolding taken_from
+inside_taken mine owner i [] = refl
+inside_taken mine owner i (l ∷ ls) =
     taken_joined mine (items_from l.part owner i 0 (list_at l.key owner)) (inside owner i ls)
-    ∙ ap₂ (λ a b. a ++ b) (items_other mine l.part owner i 0 (list_at l.key owner) h.0) (inside_other mine owner i ls h.1)
+    ∙ ap₂ (λ a b. a ++ b) (items_taken mine l.part owner i 0 (list_at l.key owner)) (inside_taken mine owner i ls)
 
-pub each_mine : (mine : PartWord → Bool) (part : PartWord) (d : Data) (i : ℕ) (xs : List Data) → mine part ≡ true
-    → AllByRecursion (λ (l : Inner). mine l.part ≡ false) (inner_lists part) → taken_from mine (each_from part d i xs) ≡ map (named part) xs
-unfolding taken_from
-each_mine mine part d i [] e h = refl
-each_mine mine part d i (x ∷ xs) e h =
-    let own = inside x i (inner_lists part) in
-    let later = each_from part d (i + 1) xs in
-    let rest = taken_from mine (own ++ later) in
-    let step : rest ≡ map (named part) xs = taken_joined mine own later ∙ ap₂ (λ a b. a ++ b) (inside_other mine x i (inner_lists part) h) (each_mine mine part d (i + 1) xs e h) in
-    ap (λ b. cond b (named part x ∷ rest) rest) e ∙ ap (λ l. named part x ∷ l) step
+-- lists of other parts
+unfoldable pub AreOthers : (PartWord → Bool) → List Inner → Type 0
+AreOthers mine ls = AllByRecursion (λ (l : Inner). mine l.part ≡ false) ls
 
-pub each_other : (mine : PartWord → Bool) (part : PartWord) (d : Data) (i : ℕ) (xs : List Data) → mine part ≡ false
-    → AllByRecursion (λ (l : Inner). mine l.part ≡ false) (inner_lists part) → taken_from mine (each_from part d i xs) ≡ []
+none_taken : (mine : PartWord → Bool) (owner : Data) (lists : List Inner) → AreOthers mine lists → taken_by mine owner lists ≡ []
+unfolding AreOthers
+none_taken mine owner [] h = refl
+none_taken mine owner (l ∷ ls) h = ap₂ (λ b r. cond b (map (named l.part) (list_at l.key owner)) [] ++ r) h.0 (none_taken mine owner ls h.1)
+
+each_taken : (mine : PartWord → Bool) (part : PartWord) (d : Data) (i : ℕ) (xs : List Data) → AreOthers mine (inner_lists part)
+    → taken_from mine (each_from part d i xs) ≡ taken_of mine part xs
 unfolding taken_from
-each_other mine part d i [] e h = refl
-each_other mine part d i (x ∷ xs) e h =
-    let own = inside x i (inner_lists part) in
+each_taken mine part d i [] h = no_more (mine part)
+each_taken mine part d i (x ∷ xs) h =
+    let lists = inner_lists part in
     let later = each_from part d (i + 1) xs in
-    let rest = taken_from mine (own ++ later) in
-    let step : rest ≡ [] = taken_joined mine own later ∙ ap₂ (λ a b. a ++ b) (inside_other mine x i (inner_lists part) h) (each_other mine part d (i + 1) xs e h) in
-    ap (λ b. cond b (named part x ∷ rest) rest) e ∙ step
+    let rest : taken_from mine (inside x i lists ++ later) ≡ taken_of mine part xs
+    = taken_joined mine (inside x i lists) later ∙ ap₂ (λ a b. a ++ b) (inside_taken mine x i lists ∙ none_taken mine x lists h) (each_taken mine part d (i + 1) xs h) in
+    ap (λ l. cond (mine part) (named part x ∷ l) l) rest ∙ one_more (mine part) (named part x) (map (named part) xs)
+
+lists_taken : (mine : PartWord → Bool) (d : Data) (lists : List Inner) → AllByRecursion (λ (l : Inner). AreOthers mine (inner_lists l.part)) lists
+    → taken_from mine (each d lists) ≡ taken_by mine d lists
+unfolding taken_from
+lists_taken mine d [] h = refl
+lists_taken mine d (l ∷ ls) h =
+    taken_joined mine (each_from l.part d 0 (list_at l.key d)) (each d ls)
+    ∙ ap₂ (λ a b. a ++ b) (each_taken mine l.part d 0 (list_at l.key d) h.0) (lists_taken mine d ls h.1)
 
 -- the names of the whole walk, list by list
-pub whole : (mine : PartWord → Bool) (d : Data) → mine part.Firmware ≡ false → mine part.Ram ≡ false
-    → taken_from mine (spots_of d)
-    ≡ taken_from mine (devices_walk d) ++ (taken_from mine (shared_walk d) ++ (taken_from mine (sealed_walk d)
-    ++ (taken_from mine (compartments_walk d) ++ (taken_from mine (libraries_walk d) ++ (taken_from mine (threads_walk d) ++ [])))))
-unfolding taken_from
-whole mine d none bare =
-    let v = devices_walk d in
-    let s = shared_walk d in
-    let x = sealed_walk d in
-    let c = compartments_walk d in
-    let l = libraries_walk d in
-    let t = threads_walk d in
-    let all = v ++ (s ++ (x ++ (c ++ (l ++ (t ++ []))))) in
+pub whole_taken : (mine : PartWord → Bool) (d : Data) → mine part.Firmware ≡ false → mine part.Ram ≡ false
+    → AllByRecursion (λ (l : Inner). AreOthers mine (inner_lists l.part)) outer_lists → taken_from mine (spots_of d) ≡ taken_by mine d outer_lists
+unfolding taken_from spots_of
+whole_taken mine d none bare h =
+    let all = each d outer_lists in
     let ram = ram_spots d (get (codes "ram") d) in
     let tail = taken_from mine (ram ++ all) in
-    ap (taken_from mine) (walk_is d)
-    ∙ ap (λ b. cond b (named part.Firmware d ∷ tail) tail) none
+    ap (λ b. cond b (named part.Firmware d ∷ tail) tail) none
     ∙ taken_joined mine ram all
-    ∙ ap (λ a. a ++ taken_from mine all) (ram_none (get (codes "ram") d))
-    ∙ taken_joined mine v (s ++ (x ++ (c ++ (l ++ (t ++ [])))))
-    ∙ ap (λ z. taken_from mine v ++ z) (taken_joined mine s (x ++ (c ++ (l ++ (t ++ []))))
-    ∙ ap (λ z. taken_from mine s ++ z) (taken_joined mine x (c ++ (l ++ (t ++ [])))
-    ∙ ap (λ z. taken_from mine x ++ z) (taken_joined mine c (l ++ (t ++ []))
-    ∙ ap (λ z. taken_from mine c ++ z) (taken_joined mine l (t ++ [])
-    ∙ ap (λ z. taken_from mine l ++ z) (taken_joined mine t [])))))
+    ∙ ap₂ (λ a b. a ++ b) (ram_none (get (codes "ram") d)) (lists_taken mine d outer_lists h)
   where
     ram_none : (o : Option Data) → taken_from mine (ram_spots d o) ≡ []
     ram_none None = refl

@@ -10,7 +10,7 @@ use Rattle.def_description.specs.declared.faults.PartWord.{PartWord}
 use Rattle.def_description.specs.declared.faults.PartWord.TheVariants as part
 use Rattle.def_description.specs.Members.{list_at}
 use Rattle.def_description.specs.Tables.{outer_lists, inner_lists}
-use Rattle.def_description.specs.Walk.{Spot, place, spot, items_from, inside, each_from, each, ram_spots, spots_of}
+use Rattle.def_description.specs.Walk.{Spot, place, spot, items_from, inside, each_from, ram_spots, spots_of}
 use Rattle.def_description.specs.Kinds.{has_kinds, has_only}
 use Rattle.def_description.specs.Names.{is_well_named, no_names, first_twice}
 use Rattle.def_description.specs.Limits.{keeps_limits}

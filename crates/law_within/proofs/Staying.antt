@@ -16,7 +16,7 @@ use Rattle.law_booted.proofs.Whole.{partitioned}
 use Rattle.law_grants.proofs.Wiring.{wired}
 use Rattle.law_grants.proofs.Holding.{holds}
 use Rattle.law_jumps.proofs.Moves.{in_rooted}
-use Rattle.law_run.proofs.Running.{run_keeps}
+use Rattle.law_events.proofs.Running.{run_keeps}
 use Rattle.law_started.proofs.Whole.{keeps}
 use Rattle.law_within.specs.Within.{IsWithin, MayTouch, StaysWithin, state_after}
 use Rattle.law_within.proofs.Ranges.{Touches, root_within, heap_within}

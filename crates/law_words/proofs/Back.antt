@@ -4,6 +4,7 @@ use Rattle.std.proofs.Common.{ℕ, ◌+◌, ◌-◌, ◌*◌, ◌/◌, ◌%◌, 
 use Rattle.std.proofs.lemmas.Nat.{pow_pos, le-div, mul-le, mod-mul-add}
 use Rattle.std.proofs.Math.Nat.{div-mul-le_self, pow-le-pow_right}
 use Rattle.std.proofs.Common.{lit<}
+use Rattle.def_profile.specs.declared.bounds.TheConstants.{LAST_EXPONENT, WIDEST_EXPONENT, MOST_UNITS}
 use Rattle.law_lists.proofs.Tests.{le_tells, lt_tells, eq_tells}
 use Rattle.def_words.specs.Authority.{one_if_less, corner_of, middle, base_of, top_of, exponent_of, exponent_field, base_field, top_field}
 use Rattle.def_words.specs.LeastBounds.{coded, floor_units, ceil_units, units, exponent_for, IsLeastExponent, rounded_at, GivesBack, StaysInside, IsInside}
@@ -12,7 +13,7 @@ use Rattle.law_words.proofs.Leasts.{Good, good, exponent_is, ceil_le, whole, fin
 
 -- ---- gives back
 
-exponent_of_back : (rest e b t : ℕ) → (e ≤ 14) ⊎ (e ≡ 24) → b < 512 → t < 512 → exponent_of (rest * 2 ^ 22 + (coded e * 2 ^ 18 + b * 2 ^ 9 + t)) ≡ e
+exponent_of_back : (rest e b t : ℕ) → (e ≤ LAST_EXPONENT) ⊎ (e ≡ WIDEST_EXPONENT) → b < 512 → t < 512 → exponent_of (rest * 2 ^ 22 + (coded e * 2 ^ 18 + b * 2 ^ 9 + t)) ≡ e
 exponent_of_back rest e b t which hb ht =
     let is : exponent_field (rest * 2 ^ 22 + (coded e * 2 ^ 18 + b * 2 ^ 9 + t)) ≡ coded e = exponent_back rest (coded e) b t (coded_small e which) hb ht in
     rw is (code_back e which)
@@ -43,24 +44,31 @@ pub record Multiples (f b t : ℕ) : Type 0 where
   pub high : ℕ
   pub base_is : b ≡ low * 2 ^ f
   pub top_is : t ≡ high * 2 ^ f
-  pub near : (f ≤ 14) → (high ≤ low + 511) ⊎ (2 ^ (32 - f) ≤ low + 511)
+  pub near : (f ≤ LAST_EXPONENT) → (high ≤ low + MOST_UNITS) ⊎ (2 ^ (32 - f) ≤ low + MOST_UNITS)
+
+-- bounds as multiples of the unit whose fields these are, near each other
+pub record Units (f B T b t : ℕ) : Type 0 where
+  pub low : ℕ
+  pub high : ℕ
+  pub base_is : b ≡ low * 2 ^ f
+  pub top_is : t ≡ high * 2 ^ f
+  pub base_field_is : low % 512 ≡ B
+  pub top_field_is : high % 512 ≡ T
+  pub near : high ≤ low + MOST_UNITS
+  pub fits : low * 2 ^ f < 2 ^ 32
 
 -- the block of the address, or the one below it
-usual : (a f B T up down : ℕ) → f ≤ 14 → a < 2 ^ 32 → B < 512 → T < 512
-    → down ≤ a / 2 ^ f / 512 → (a / 2 ^ f / 512 - down) * 512 + B ≤ a / 2 ^ f
-    → up ≤ 1 → T + up * 512 ≤ B + 511
-    → Multiples f (corner_of a f B 0 down % 2 ^ 32) (corner_of a f T up down % 2 ^ 33)
-usual a f B T up down small a_small hb ht has under hu apart =
-    let k : ℕ = a / 2 ^ f / 512 in
-    let low : ℕ = (a / 2 ^ f / 512 - down) * 512 + B in
-    let high : ℕ = (a / 2 ^ f / 512 + up - down) * 512 + T in
+pub block_units : (a f B T up down : ℕ) → f ≤ LAST_EXPONENT → a < 2 ^ 32 → B < 512 → T < 512
+    → down ≤ a / 2 ^ f / 512 → (a / 2 ^ f / 512 - down) * 512 + B ≤ a / 2 ^ f → T + up * 512 ≤ B + MOST_UNITS
+    → Units f B T (corner_of a f B 0 down % 2 ^ 32) (corner_of a f T up down % 2 ^ 33)
+block_units a f B T up down small a_small hb ht has under apart =
     let p_small : 2 ^ f ≤ 2 ^ 14 = pow-le-pow_right (lit< tt) small in
     let unit : a / 2 ^ f * 2 ^ f ≤ a = div-mul-le_self a (2 ^ f) in
     let scaled : ((a / 2 ^ f / 512 - down) * 512 + B) * 2 ^ f ≤ a / 2 ^ f * 2 ^ f = mul-le ((a / 2 ^ f / 512 - down) * 512 + B) (2 ^ f) (a / 2 ^ f) (2 ^ f) under (omega arith) in
     let low_fits : ((a / 2 ^ f / 512 - down) * 512 + B) * 2 ^ f < 2 ^ 32 = omega (arith, scaled, unit, a_small) in
-    let near : (a / 2 ^ f / 512 + up - down) * 512 + T ≤ (a / 2 ^ f / 512 - down) * 512 + B + 511 = omega (arith, has, apart) in
-    let scaled_high : ((a / 2 ^ f / 512 + up - down) * 512 + T) * 2 ^ f ≤ ((a / 2 ^ f / 512 - down) * 512 + B + 511) * 2 ^ f = mul-le ((a / 2 ^ f / 512 + up - down) * 512 + T) (2 ^ f) ((a / 2 ^ f / 512 - down) * 512 + B + 511) (2 ^ f) near (omega arith) in
-    let split : ((a / 2 ^ f / 512 - down) * 512 + B + 511) * 2 ^ f ≡ ((a / 2 ^ f / 512 - down) * 512 + B) * 2 ^ f + 511 * 2 ^ f = omega arith in
+    let near : (a / 2 ^ f / 512 + up - down) * 512 + T ≤ (a / 2 ^ f / 512 - down) * 512 + B + MOST_UNITS = omega (arith, has, apart) in
+    let scaled_high : ((a / 2 ^ f / 512 + up - down) * 512 + T) * 2 ^ f ≤ ((a / 2 ^ f / 512 - down) * 512 + B + MOST_UNITS) * 2 ^ f = mul-le ((a / 2 ^ f / 512 + up - down) * 512 + T) (2 ^ f) ((a / 2 ^ f / 512 - down) * 512 + B + MOST_UNITS) (2 ^ f) near (omega arith) in
+    let split : ((a / 2 ^ f / 512 - down) * 512 + B + MOST_UNITS) * 2 ^ f ≡ ((a / 2 ^ f / 512 - down) * 512 + B) * 2 ^ f + 511 * 2 ^ f = omega arith in
     let high_fits : ((a / 2 ^ f / 512 + up - down) * 512 + T) * 2 ^ f < 2 ^ 33 = omega (arith, scaled_high, split, low_fits, p_small) in
     let sum_low : a / 2 ^ f / 512 + 2 ^ 24 + 0 - down ≡ (a / 2 ^ f / 512 - down) + 2 ^ 24 = omega (arith, has) in
     let sum_high : a / 2 ^ f / 512 + 2 ^ 24 + up - down ≡ (a / 2 ^ f / 512 + up - down) + 2 ^ 24 = omega (arith, has) in
@@ -73,11 +81,21 @@ usual a f B T up down small a_small hb ht has under hu apart =
       high = (a / 2 ^ f / 512 + up - down) * 512 + T;
       base_is = rw (corner_low, moved_low) (wrap_32 ((a / 2 ^ f / 512 - down) * 512 + B) (2 ^ f) low_fits);
       top_is = rw (corner_high, moved_high) (wrap_33 ((a / 2 ^ f / 512 + up - down) * 512 + T) (2 ^ f) high_fits);
-      near = λ _. inl near;
+      base_field_is = omega (arith, hb);
+      top_field_is = omega (arith, ht);
+      near = near;
+      fits = low_fits;
     }
 
+usual : (a f B T up down : ℕ) → f ≤ LAST_EXPONENT → a < 2 ^ 32 → B < 512 → T < 512
+    → down ≤ a / 2 ^ f / 512 → (a / 2 ^ f / 512 - down) * 512 + B ≤ a / 2 ^ f → T + up * 512 ≤ B + MOST_UNITS
+    → Multiples f (corner_of a f B 0 down % 2 ^ 32) (corner_of a f T up down % 2 ^ 33)
+usual a f B T up down small a_small hb ht has under apart =
+    let u = block_units a f B T up down small a_small hb ht has under apart in
+    record { low = u.low; high = u.high; base_is = u.base_is; top_is = u.top_is; near = λ _. inl u.near }
+
 -- the lowest block, and an address below the unit of B: the base is at the end of the space
-wraps : (a f B T up : ℕ) → f ≤ 14 → B < 512 → 1 ≤ B → T < 512 → a / 2 ^ f / 512 ≡ 0 → (up ≡ 0) ⊎ (up ≡ 1)
+wraps : (a f B T up : ℕ) → f ≤ LAST_EXPONENT → B < 512 → 1 ≤ B → T < 512 → a / 2 ^ f / 512 ≡ 0 → (up ≡ 0) ⊎ (up ≡ 1)
     → Multiples f (corner_of a f B 0 1 % 2 ^ 32) (corner_of a f T up 1 % 2 ^ 33)
 wraps a f B T up small hb some ht lowest which =
     let p_small : 2 ^ f ≤ 2 ^ 14 = pow-le-pow_right (lit< tt) small in
@@ -131,7 +149,7 @@ wraps a f B T up small hb some ht lowest which =
           })
     ]
 
-widest : (a B T up down : ℕ) → B < 512 → T < 512 → up ≤ 1 → down ≤ 1 → Multiples 24 (corner_of a 24 B 0 down % 2 ^ 32) (corner_of a 24 T up down % 2 ^ 33)
+widest : (a B T up down : ℕ) → B < 512 → T < 512 → up ≤ 1 → down ≤ 1 → Multiples WIDEST_EXPONENT (corner_of a WIDEST_EXPONENT B 0 down % 2 ^ 32) (corner_of a WIDEST_EXPONENT T up down % 2 ^ 33)
 widest a B T up down hb ht hu hd = record {
   low = B % 256;
   high = T;
@@ -140,29 +158,29 @@ widest a B T up down hb ht hu hd = record {
   near = λ small. absurd (omega (arith, small));
 }
 
-at_most_one : (x y : ℕ) → one_if_less x y ≤ 1
+pub at_most_one : (x y : ℕ) → one_if_less x y ≤ 1
 at_most_one x y = elim (lt_tells x y) [ inl t ↦ rw t.0 (omega arith) | inr t ↦ rw t.0 (omega arith) ]
 
 zero_or_one : (x y : ℕ) → (one_if_less x y ≡ 0) ⊎ (one_if_less x y ≡ 1)
 zero_or_one x y = elim (lt_tells x y) [ inl t ↦ inr (rw t.0 refl) | inr t ↦ inl (rw t.0 refl) ]
 
-apart : (T B : ℕ) → B < 512 → T < 512 → T + one_if_less T B * 512 ≤ B + 511
+pub apart : (T B : ℕ) → B < 512 → T < 512 → T + one_if_less T B * 512 ≤ B + MOST_UNITS
 apart T B hb ht = elim (lt_tells T B) [ inl t ↦ rw t.0 (omega (arith, t.1)) | inr t ↦ rw t.0 (omega (arith, ht)) ]
 
-narrow : (a f B T : ℕ) → f ≤ 14 → a < 2 ^ 32 → B < 512 → T < 512
+narrow : (a f B T : ℕ) → f ≤ LAST_EXPONENT → a < 2 ^ 32 → B < 512 → T < 512
     → Multiples f (corner_of a f B 0 (one_if_less (middle a f) B) % 2 ^ 32) (corner_of a f T (one_if_less T B) (one_if_less (middle a f) B) % 2 ^ 33)
 narrow a f B T small a_small hb ht = elim (lt_tells (middle a f) B) [
   | inl t ↦ rw t.0 (elim (le_tells 1 (a / 2 ^ f / 512)) [
-    | inl s ↦ usual a f B T (one_if_less T B) 1 small a_small hb ht s.1 (omega (arith, s.1, hb)) (at_most_one T B) (apart T B hb ht)
+    | inl s ↦ usual a f B T (one_if_less T B) 1 small a_small hb ht s.1 (omega (arith, s.1, hb)) (apart T B hb ht)
     | inr s ↦ wraps a f B T (one_if_less T B) small hb (omega (arith, t.1)) ht (omega (arith, s.1)) (zero_or_one T B)
   ])
-  | inr t ↦ rw t.0 (usual a f B T (one_if_less T B) 0 small a_small hb ht (omega arith) (omega (arith, t.1)) (at_most_one T B) (apart T B hb ht))
+  | inr t ↦ rw t.0 (usual a f B T (one_if_less T B) 0 small a_small hb ht (omega arith) (omega (arith, t.1)) (apart T B hb ht))
 ]
 
-which_exponent : (high : ℕ) → ((exponent_of high ≤ 14) × (exponent_of high ≡ exponent_of high)) ⊎ (exponent_of high ≡ 24)
+which_exponent : (high : ℕ) → ((exponent_of high ≤ LAST_EXPONENT) × (exponent_of high ≡ exponent_of high)) ⊎ (exponent_of high ≡ WIDEST_EXPONENT)
 which_exponent high = elim (eq_tells (exponent_field high) 15) [ inl t ↦ inr (rw t.0 refl) | inr t ↦ inl (rw t.0 (omega (arith, t.1)), refl) ]
 
-multiples_at : (a f B T : ℕ) → (f ≤ 14) ⊎ (f ≡ 24) → a < 2 ^ 32 → B < 512 → T < 512
+multiples_at : (a f B T : ℕ) → (f ≤ LAST_EXPONENT) ⊎ (f ≡ WIDEST_EXPONENT) → a < 2 ^ 32 → B < 512 → T < 512
     → Multiples f (corner_of a f B 0 (one_if_less (middle a f) B) % 2 ^ 32) (corner_of a f T (one_if_less T B) (one_if_less (middle a f) B) % 2 ^ 33)
 multiples_at a f B T which a_small hb ht = elim which [
   | inl small ↦ narrow a f B T small a_small hb ht
@@ -170,13 +188,13 @@ multiples_at a f B T which a_small hb ht = elim which [
       (widest a B T (one_if_less T B) (one_if_less (middle a 24) B) hb ht (at_most_one T B) (at_most_one (middle a 24) B))
 ]
 
-pub exponent_kinds : (high : ℕ) → (exponent_of high ≤ 14) ⊎ (exponent_of high ≡ 24)
+pub exponent_kinds : (high : ℕ) → (exponent_of high ≤ LAST_EXPONENT) ⊎ (exponent_of high ≡ WIDEST_EXPONENT)
 exponent_kinds high = elim (which_exponent high) [ inl t ↦ inl t.0 | inr t ↦ inr t ]
 
 pub multiples : (high a : ℕ) → a < 2 ^ 32 → Multiples (exponent_of high) (base_of high a) (top_of high a)
 multiples high a a_small = multiples_at a (exponent_of high) (base_field high) (top_field high) (exponent_kinds high) a_small (omega arith) (omega arith)
 
-stays_at : (base top e f b t : ℕ) → Good base top e → IsLeastExponent base top e → top ≤ 2 ^ 32 → (f ≤ 14) ⊎ (f ≡ 24) → Multiples f b t → b ≤ base → top ≤ t
+stays_at : (base top e f b t : ℕ) → Good base top e → IsLeastExponent base top e → top ≤ 2 ^ 32 → (f ≤ LAST_EXPONENT) ⊎ (f ≡ WIDEST_EXPONENT) → Multiples f b t → b ≤ base → top ≤ t
     → (b ≤ floor_units base e * 2 ^ e) × (ceil_units top e * 2 ^ e ≤ t)
 stays_at base top e f b t g least_e le which m low high =
     let at_low : m.low * 2 ^ f ≤ base = rw (← m.base_is) low in

@@ -4,10 +4,8 @@ use Rattle.std.proofs.Common.{ℕ, ◌≡◌, ◌+◌, ◌-◌, ◌*◌, ◌/◌
 use Rattle.std.proofs.Math.Nat.{add-mul-mod_self_right, mod-add-mod}
 use Rattle.std.proofs.lemmas.Nat.{pow-add}
 use Rattle.law_lists.proofs.Tests.{lt_tells}
+use Rattle.law_words.proofs.Back.{at_most_one}
 use Rattle.def_words.specs.Authority.{base_field, base_of, corner_of, exponent_of, middle, one_if_less, top_field, top_of}
-
-one_or_none : (a b : ℕ) → one_if_less a b ≤ 1
-one_or_none a b = elim (lt_tells a b) [ inl e ↦ rw e.0 (omega arith) | inr e ↦ rw e.0 (omega arith) ]
 
 -- a block less and a block more, over plain numbers
 moved : (b p up down : ℕ) → down ≤ 1 → (b + 16777216 + up - down) * p + down * p ≡ (b + up) * p + 16777216 * p
@@ -43,7 +41,7 @@ pub base_is_block : (high a : ℕ) → (base_of high a + one_if_less (middle a (
 base_is_block high a =
     let e : ℕ = exponent_of high in
     let down : ℕ = one_if_less (middle a e) (base_field high) in
-    let is = corner_modulo a e (base_field high) 0 down (2 ^ 32) 2 (one_or_none (middle a e) (base_field high)) refl in
+    let is = corner_modulo a e (base_field high) 0 down (2 ^ 32) 2 (at_most_one (middle a e) (base_field high)) refl in
     let none : a / 2 ^ (e + 9) + 0 ≡ a / 2 ^ (e + 9) = omega arith in
     mod-add-mod (corner_of a e (base_field high) 0 down) (2 ^ 32) (down * 2 ^ (e + 9)) ∙ is ∙ ap (λ n. (n * 2 ^ (e + 9) + base_field high * 2 ^ e) % 2 ^ 32) none
 
@@ -53,4 +51,4 @@ top_is_block high a =
     let e : ℕ = exponent_of high in
     let down : ℕ = one_if_less (middle a e) (base_field high) in
     let up : ℕ = one_if_less (top_field high) (base_field high) in
-    mod-add-mod (corner_of a e (top_field high) up down) (2 ^ 33) (down * 2 ^ (e + 9)) ∙ corner_modulo a e (top_field high) up down (2 ^ 33) 1 (one_or_none (middle a e) (base_field high)) refl
+    mod-add-mod (corner_of a e (top_field high) up down) (2 ^ 33) (down * 2 ^ (e + 9)) ∙ corner_modulo a e (top_field high) up down (2 ^ 33) 1 (at_most_one (middle a e) (base_field high)) refl

@@ -1,11 +1,12 @@
 -- What needs no rounding: a range of at most 511 addresses.
 use Rattle.std.proofs.Common.{ℕ, ◌+◌, ◌<◌, ◌≤◌, ◌≡◌, ◌==◌, ◌&&◌, true, refl, arith, inl, inr}
 use Rattle.std.proofs.Common.{eq-eqb}
+use Rattle.def_profile.specs.declared.bounds.TheConstants.{LAST_EXPONENT, MOST_UNITS}
 use Rattle.law_lists.proofs.Tests.{le_tells}
 use Rattle.def_words.specs.LeastBounds.{floor_units, ceil_units, units, exponent_for, rounded_of}
 use Rattle.law_words.proofs.Leasts.{exponent_is}
 
-pub no_larger : (base top e : ℕ) → e ≤ 14 → units base top e ≤ 511 → exponent_for base top ≤ e
+pub no_larger : (base top e : ℕ) → e ≤ LAST_EXPONENT → units base top e ≤ MOST_UNITS → exponent_for base top ≤ e
 no_larger base top e small serves = elim (le_tells (exponent_for base top) e) [
   | inl t ↦ t.1
   | inr t ↦ absurd (let fails : 511 < units base top e = (exponent_is base top).least e t.1 small in omega (arith, fails, serves))
@@ -17,7 +18,7 @@ floor_one b = omega arith
 ceil_one : (t : ℕ) → ceil_units t 0 ≡ t
 ceil_one t = omega arith
 
-pub exponent_zero : (base length : ℕ) → length ≤ 511 → exponent_for base (base + length) ≡ 0
+pub exponent_zero : (base length : ℕ) → length ≤ MOST_UNITS → exponent_for base (base + length) ≡ 0
 exponent_zero base length few =
     let serves : units base (base + length) 0 ≤ 511 = rw (floor_one base, ceil_one (base + length)) (omega (arith, few)) in
     let small : exponent_for base (base + length) ≤ 0 = no_larger base (base + length) 0 (omega arith) serves in

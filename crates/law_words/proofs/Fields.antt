@@ -2,12 +2,13 @@
 -- least bounds give their parts back.
 use Rattle.std.proofs.Common.{ℕ, ◌+◌, ◌-◌, ◌*◌, ◌/◌, ◌%◌, ◌^◌, ◌<◌, ◌≤◌, ◌≡◌, ◌⊎◌, ◌==◌, if◌then◌else◌, refl, sym, inl, inr, arith}
 use Rattle.std.proofs.lemmas.Nat.{pow_pos, pow-add, shr-shr, mod-mul-add, le-div, div_below}
+use Rattle.def_profile.specs.declared.bounds.TheConstants.{LAST_EXPONENT, WIDEST_EXPONENT, WIDEST_FIELD, MOST_UNITS}
 use Rattle.law_lists.proofs.Tests.{lt_tells, eq_tells}
 use Rattle.def_words.specs.Authority.{one_if_less, corner_of, middle, base_of, top_of, exponent_of, exponent_field, base_field, top_field}
 use Rattle.def_words.specs.LeastBounds.{coded}
 
 -- the whole of decoding: how many blocks lie between two units that are at most 511 apart
-pub block : (lo x : ℕ) → lo ≤ x → x ≤ lo + 511 → x / 512 ≡ lo / 512 + one_if_less (x % 512) (lo % 512)
+pub block : (lo x : ℕ) → lo ≤ x → x ≤ lo + MOST_UNITS → x / 512 ≡ lo / 512 + one_if_less (x % 512) (lo % 512)
 block lo x low high = elim (lt_tells (x % 512) (lo % 512)) [ inl t ↦ rw t.0 (omega (arith, t.1)) | inr t ↦ rw t.0 (omega (arith, t.1)) ]
 
 pub corner_sum : (a e field up down s : ℕ) → a / 2 ^ e / 512 + 2 ^ 24 + up - down ≡ s → corner_of a e field up down ≡ (s * 512 + field) * 2 ^ e
@@ -39,7 +40,7 @@ wrap_33 x p small =
     let split : (x + 2 ^ 33) * p ≡ p * 2 ^ 33 + x * p = omega arith in
     rw split (mod-mul-add p (2 ^ 33) (x * p) small)
 
-pub base_back : (a e lo hi : ℕ) → lo * 2 ^ e ≤ a → a ≤ hi * 2 ^ e → hi ≤ lo + 511 → lo * 2 ^ e < 2 ^ 32
+pub base_back : (a e lo hi : ℕ) → lo * 2 ^ e ≤ a → a ≤ hi * 2 ^ e → hi ≤ lo + MOST_UNITS → lo * 2 ^ e < 2 ^ 32
     → corner_of a e (lo % 512) 0 (one_if_less (middle a e) (lo % 512)) % 2 ^ 32 ≡ lo * 2 ^ e
 base_back a e lo hi low high near small =
     let from : lo ≤ a / 2 ^ e = unit_low a e lo low in
@@ -50,7 +51,7 @@ base_back a e lo hi low high near small =
     let whole : (lo / 512 + 2 ^ 24) * 512 + lo % 512 ≡ lo + 2 ^ 33 = omega arith in
     rw (corner, whole) (wrap_32 lo (2 ^ e) small)
 
-pub top_back : (a e lo hi : ℕ) → lo * 2 ^ e ≤ a → a ≤ hi * 2 ^ e → lo ≤ hi → hi ≤ lo + 511 → hi * 2 ^ e ≤ 2 ^ 32
+pub top_back : (a e lo hi : ℕ) → lo * 2 ^ e ≤ a → a ≤ hi * 2 ^ e → lo ≤ hi → hi ≤ lo + MOST_UNITS → hi * 2 ^ e ≤ 2 ^ 32
     → corner_of a e (hi % 512) (one_if_less (hi % 512) (lo % 512)) (one_if_less (middle a e) (lo % 512)) % 2 ^ 33 ≡ hi * 2 ^ e
 top_back a e lo hi low high order near small =
     let from : lo ≤ a / 2 ^ e = unit_low a e lo low in
@@ -64,10 +65,10 @@ top_back a e lo hi low high order near small =
 
 -- ---- the fields of a word
 
-pub coded_small : (e : ℕ) → (e ≤ 14) ⊎ (e ≡ 24) → coded e < 16
+pub coded_small : (e : ℕ) → (e ≤ LAST_EXPONENT) ⊎ (e ≡ WIDEST_EXPONENT) → coded e < 16
 coded_small e which = elim (eq_tells e 24) [ inl t ↦ rw t.0 (omega arith) | inr t ↦ rw t.0 (elim which [ inl low ↦ omega (arith, low) | inr is ↦ absurd (t.1 is) ]) ]
 
-pub code_back : (e : ℕ) → (e ≤ 14) ⊎ (e ≡ 24) → (if coded e == 15 then 24 else coded e) ≡ e
+pub code_back : (e : ℕ) → (e ≤ LAST_EXPONENT) ⊎ (e ≡ WIDEST_EXPONENT) → (if coded e == WIDEST_FIELD then WIDEST_EXPONENT else coded e) ≡ e
 code_back e which =
     elim (eq_tells e 24) [
       | inl t ↦ rw t.0 (sym t.1)

@@ -2,14 +2,15 @@
 use Rattle.std.proofs.Common.{ℕ, zero, suc, ◌+◌, ◌-◌, ◌*◌, ◌/◌, ◌%◌, ◌^◌, ◌<◌, ◌≤◌, ◌≡◌, ◌⊎◌, refl, ap, sym, ◌∙◌, inl, inr, arith}
 use Rattle.std.proofs.lemmas.Nat.{pow_pos, pow-add, le-div, div_below, mul-le, div-add-mod', mod_below}
 use Rattle.std.proofs.Math.Nat.{div-mul-le_self}
+use Rattle.def_profile.specs.declared.bounds.TheConstants.{LAST_EXPONENT, WIDEST_EXPONENT, MOST_UNITS}
 use Rattle.law_lists.proofs.Tests.{le_tells}
 use Rattle.def_words.specs.LeastBounds.{floor_units, ceil_units, units, first_from, exponent_for, IsLeastExponent}
 
 pub record FirstFrom (base top e n r : ℕ) : Type 0 where
-  pub serves : ((e ≤ r) × (r < e + n) × (units base top r ≤ 511)) ⊎ (r ≡ 24)
-  pub least : (k : ℕ) → e ≤ k → k < e + n → k < r → 511 < units base top k
+  pub serves : ((e ≤ r) × (r < e + n) × (units base top r ≤ MOST_UNITS)) ⊎ (r ≡ WIDEST_EXPONENT)
+  pub least : (k : ℕ) → e ≤ k → k < e + n → k < r → MOST_UNITS < units base top k
 
-later : (base top e n r : ℕ) → 511 < units base top e → FirstFrom base top (e + 1) n r → FirstFrom base top e (suc n) r
+later : (base top e n r : ℕ) → MOST_UNITS < units base top e → FirstFrom base top (e + 1) n r → FirstFrom base top e (suc n) r
 later base top e n r fails h = record {
   serves = elim h.serves [ inl s ↦ inl (omega (arith, s.0), omega (arith, s.1), s.2) | inr is ↦ inr is ];
   least = λ k low high below. elim (le_tells k e) [
@@ -79,21 +80,21 @@ finer e f k le = let split : 2 ^ (f - e) * 2 ^ e ≡ 2 ^ f = whole e f le in rw 
 
 -- what the least exponent of a range gives
 pub record Good (base top e : ℕ) : Type 0 where
-  pub exponent_small : (e ≤ 14) ⊎ (e ≡ 24)
-  pub near : ceil_units top e ≤ floor_units base e + 511
+  pub exponent_small : (e ≤ LAST_EXPONENT) ⊎ (e ≡ WIDEST_EXPONENT)
+  pub near : ceil_units top e ≤ floor_units base e + MOST_UNITS
   pub order : floor_units base e ≤ ceil_units top e
   pub low : floor_units base e * 2 ^ e ≤ base
   pub high : top ≤ ceil_units top e * 2 ^ e
   pub fits : ceil_units top e * 2 ^ e ≤ 2 ^ 32
 
-fits_small : (top e : ℕ) → e ≤ 14 → top ≤ 2 ^ 32 → ceil_units top e * 2 ^ e ≤ 2 ^ 32
+fits_small : (top e : ℕ) → e ≤ LAST_EXPONENT → top ≤ 2 ^ 32 → ceil_units top e * 2 ^ e ≤ 2 ^ 32
 fits_small top e small le =
     let all : 2 ^ (32 - e) * 2 ^ e ≡ 2 ^ 32 = whole e 32 (omega (arith, small)) in
     let under : ceil_units top e ≤ 2 ^ (32 - e) = ceil_le top (2 ^ (32 - e)) e (rw all le) in
     let scaled : ceil_units top e * 2 ^ e ≤ 2 ^ (32 - e) * 2 ^ e = mul-le (ceil_units top e) (2 ^ e) (2 ^ (32 - e)) (2 ^ e) under (omega arith) in
     omega (arith, scaled, all)
 
-fits_widest : (top e : ℕ) → e ≡ 24 → top ≤ 2 ^ 32 → (ceil_units top e ≤ 256) × (ceil_units top e * 2 ^ e ≤ 2 ^ 32)
+fits_widest : (top e : ℕ) → e ≡ WIDEST_EXPONENT → top ≤ 2 ^ 32 → (ceil_units top e ≤ 256) × (ceil_units top e * 2 ^ e ≤ 2 ^ 32)
 fits_widest top e is le = rw is (omega (arith, le), omega (arith, le))
 
 pub good_at : (base top e : ℕ) → IsLeastExponent base top e → base ≤ top → top ≤ 2 ^ 32 → Good base top e

@@ -1,6 +1,7 @@
 -- What `derive` makes of a root, and that operations leave no shadow on untagged results.
 use Rattle.std.proofs.Common.{ℕ, ◌+◌, ◌*◌, ◌/◌, ◌%◌, ◌^◌, ◌<◌, ◌≤◌, ◌≡◌, ◌==◌, Bool, true, ◌&&◌, nat_le, refl, ap, sym, ◌∙◌, inl, inr, arith, bit_and, eq-eqb}
 use Rattle.std.proofs.lemmas.Bool.{eqb-true, le-leb, and_parts}
+use Rattle.def_profile.specs.declared.bounds.TheConstants.{WIDEST_EXPONENT}
 use Rattle.def_words.specs.declared.Cap.{Cap}
 use Rattle.def_words.specs.declared.Shadow.{Shadow}
 use Rattle.def_words.specs.Authority.{word_of, cap_address, cap_high, cap_bounds, cap_base, cap_top, bounds_of, base_of, top_of, exponent_of, base_field, top_field, seal_field, permission_bits}
@@ -23,7 +24,7 @@ settled t w s off = rw off refl
 
 -- ---- roots
 
-root_exponent : (high : ℕ) → IsRoot high → exponent_of high ≡ 24
+root_exponent : (high : ℕ) → IsRoot high → exponent_of high ≡ WIDEST_EXPONENT
 root_exponent high r = let coded : high / 2 ^ 18 % 16 ≡ 15 = omega (arith, r.low) in rw coded refl
 
 pub root_base : (high a : ℕ) → IsRoot high → a < 2 ^ 32 → base_of high a ≡ 0

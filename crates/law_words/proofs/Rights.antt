@@ -1,6 +1,6 @@
 -- The roots, and the rights of each kind of entry: they are legal, and the root that they are taken from spells them.
-use Rattle.std.proofs.Common.{◌≡◌, ◌+◌, refl, false}
-use Rattle.def_profile.specs.declared.rights.TheConstants.{CODE_RIGHTS, GLOBALS_RIGHTS, HEAP_RIGHTS, STACK_RIGHTS, SERVICE_RIGHTS, SEALED_RIGHTS, EXPORT_RIGHTS, QUOTA_RIGHTS, KEY_RIGHTS, GL, LD, SD}
+use Rattle.std.proofs.Common.{ℕ, ◌≡◌, ◌+◌, refl, false}
+use Rattle.def_profile.specs.declared.rights.TheConstants.{CODE_RIGHTS, GLOBALS_RIGHTS, HEAP_RIGHTS, STACK_RIGHTS, SERVICE_RIGHTS, SEALED_RIGHTS, EXPORT_RIGHTS, QUOTA_RIGHTS, KEY_RIGHTS, GL, LD, LG, LM, MC, SD}
 use Rattle.def_words.specs.Derive.{memory_root, executable_root, sealing_root}
 use Rattle.def_words.specs.Permissions.{IsLegal, bit, form_of, global, normal_set, set_where, store_local, unpacked}
 use Rattle.law_words.specs.Facts.{IsRoot, Spells}
@@ -17,105 +17,45 @@ pub sealing_is_root : IsRoot sealing_root
 unfolding sealing_root
 sealing_is_root = record { low = refl; unsealed = refl }
 
--- ---- legal
+-- legal, and spelled by the root
+abbrev pub Taken : ℕ → ℕ → Type 0
+Taken root set = IsLegal set × Spells root set
 
-pub code_legal : IsLegal CODE_RIGHTS
-unfolding normal_set set_where form_of bit
-code_legal = refl
+-- the rights of each kind of entry, and those that a row of a device or a shared object may have
+pub record KindsTaken : Type 0 where
+  pub code : Taken executable_root CODE_RIGHTS
+  pub service : Taken executable_root SERVICE_RIGHTS
+  pub globals : Taken memory_root GLOBALS_RIGHTS
+  pub heap : Taken memory_root HEAP_RIGHTS
+  pub stack : Taken memory_root STACK_RIGHTS
+  pub sealed : Taken memory_root SEALED_RIGHTS
+  pub export : Taken memory_root EXPORT_RIGHTS
+  pub quota : Taken memory_root QUOTA_RIGHTS
+  pub key : Taken sealing_root KEY_RIGHTS
+  pub read : Taken memory_root (GL + LD)
+  pub write : Taken memory_root (GL + SD)
+  pub read_write : Taken memory_root (GL + LD + SD)
+  pub carry : Taken memory_root (GL + LD + MC + LM + LG)
+  pub put : Taken memory_root (GL + SD + MC)
 
-pub globals_legal : IsLegal GLOBALS_RIGHTS
-unfolding normal_set set_where form_of bit
-globals_legal = refl
-
-pub heap_legal : IsLegal HEAP_RIGHTS
-unfolding normal_set set_where form_of bit
-heap_legal = refl
-
-pub stack_legal : IsLegal STACK_RIGHTS
-unfolding normal_set set_where form_of bit
-stack_legal = refl
-
-pub service_legal : IsLegal SERVICE_RIGHTS
-unfolding normal_set set_where form_of bit
-service_legal = refl
-
-pub sealed_legal : IsLegal SEALED_RIGHTS
-unfolding normal_set set_where form_of bit
-sealed_legal = refl
-
-pub export_legal : IsLegal EXPORT_RIGHTS
-unfolding normal_set set_where form_of bit
-export_legal = refl
-
-pub quota_legal : IsLegal QUOTA_RIGHTS
-unfolding normal_set set_where form_of bit
-quota_legal = refl
-
-pub key_legal : IsLegal KEY_RIGHTS
-unfolding normal_set set_where form_of bit
-key_legal = refl
-
-pub read_legal : IsLegal (GL + LD)
-unfolding normal_set set_where form_of bit
-read_legal = refl
-
-pub write_legal : IsLegal (GL + SD)
-unfolding normal_set set_where form_of bit
-write_legal = refl
-
-pub read_write_legal : IsLegal (GL + LD + SD)
-unfolding normal_set set_where form_of bit
-read_write_legal = refl
-
--- ---- spelled
-
-pub code_spelled : Spells executable_root CODE_RIGHTS
-unfolding executable_root unpacked normal_set set_where form_of bit
-code_spelled = refl
-
-pub service_spelled : Spells executable_root SERVICE_RIGHTS
-unfolding executable_root unpacked normal_set set_where form_of bit
-service_spelled = refl
-
-pub globals_spelled : Spells memory_root GLOBALS_RIGHTS
-unfolding memory_root unpacked normal_set set_where form_of bit
-globals_spelled = refl
-
-pub heap_spelled : Spells memory_root HEAP_RIGHTS
-unfolding memory_root unpacked normal_set set_where form_of bit
-heap_spelled = refl
-
-pub stack_spelled : Spells memory_root STACK_RIGHTS
-unfolding memory_root unpacked normal_set set_where form_of bit
-stack_spelled = refl
-
-pub sealed_spelled : Spells memory_root SEALED_RIGHTS
-unfolding memory_root unpacked normal_set set_where form_of bit
-sealed_spelled = refl
-
-pub export_spelled : Spells memory_root EXPORT_RIGHTS
-unfolding memory_root unpacked normal_set set_where form_of bit
-export_spelled = refl
-
-pub quota_spelled : Spells memory_root QUOTA_RIGHTS
-unfolding memory_root unpacked normal_set set_where form_of bit
-quota_spelled = refl
-
-pub key_spelled : Spells sealing_root KEY_RIGHTS
-unfolding sealing_root unpacked normal_set set_where form_of bit
-key_spelled = refl
-
-pub read_spelled : Spells memory_root (GL + LD)
-unfolding memory_root unpacked normal_set set_where form_of bit
-read_spelled = refl
-
-pub write_spelled : Spells memory_root (GL + SD)
-unfolding memory_root unpacked normal_set set_where form_of bit
-write_spelled = refl
-
-pub read_write_spelled : Spells memory_root (GL + LD + SD)
-unfolding memory_root unpacked normal_set set_where form_of bit
-read_write_spelled = refl
+pub taken : KindsTaken
+unfolding executable_root memory_root sealing_root unpacked normal_set set_where form_of bit
+taken = record {
+  code = (refl, refl);
+  service = (refl, refl);
+  globals = (refl, refl);
+  heap = (refl, refl);
+  stack = (refl, refl);
+  sealed = (refl, refl);
+  export = (refl, refl);
+  quota = (refl, refl);
+  key = (refl, refl);
+  read = (refl, refl);
+  write = (refl, refl);
+  read_write = (refl, refl);
+  carry = (refl, refl);
+  put = (refl, refl);
+}
 
 -- ---- what only a stack may be
 

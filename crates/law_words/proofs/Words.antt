@@ -1,5 +1,6 @@
 -- One field of a word changed: the others stay, and what they decode to stays.
 use Rattle.std.proofs.Common.{ℕ, ◌+◌, ◌/◌, ◌%◌, ◌^◌, ◌<◌, ◌≡◌, ◌==◌, Bool, true, false, if◌then◌else◌, refl, ap, sym, ◌∙◌, inl, inr, arith}
+use Rattle.def_profile.specs.declared.bounds.TheConstants.{WIDEST_EXPONENT, WIDEST_FIELD}
 use Rattle.law_lists.proofs.Tests.{eq_tells}
 use Rattle.def_words.specs.declared.Cap.{Cap}
 use Rattle.def_words.specs.declared.Bounds.{Bounds}
@@ -59,9 +60,9 @@ top_low h = omega arith
 -- bounds by fields
 fields_bounds : ℕ → ℕ → ℕ → ℕ → Bounds
 fields_bounds e b t a = record {
-  exponent = if e == 15 then 24 else e;
-  base = corner_of a (if e == 15 then 24 else e) b 0 (one_if_less (middle a (if e == 15 then 24 else e)) b) % 2 ^ 32;
-  top = corner_of a (if e == 15 then 24 else e) t (one_if_less t b) (one_if_less (middle a (if e == 15 then 24 else e)) b) % 2 ^ 33;
+  exponent = if e == WIDEST_FIELD then WIDEST_EXPONENT else e;
+  base = corner_of a (if e == WIDEST_FIELD then WIDEST_EXPONENT else e) b 0 (one_if_less (middle a (if e == WIDEST_FIELD then WIDEST_EXPONENT else e)) b) % 2 ^ 32;
+  top = corner_of a (if e == WIDEST_FIELD then WIDEST_EXPONENT else e) t (one_if_less t b) (one_if_less (middle a (if e == WIDEST_FIELD then WIDEST_EXPONENT else e)) b) % 2 ^ 33;
 }
 
 by_fields : (h a : ℕ) → bounds_of h a ≡ fields_bounds (exponent_field h) (base_field h) (top_field h) a

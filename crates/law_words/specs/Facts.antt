@@ -1,5 +1,6 @@
 -- What the laws say of keys, loads and derivation.
 use Rattle.std.specs.Prelude.{ℕ, ◌+◌, ◌*◌, ◌%◌, ◌^◌, ◌<◌, ◌≤◌, ◌≡◌, ◌≢◌, ◌⊎◌, true, bit_and}
+use Rattle.def_profile.specs.declared.bounds.TheConstants.{WIDEST_FIELD}
 use Rattle.def_words.specs.declared.Cap.{Cap}
 use Rattle.def_words.specs.Authority.{cap_address, cap_base, cap_top, cap_bounds, seal_field, permission_bits}
 use Rattle.def_words.specs.LeastBounds.{rounded_of}
@@ -39,7 +40,7 @@ pub record IsLoaded (c d : Cap) : Type 0 where
 
 -- the high word of a root: all addresses, unsealed
 pub record IsRoot (high : ℕ) : Type 0 where
-  pub low : high % 2 ^ 22 ≡ 15 * 2 ^ 18 + 256
+  pub low : high % 2 ^ 22 ≡ WIDEST_FIELD * 2 ^ 18 + 256
   pub unsealed : seal_field high ≡ 0
 
 -- a root's high word spells exactly this set where it is asked for

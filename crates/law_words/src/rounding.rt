@@ -1,6 +1,7 @@
 //! What least bounds keep.
 
 ghost use Rattle.std.specs.Prelude.{◌*◌, ◌/◌, ◌%◌, ◌+◌, ◌^◌, ◌<◌, ◌≡◌, ◌≤◌, true, ℕ};
+ghost use Rattle.def_profile.specs.declared.bounds.TheConstants.{LAST_EXPONENT, MOST_UNITS};
 ghost use Rattle.def_words.specs.Authority.{base_field, base_of, exponent_of, middle, one_if_less, top_field, top_of};
 ghost use Rattle.def_words.specs.LeastBounds.{GivesBack, IsLeastExponent, StaysInside, exponent_for, rounded_of, units};
 
@@ -20,17 +21,17 @@ pub fn rounding_holds()
 pub fn least_exponent()
     ensures is { (base top : ℕ) → IsLeastExponent base top (exponent_for base top) }
     ensures only { (base top e : ℕ) → IsLeastExponent base top e → e ≡ exponent_for base top }
-    ensures no_larger { (base top e : ℕ) → e ≤ 14 → units base top e ≤ 511
+    ensures no_larger { (base top e : ℕ) → e ≤ LAST_EXPONENT → units base top e ≤ MOST_UNITS
         → exponent_for base top ≤ e }
 {}
 
 /// A range of at most 511 addresses is spelled exactly.
 pub fn exact_where_short()
-    ensures base_same { (base length : ℕ) → length ≤ 511
+    ensures base_same { (base length : ℕ) → length ≤ MOST_UNITS
         → (rounded_of base (base + length)).base ≡ base }
-    ensures top_same { (base length : ℕ) → length ≤ 511
+    ensures top_same { (base length : ℕ) → length ≤ MOST_UNITS
         → (rounded_of base (base + length)).top ≡ base + length }
-    ensures exact { (base length : ℕ) → length ≤ 511
+    ensures exact { (base length : ℕ) → length ≤ MOST_UNITS
         → (rounded_of base (base + length)).exact ≡ true }
 {}
 

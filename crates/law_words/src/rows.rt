@@ -1,6 +1,7 @@
 //! The definitions at worked values: each row computes.
 
 ghost use Rattle.std.specs.Prelude.{false, true, ◌+◌, ◌<◌, ◌^◌, ◌≡◌, ℕ};
+ghost use Rattle.def_profile.specs.declared.bounds.TheConstants.{WIDEST_EXPONENT};
 ghost use Rattle.def_profile.specs.declared.rights.TheConstants.{CODE_RIGHTS, EX, EXPORT_RIGHTS, GL, GLOBALS_RIGHTS, HEAP_RIGHTS, KEY_RIGHTS, LD, LG, LM, MC, QUOTA_RIGHTS, SD, SE, SEALED_RIGHTS, SERVICE_RIGHTS, SL, SR, STACK_RIGHTS, U0, US};
 ghost use Rattle.def_words.specs.Authority.{base_of, bounds_of, cap_base, cap_top, top_of};
 ghost use Rattle.def_words.specs.Capability.{masked, nowhere, sealed_by, unsealed_by};
@@ -20,9 +21,9 @@ pub fn roots_hold_all()
     ensures highest { (high address : ℕ) → IsRoot high → address < 2 ^ 32
         → top_of high address ≡ 2 ^ 32 }
     ensures at_zero { bounds_of memory_root 0
-        ≡ record { exponent = 24; base = 0; top = 4294967296 } }
-    ensures at_end { bounds_of memory_root 4294967295
-        ≡ record { exponent = 24; base = 0; top = 4294967296 } }
+        ≡ record { exponent = WIDEST_EXPONENT; base = 0; top = 2 ^ 32 } }
+    ensures at_end { bounds_of memory_root 0xFFFFFFFF
+        ≡ record { exponent = WIDEST_EXPONENT; base = 0; top = 2 ^ 32 } }
     ensures memory_rights { cap_perms (root_cap memory_root nowhere)
         ≡ GL + LG + SD + LM + SL + LD + MC }
     ensures executable_rights { cap_perms (root_cap executable_root nowhere)
@@ -33,20 +34,20 @@ pub fn roots_hold_all()
 /// Least bounds at 511 and 512, where an exponent is skipped, at the greatest exponent, and of
 /// nothing.
 pub fn least_bounds_rows()
-    ensures exact_511 { rounded_of 2147483649 (2147483649 + 511)
-        ≡ record { fields = 512; base = 2147483649; top = 2147484160; exact = true } }
-    ensures rounded_512 { rounded_of 2147483649 (2147483649 + 512)
-        ≡ record { fields = 262401; base = 2147483648; top = 2147484162; exact = false } }
-    ensures skips { rounded_of 2147483649 (2147483649 + 1022)
-        ≡ record { fields = 524544; base = 2147483648; top = 2147484672; exact = false } }
-    ensures greatest { rounded_of 2147483648 (2147483648 + 8372225)
-        ≡ record { fields = 3997825; base = 2147483648; top = 2164260864; exact = false } }
-    ensures empty { rounded_of 2147483648 2147483648
-        ≡ record { fields = 0; base = 2147483648; top = 2147483648; exact = true } }
+    ensures exact_511 { rounded_of 0x80000001 (0x80000001 + 511)
+        ≡ record { fields = 512; base = 0x80000001; top = 0x80000200; exact = true } }
+    ensures rounded_512 { rounded_of 0x80000001 (0x80000001 + 512)
+        ≡ record { fields = 262401; base = 0x80000000; top = 0x80000202; exact = false } }
+    ensures skips { rounded_of 0x80000001 (0x80000001 + 1022)
+        ≡ record { fields = 524544; base = 0x80000000; top = 0x80000400; exact = false } }
+    ensures greatest { rounded_of 0x80000000 (0x80000000 + 8372225)
+        ≡ record { fields = 3997825; base = 0x80000000; top = 0x81000000; exact = false } }
+    ensures empty { rounded_of 0x80000000 0x80000000
+        ≡ record { fields = 0; base = 0x80000000; top = 0x80000000; exact = true } }
     ensures lengths { (round_length_of 511 ≡ 511) × (round_length_of 512 ≡ 512)
-        × (round_length_of 513 ≡ 514) × (round_length_of 8372225 ≡ 16777216) }
-    ensures masks { (align_mask_of 0 ≡ 4294967295) × (align_mask_of 512 ≡ 4294967294)
-        × (align_mask_of 8372225 ≡ 4278190080) }
+        × (round_length_of 513 ≡ 514) × (round_length_of 8372225 ≡ 0x1000000) }
+    ensures masks { (align_mask_of 0 ≡ 0xFFFFFFFF) × (align_mask_of 512 ≡ 0xFFFFFFFE)
+        × (align_mask_of 8372225 ≡ 0xFF000000) }
 {}
 
 /// Each bit of the profile is that of its permission.

@@ -14,12 +14,33 @@ RAM = 0x80000000
 LOW, LENGTH, LIMIT, SLOTS = 256, 32768, 12000, 32
 BITS = (1 << 64) - 1
 
-# A heap of 64 bytes with one quota of 200: an object of 40 bytes, freed, no room, swept by one slice, and room again.
+# A heap of 64 bytes with quotas of 200: an object of 40 bytes, freed, no room, swept by one slice, and room again. The
+# heap of docs/use/machine.md's example with quotas of 64: two objects, the words of the heads, a full quota, a free, a
+# third object behind the quarantined chunk, a size of 0, and what isn't a whole object. A heap of no bytes.
 ROW = """1 2147483656 40 48
 1 2147483656 40 0
 NoGap
 quarantined true, painted true, ended true, flushed true
+64 4294967295, marked false
+left 200 200 200, quarantined false
 2 2147483656 40 48
+1 2147485016 24 32
+2 2147485048 24 64
+33 1, marked false
+33 2, marked false
+2672 4294967295, marked false
+Quota
+left 0 64 64, quarantined false
+1 2147485016 24 32
+34 1, marked true
+33 2, marked false
+3 2147485080 8 48
+Size
+NotWhole
+NotWhole
+Size
+begin: false
+none
 """
 
 

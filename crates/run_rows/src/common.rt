@@ -5,7 +5,7 @@ use std::alloc::AllocError;
 use std::fs;
 
 /// Why a part, and with it the program, ends early.
-#[derive(Clone, Copy, Debug)]
+#[derive(Clone, Copy)]
 pub enum Failure {
     /// A file could not be read.
     File,

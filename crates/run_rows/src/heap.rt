@@ -1,15 +1,14 @@
-//! Tells the answers of a heap with a revoker beside it: to a freed object of which a capability is left, swept in
-//! slices, whose answers were worked out by hand, and to three times a thousand random calls, as reference/heap.py
-//! works them out apart from it.
+//! Tells the answers of a heap with a revoker beside it: of three heaps worked out by hand, and to three times a
+//! thousand random calls, as reference/heap.py works them out apart from it.
 
 mod calls;
-mod row;
 mod swept;
 mod told;
+mod worked;
 
 use crate::common::{Failure, print_lines};
 use calls::calls;
-use row::row;
+use worked::worked;
 
 /// How many random calls are made of one heap.
 const COUNT: u32 = 1000;
@@ -18,7 +17,7 @@ const COUNT: u32 = 1000;
 pub fn run(rt: &HostRuntime) -> Result<(), Failure> {
     let alloc = rt.alloc();
     let mut out = String::new(alloc);
-    row(alloc, &mut out)?;
+    worked(alloc, &mut out)?;
     for seed in [1u64, 2, 3] {
         calls(alloc, seed, COUNT, &mut out)?;
     }

@@ -1,4 +1,4 @@
-//! Objects whose words are known from outside, and faults (docs/build/testing.md, docs/use/assembler.md).
+//! Objects whose words are known from outside (docs/build/testing.md, docs/use/assembler.md).
 
 use ct_asm::{Names, Object, assemble, undeclared};
 use ct_source::statements;
@@ -39,24 +39,6 @@ fn gives(rt: &impl Abort, alloc: Global, names: &Names, source: &str, words: &[u
             }
         }
         Err(_) => assert!(rt; false, "{source}"),
-    }
-}
-
-/// Each source has that fault on that line.
-fn faults(rt: &impl Abort, alloc: Global, rows: &[(&str, u32, u32)]) {
-    let names = Names::new(alloc);
-    for (source, number, line) in rows {
-        match object(rt, alloc, &names, source) {
-            Ok(_) => assert!(rt; false, "{source}"),
-            Err(fault) => assert!(rt;
-                fault
-                    == AsmFault::At {
-                        number: *number,
-                        line: *line
-                    },
-                "{source}"
-            ),
-        }
     }
 }
 
@@ -230,60 +212,4 @@ fn undeclared_imports(rt: HostRuntime) -> Result<(), AsmFault> {
     assert!(rt; names.len() == 2);
     assert!(rt; names.slot(b"uart") == Some(1));
     Ok(())
-}
-
-/// Statements that fill so many words.
-fn filled(rt: &impl Abort, alloc: Global, front: &str, words: u32, back: &str) -> String {
-    let mut all = String::new(alloc);
-    assert!(rt; words < 1_000_000);
-    assert!(rt; all.push_str(front).is_ok());
-    for _ in 0..words {
-        assert!(rt; all.push_str("nop\n").is_ok());
-    }
-    assert!(rt; all.push_str(back).is_ok());
-    all
-}
-
-#[test]
-fn reaches_of_branches(rt: HostRuntime) {
-    let alloc = rt.alloc();
-    let names = Names::new(alloc);
-    let near = filled(&rt, alloc, "beq a0, a1, to\n", 1022, "to:");
-    assert!(rt; object(&rt, alloc, &names, near.as_str()).is_ok());
-    let far = filled(&rt, alloc, "beq a0, a1, to\n", 1023, "to:");
-    assert!(rt;
-        object(&rt, alloc, &names, far.as_str()).err() == Some(AsmFault::At { number: 4, line: 1 })
-    );
-    let back = filled(&rt, alloc, "to:\n", 1024, "bnez a0, to");
-    assert!(rt; object(&rt, alloc, &names, back.as_str()).is_ok());
-    let past = filled(&rt, alloc, "to:\n", 1025, "bnez a0, to");
-    assert!(rt;
-        object(&rt, alloc, &names, past.as_str()).err()
-            == Some(AsmFault::At {
-                number: 4,
-                line: 1027
-            })
-    );
-}
-
-#[test]
-fn faults_of_labels_and_sizes(rt: HostRuntime) {
-    let rows = [
-        ("a: nop\na: nop", 5, 2),
-        ("a: nop\n.data\na: .word 1", 5, 3),
-        ("a:\nb:\na: j b\nb:", 5, 3),
-        ("j nowhere", 6, 1),
-        ("beq a0, a1, d\n.data\nd: .word 1", 6, 1),
-        ("clg a0, main\nmain:", 6, 1),
-        ("cla a0, d\n.data\nd:", 6, 1),
-        (".data\n.zero 1048576\n.byte 1", 8, 3),
-        (".data\n.zero 1048575\n.word 1", 8, 3),
-        (".data\n.zero 1048573\n.align 4096\n.byte 0", 8, 4),
-        ("j nowhere\na:\na:", 6, 1),
-        ("a:\na: j nowhere", 5, 2),
-        (".data\n.zero 1048576\n.byte 0\n.text\nj nowhere", 8, 3),
-        ("j nowhere\n.data\n.zero 1048576\n.byte 0", 6, 1),
-        ("a:\na: beq a0, a1, b\n.data\n.zero 4\n.text\nb:\na:", 5, 2),
-    ];
-    faults(&rt, rt.alloc(), &rows);
 }

@@ -15,10 +15,10 @@ fn mark_of(text: &[u8], before: u32) -> u32 {
 #[test]
 fn firmware_of_0(rt: HostRuntime) -> Result<(), NoMemory> {
     let made = generate(rt.alloc(), 0)?;
-    assert_eq!(rt; made.description.as_str(), DESCRIPTION);
-    assert_eq!(rt; made.sources.len(), 2);
-    assert_eq!(rt; made.sources[0].as_str(), FIRST);
-    assert_eq!(rt; made.sources[1].as_str(), SECOND);
+    assert!(rt; made.description.as_str() == DESCRIPTION);
+    assert!(rt; made.sources.len() == 2);
+    assert!(rt; made.sources[0].as_str() == FIRST);
+    assert!(rt; made.sources[1].as_str() == SECOND);
     Ok(())
 }
 
@@ -32,14 +32,14 @@ fn firmware_of_others(rt: HostRuntime) -> Result<(), NoMemory> {
         (693, 2, 879, 2_254_583_188, 2_272_467_025),
     ] {
         let made = generate(rt.alloc(), number)?;
-        assert_eq!(rt; made.description.len(), length);
-        assert_eq!(rt; mark_of(made.description.as_bytes(), 0), mark);
-        assert_eq!(rt; made.sources.len(), count);
+        assert!(rt; made.description.len() == length);
+        assert!(rt; mark_of(made.description.as_bytes(), 0) == mark);
+        assert!(rt; made.sources.len() == count);
         let mut all = 0;
         for source in &made.sources {
             all = mark_of(source.as_bytes(), all);
         }
-        assert_eq!(rt; all, sources);
+        assert!(rt; all == sources);
     }
     Ok(())
 }

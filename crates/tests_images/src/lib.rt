@@ -5,15 +5,11 @@
 #![tactic(auto)]
 
 #[cfg(test)]
-mod description;
-#[cfg(test)]
 mod generated;
 #[cfg(test)]
 mod graph;
 #[cfg(test)]
 mod launch;
-#[cfg(test)]
-mod layout;
 #[cfg(test)]
 mod licence;
 #[cfg(test)]

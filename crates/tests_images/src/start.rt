@@ -109,7 +109,7 @@ fn thread(alloc: Global, name: &str, stack: u32) -> Result<Thread, AllocError> {
 }
 
 /// One compartment, one library, an object of each sort, and two threads.
-fn shelf(alloc: Global) -> Result<Parts, AllocError> {
+pub fn shelf(alloc: Global) -> Result<Parts, AllocError> {
     Ok(Parts {
         version: 1,
         sweep: 64,
@@ -228,10 +228,10 @@ fn booted(alloc: Global, image: &Image) -> Result<(Plain, Start), NoMemory>
 /// RAM is as it is expected, granule by granule.
 fn see_ram(rt: &impl Abort, mem: &Plain) {
     let size = mem.size();
-    assert_eq!(rt; size, 4096);
+    assert!(rt; size == 4096);
     for k in 0..size / 8 {
-        assert_eq!(rt; mem.load_cap(8 * k), expected(8 * k), "at {k}");
-        assert_eq!(rt; mem.marked(8 * k), false, "at {k}");
+        assert!(rt; mem.load_cap(8 * k) == expected(8 * k), "at {k}");
+        assert!(rt; !mem.marked(8 * k), "at {k}");
     }
 }
 
@@ -257,13 +257,13 @@ fn see_first(rt: &impl Abort, thread: u32, first: &First) {
 }
 
 /// The image of these parts, written and accepted.
-fn accepted(rt: &impl Abort, alloc: Global, parts: &Parts) -> Result<Image, NoMemory> {
+pub fn accepted(rt: &impl Abort, alloc: Global, parts: &Parts) -> Result<Image, NoMemory> {
     let bytes = written(alloc, parts)?;
     assert!(rt; bytes.len() < 4096);
     match accept(alloc, bytes.as_slice()) {
         Ok(image) => Ok(image),
         Err(fault) => {
-            assert_eq!(rt; fault, ImageFault::NoMemory);
+            assert!(rt; fault == ImageFault::NoMemory);
             Err(NoMemory)
         }
     }

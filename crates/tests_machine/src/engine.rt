@@ -74,10 +74,10 @@ fn threads_take_turns(rt: HostRuntime) -> Result<(), Fail> {
         fresh(2, 0x8000_0130, 0x8000_0500),
     ];
     let mut engine = Engine::start(rt.alloc(), Plain::new(rt.alloc(), 2048)?, region, &threads)?;
-    assert_eq!(rt; engine.count(), 2);
+    assert!(rt; engine.count() == 2);
     engine.pick(1);
-    assert_eq!(rt; engine.register(1, 2).cap.word, 2);
-    assert_eq!(rt; engine.push(1, 2, 9, 0x8000_0580), true);
+    assert!(rt; engine.register(1, 2).cap.word == 2);
+    assert!(rt; engine.push(1, 2, 9, 0x8000_0580));
     engine.go(
         1,
         Live::integer(0x200),
@@ -88,9 +88,9 @@ fn threads_take_turns(rt: HostRuntime) -> Result<(), Fail> {
         2,
         Live::integer(5),
     );
-    assert_eq!(rt; engine.push(1, 2, 9, 0x8000_0560), false);
+    assert!(rt; !engine.push(1, 2, 9, 0x8000_0560));
     engine.stop(1);
-    assert_eq!(rt; engine.load(0x250, 4), 0);
+    assert!(rt; engine.load(0x250, 4) == 0);
     engine.pick(0);
     let Saved {
         export,
@@ -100,11 +100,11 @@ fn threads_take_turns(rt: HostRuntime) -> Result<(), Fail> {
         c8: _,
         c9: _,
     } = engine.pop(0);
-    assert_eq!(rt; export, 7);
-    assert_eq!(rt; c2.cap.word, 0);
-    assert_eq!(rt; engine.running(), None);
+    assert!(rt; export == 7);
+    assert!(rt; c2.cap.word == 0);
+    assert!(rt; engine.running() == None);
     engine.pick(1);
-    assert_eq!(rt; engine.register(1, 2).cap.word, 5);
+    assert!(rt; engine.register(1, 2).cap.word == 5);
     let Saved {
         export,
         c1: _,
@@ -113,9 +113,9 @@ fn threads_take_turns(rt: HostRuntime) -> Result<(), Fail> {
         c8: _,
         c9: _,
     } = engine.pop(1);
-    assert_eq!(rt; export, 9);
-    assert_eq!(rt; c2.cap.word, 2);
-    assert_eq!(rt; engine.running(), Some(1));
+    assert!(rt; export == 9);
+    assert!(rt; c2.cap.word == 2);
+    assert!(rt; engine.running() == Some(1));
     Ok(())
 }
 
@@ -144,17 +144,17 @@ fn frames_end(rt: HostRuntime) -> Result<(), Fail> {
     let none = no_entries(rt.alloc());
     let mut engine = Engine::start(rt.alloc(), Plain::new(rt.alloc(), 2048)?, region, &threads)?;
     engine.pick(1);
-    assert_eq!(rt; engine.push(1, 2, 9, 0x8000_0580), true);
-    assert_eq!(rt; engine.unwind(1, &none), true);
-    assert_eq!(rt; engine.register(1, 2).cap.word, 2);
-    assert_eq!(rt; engine.register(1, 10).cap.word, 0xFFFF_FFFF);
-    assert_eq!(rt;
-        engine.call(1, &none),
-        Called::Trapped {
-            trap: Trap::capability(TAG_CODE, 1)
-        }
+    assert!(rt; engine.push(1, 2, 9, 0x8000_0580));
+    assert!(rt; engine.unwind(1, &none));
+    assert!(rt; engine.register(1, 2).cap.word == 2);
+    assert!(rt; engine.register(1, 10).cap.word == 0xFFFF_FFFF);
+    assert!(rt;
+        engine.call(1, &none)
+            == Called::Trapped {
+                trap: Trap::capability(TAG_CODE, 1)
+            }
     );
-    assert_eq!(rt; engine.give_back(1, &none), false);
-    assert_eq!(rt; engine.running(), None);
+    assert!(rt; !engine.give_back(1, &none));
+    assert!(rt; engine.running() == None);
     Ok(())
 }

@@ -2,6 +2,7 @@
 //! docs/use/machine.md: RAM from 0x80000000, a stack of 1,024 bytes, an area of two or three frames.
 
 ghost use Rattle.std.specs.Prelude.{◌≡◌, ◌+◌, ◌≤◌, ◌<◌, replicate};
+ghost use Rattle.def_profile.specs.declared.limits.TheConstants.{RAM_END};
 ghost use Rattle.def_memory.specs.Granules.{nothing};
 ghost use Rattle.ct_areas.specs.Threads.{HasArea};
 
@@ -16,6 +17,7 @@ use def_profile::rights::{
 use def_profile::seals::{EXPORT_TYPE, RETURN_ENABLE};
 use def_profile::traps::TAG_CODE;
 use std::alloc::Global;
+use std::process::Abort;
 use std::test::Fail;
 
 const RAM: u32 = 0x8000_0000;
@@ -77,16 +79,6 @@ fn from(root: u32) -> Shadow {
     Shadow { root, source: 0 }
 }
 
-/// Where a capability's authority begins.
-fn base_of(c: Live) -> u64 {
-    c.bounds.base
-}
-
-/// And ends.
-fn top_of(c: Live) -> u64 {
-    c.bounds.top
-}
-
 /// The heads of the export tables.
 fn heads(mem: &mut Plain) {
     for n in 0..3u32 {
@@ -146,7 +138,7 @@ fn registers(n: u32, at: u32) -> [Live; 16]
 
 fn area(frames: u32) -> Area
     ensures area { HasArea 8192 result }
-    ensures end { result.stack + result.stack_length ≤ 4294967280 }
+    ensures end { result.stack + result.stack_length ≤ RAM_END }
 {
     Area {
         ram: RAM,
@@ -246,154 +238,226 @@ fn second(t: &mut Thread, mem: &mut Plain) {
     put(mem, 0x800 + 264, t.regs[3]);
 }
 
+/// Something of a thread and of RAM.
+#[derive(Clone, Copy)]
+enum Look {
+    /// How many frames the thread has, its compartment, and where the stack of its call ends.
+    Depth,
+    Actor,
+    Top,
+    /// The program counter: its address, where its authority begins and ends, and its tag.
+    At,
+    From,
+    To,
+    Runs,
+    /// A register: its address, where its authority begins and ends, and its tag.
+    Address(usize),
+    Base(usize),
+    End(usize),
+    Tag(usize),
+    /// What an offset of RAM holds: its word and its tag.
+    Word(u32),
+    Tagged(u32),
+    /// Whether all from one offset of RAM to another is zero and untagged.
+    Clear(u32, u32),
+}
+
+fn register(t: &Thread, n: usize) -> Live {
+    match t.regs.get(n) {
+        Some(value) => *value,
+        None => Live::integer(0),
+    }
+}
+
+/// What there is to see, as a number.
+fn seen(t: &Thread, mem: &Plain, what: Look) -> u64 {
+    match what {
+        Look::Depth => t.depth as u64,
+        Look::Actor => t.actor as u64,
+        Look::Top => t.top as u64,
+        Look::At => t.pcc.address() as u64,
+        Look::From => t.pcc.bounds.base,
+        Look::To => t.pcc.bounds.top,
+        Look::Runs => t.pcc.cap.tag as u64,
+        Look::Address(n) => register(t, n).address() as u64,
+        Look::Base(n) => register(t, n).bounds.base,
+        Look::End(n) => register(t, n).bounds.top,
+        Look::Tag(n) => register(t, n).cap.tag as u64,
+        Look::Word(at) => held(mem, at).word,
+        Look::Tagged(at) => held(mem, at).tag as u64,
+        Look::Clear(low, high) => is_clear(mem, low, high) as u64,
+    }
+}
+
+/// Thread and RAM are as the rows say.
+fn see(rt: &impl Abort, t: &Thread, mem: &Plain, rows: &[(Look, u64)]) {
+    for (place, row) in rows.iter().enumerate() {
+        let (what, wanted) = *row;
+        assert!(rt; seen(t, mem, what) == wanted, "row {place}");
+    }
+}
+
+/// The call in c6 enters an export by an entry.
+fn enters(rt: &impl Abort, t: &mut Thread, mem: &mut Plain, e: &Entries, entry: u32, export: u32) {
+    let answer = called(t, mem, e);
+    assert!(rt;
+        answer == Some(Called::Entered { entry, export }),
+        "export {export}"
+    );
+}
+
+/// The unwind leaves a frame to go on in, or none.
+fn unwinds(rt: &impl Abort, t: &mut Thread, mem: &mut Plain, e: &Entries, goes_on: bool) {
+    assert!(rt; unwound(t, mem, e) == Some(goes_on));
+}
+
+/// The call in c6 is answered so, and all of memory is as before.
+fn refuses(
+    rt: &(impl Abort + AllocGlobal),
+    t: &mut Thread,
+    mem: &mut Plain,
+    e: &Entries,
+    wanted: Called,
+) -> Result<(), Fail> {
+    let before = all(rt.alloc(), mem)?;
+    assert!(rt; called(t, mem, e) == Some(wanted));
+    assert!(rt; before == all(rt.alloc(), mem)?);
+    Ok(())
+}
+
+/// In the second compartment code, globals and stack are its own, and what was above its declared arguments is zero.
+const IN_SECOND: [(Look, u64); 12] = [
+    (Look::Depth, 2),
+    (Look::Actor, 1),
+    (Look::Top, STACK as u64 + 512),
+    (Look::At, CODE as u64 + 72),
+    (Look::From, CODE as u64 + 64),
+    (Look::To, CODE as u64 + 128),
+    (Look::Base(3), GLOBALS as u64 + 16),
+    (Look::Base(2), STACK as u64),
+    (Look::End(2), STACK as u64 + 512),
+    (Look::Address(10), 7),
+    (Look::Address(12), 0),
+    (Look::Clear(0x800, 0x800 + 512), 1),
+];
+
+const IN_THIRD: [(Look, u64); 3] = [
+    (Look::Depth, 3),
+    (Look::Actor, 2),
+    (Look::Top, STACK as u64 + 256),
+];
+
+/// After a trap in the third the second sees -1 and 0, and its stack below its c2 is zero; what was above stays.
+const BACK_IN_SECOND: [(Look, u64); 11] = [
+    (Look::Depth, 2),
+    (Look::Actor, 1),
+    (Look::Top, STACK as u64 + 512),
+    (Look::Address(10), 0xFFFF_FFFF),
+    (Look::Tag(10), 0),
+    (Look::Address(11), 0),
+    (Look::Tag(11), 0),
+    (Look::Address(8), 8),
+    (Look::Base(9), GLOBALS as u64 + 16),
+    (Look::Clear(0x800, 0x800 + 256), 1),
+    (Look::Tagged(0x800 + 264), 1),
+];
+
+/// When it traps too, the first sees the same.
+const BACK_IN_FIRST: [(Look, u64); 9] = [
+    (Look::Depth, 1),
+    (Look::Actor, 0),
+    (Look::Top, STACK as u64 + 1024),
+    (Look::Address(10), 0xFFFF_FFFF),
+    (Look::Tag(10), 0),
+    (Look::Address(11), 0),
+    (Look::Tag(11), 0),
+    (Look::At, CODE as u64 + 4),
+    (Look::Clear(0x800, 0x800 + 512), 1),
+];
+
+/// And when it traps, the thread ends.
+const ENDED: [(Look, u64); 3] = [
+    (Look::Depth, 0),
+    (Look::Runs, 0),
+    (Look::Clear(0x1000, 0x1000 + 352), 1),
+];
+
 #[test]
 fn three_compartments_deep(rt: HostRuntime) -> Result<(), Fail> {
-    let alloc = rt.alloc();
-    let e = entries(alloc, 128)?;
-    let mut mem = Plain::new(alloc, 8192)?;
+    let e = entries(rt.alloc(), 128)?;
+    let mut mem = Plain::new(rt.alloc(), 8192)?;
     let mut t = thread(&mut mem, 3);
     heads(&mut mem);
     put(&mut mem, 0x800 + 40, t.regs[1]);
-
-    // the second compartment: code, globals and stack are its own, and what was above its declared arguments is zero
     t.regs[12] = Live::integer(9);
-    let entered = called(&mut t, &mut mem, &e);
-    assert_eq!(rt;
-        entered,
-        Some(Called::Entered {
-            entry: 3,
-            export: 8
-        })
-    );
-    assert_eq!(rt; (t.depth, t.actor, t.top), (2, 1, STACK + 512));
-    assert_eq!(rt; t.pcc.address(), CODE + 72);
-    assert_eq!(rt;
-        (t.pcc.bounds.base, t.pcc.bounds.top),
-        (CODE as u64 + 64, CODE as u64 + 128)
-    );
-    assert_eq!(rt; base_of(t.regs[3]), GLOBALS as u64 + 16);
-    assert_eq!(rt;
-        (base_of(t.regs[2]), top_of(t.regs[2])),
-        (STACK as u64, STACK as u64 + 512)
-    );
-    assert_eq!(rt; (t.regs[10].address(), t.regs[12].address()), (7, 0));
-    assert!(rt; is_clear(&mem, 0x800, 0x800 + 512));
-
-    // the third
+    enters(&rt, &mut t, &mut mem, &e, 3, 8);
+    see(&rt, &t, &mem, &IN_SECOND);
     second(&mut t, &mut mem);
-    let entered = called(&mut t, &mut mem, &e);
-    assert_eq!(rt;
-        entered,
-        Some(Called::Entered {
-            entry: 7,
-            export: 12
-        })
-    );
-    assert_eq!(rt; (t.depth, t.actor, t.top), (3, 2, STACK + 256));
+    enters(&rt, &mut t, &mut mem, &e, 7, 12);
+    see(&rt, &t, &mem, &IN_THIRD);
     put(&mut mem, 0x800 + 8, t.regs[3]);
     put(&mut mem, 0x800 + 248, Live::integer(5));
-
-    // a trap in the third: the second sees -1 and 0, and its stack below its c2 is zero; what was above stays
-    assert_eq!(rt; unwound(&mut t, &mut mem, &e), Some(true));
-    assert_eq!(rt; (t.depth, t.actor, t.top), (2, 1, STACK + 512));
-    assert_eq!(rt;
-        (shrink(t.regs[10]).tag, t.regs[10].address()),
-        (false, 0xFFFF_FFFF)
-    );
-    assert_eq!(rt; (shrink(t.regs[11]).tag, t.regs[11].address()), (false, 0));
-    assert_eq!(rt;
-        (t.regs[8].address(), base_of(t.regs[9])),
-        (8, GLOBALS as u64 + 16)
-    );
-    assert!(rt; is_clear(&mem, 0x800, 0x800 + 256));
-    assert!(rt; held(&mem, 0x800 + 264).tag);
-
-    // when it traps too, the first sees the same
-    assert_eq!(rt; unwound(&mut t, &mut mem, &e), Some(true));
-    assert_eq!(rt; (t.depth, t.actor, t.top), (1, 0, STACK + 1024));
-    assert_eq!(rt;
-        (shrink(t.regs[10]).tag, t.regs[10].address()),
-        (false, 0xFFFF_FFFF)
-    );
-    assert_eq!(rt; (shrink(t.regs[11]).tag, t.regs[11].address()), (false, 0));
-    assert_eq!(rt; t.pcc.address(), CODE + 4);
-    assert!(rt; is_clear(&mem, 0x800, 0x800 + 512));
-
-    // and when it traps, the thread ends
-    assert_eq!(rt; unwound(&mut t, &mut mem, &e), Some(false));
-    assert_eq!(rt; (t.depth, t.pcc.cap.tag), (0, false));
-    assert!(rt; is_clear(&mem, 0x1000, 0x1000 + 352));
+    unwinds(&rt, &mut t, &mut mem, &e, true);
+    see(&rt, &t, &mem, &BACK_IN_SECOND);
+    unwinds(&rt, &mut t, &mut mem, &e, true);
+    see(&rt, &t, &mem, &BACK_IN_FIRST);
+    unwinds(&rt, &mut t, &mut mem, &e, false);
+    see(&rt, &t, &mem, &ENDED);
     Ok(())
 }
+
+const FIRST: [(Look, u64); 3] = [
+    (Look::Depth, 1),
+    (Look::Actor, 0),
+    (Look::Top, STACK as u64 + 1024),
+];
+
+const SECOND: [(Look, u64); 3] = [
+    (Look::Depth, 2),
+    (Look::Actor, 1),
+    (Look::Top, STACK as u64 + 512),
+];
 
 #[test]
 fn too_deep_and_no_stack(rt: HostRuntime) -> Result<(), Fail> {
-    let alloc = rt.alloc();
-    let mut mem = Plain::new(alloc, 8192)?;
+    let mut mem = Plain::new(rt.alloc(), 8192)?;
     let mut t = thread(&mut mem, 2);
     heads(&mut mem);
-    let e = entries(alloc, 128)?;
-    let large = entries(alloc, 512)?;
-
+    let e = entries(rt.alloc(), 128)?;
+    let large = entries(rt.alloc(), 512)?;
     // an export with stack 512, room 256, and a free frame
     t.regs[2] = registers(0, STACK + 256)[2];
-    let before = all(alloc, &mem)?;
-    assert_eq!(rt; called(&mut t, &mut mem, &large), Some(Called::NoStack));
-    assert_eq!(rt; (t.depth, t.actor, t.top), (1, 0, STACK + 1024));
-    assert_eq!(rt; before, all(alloc, &mem)?);
-
+    refuses(&rt, &mut t, &mut mem, &large, Called::NoStack)?;
+    see(&rt, &t, &mem, &FIRST);
     // depth 2 of 2 frames
     t.regs[2] = registers(0, STACK + 512)[2];
-    let entered = called(&mut t, &mut mem, &e);
-    assert_eq!(rt;
-        entered,
-        Some(Called::Entered {
-            entry: 3,
-            export: 8
-        })
-    );
+    enters(&rt, &mut t, &mut mem, &e, 3, 8);
     second(&mut t, &mut mem);
     put(&mut mem, 0x800 + 8, t.regs[3]);
-    let before = all(alloc, &mem)?;
-    assert_eq!(rt; called(&mut t, &mut mem, &e), Some(Called::TooDeep));
-    assert_eq!(rt; (t.depth, t.actor, t.top), (2, 1, STACK + 512));
-    assert_eq!(rt; before, all(alloc, &mem)?);
-
+    refuses(&rt, &mut t, &mut mem, &e, Called::TooDeep)?;
+    see(&rt, &t, &mem, &SECOND);
     // too deep comes before no stack, and a failed check before both
-    assert_eq!(rt; called(&mut t, &mut mem, &large), Some(Called::TooDeep));
+    refuses(&rt, &mut t, &mut mem, &large, Called::TooDeep)?;
     t.regs[2] = Live::integer(0);
     let trap = Trap::capability(TAG_CODE, 2);
-    assert_eq!(rt;
-        called(&mut t, &mut mem, &large),
-        Some(Called::Trapped { trap })
-    );
-    Ok(())
+    refuses(&rt, &mut t, &mut mem, &large, Called::Trapped { trap })
 }
 
+/// The callee hands back its globals through an export that passes plain values.
 #[test]
 fn plain_results(rt: HostRuntime) -> Result<(), Fail> {
-    let alloc = rt.alloc();
-    let e = entries(alloc, 128)?;
-    let mut mem = Plain::new(alloc, 8192)?;
+    let e = entries(rt.alloc(), 128)?;
+    let mut mem = Plain::new(rt.alloc(), 8192)?;
     let mut t = thread(&mut mem, 3);
     heads(&mut mem);
-    let entered = called(&mut t, &mut mem, &e);
-    assert_eq!(rt;
-        entered,
-        Some(Called::Entered {
-            entry: 3,
-            export: 8
-        })
-    );
-
-    // the callee hands back its globals through an export that passes plain values
-    let mut word = shrink(t.regs[3]);
+    enters(&rt, &mut t, &mut mem, &e, 3, 8);
+    let mut plain = shrink(t.regs[3]);
     t.regs[10] = t.regs[3];
-    assert_eq!(rt; given_back(&mut t, &mut mem, &e), Some(true));
-    word.tag = false;
-    word.shadow = Shadow { root: 0, source: 0 };
-    assert_eq!(rt; shrink(t.regs[10]), word);
-    assert_eq!(rt; given_back(&mut t, &mut mem, &e), Some(false));
+    assert!(rt; given_back(&mut t, &mut mem, &e) == Some(true));
+    plain.tag = false;
+    plain.shadow = Shadow { root: 0, source: 0 };
+    assert!(rt; shrink(t.regs[10]) == plain);
+    assert!(rt; given_back(&mut t, &mut mem, &e) == Some(false));
     Ok(())
 }
 
@@ -414,92 +478,74 @@ fn stopped_and_picked(t: &mut Thread, mem: &mut Plain, low: u32, high: u32) -> b
     true
 }
 
+/// Frame 0 holds its export alone.
+const FRAME_0: [(Look, u64); 3] = [
+    (Look::Word(0x10A0 + 40), 4),
+    (Look::Clear(0x10A0, 0x10A0 + 40), 1),
+    (Look::Clear(0x10A0 + 48, 0x10E0), 1),
+];
+
+/// Frame 1, behind the caller's c1 and c2: its c3, c8, c9; export and compartment; top; its handler was entered.
+const FRAME_1: [(Look, u64); 6] = [
+    (Look::Word(0x10F0), 33),
+    (Look::Word(0x10F8), 88),
+    (Look::Word(0x1100), 99),
+    (Look::Word(0x1108), 8),
+    (Look::Word(0x1110), 0x8000_0C00),
+    (Look::Word(0x1118), 1),
+];
+
+/// Frame 2: compartment 1 called.
+const FRAME_2: [(Look, u64); 3] = [
+    (Look::Word(0x1148), 0x1_0000_000C),
+    (Look::Word(0x1150), 0x8000_0A00),
+    (Look::Word(0x1158), 0),
+];
+
+const AREA_HEAD: [(Look, u64); 1] = [(Look::Clear(0x1000, 0x1080), 1)];
+
+/// A stop and a pick: what has its base in a marked granule comes back untagged.
+fn stops(rt: &impl Abort, t: &mut Thread, mem: &mut Plain) {
+    let before = shrink(t.regs[3]);
+    let code = t.pcc.cap;
+    assert!(rt; before.tag && code.tag);
+    assert!(rt; stopped_and_picked(t, mem, 0x420, 0x428));
+    let after = shrink(t.regs[3]);
+    assert!(rt; t.pcc.cap == code && after.word == before.word && !after.tag);
+    see(rt, t, mem, &AREA_HEAD);
+}
+
+/// The caller's registers, back from frame 1.
+const CALLER: [(Look, u64); 3] = [
+    (Look::Address(3), 33),
+    (Look::Address(8), 88),
+    (Look::Address(9), 99),
+];
+
 #[test]
-fn areas_by_their_layout(rt: HostRuntime) -> Result<(), Fail> {
-    let alloc = rt.alloc();
-    let e = entries(alloc, 128)?;
-    let mut mem = Plain::new(alloc, 8192)?;
+fn frames_by_their_layout(rt: HostRuntime) -> Result<(), Fail> {
+    let e = entries(rt.alloc(), 128)?;
+    let mut mem = Plain::new(rt.alloc(), 8192)?;
     let mut t = thread(&mut mem, 3);
     heads(&mut mem);
-
-    // frame 0 holds its export alone
-    assert_eq!(rt; held(&mem, 0x10A0 + 40).word, 4);
-    assert!(rt; is_clear(&mem, 0x10A0, 0x10A0 + 40) && is_clear(&mem, 0x10A0 + 48, 0x10E0));
-
-    // frame 1: the caller's c1, c2, c3, c8, c9; export and compartment; top; its handler was entered
+    see(&rt, &t, &mem, &FRAME_0);
     t.handling = true;
     t.regs[3] = Live::integer(33);
     t.regs[8] = Live::integer(88);
     t.regs[9] = Live::integer(99);
     let (link, stack) = (shrink(t.regs[1]), shrink(t.regs[2]));
-    let entered = called(&mut t, &mut mem, &e);
-    assert_eq!(rt;
-        entered,
-        Some(Called::Entered {
-            entry: 3,
-            export: 8
-        })
-    );
+    enters(&rt, &mut t, &mut mem, &e, 3, 8);
     assert!(rt; held(&mem, 0x10E0) == link && held(&mem, 0x10E8) == stack);
-    assert_eq!(rt;
-        (
-            held(&mem, 0x10F0).word,
-            held(&mem, 0x10F8).word,
-            held(&mem, 0x1100).word
-        ),
-        (33, 88, 99)
-    );
-    assert_eq!(rt;
-        (
-            held(&mem, 0x1108).word,
-            held(&mem, 0x1110).word,
-            held(&mem, 0x1118).word
-        ),
-        (8, 0x8000_0C00, 1)
-    );
+    see(&rt, &t, &mem, &FRAME_1);
     assert!(rt; !t.handling);
-
-    // frame 2: compartment 1 called
     second(&mut t, &mut mem);
-    let entered = called(&mut t, &mut mem, &e);
-    assert_eq!(rt;
-        entered,
-        Some(Called::Entered {
-            entry: 7,
-            export: 12
-        })
-    );
-    assert_eq!(rt;
-        (
-            held(&mem, 0x1148).word,
-            held(&mem, 0x1150).word,
-            held(&mem, 0x1158).word
-        ),
-        (0x1_0000_000C, 0x8000_0A00, 0)
-    );
-
-    // a stop and a pick: what has its base in a marked granule comes back untagged
-    let before = shrink(t.regs[3]);
-    let code = t.pcc.cap;
-    assert!(rt; before.tag && code.tag);
-    assert!(rt; stopped_and_picked(&mut t, &mut mem, 0x420, 0x428));
-    assert!(rt;
-        t.pcc.cap == code && shrink(t.regs[3]).word == before.word && !shrink(t.regs[3]).tag
-    );
-    assert!(rt; is_clear(&mem, 0x1000, 0x1080));
-
-    // a return through frames: the caller's registers come back, and what is marked untagged
-    assert_eq!(rt; unwound(&mut t, &mut mem, &e), Some(true));
-    assert_eq!(rt; (t.depth, t.actor, t.top), (2, 1, 0x8000_0A00));
-    assert_eq!(rt; unwound(&mut t, &mut mem, &e), Some(true));
+    enters(&rt, &mut t, &mut mem, &e, 7, 12);
+    see(&rt, &t, &mem, &FRAME_2);
+    stops(&rt, &mut t, &mut mem);
+    unwinds(&rt, &mut t, &mut mem, &e, true);
+    see(&rt, &t, &mem, &SECOND);
+    unwinds(&rt, &mut t, &mut mem, &e, true);
     assert!(rt; t.handling && shrink(t.regs[2]) == stack);
-    assert_eq!(rt;
-        (
-            t.regs[3].address(),
-            t.regs[8].address(),
-            t.regs[9].address()
-        ),
-        (33, 88, 99)
-    );
+    see(&rt, &t, &mem, &CALLER);
     Ok(())
 }

@@ -1,185 +1,15 @@
-//! Loads and stores through a capability of 32 bytes at 0x80000000 with GL LG SD LM LD MC, whose
-//! high word is 0x76000020, and through one of a serial port. Words are put together by hand from
-//! the fields of docs/use/capabilities.md. The quiet calls go over the same 32 bytes.
+//! Loads and stores that tell nothing, through capabilities of the 32 bytes at 0x80000000, over both memories. Words
+//! are put together by hand from the fields of docs/use/capabilities.md.
 
-ghost use Rattle.std.specs.Prelude.{◌≡◌, ◌*◌, ◌⊎◌, length, false};
-ghost use Rattle.ct_loadstore.specs.Maps.{IsMap};
+ghost use Rattle.std.specs.Prelude.{◌≡◌, ◌⊎◌, length, false};
 
-use ct_bus::Bus;
-use ct_cap::{Cap, Live, Shadow, Trap, expand};
-use ct_entry::{Act, Device, DeviceKind};
-use ct_loadstore::{Map, filter, load_capability, load_number, loadstore, store_quietly};
+use ct_cap::{Cap, Live, Shadow, expand};
+use ct_loadstore::{filter, load_capability, load_number, store_quietly};
 use ct_mem::{Memory, Plain};
 use ct_planes::Planes;
-use def_instr::Instr;
 use def_step::Access;
-use std::alloc::Global;
 use std::process::Abort;
 use std::test::Fail;
-
-/// A tagged capability of an entry.
-fn of_entry(root: u32, word: u64) -> Live {
-    expand(Cap {
-        tag: true,
-        word,
-        shadow: Shadow { root, source: 0 },
-    })
-}
-
-/// A bus with one serial port.
-fn serial(alloc: Global) -> Result<Bus, Fail> {
-    let mut rows = Vec::new(alloc);
-    rows.push(Device {
-        name: String::new(alloc),
-        kind: DeviceKind::Uart,
-        base: 0x1000_0000,
-    })?;
-    Ok(Bus::new(alloc, &rows)?)
-}
-
-/// RAM from 0x80000000, without a heap.
-fn map<M: Memory>(mem: &M) -> Map
-    ensures { IsMap result (8 * length (M.granules mem.now)) }
-{
-    Map {
-        ram: 0x8000_0000,
-        size: mem.size(),
-        heap: 0x8000_0000,
-        length: 0,
-    }
-}
-
-/// A stack's capability lacks GL, so that it is stored untagged where SL is missing; a byte that is
-/// loaded from it is sign-extended.
-#[test]
-fn a_local_capability_loses_its_tag(rt: HostRuntime) -> Result<(), Fail> {
-    let mut mem = Plain::new(rt.alloc(), 32)?;
-    let mut bus = serial(rt.alloc())?;
-    let globals = of_entry(2, 0x7600_0020_8000_0000);
-    let stack = of_entry(6, 0x3E00_C160_8000_0160);
-    let store = Instr::Csc {
-        rs1: 3,
-        rs2: 2,
-        immediate: 8,
-    };
-    let place = map(&mem);
-    match loadstore(store, globals, stack, &mut mem, &place, &mut bus, 0) {
-        Ok(moved) => assert_eq!(rt; moved.device, None),
-        Err(_) => assert!(rt; false),
-    }
-    let load = Instr::Clc {
-        rd: 5,
-        rs1: 3,
-        immediate: 8,
-    };
-    let place = map(&mem);
-    match loadstore(load, globals, globals, &mut mem, &place, &mut bus, 0) {
-        Ok(moved) => match moved.value {
-            Some(value) => {
-                assert_eq!(rt; value.cap.tag, false);
-                assert_eq!(rt; value.cap.word, 0x3E00_C160_8000_0160);
-            }
-            None => assert!(rt; false),
-        },
-        Err(_) => assert!(rt; false),
-    }
-    let byte = Instr::Lb {
-        rd: 5,
-        rs1: 3,
-        immediate: 11,
-    };
-    let place = map(&mem);
-    match loadstore(byte, globals, globals, &mut mem, &place, &mut bus, 0) {
-        Ok(moved) => match moved.value {
-            Some(value) => assert_eq!(rt; value.cap.word, 0xFFFF_FF80),
-            None => assert!(rt; false),
-        },
-        Err(_) => assert!(rt; false),
-    }
-    Ok(())
-}
-
-/// A store at the serial port is a deed; one past its end traps, and so does a load under rights W.
-#[test]
-fn a_serial_port_takes_a_letter(rt: HostRuntime) -> Result<(), Fail> {
-    let mut mem = Plain::new(rt.alloc(), 32)?;
-    let mut bus = serial(rt.alloc())?;
-    let port = of_entry(4, 0x6200_0010_1000_0000);
-    let letter = of_entry(4, 0x41);
-    let store = Instr::Sw {
-        rs1: 5,
-        rs2: 10,
-        immediate: 0,
-    };
-    let place = map(&mem);
-    match loadstore(store, port, letter, &mut mem, &place, &mut bus, 0) {
-        Ok(moved) => assert_eq!(rt;
-            moved.device,
-            Some(Act::Store {
-                address: 0x1000_0000,
-                width: 4,
-                value: 0x41
-            })
-        ),
-        Err(_) => assert!(rt; false),
-    }
-    let past = Instr::Sw {
-        rs1: 5,
-        rs2: 10,
-        immediate: 16,
-    };
-    let place = map(&mem);
-    match loadstore(past, port, letter, &mut mem, &place, &mut bus, 0) {
-        Ok(_) => assert!(rt; false),
-        Err(trap) => assert_eq!(rt;
-            trap,
-            Trap {
-                cause: 28,
-                code: 1,
-                register: 5
-            }
-        ),
-    }
-    let load = Instr::Lw {
-        rd: 10,
-        rs1: 5,
-        immediate: 0,
-    };
-    let place = map(&mem);
-    match loadstore(load, port, letter, &mut mem, &place, &mut bus, 0) {
-        Ok(_) => assert!(rt; false),
-        Err(trap) => assert_eq!(rt;
-            trap,
-            Trap {
-                cause: 28,
-                code: 18,
-                register: 5
-            }
-        ),
-    }
-    Ok(())
-}
-
-/// A capability whose base lies in a marked granule loses its tag.
-#[test]
-fn the_filter_looks_at_the_base(rt: HostRuntime) -> Result<(), Fail> {
-    let mut mem = Plain::new(rt.alloc(), 32)?;
-    mem.mark(0, 8, true);
-    assert_eq!(rt;
-        filter(&mem, 0x8000_0000, of_entry(2, 0x7600_0020_8000_0018))
-            .cap
-            .tag,
-        false
-    );
-    mem.mark(0, 8, false);
-    assert_eq!(rt;
-        filter(&mem, 0x8000_0000, of_entry(2, 0x7600_0020_8000_0018))
-            .cap
-            .tag,
-        true
-    );
-    Ok(())
-}
 
 const RAM: u32 = 0x8000_0000;
 
@@ -216,15 +46,22 @@ const ALL: u32 = 0x7E3C_0100;
 /// GL LD SD over the 16 bytes of a serial port.
 const PORT: u32 = 0x6600_0010;
 
-/// A tagged capability with this high word, of entry 2.
-fn through(high: u32, address: u32) -> Live {
-    of_entry(2, (high as u64) * 0x1_0000_0000 + address as u64)
-}
+/// The address of the port, and those at and behind the second granule of RAM.
+const UART: u32 = 0x1000_0000;
 
-/// The same untagged.
-fn bare(high: u32, address: u32) -> Live {
-    expand(untagged((high as u64) * 0x1_0000_0000 + address as u64))
-}
+const NEXT: u32 = 0x8000_0008;
+
+const MIDDLE: u32 = 0x8000_000C;
+
+const LAST: u32 = 0x8000_0018;
+
+/// What is taken off or added to an address.
+const LESS_4: u32 = 0xFFFF_FFFC;
+
+const LESS_8: u32 = 0xFFFF_FFF8;
+
+/// The capability of an access: whether it is tagged, its high word, its address.
+type Through = (bool, u32, u32);
 
 fn untagged(word: u64) -> Cap {
     Cap {
@@ -243,8 +80,19 @@ fn object(word: u64) -> Cap {
     }
 }
 
+/// The capability, of entry 2 where it is tagged.
+fn through(x: Through) -> Live {
+    let (tag, high, address) = x;
+    let root = if tag { 2 } else { 0 };
+    expand(Cap {
+        tag,
+        word: (high as u64) * 0x1_0000_0000 + address as u64,
+        shadow: Shadow { root, source: 0 },
+    })
+}
+
 /// The number that a quiet load gives.
-fn number<M: Memory>(mem: &M, x: Live, width: u32, signed: bool, immediate: u32) -> Option<u32>
+fn load<M: Memory>(mem: &M, x: &Live, width: u32, signed: bool, immediate: u32) -> Option<u32>
     requires { (width ≡ 1) ⊎ (width ≡ 2) ⊎ ((width ≡ 4) × (signed ≡ false)) }
 {
     let access = Access {
@@ -255,16 +103,21 @@ fn number<M: Memory>(mem: &M, x: Live, width: u32, signed: bool, immediate: u32)
         by: 3,
         immediate,
     };
-    load_number(&access, &x, mem, RAM)
+    load_number(&access, x, mem, RAM)
 }
 
-/// The word that a quiet load gives.
-fn word<M: Memory>(mem: &M, x: Live, immediate: u32) -> Option<u32> {
-    number(mem, x, 4, false, immediate)
+/// The number that a quiet load of a width gives, with its sign or without.
+fn number<M: Memory>(mem: &M, x: Through, width: u32, signed: bool, immediate: u32) -> Option<u32> {
+    let x = through(x);
+    match width {
+        1 => load(mem, &x, 1, signed, immediate),
+        2 => load(mem, &x, 2, signed, immediate),
+        _ => load(mem, &x, 4, false, immediate),
+    }
 }
 
 /// The capability that a quiet load gives.
-fn capability<M: Memory>(mem: &M, x: Live, immediate: u32) -> Option<Cap> {
+fn capability<M: Memory>(mem: &M, x: Through, immediate: u32) -> Option<Cap> {
     let access = Access {
         loads: true,
         width: 8,
@@ -273,14 +126,14 @@ fn capability<M: Memory>(mem: &M, x: Live, immediate: u32) -> Option<Cap> {
         by: 3,
         immediate,
     };
-    match load_capability(&access, &x, mem, RAM) {
+    match load_capability(&access, &through(x), mem, RAM) {
         Some(value) => Some(value.cap),
         None => None,
     }
 }
 
 /// A quiet store of a number.
-fn put<M: Memory>(mem: &mut M, x: Live, y: Live, width: u32, immediate: u32) -> bool
+fn store<M: Memory>(mem: &mut M, x: &Live, y: &Live, width: u32, immediate: u32) -> bool
     requires { (width ≡ 1) ⊎ (width ≡ 2) ⊎ (width ≡ 4) }
     ensures { length (M.granules mem.new) ≡ length (M.granules mem.old) }
 {
@@ -292,11 +145,23 @@ fn put<M: Memory>(mem: &mut M, x: Live, y: Live, width: u32, immediate: u32) -> 
         by: 3,
         immediate,
     };
-    store_quietly(&access, &x, &y, mem, RAM)
+    store_quietly(&access, x, y, mem, RAM)
+}
+
+/// A quiet store of a number of a width.
+fn put<M: Memory>(mem: &mut M, x: Through, y: &Live, width: u32, immediate: u32) -> bool
+    ensures { length (M.granules mem.new) ≡ length (M.granules mem.old) }
+{
+    let x = through(x);
+    match width {
+        1 => store(mem, &x, y, 1, immediate),
+        2 => store(mem, &x, y, 2, immediate),
+        _ => store(mem, &x, y, 4, immediate),
+    }
 }
 
 /// A quiet store of a capability.
-fn put_whole<M: Memory>(mem: &mut M, x: Live, y: Live, immediate: u32) -> bool
+fn put_whole<M: Memory>(mem: &mut M, x: Through, y: Cap, immediate: u32) -> bool
     ensures { length (M.granules mem.new) ≡ length (M.granules mem.old) }
 {
     let access = Access {
@@ -307,22 +172,87 @@ fn put_whole<M: Memory>(mem: &mut M, x: Live, y: Live, immediate: u32) -> bool
         by: 3,
         immediate,
     };
-    store_quietly(&access, &x, &y, mem, RAM)
+    store_quietly(&access, &through(x), &expand(y), mem, RAM)
 }
 
 /// What memory holds.
-fn all<M: Memory>(mem: &M) -> (Cap, Cap, Cap, Cap)
+fn all<M: Memory>(mem: &M) -> [Cap; 4]
     requires { length (M.granules mem.now) ≡ 4 }
 {
-    (
+    [
         mem.load_cap(0),
         mem.load_cap(8),
         mem.load_cap(16),
         mem.load_cap(24),
-    )
+    ]
 }
 
 /// Of each width, with the sign and without, up to both ends of RAM, before an address and behind it.
+const NUMBERS: [(Through, u32, bool, u32, Option<u32>); 17] = [
+    ((true, FULL, NEXT), 1, true, 0, Some(0xFFFF_FFF1)),
+    ((true, FULL, NEXT), 1, false, 0, Some(0xF1)),
+    ((true, FULL, NEXT), 1, true, 7, Some(0x7F)),
+    ((true, FULL, NEXT), 1, false, 7, Some(0x7F)),
+    ((true, FULL, NEXT), 2, true, 0, Some(0xFFFF_82F1)),
+    ((true, FULL, NEXT), 2, false, 0, Some(0x82F1)),
+    ((true, FULL, NEXT), 2, true, 6, Some(0x7F86)),
+    ((true, FULL, NEXT), 2, false, 4, Some(0x8588)),
+    ((true, FULL, NEXT), 4, false, 0, Some(0x8483_82F1)),
+    ((true, FULL, NEXT), 4, false, 4, Some(0x7F86_8588)),
+    ((true, FULL, NEXT), 4, false, LESS_8, Some(0x8000_0000)),
+    ((true, FULL, NEXT), 4, false, LESS_4, Some(0x7600_0020)),
+    ((true, FULL, NEXT), 4, false, 20, Some(0)),
+    ((true, FULL, NEXT), 1, false, 23, Some(0)),
+    ((true, READS_DATA, NEXT), 4, false, 0, Some(0x8483_82F1)),
+    ((true, PLAIN, NEXT), 4, false, 0, Some(0x8483_82F1)),
+    ((true, ALL, NEXT), 4, false, 0, Some(0x8483_82F1)),
+];
+
+/// Untagged, sealed, without LD; a byte past the bounds and before them, and the bytes beside these; misaligned; at a
+/// device, below RAM and past its end.
+const NO_NUMBERS: [(Through, u32, bool, u32, Option<u32>); 25] = [
+    ((false, FULL, NEXT), 4, false, 0, None),
+    ((true, SEALED, NEXT), 4, false, 0, None),
+    ((true, WRITES, NEXT), 4, false, 0, None),
+    ((true, SHORT, NEXT), 4, false, 4, None),
+    ((true, SHORT, NEXT), 2, false, 6, None),
+    ((true, SHORT, NEXT), 1, true, 7, None),
+    ((true, SHORT, NEXT), 1, false, 6, Some(0x86)),
+    ((true, SHORT, NEXT), 2, false, 4, Some(0x8588)),
+    ((true, LATE, MIDDLE), 4, false, LESS_4, None),
+    ((true, LATE, MIDDLE), 1, false, LESS_4, None),
+    ((true, LATE, MIDDLE), 1, false, 0xFFFF_FFFD, Some(0x82)),
+    ((true, FULL, NEXT), 1, false, 24, None),
+    ((true, FULL, NEXT), 4, false, 24, None),
+    ((true, FULL, NEXT), 4, false, 0xFFFF_FFF4, None),
+    ((true, FULL, NEXT), 2, false, 1, None),
+    ((true, FULL, NEXT), 4, false, 1, None),
+    ((true, FULL, NEXT), 4, false, 2, None),
+    ((true, FULL, NEXT), 4, false, 3, None),
+    ((true, PORT, UART), 4, false, 0, None),
+    ((true, ALL, UART), 4, false, 0, None),
+    ((true, ALL, RAM), 4, false, LESS_4, None),
+    ((true, ALL, RAM), 4, false, 28, Some(0)),
+    ((true, ALL, RAM), 4, false, 32, None),
+    ((true, ALL, 0xFFFF_FFFC), 4, false, 0, None),
+    ((true, ALL, 0), 4, false, 0, None),
+];
+
+fn see_numbers<M: Memory>(
+    rt: &impl Abort,
+    mem: &M,
+    rows: &[(Through, u32, bool, u32, Option<u32>)],
+) {
+    for (place, row) in rows.iter().enumerate() {
+        let (x, width, signed, immediate, wanted) = *row;
+        assert!(rt;
+            number(mem, x, width, signed, immediate) == wanted,
+            "row {place}"
+        );
+    }
+}
+
+/// The words that are loaded by `NUMBERS`, behind a capability.
 fn numbers<M: Memory>(rt: &impl Abort, mem: &mut M)
     requires { length (M.granules mem.old) ≡ 4 }
     ensures { length (M.granules mem.new) ≡ 4 }
@@ -330,267 +260,272 @@ fn numbers<M: Memory>(rt: &impl Abort, mem: &mut M)
     mem.store_cap(0, object(0x7600_0020_8000_0000));
     mem.store(8, 4, 0x8483_82F1);
     mem.store(12, 4, 0x7F86_8588);
-    let x = through(FULL, RAM + 8);
-    assert_eq!(rt; number(mem, x, 1, true, 0), Some(0xFFFF_FFF1));
-    assert_eq!(rt; number(mem, x, 1, false, 0), Some(0xF1));
-    assert_eq!(rt; number(mem, x, 1, true, 7), Some(0x7F));
-    assert_eq!(rt; number(mem, x, 1, false, 7), Some(0x7F));
-    assert_eq!(rt; number(mem, x, 2, true, 0), Some(0xFFFF_82F1));
-    assert_eq!(rt; number(mem, x, 2, false, 0), Some(0x82F1));
-    assert_eq!(rt; number(mem, x, 2, true, 6), Some(0x7F86));
-    assert_eq!(rt; number(mem, x, 2, false, 4), Some(0x8588));
-    assert_eq!(rt; word(mem, x, 0), Some(0x8483_82F1));
-    assert_eq!(rt; word(mem, x, 4), Some(0x7F86_8588));
-    assert_eq!(rt; word(mem, x, 0xFFFF_FFF8), Some(0x8000_0000));
-    assert_eq!(rt; word(mem, x, 0xFFFF_FFFC), Some(0x7600_0020));
-    assert_eq!(rt; word(mem, x, 20), Some(0));
-    assert_eq!(rt; number(mem, x, 1, false, 23), Some(0));
-    assert_eq!(rt;
-        word(mem, through(READS_DATA, RAM + 8), 0),
-        Some(0x8483_82F1)
-    );
-    assert_eq!(rt; word(mem, through(PLAIN, RAM + 8), 0), Some(0x8483_82F1));
-    assert_eq!(rt; word(mem, through(ALL, RAM + 8), 0), Some(0x8483_82F1));
+    see_numbers(rt, mem, &NUMBERS);
+    see_numbers(rt, mem, &NO_NUMBERS);
 }
 
-/// Untagged, sealed, without LD; a byte past the bounds and before them, and the bytes beside these; misaligned; at a
-/// device, below RAM and past its end.
-fn no_numbers<M: Memory>(rt: &impl Abort, mem: &M)
-    requires { length (M.granules mem.now) ≡ 4 }
-{
-    assert_eq!(rt; word(mem, bare(FULL, RAM + 8), 0), None);
-    assert_eq!(rt; word(mem, through(SEALED, RAM + 8), 0), None);
-    assert_eq!(rt; word(mem, through(WRITES, RAM + 8), 0), None);
-    let short = through(SHORT, RAM + 8);
-    assert_eq!(rt; word(mem, short, 4), None);
-    assert_eq!(rt; number(mem, short, 2, false, 6), None);
-    assert_eq!(rt; number(mem, short, 1, true, 7), None);
-    assert_eq!(rt; number(mem, short, 1, false, 6), Some(0x86));
-    assert_eq!(rt; number(mem, short, 2, false, 4), Some(0x8588));
-    let late = through(LATE, RAM + 12);
-    assert_eq!(rt; word(mem, late, 0xFFFF_FFFC), None);
-    assert_eq!(rt; number(mem, late, 1, false, 0xFFFF_FFFC), None);
-    assert_eq!(rt; number(mem, late, 1, false, 0xFFFF_FFFD), Some(0x82));
-    let x = through(FULL, RAM + 8);
-    assert_eq!(rt; number(mem, x, 1, false, 24), None);
-    assert_eq!(rt; word(mem, x, 24), None);
-    assert_eq!(rt; word(mem, x, 0xFFFF_FFF4), None);
-    assert_eq!(rt; number(mem, x, 2, false, 1), None);
-    assert_eq!(rt; word(mem, x, 1), None);
-    assert_eq!(rt; word(mem, x, 2), None);
-    assert_eq!(rt; word(mem, x, 3), None);
-    assert_eq!(rt; word(mem, through(PORT, 0x1000_0000), 0), None);
-    assert_eq!(rt; word(mem, through(ALL, 0x1000_0000), 0), None);
-    assert_eq!(rt; word(mem, through(ALL, RAM), 0xFFFF_FFFC), None);
-    assert_eq!(rt; word(mem, through(ALL, RAM), 28), Some(0));
-    assert_eq!(rt; word(mem, through(ALL, RAM), 32), None);
-    assert_eq!(rt; word(mem, through(ALL, 0xFFFF_FFFC), 0), None);
-    assert_eq!(rt; word(mem, through(ALL, 0), 0), None);
+/// Whether what a load gives is tagged, and its word.
+type Given = (bool, u64);
+
+/// What is loaded through a capability loses what that one lacks, tagged or not.
+const CAPABILITIES: [(Through, u32, Option<Given>); 6] = [
+    ((true, FULL, RAM), 0, Some((true, 0x7E00_0020_8000_0004))),
+    ((true, FULL, RAM), 8, Some((false, 0x7F86_8588_8483_82F1))),
+    ((true, FULL, RAM), 24, Some((false, 0))),
+    (
+        (true, READS_DATA, NEXT),
+        LESS_8,
+        Some((true, 0x2800_0020_8000_0004)),
+    ),
+    (
+        (true, READS_DATA, NEXT),
+        0,
+        Some((false, 0x3F86_8588_8483_82F1)),
+    ),
+    ((true, PLAIN, RAM), 0, Some((false, 0x2800_0020_8000_0004))),
+];
+
+/// Its base is marked; and what lies behind it.
+const MARKED: [(Through, u32, Option<Given>); 1] = [(
+    (true, FULL, RAM),
+    0,
+    Some((false, 0x7E00_0020_8000_0004)),
+)];
+
+const MARKED_BEHIND: [(Through, u32, Option<Given>); 1] = [(
+    (true, FULL, RAM),
+    0,
+    Some((true, 0x7E00_0020_8000_0004)),
+)];
+
+/// Untagged, sealed, without LD; past the bounds and before them, and beside these; misaligned; at a device, below RAM
+/// and past its end.
+const NO_CAPABILITIES: [(Through, u32, Option<Given>); 17] = [
+    ((false, FULL, RAM), 0, None),
+    ((true, SEALED, RAM), 0, None),
+    ((true, WRITES, RAM), 0, None),
+    ((true, SHORT, RAM), 8, None),
+    ((true, SHORT, RAM), 0, Some((true, 0x7E00_0020_8000_0004))),
+    ((true, LATE, LAST), 0xFFFF_FFF0, None),
+    ((true, LATE, LAST), LESS_8, Some((false, 0))),
+    ((true, FULL, RAM), 32, None),
+    ((true, FULL, RAM), LESS_8, None),
+    ((true, FULL, RAM), 1, None),
+    ((true, FULL, RAM), 4, None),
+    ((true, PORT, UART), 0, None),
+    ((true, ALL, UART), 0, None),
+    ((true, ALL, RAM), LESS_8, None),
+    ((true, ALL, RAM), 24, Some((false, 0))),
+    ((true, ALL, RAM), 32, None),
+    ((true, ALL, 0xFFFF_FFF8), 0, None),
+];
+
+/// A capability of the object, or a word.
+fn of(given: Given) -> Cap {
+    let (tag, word) = given;
+    if tag { object(word) } else { untagged(word) }
 }
 
-/// What is loaded through a capability loses what that one lacks, tagged or not, and its tag where its base is marked.
+/// Whether a load gave what it must.
+fn is_given(found: Option<Cap>, wanted: Option<Given>) -> bool {
+    match (found, wanted) {
+        (Some(cap), Some(given)) => cap == of(given),
+        (None, None) => true,
+        _ => false,
+    }
+}
+
+fn see_capabilities<M: Memory>(rt: &impl Abort, mem: &M, rows: &[(Through, u32, Option<Given>)]) {
+    for (place, row) in rows.iter().enumerate() {
+        let (x, immediate, wanted) = *row;
+        assert!(rt;
+            is_given(capability(mem, x, immediate), wanted),
+            "row {place}"
+        );
+    }
+}
+
+/// The same words, behind a capability whose granule is marked and unmarked.
 fn capabilities<M: Memory>(rt: &impl Abort, mem: &mut M)
     requires { length (M.granules mem.old) ≡ 4 }
     ensures { length (M.granules mem.new) ≡ 4 }
 {
     mem.store_cap(0, object(0x7E00_0020_8000_0004));
     mem.store_cap(8, untagged(0x7F86_8588_8483_82F1));
-    let x = through(FULL, RAM);
-    assert_eq!(rt; capability(mem, x, 0), Some(object(0x7E00_0020_8000_0004)));
-    assert_eq!(rt;
-        capability(mem, x, 8),
-        Some(untagged(0x7F86_8588_8483_82F1))
-    );
-    assert_eq!(rt; capability(mem, x, 24), Some(untagged(0)));
-    let data = through(READS_DATA, RAM + 8);
-    assert_eq!(rt;
-        capability(mem, data, 0xFFFF_FFF8),
-        Some(object(0x2800_0020_8000_0004))
-    );
-    assert_eq!(rt;
-        capability(mem, data, 0),
-        Some(untagged(0x3F86_8588_8483_82F1))
-    );
-    let plain = through(PLAIN, RAM);
-    assert_eq!(rt;
-        capability(mem, plain, 0),
-        Some(untagged(0x2800_0020_8000_0004))
-    );
+    see_capabilities(rt, mem, &CAPABILITIES);
     mem.mark(0, 8, true);
-    assert_eq!(rt;
-        capability(mem, x, 0),
-        Some(untagged(0x7E00_0020_8000_0004))
-    );
+    see_capabilities(rt, mem, &MARKED);
     mem.mark(0, 8, false);
     mem.mark(8, 16, true);
-    assert_eq!(rt; capability(mem, x, 0), Some(object(0x7E00_0020_8000_0004)));
+    see_capabilities(rt, mem, &MARKED_BEHIND);
+    see_capabilities(rt, mem, &NO_CAPABILITIES);
 }
 
-/// Untagged, sealed, without LD; past the bounds and before them, and beside these; misaligned; at a device, below RAM
-/// and past its end.
-fn no_capabilities<M: Memory>(rt: &impl Abort, mem: &M)
-    requires { length (M.granules mem.now) ≡ 4 }
+/// Stores of numbers one after another, what the changed granule holds then, and which it is. A number is stored by
+/// its width, of a capability its address, and the granule's tag goes.
+const STORED: [(Through, bool, u32, u32, u32, u64); 6] = [
+    ((true, FULL, RAM), false, 1, 1, 0, 0x7600_0020_8000_1104),
+    ((true, FULL, RAM), false, 2, 2, 0, 0x7600_0020_CC11_1104),
+    ((true, FULL, RAM), false, 4, 4, 0, 0xAABB_CC11_CC11_1104),
+    ((true, PLAIN, LAST), true, 4, LESS_8, 16, 0x1234_5678),
+    ((true, WRITES, RAM), true, 4, 28, 24, 0x1234_5678_0000_0000),
+    ((true, ALL, RAM), true, 1, 31, 24, 0x7834_5678_0000_0000),
+];
+
+/// What is stored: an integer, or a capability.
+fn value(is_capability: bool) -> Live {
+    if is_capability {
+        return through((true, ALL, 0x1234_5678));
+    }
+    Live::integer(0xAABB_CC11)
+}
+
+/// A number is stored.
+fn stores<M: Memory>(rt: &impl Abort, mem: &mut M, row: &(Through, bool, u32, u32, u32, u64))
+    requires { length (M.granules mem.old) ≡ 4 }
+    ensures { length (M.granules mem.new) ≡ 4 }
 {
-    assert_eq!(rt; capability(mem, bare(FULL, RAM), 0), None);
-    assert_eq!(rt; capability(mem, through(SEALED, RAM), 0), None);
-    assert_eq!(rt; capability(mem, through(WRITES, RAM), 0), None);
-    let short = through(SHORT, RAM);
-    assert_eq!(rt; capability(mem, short, 8), None);
-    assert_eq!(rt;
-        capability(mem, short, 0),
-        Some(object(0x7E00_0020_8000_0004))
-    );
-    let late = through(LATE, RAM + 24);
-    assert_eq!(rt; capability(mem, late, 0xFFFF_FFF0), None);
-    assert_eq!(rt; capability(mem, late, 0xFFFF_FFF8), Some(untagged(0)));
-    let x = through(FULL, RAM);
-    assert_eq!(rt; capability(mem, x, 32), None);
-    assert_eq!(rt; capability(mem, x, 0xFFFF_FFF8), None);
-    assert_eq!(rt; capability(mem, x, 1), None);
-    assert_eq!(rt; capability(mem, x, 4), None);
-    assert_eq!(rt; capability(mem, through(PORT, 0x1000_0000), 0), None);
-    assert_eq!(rt; capability(mem, through(ALL, 0x1000_0000), 0), None);
-    assert_eq!(rt; capability(mem, through(ALL, RAM), 0xFFFF_FFF8), None);
-    assert_eq!(rt; capability(mem, through(ALL, RAM), 24), Some(untagged(0)));
-    assert_eq!(rt; capability(mem, through(ALL, RAM), 32), None);
-    assert_eq!(rt; capability(mem, through(ALL, 0xFFFF_FFF8), 0), None);
+    let (x, is_capability, width, immediate, at, word) = *row;
+    let y = value(is_capability);
+    assert!(rt; put(mem, x, &y, width, immediate));
+    let now = all(mem);
+    let index = (at / 8 % 4) as usize;
+    assert!(rt; now[index] == untagged(word), "at {at}");
+    assert!(rt; now[1] == object(0x7600_0020_8000_0008));
 }
 
-/// A number is stored by its width, of a capability its address, and the granule's tag goes.
 fn stored_numbers<M: Memory>(rt: &impl Abort, mem: &mut M)
     requires { length (M.granules mem.old) ≡ 4 }
     ensures { length (M.granules mem.new) ≡ 4 }
 {
-    let beside = object(0x7600_0020_8000_0008);
     mem.store_cap(0, object(0x7600_0020_8000_0004));
-    mem.store_cap(8, beside);
-    let (x, y) = (through(FULL, RAM), Live::integer(0xAABB_CC11));
-    assert!(rt; put(mem, x, y, 1, 1));
-    assert_eq!(rt; mem.load_cap(0), untagged(0x7600_0020_8000_1104));
-    assert!(rt; put(mem, x, y, 2, 2));
-    assert_eq!(rt; mem.load_cap(0), untagged(0x7600_0020_CC11_1104));
-    assert!(rt; put(mem, x, y, 4, 4));
-    assert_eq!(rt; mem.load_cap(0), untagged(0xAABB_CC11_CC11_1104));
-    assert_eq!(rt; mem.load_cap(8), beside);
-    let y = through(ALL, 0x1234_5678);
-    assert!(rt; put(mem, through(PLAIN, RAM + 24), y, 4, 0xFFFF_FFF8));
-    assert!(rt; put(mem, through(WRITES, RAM), y, 4, 28));
-    assert!(rt; put(mem, through(ALL, RAM), y, 1, 31));
-    assert_eq!(rt; mem.load_cap(8), beside);
-    assert_eq!(rt; mem.load_cap(16), untagged(0x1234_5678));
-    assert_eq!(rt; mem.load_cap(24), untagged(0x7834_5678_0000_0000));
+    mem.store_cap(8, object(0x7600_0020_8000_0008));
+    for row in &STORED {
+        stores(rt, mem, row);
+    }
 }
 
-/// A capability is stored whole; without MC an untagged one, and without SL one without GL untagged.
+/// Stores of capabilities, and whether what is stored is tagged: an untagged one without MC; without SL one without GL
+/// untagged.
+const STORED_WHOLE: [(Through, bool, u64, u32, bool); 5] = [
+    ((true, FULL, RAM), true, 0x7600_0020_8000_0010, 8, true),
+    ((true, WRITES, RAM), true, 0x7600_0020_8000_0010, 0, true),
+    ((true, PLAIN, RAM), false, 0x7600_0020_8000_0010, 0, false),
+    ((true, FULL, RAM), true, 0x3600_0020_8000_0010, 16, false),
+    ((true, STACK, RAM), true, 0x3600_0020_8000_0010, 24, true),
+];
+
+/// A capability is stored.
+fn stores_whole<M: Memory>(rt: &impl Abort, mem: &mut M, row: &(Through, bool, u64, u32, bool))
+    requires { length (M.granules mem.old) ≡ 4 }
+    ensures { length (M.granules mem.new) ≡ 4 }
+{
+    let (x, tag, word, at, stays) = *row;
+    assert!(rt; put_whole(mem, x, of((tag, word)), at));
+    let index = (at / 8 % 4) as usize;
+    assert!(rt; all(mem)[index] == of((stays, word)), "at {at}");
+}
+
 fn stored_capabilities<M: Memory>(rt: &impl Abort, mem: &mut M)
     requires { length (M.granules mem.old) ≡ 4 }
     ensures { length (M.granules mem.new) ≡ 4 }
 {
-    let (word, local) = (0x7600_0020_8000_0010, 0x3600_0020_8000_0010);
-    let (y, own) = (expand(object(word)), expand(object(local)));
-    assert!(rt; put_whole(mem, through(FULL, RAM), y, 8));
-    assert_eq!(rt; mem.load_cap(8), object(word));
-    assert!(rt; put_whole(mem, through(WRITES, RAM), y, 0));
-    assert_eq!(rt; mem.load_cap(0), object(word));
-    assert!(rt; put_whole(mem, through(PLAIN, RAM), expand(untagged(word)), 0));
-    assert_eq!(rt; mem.load_cap(0), untagged(word));
-    assert!(rt; put_whole(mem, through(FULL, RAM), own, 16));
-    assert_eq!(rt; mem.load_cap(16), untagged(local));
-    assert!(rt; put_whole(mem, through(STACK, RAM), own, 24));
-    assert_eq!(rt; mem.load_cap(24), object(local));
-}
-
-/// A number isn't stored, and nothing changes.
-fn keeps_out<M: Memory>(rt: &impl Abort, mem: &mut M, x: Live, width: u32, immediate: u32)
-    requires width { (width ≡ 1) ⊎ (width ≡ 2) ⊎ (width ≡ 4) }
-    requires size { length (M.granules mem.old) ≡ 4 }
-    ensures { length (M.granules mem.new) ≡ 4 }
-{
-    let before = all(mem);
-    assert!(rt; !put(mem, x, Live::integer(0xAABB_CC11), width, immediate));
-    assert!(rt; all(mem) == before);
-}
-
-/// A capability isn't stored, and nothing changes.
-fn keeps_whole_out<M: Memory>(rt: &impl Abort, mem: &mut M, x: Live, immediate: u32)
-    requires { length (M.granules mem.old) ≡ 4 }
-    ensures { length (M.granules mem.new) ≡ 4 }
-{
-    let before = all(mem);
-    assert!(rt; !put_whole(mem, x, expand(object(0x7600_0020_8000_0018)), immediate));
-    assert!(rt; all(mem) == before);
+    for row in &STORED_WHOLE {
+        stores_whole(rt, mem, row);
+    }
 }
 
 /// Untagged, sealed, without SD; past the bounds and before them; misaligned; at a device, below RAM and past its end.
-fn no_stored_numbers<M: Memory>(rt: &impl Abort, mem: &mut M)
+const NO_STORES: [(Through, u32, u32); 17] = [
+    ((false, FULL, RAM), 4, 0),
+    ((true, SEALED, RAM), 4, 0),
+    ((true, READS, RAM), 4, 0),
+    ((true, SHORT, RAM), 4, 12),
+    ((true, SHORT, RAM), 2, 14),
+    ((true, SHORT, RAM), 1, 15),
+    ((true, LATE, MIDDLE), 4, LESS_4),
+    ((true, LATE, MIDDLE), 1, LESS_4),
+    ((true, FULL, RAM), 1, 32),
+    ((true, FULL, RAM), 2, 1),
+    ((true, FULL, RAM), 4, 1),
+    ((true, FULL, RAM), 4, 2),
+    ((true, PORT, UART), 4, 0),
+    ((true, ALL, UART), 4, 0),
+    ((true, ALL, RAM), 4, LESS_4),
+    ((true, ALL, RAM), 4, 32),
+    ((true, ALL, 0xFFFF_FFFC), 4, 0),
+];
+
+/// The same of a capability, of 8 bytes, and without MC.
+const NO_WHOLE_STORES: [(Through, u32, u32); 13] = [
+    ((false, FULL, RAM), 8, 0),
+    ((true, SEALED, RAM), 8, 0),
+    ((true, READS, RAM), 8, 0),
+    ((true, PLAIN, RAM), 8, 0),
+    ((true, SHORT, RAM), 8, 8),
+    ((true, LATE, LAST), 8, 0xFFFF_FFF0),
+    ((true, FULL, RAM), 8, 32),
+    ((true, FULL, RAM), 8, 4),
+    ((true, FULL, RAM), 8, 1),
+    ((true, PORT, UART), 8, 0),
+    ((true, ALL, UART), 8, 0),
+    ((true, ALL, RAM), 8, LESS_8),
+    ((true, ALL, RAM), 8, 32),
+];
+
+/// A number isn't stored, nor is a capability of 8 bytes, and nothing changes.
+fn keeps_out<M: Memory>(rt: &impl Abort, mem: &mut M, row: &(Through, u32, u32))
     requires { length (M.granules mem.old) ≡ 4 }
     ensures { length (M.granules mem.new) ≡ 4 }
 {
-    keeps_out(rt, mem, bare(FULL, RAM), 4, 0);
-    keeps_out(rt, mem, through(SEALED, RAM), 4, 0);
-    keeps_out(rt, mem, through(READS, RAM), 4, 0);
-    keeps_out(rt, mem, through(SHORT, RAM), 4, 12);
-    keeps_out(rt, mem, through(SHORT, RAM), 2, 14);
-    keeps_out(rt, mem, through(SHORT, RAM), 1, 15);
-    keeps_out(rt, mem, through(LATE, RAM + 12), 4, 0xFFFF_FFFC);
-    keeps_out(rt, mem, through(LATE, RAM + 12), 1, 0xFFFF_FFFC);
-    keeps_out(rt, mem, through(FULL, RAM), 1, 32);
-    keeps_out(rt, mem, through(FULL, RAM), 2, 1);
-    keeps_out(rt, mem, through(FULL, RAM), 4, 1);
-    keeps_out(rt, mem, through(FULL, RAM), 4, 2);
-    keeps_out(rt, mem, through(PORT, 0x1000_0000), 4, 0);
-    keeps_out(rt, mem, through(ALL, 0x1000_0000), 4, 0);
-    keeps_out(rt, mem, through(ALL, RAM), 4, 0xFFFF_FFFC);
-    keeps_out(rt, mem, through(ALL, RAM), 4, 32);
-    keeps_out(rt, mem, through(ALL, 0xFFFF_FFFC), 4, 0);
+    let (x, width, immediate) = *row;
+    let before = all(mem);
+    let stored = if width == 8 {
+        put_whole(mem, x, object(0x7600_0020_8000_0018), immediate)
+    } else {
+        put(mem, x, &Live::integer(0xAABB_CC11), width, immediate)
+    };
+    assert!(rt; !stored && all(mem) == before);
 }
 
-/// The same of a capability, and without MC.
-fn no_stored_capabilities<M: Memory>(rt: &impl Abort, mem: &mut M)
+fn no_stores<M: Memory>(rt: &impl Abort, mem: &mut M, rows: &[(Through, u32, u32)])
     requires { length (M.granules mem.old) ≡ 4 }
     ensures { length (M.granules mem.new) ≡ 4 }
 {
-    keeps_whole_out(rt, mem, bare(FULL, RAM), 0);
-    keeps_whole_out(rt, mem, through(SEALED, RAM), 0);
-    keeps_whole_out(rt, mem, through(READS, RAM), 0);
-    keeps_whole_out(rt, mem, through(PLAIN, RAM), 0);
-    keeps_whole_out(rt, mem, through(SHORT, RAM), 8);
-    keeps_whole_out(rt, mem, through(LATE, RAM + 24), 0xFFFF_FFF0);
-    keeps_whole_out(rt, mem, through(FULL, RAM), 32);
-    keeps_whole_out(rt, mem, through(FULL, RAM), 4);
-    keeps_whole_out(rt, mem, through(FULL, RAM), 1);
-    keeps_whole_out(rt, mem, through(PORT, 0x1000_0000), 0);
-    keeps_whole_out(rt, mem, through(ALL, 0x1000_0000), 0);
-    keeps_whole_out(rt, mem, through(ALL, RAM), 0xFFFF_FFF8);
-    keeps_whole_out(rt, mem, through(ALL, RAM), 32);
+    for row in rows {
+        keeps_out(rt, mem, row);
+    }
+}
+
+/// All loads and stores over one memory.
+fn over<M: Memory>(rt: &impl Abort, mem: &mut M)
+    requires { length (M.granules mem.old) ≡ 4 }
+{
+    numbers(rt, mem);
+    capabilities(rt, mem);
+    stored_numbers(rt, mem);
+    no_stores(rt, mem, &NO_STORES);
+    stored_capabilities(rt, mem);
+    no_stores(rt, mem, &NO_WHOLE_STORES);
 }
 
 #[test]
-fn quiet_loads_over_both(rt: HostRuntime) -> Result<(), Fail> {
+fn quiet_accesses_over_both(rt: HostRuntime) -> Result<(), Fail> {
     let mut plain = Plain::new(rt.alloc(), 32)?;
-    numbers(&rt, &mut plain);
-    no_numbers(&rt, &plain);
-    capabilities(&rt, &mut plain);
-    no_capabilities(&rt, &plain);
+    over(&rt, &mut plain);
     let mut planes = Planes::new(rt.alloc(), 32)?;
-    numbers(&rt, &mut planes);
-    no_numbers(&rt, &planes);
-    capabilities(&rt, &mut planes);
-    no_capabilities(&rt, &planes);
+    over(&rt, &mut planes);
     Ok(())
 }
 
+/// A capability whose base lies in a marked granule loses its tag.
 #[test]
-fn quiet_stores_over_both(rt: HostRuntime) -> Result<(), Fail> {
-    let mut plain = Plain::new(rt.alloc(), 32)?;
-    stored_numbers(&rt, &mut plain);
-    no_stored_numbers(&rt, &mut plain);
-    stored_capabilities(&rt, &mut plain);
-    no_stored_capabilities(&rt, &mut plain);
-    let mut planes = Planes::new(rt.alloc(), 32)?;
-    stored_numbers(&rt, &mut planes);
-    no_stored_numbers(&rt, &mut planes);
-    stored_capabilities(&rt, &mut planes);
-    no_stored_capabilities(&rt, &mut planes);
+fn the_filter_looks_at_the_base(rt: HostRuntime) -> Result<(), Fail> {
+    let mut mem = Plain::new(rt.alloc(), 32)?;
+    let value = through((true, FULL, LAST));
+    mem.mark(0, 8, true);
+    assert!(rt; !filter(&mem, RAM, value).cap.tag);
+    mem.mark(0, 8, false);
+    assert!(rt; filter(&mem, RAM, value).cap.tag);
     Ok(())
 }

@@ -18,75 +18,125 @@ fn tagged(word: u64) -> Cap {
     }
 }
 
+/// A word without a tag.
+fn plain(word: u64) -> Cap {
+    Cap {
+        tag: false,
+        word,
+        shadow: Shadow { root: 0, source: 0 },
+    }
+}
+
+/// A load of a width, at an offset that is a multiple of it.
+fn loaded<M: Memory>(memory: &M, at: u32, width: u32) -> u32
+    requires { length (M.granules memory.now) ≡ 4 }
+{
+    let at = at % 32;
+    match width {
+        1 => memory.load(at, 1),
+        2 => memory.load(at / 2 * 2, 2),
+        _ => memory.load(at / 4 * 4, 4),
+    }
+}
+
+/// Loads, each by its offset and its width, and what they give.
+fn see<M: Memory>(rt: &impl Abort, memory: &M, rows: &[(u32, u32, u32)])
+    requires { length (M.granules memory.now) ≡ 4 }
+{
+    for (at, width, wanted) in rows {
+        assert!(rt;
+            loaded(memory, *at, *width) == *wanted,
+            "{width} bytes at {at}"
+        );
+    }
+}
+
 /// Writes of every width into one granule: what reads back is bytes in little-endian order, the
 /// tag goes, and what lies beside stays.
 fn mixed_widths<M: Memory>(rt: &impl Abort, memory: &mut M)
     requires { length (M.granules memory.old) ≡ 4 }
+    ensures { length (M.granules memory.new) ≡ 4 }
 {
     memory.store_cap(0, tagged(1));
     memory.store_cap(8, tagged(2));
     memory.store(8, 4, 0x4433_2211);
     memory.store(12, 4, 0x8877_6655);
-    assert_eq!(rt; memory.load_cap(8).word, 0x8877_6655_4433_2211);
-    assert_eq!(rt; memory.load_cap(8).tag, false);
-    assert_eq!(rt; memory.load_cap(8).shadow, Shadow { root: 0, source: 0 });
-    assert_eq!(rt; memory.load(9, 1), 0x22);
-    assert_eq!(rt; memory.load(10, 2), 0x4433);
-    assert_eq!(rt; memory.load(12, 4), 0x8877_6655);
+    assert!(rt; memory.load_cap(8) == plain(0x8877_6655_4433_2211));
+    see(
+        rt,
+        memory,
+        &[(9, 1, 0x22), (10, 2, 0x4433), (12, 4, 0x8877_6655)],
+    );
     memory.store(10, 2, 0xFFFF_BEEF);
-    assert_eq!(rt; memory.load(8, 4), 0xBEEF_2211);
-    assert_eq!(rt; memory.load(12, 4), 0x8877_6655);
+    see(rt, memory, &[(8, 4, 0xBEEF_2211), (12, 4, 0x8877_6655)]);
     memory.store(15, 1, 0x1FE);
-    assert_eq!(rt; memory.load_cap(8).word, 0xFE77_6655_BEEF_2211);
-    assert_eq!(rt; memory.load_cap(0), tagged(1));
+    assert!(rt; memory.load_cap(8).word == 0xFE77_6655_BEEF_2211);
+    assert!(rt; memory.load_cap(0) == tagged(1));
+}
+
+/// The next tagged granule from one offset to another.
+const NEXT: [(u32, u32, Option<u32>); 7] = [
+    (0, 4_294_967_295, Some(0)),
+    (1, 32, Some(24)),
+    (1, 25, Some(24)),
+    (1, 24, None),
+    (24, 32, Some(24)),
+    (25, 32, None),
+    (4_294_967_295, 4_294_967_295, None),
+];
+
+fn see_next<M: Memory>(rt: &impl Abort, memory: &M) {
+    for (from, to, wanted) in &NEXT {
+        assert!(rt;
+            memory.next_tagged(*from, *to) == *wanted,
+            "from {from} to {to}"
+        );
+    }
+}
+
+/// Bytes, and whether they are marked.
+fn see_marks<M: Memory>(rt: &impl Abort, memory: &M, rows: &[(u32, bool)])
+    requires { length (M.granules memory.now) ≡ 4 }
+{
+    for (at, wanted) in rows {
+        assert!(rt; memory.marked(*at % 32) == *wanted, "at {at}");
+    }
 }
 
 /// The next tagged granule at both ends; clearing leaves marks, and marking leaves capabilities.
 fn ranges<M: Memory>(rt: &impl Abort, memory: &mut M)
     requires { length (M.granules memory.old) ≡ 4 }
 {
-    assert_eq!(rt; memory.size(), 32);
     memory.zero(0, 32);
-    assert_eq!(rt; memory.next_tagged(0, 32), None);
+    assert!(rt; memory.size() == 32 && memory.next_tagged(0, 32).is_none());
     memory.store_cap(0, tagged(3));
     memory.store_cap(24, tagged(4));
-    assert_eq!(rt; memory.next_tagged(0, 4_294_967_295), Some(0));
-    assert_eq!(rt; memory.next_tagged(1, 32), Some(24));
-    assert_eq!(rt; memory.next_tagged(1, 25), Some(24));
-    assert_eq!(rt; memory.next_tagged(1, 24), None);
-    assert_eq!(rt; memory.next_tagged(24, 32), Some(24));
-    assert_eq!(rt; memory.next_tagged(25, 32), None);
-    assert_eq!(rt; memory.next_tagged(4_294_967_295, 4_294_967_295), None);
+    see_next(rt, memory);
     memory.mark(16, 32, true);
-    assert_eq!(rt; memory.marked(15), false);
-    assert_eq!(rt; memory.marked(16), true);
-    assert_eq!(rt; memory.marked(31), true);
-    assert_eq!(rt; memory.load_cap(24), tagged(4));
+    see_marks(rt, memory, &[(15, false), (16, true), (31, true)]);
+    assert!(rt; memory.load_cap(24) == tagged(4));
     memory.zero(24, 32);
-    assert_eq!(rt; memory.load_cap(24).tag, false);
-    assert_eq!(rt; memory.load_cap(24).shadow, Shadow { root: 0, source: 0 });
-    assert_eq!(rt; memory.marked(24), true);
+    assert!(rt; memory.load_cap(24) == plain(0));
+    see_marks(rt, memory, &[(24, true)]);
     memory.mark(16, 24, false);
-    assert_eq!(rt; memory.marked(16), false);
-    assert_eq!(rt; memory.marked(24), true);
-    assert_eq!(rt; memory.load_cap(0), tagged(3));
+    see_marks(rt, memory, &[(16, false), (24, true)]);
+    assert!(rt; memory.load_cap(0) == tagged(3));
+}
+
+/// Both over one memory.
+fn worked<M: Memory>(rt: &impl Abort, memory: &mut M)
+    requires { length (M.granules memory.old) ≡ 4 }
+{
+    mixed_widths(rt, memory);
+    ranges(rt, memory);
 }
 
 #[test]
-fn widths_over_both(rt: HostRuntime) -> Result<(), Fail> {
+fn widths_and_ranges_over_both(rt: HostRuntime) -> Result<(), Fail> {
     let mut plain = Plain::new(rt.alloc(), 32)?;
-    mixed_widths(&rt, &mut plain);
+    worked(&rt, &mut plain);
     let mut planes = Planes::new(rt.alloc(), 32)?;
-    mixed_widths(&rt, &mut planes);
-    Ok(())
-}
-
-#[test]
-fn ranges_over_both(rt: HostRuntime) -> Result<(), Fail> {
-    let mut plain = Plain::new(rt.alloc(), 32)?;
-    ranges(&rt, &mut plain);
-    let mut planes = Planes::new(rt.alloc(), 32)?;
-    ranges(&rt, &mut planes);
+    worked(&rt, &mut planes);
     Ok(())
 }
 
@@ -155,7 +205,10 @@ fn same_answers<A: Memory, B: Memory>(rt: &impl Abort, first: &mut A, second: &m
     let mut number = 88172645463325252u64;
     for call in 0..20000u32 {
         number = shuffled(number ^ call as u64);
-        assert_eq!(rt; chosen(first, number), chosen(second, number));
+        assert!(rt;
+            chosen(first, number) == chosen(second, number),
+            "call {call}"
+        );
     }
 }
 
@@ -172,22 +225,15 @@ fn lent_slices_of_planes(rt: HostRuntime) -> Result<(), Fail> {
     let mut planes = Planes::new(rt.alloc(), 4096)?;
     planes.store_cap(8, tagged(5));
     planes.store_cap(4088, tagged(6));
-    assert_eq!(rt; planes.next_tagged(0, 4096), Some(8));
-    assert_eq!(rt; planes.next_tagged(16, 4096), Some(4088));
-    assert_eq!(rt; planes.next_tagged(16, 4088), None);
-    assert_eq!(rt;
-        planes.tag_words(),
-        [2, 0, 0, 0, 0, 0, 0, 0x8000_0000_0000_0000].as_slice()
-    );
+    assert!(rt; planes.next_tagged(0, 4096) == Some(8));
+    assert!(rt; planes.next_tagged(16, 4096) == Some(4088));
+    assert!(rt; planes.next_tagged(16, 4088).is_none());
+    assert!(rt; planes.tag_words() == [2, 0, 0, 0, 0, 0, 0, 0x8000_0000_0000_0000].as_slice());
     planes.store(4092, 1, 0);
-    assert_eq!(rt; planes.next_tagged(16, 4096), None);
-    assert_eq!(rt; planes.tag_words(), [2, 0, 0, 0, 0, 0, 0, 0].as_slice());
-    assert_eq!(rt; planes.bytes().len(), 4096);
-    assert_eq!(rt; planes.bytes()[8], 5);
+    assert!(rt; planes.next_tagged(16, 4096).is_none());
+    assert!(rt; planes.tag_words() == [2, 0, 0, 0, 0, 0, 0, 0].as_slice());
+    assert!(rt; planes.bytes().len() == 4096 && planes.bytes()[8] == 5);
     planes.mark(4032, 4096, true);
-    assert_eq!(rt;
-        planes.mark_words(),
-        [0, 0, 0, 0, 0, 0, 0, 0xFF00_0000_0000_0000].as_slice()
-    );
+    assert!(rt; planes.mark_words() == [0, 0, 0, 0, 0, 0, 0, 0xFF00_0000_0000_0000].as_slice());
     Ok(())
 }

@@ -84,9 +84,8 @@ fn decodes_as_the_formulas(rt: HostRuntime) {
             for top in fields {
                 for address in addresses {
                     let high = (exponent << 18) | (base << 9) | top;
-                    assert_eq!(rt;
-                        decode(high, address),
-                        slow_decode(high, address),
+                    assert!(rt;
+                        decode(high, address) == slow_decode(high, address),
                         "at {high} {address}"
                     );
                 }
@@ -100,8 +99,8 @@ fn decodes_as_the_formulas(rt: HostRuntime) {
         top: 1 << 32,
     };
     for high in [0x7E3C0100u32, 0x5E3C0100, 0x4E3C0100] {
-        assert_eq!(rt; decode(high, 0), all);
-        assert_eq!(rt; decode(high, 0xFFFFFFFF), all);
+        assert!(rt; decode(high, 0) == all);
+        assert!(rt; decode(high, 0xFFFFFFFF) == all);
     }
 }
 
@@ -116,9 +115,8 @@ fn rounds_as_the_least_number(rt: HostRuntime) {
     ] {
         for length in lengths {
             if base <= 0xFFFFFFFF && length <= 0xFFFFFFFF && base + length <= 0x100000000 {
-                assert_eq!(rt;
-                    least(base, length),
-                    slow_least(base, base + length),
+                assert!(rt;
+                    least(base, length) == slow_least(base, base + length),
                     "at {base} {length}"
                 );
             }
@@ -128,10 +126,9 @@ fn rounds_as_the_least_number(rt: HostRuntime) {
         if length <= 0xFFFFFFFF {
             let n = length as u32;
             let unit = 1u64.wrapping_shl(slow_exponent(0, length));
-            assert_eq!(rt; round_length(n), slow_least(0, length).top, "at {n}");
-            assert_eq!(rt;
-                align_mask(n) as u64,
-                0x100000000u64.wrapping_sub(unit),
+            assert!(rt; round_length(n) == slow_least(0, length).top, "at {n}");
+            assert!(rt;
+                align_mask(n) as u64 == 0x100000000u64.wrapping_sub(unit),
                 "at {n}"
             );
         }
@@ -140,45 +137,45 @@ fn rounds_as_the_least_number(rt: HostRuntime) {
 
 #[test]
 fn worked_least_bounds(rt: HostRuntime) {
-    assert_eq!(rt;
-        least(0x80000001, 511),
-        Rounded {
-            fields: 512,
-            base: 0x80000001,
-            top: 0x80000200,
-            exact: true
-        }
+    assert!(rt;
+        least(0x80000001, 511)
+            == Rounded {
+                fields: 512,
+                base: 0x80000001,
+                top: 0x80000200,
+                exact: true
+            }
     );
-    assert_eq!(rt;
-        least(0x80000001, 512),
-        Rounded {
-            fields: 0x40101,
-            base: 0x80000000,
-            top: 0x80000202,
-            exact: false
-        }
+    assert!(rt;
+        least(0x80000001, 512)
+            == Rounded {
+                fields: 0x40101,
+                base: 0x80000000,
+                top: 0x80000202,
+                exact: false
+            }
     );
-    assert_eq!(rt;
-        least(0x80000001, 1022),
-        Rounded {
-            fields: 0x80100,
-            base: 0x80000000,
-            top: 0x80000400,
-            exact: false
-        }
+    assert!(rt;
+        least(0x80000001, 1022)
+            == Rounded {
+                fields: 0x80100,
+                base: 0x80000000,
+                top: 0x80000400,
+                exact: false
+            }
     );
     let greatest = least(0x80000000, 8372225);
-    assert_eq!(rt; greatest.fields, 0x3D0081);
-    assert_eq!(rt; greatest.top, 0x81000000);
-    assert_eq!(rt;
-        least(0x80000000, 0),
-        Rounded {
-            fields: 0,
-            base: 0x80000000,
-            top: 0x80000000,
-            exact: true
-        }
+    assert!(rt; greatest.fields == 0x3D0081);
+    assert!(rt; greatest.top == 0x81000000);
+    assert!(rt;
+        least(0x80000000, 0)
+            == Rounded {
+                fields: 0,
+                base: 0x80000000,
+                top: 0x80000000,
+                exact: true
+            }
     );
-    assert_eq!(rt; round_length(512), 512);
-    assert_eq!(rt; align_mask(512), 0xFFFFFFFE);
+    assert!(rt; round_length(512) == 512);
+    assert!(rt; align_mask(512) == 0xFFFFFFFE);
 }

@@ -32,10 +32,10 @@ fn word(high: u32, address: u32) -> Live {
 
 /// All that a register holds, beside what `set_address` gives of the same.
 fn agree(rt: &impl Abort, moved: Live, set: Live) {
-    assert_eq!(rt; moved.cap, set.cap);
-    assert_eq!(rt; moved.bounds, set.bounds);
-    assert_eq!(rt; moved.perms, set.perms);
-    assert_eq!(rt; moved.seal, set.seal);
+    assert!(rt; moved.cap == set.cap);
+    assert!(rt; moved.bounds == set.bounds);
+    assert!(rt; moved.perms == set.perms);
+    assert!(rt; moved.seal == set.seal);
 }
 
 /// A capability turned to an address.
@@ -67,32 +67,32 @@ fn bounds(base: u64, top: u64) -> Bounds {
 fn keeps(rt: &impl Abort, l: Live, address: u32) {
     let moved = turned(rt, l, address);
     assert!(rt; moved.cap.tag);
-    assert_eq!(rt; moved.cap.shadow, l.cap.shadow);
-    assert_eq!(rt; moved.cap.word % 0x100000000, address as u64);
-    assert_eq!(rt; moved.cap.word / 0x100000000, l.cap.word / 0x100000000);
-    assert_eq!(rt; moved.bounds, l.bounds);
-    assert_eq!(rt; moved.perms, l.perms);
-    assert_eq!(rt; moved.seal, l.seal);
+    assert!(rt; moved.cap.shadow == l.cap.shadow);
+    assert!(rt; moved.cap.word % 0x100000000 == address as u64);
+    assert!(rt; moved.cap.word / 0x100000000 == l.cap.word / 0x100000000);
+    assert!(rt; moved.bounds == l.bounds);
+    assert!(rt; moved.perms == l.perms);
+    assert!(rt; moved.seal == l.seal);
 }
 
 /// Turned without its tag, and what its bounds are there.
 fn loses(rt: &impl Abort, l: Live, address: u32, there: Bounds) {
     let moved = turned(rt, l, address);
     assert!(rt; !moved.cap.tag);
-    assert_eq!(rt; moved.cap.shadow, NOWHERE);
-    assert_eq!(rt; moved.cap.word % 0x100000000, address as u64);
-    assert_eq!(rt; moved.cap.word / 0x100000000, l.cap.word / 0x100000000);
-    assert_eq!(rt; moved.bounds, there);
-    assert_eq!(rt; moved.perms, l.perms);
-    assert_eq!(rt; moved.seal, l.seal);
+    assert!(rt; moved.cap.shadow == NOWHERE);
+    assert!(rt; moved.cap.word % 0x100000000 == address as u64);
+    assert!(rt; moved.cap.word / 0x100000000 == l.cap.word / 0x100000000);
+    assert!(rt; moved.bounds == there);
+    assert!(rt; moved.perms == l.perms);
+    assert!(rt; moved.seal == l.seal);
 }
 
 /// Inside the bounds, at their top, past it where the word still spells them, and where it doesn't.
 #[test]
 fn counters_turn(rt: HostRuntime) {
     let l = code(0x80000208);
-    assert_eq!(rt; l.bounds, bounds(0x80000200, 0x80000240));
-    assert_eq!(rt; l.perms, Perms(0x16B));
+    assert!(rt; l.bounds == bounds(0x80000200, 0x80000240));
+    assert!(rt; l.perms == Perms(0x16B));
     for address in [
         0x80000200u32,
         0x80000204,
@@ -122,24 +122,24 @@ fn counters_turn(rt: HostRuntime) {
 fn counters_rise(rt: HostRuntime) {
     let next = lifted(&rt, code(0x80000208), 4);
     assert!(rt; next.cap.tag);
-    assert_eq!(rt; next.address(), 0x8000020C);
+    assert!(rt; next.address() == 0x8000020C);
     let back = lifted(&rt, next, 0xFFFFFFF4);
     assert!(rt; back.cap.tag);
-    assert_eq!(rt; back.address(), 0x80000200);
+    assert!(rt; back.address() == 0x80000200);
     let top = lifted(&rt, code(0x8000023C), 4);
     assert!(rt; top.cap.tag);
-    assert_eq!(rt; top.address(), 0x80000240);
-    assert_eq!(rt; top.bounds, bounds(0x80000200, 0x80000240));
+    assert!(rt; top.address() == 0x80000240);
+    assert!(rt; top.bounds == bounds(0x80000200, 0x80000240));
     let past = lifted(&rt, code(0x800003FC), 4);
     assert!(rt; !past.cap.tag);
-    assert_eq!(rt; past.address(), 0x80000400);
-    assert_eq!(rt; past.bounds, bounds(0x80000400, 0x80000440));
+    assert!(rt; past.address() == 0x80000400);
+    assert!(rt; past.bounds == bounds(0x80000400, 0x80000440));
     let below = lifted(&rt, code(0x80000200), 0xFFFFFFFC);
     assert!(rt; !below.cap.tag);
-    assert_eq!(rt; below.address(), 0x800001FC);
+    assert!(rt; below.address() == 0x800001FC);
     let first = lifted(&rt, word(EXECUTABLE, 0xFFFFFFFC), 4);
     assert!(rt; first.cap.tag);
-    assert_eq!(rt; first.address(), 0);
+    assert!(rt; first.address() == 0);
 }
 
 /// What isn't tagged stays so, and what is sealed loses its tag, inside the bounds too.
@@ -167,23 +167,23 @@ fn untagged_and_sealed_counters(rt: HostRuntime) {
 #[test]
 fn counters_at_the_end(rt: HostRuntime) {
     let root = word(EXECUTABLE, 0);
-    assert_eq!(rt;
-        root.bounds,
-        Bounds {
-            exponent: 24,
-            base: 0,
-            top: 0x100000000
-        }
+    assert!(rt;
+        root.bounds
+            == Bounds {
+                exponent: 24,
+                base: 0,
+                top: 0x100000000
+            }
     );
     // B 128 and T 384 of exponent 24.
     let upper = word(0x5E3D0180, 0x90000000);
-    assert_eq!(rt;
-        upper.bounds,
-        Bounds {
-            exponent: 24,
-            base: 0x80000000,
-            top: 0x180000000
-        }
+    assert!(rt;
+        upper.bounds
+            == Bounds {
+                exponent: 24,
+                base: 0x80000000,
+                top: 0x180000000
+            }
     );
     for address in [0u32, 4, 0x70000000, 0x80000000, 0xFFFFFFFC, 0xFFFFFFFF] {
         keeps(&rt, root, address);
@@ -191,13 +191,13 @@ fn counters_at_the_end(rt: HostRuntime) {
     }
     // B 500 and T 10 of exponent 14.
     let last = word(0x5E3BE80A, 0xFFFFF000);
-    assert_eq!(rt;
-        last.bounds,
-        Bounds {
-            exponent: 14,
-            base: 0xFFFD0000,
-            top: 0x100028000
-        }
+    assert!(rt;
+        last.bounds
+            == Bounds {
+                exponent: 14,
+                base: 0xFFFD0000,
+                top: 0x100028000
+            }
     );
     for address in [0xFFFD0000u32, 0xFFFE0004, 0xFFFFFFFC, 0xFFFFFFFF] {
         keeps(&rt, last, address);

@@ -1,10 +1,8 @@
-//! Tests of the crates of capability words and of integer results, by their public calls.
+//! Tests of the crates of capability words, by their public calls.
 //!
 //! They stand apart, since a crate with tests is proved twice.
 #![tactic(auto)]
 
-#[cfg(test)]
-mod alu;
 #[cfg(test)]
 mod bits;
 #[cfg(test)]

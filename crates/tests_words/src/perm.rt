@@ -25,13 +25,13 @@ fn slow_normal(set: u16) -> u16 {
 fn each_set_and_each_spelling(rt: HostRuntime) {
     for set in 0..4096u16 {
         let perms = Perms(set);
-        assert_eq!(rt; perms.normal(), Perms(slow_normal(set)), "at {set}");
+        assert!(rt; perms.normal() == Perms(slow_normal(set)), "at {set}");
         let bits = perms.pack();
-        assert_eq!(rt; Perms::unpack(bits), perms.normal(), "at {set}");
+        assert!(rt; Perms::unpack(bits) == perms.normal(), "at {set}");
         assert!(rt; perms.normal().within(perms), "at {set}");
     }
     for bits in 0..64u8 {
-        assert_eq!(rt; Perms::unpack(bits).pack(), bits);
+        assert!(rt; Perms::unpack(bits).pack() == bits);
     }
 }
 
@@ -43,13 +43,13 @@ fn worked_sets(rt: HostRuntime) {
         .union(Perms::LD)
         .union(Perms::MC)
         .union(Perms::EX);
-    assert_eq!(rt; code.normal(), code);
-    assert_eq!(rt; code.difference(Perms::LD).normal(), Perms::GL);
+    assert!(rt; code.normal() == code);
+    assert!(rt; code.difference(Perms::LD).normal() == Perms::GL);
     assert!(rt; code.has(Permission::Execute) && !code.has(Permission::StoreData));
-    assert_eq!(rt; Perms(0xFFF).masked(0xFFFFF021), Perms(0x021));
+    assert!(rt; Perms(0xFFF).masked(0xFFFFF021) == Perms(0x021));
     assert!(rt; Perms::LD.within(code) && !Perms::SD.within(code));
     // The roots' permission bits.
-    assert_eq!(rt; Perms::unpack(63), Perms(127));
-    assert_eq!(rt; Perms::unpack(47), Perms(491));
-    assert_eq!(rt; Perms::unpack(39), Perms(3585));
+    assert!(rt; Perms::unpack(63) == Perms(127));
+    assert!(rt; Perms::unpack(47) == Perms(491));
+    assert!(rt; Perms::unpack(39) == Perms(3585));
 }

@@ -1,5 +1,5 @@
 use Rattle.std.proofs.lemmas.Result.{MatchResult-weaker}
-use Rattle.ct_running.proofs.Pieces.{both, first_fails, second_fails}
+use Rattle.ct_port.proofs.Pieces.{both, first_fails, second_fails}
 use Rattle.ct_running.proofs.write_run.Goals as goal
 
 pub returns-in-Ok : goal.returns-in-Ok

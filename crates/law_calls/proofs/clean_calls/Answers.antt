@@ -1,7 +1,8 @@
 use Rattle.std.proofs.Common.{refl}
+use Rattle.def_profile.specs.declared.answers.TheConstants.{UNWOUND}
 use Rattle.def_memory.specs.Granules.{plain}
 use Rattle.law_calls.proofs.Cleans.{entry_plain, return_plain, left_plain, stack_zero}
 use Rattle.law_calls.proofs.clean_calls.Goals as goal
 
 pub returns : goal.returns
-returns c = record { entry = entry_plain; back = return_plain; unwind = λ i s old f fs. left_plain i s old f fs (plain 4294967295) (plain 0) refl refl; stack = stack_zero }
+returns c = record { entry = entry_plain; back = return_plain; unwind = λ i s old f fs. left_plain i s old f fs (plain UNWOUND) (plain 0) refl refl; stack = stack_zero }

@@ -5,7 +5,7 @@ use Fault::{Nothing, Read, Room, Write};
 
 /// What fails of a call: the read or the write with this number, counted from 1, or all that is
 /// written past so many bytes.
-#[derive(Clone, Copy, PartialEq, Eq)]
+#[derive(Clone, Copy)]
 pub enum Fault {
     Nothing,
     Read(u64),
@@ -14,7 +14,7 @@ pub enum Fault {
 }
 
 /// What a call is to write where nothing fails: the bytes of a file, or a line.
-#[derive(Clone, Copy, PartialEq, Eq)]
+#[derive(Clone, Copy)]
 pub enum Due {
     File(&'static str),
     Line(&'static str),

@@ -4,7 +4,7 @@ ghost use Rattle.std.specs.Prelude.{◌<◌};
 
 use crate::common::add;
 use crate::heap::swept::{Slice, Swept};
-use crate::heap::told::{add_allocated, add_found, add_freed};
+use crate::heap::told::{add_allocated, add_found, add_freed, add_left};
 use def_refusals::NoMemory;
 use std::alloc::{AllocError, Global};
 
@@ -126,16 +126,6 @@ fn find(
     add_found(alloc, answer, out)
 }
 
-/// What is left to each quota, and whether an object is quarantined.
-fn state(alloc: Global, swept: &Swept, out: &mut String) -> Result<(), AllocError> {
-    let waits = swept.quarantined();
-    let (a, b, c) = (swept.remaining(0), swept.remaining(1), swept.remaining(2));
-    add(
-        format!(in alloc; "left {a} {b} {c}, quarantined {waits}\n"),
-        out,
-    )
-}
-
 /// A capability goes from one slot to another.
 fn move_one(
     alloc: Global,
@@ -189,7 +179,7 @@ fn call(
         4 | 5 | 6 | 7 | 8 => allocate(alloc, swept, made, seed, out),
         9 | 10 | 11 | 12 => free(alloc, swept, made.as_slice(), seed, out),
         13 => move_one(alloc, swept, seed, out),
-        14 => state(alloc, swept, out),
+        14 => add_left(alloc, swept, out),
         _ => find(alloc, swept, made.as_slice(), seed, out),
     }
 }

@@ -5,7 +5,7 @@ ghost use Rattle.std.specs.Prelude.{◌≡◌, ◌≤◌, ◌<◌, ◌%◌, ◌+
 use ct_cap::{Cap, Shadow, derive, expand, shrink};
 use ct_heap::{Found, Heap, HeapRefusal, NotWhole, Object};
 use ct_loadstore::filter;
-use ct_mem::{Memory, Plain};
+use ct_planes::{Memory, Planes};
 use ct_revoke::Front;
 use def_profile::rights::{HEAP_RIGHTS, MEMORY_ROOT};
 use def_refusals::NoMemory;
@@ -23,7 +23,7 @@ pub const RAM: u32 = 0x8000_0000;
 #[derive(Drop)]
 pub struct Swept {
     heap: Heap,
-    mem: Plain,
+    mem: Planes,
     front: Front,
     low: u32,
     quotas: u32,
@@ -41,7 +41,7 @@ impl Model for Swept {
 }
 
 /// What a slice came to: no sweep runs, it has an offset to go on from, or RAM's end was reached.
-#[derive(Clone, Copy, PartialEq, Eq, Drop)]
+#[derive(Clone, Copy, Drop)]
 pub enum Slice {
     Idle,
     To(u32),
@@ -80,7 +80,7 @@ impl Swept {
         requires inside { low + length ≤ size }
         requires small { size < 2 ^ 20 }
     {
-        let mut mem = Plain::new(alloc, size)?;
+        let mut mem = Planes::new(alloc, size)?;
         let mut heap = Heap::new(alloc, RAM, RAM + low, length, &[limit, limit, limit])?;
         heap.lay(&mut mem);
         Ok(Swept {
@@ -154,6 +154,22 @@ impl Swept {
     pub fn is_tagged(&self, slot: u32) -> bool {
         if slot < self.mem.size() / 8 {
             return self.mem.load_cap(8 * slot).tag;
+        }
+        false
+    }
+
+    /// The bits of a granule; 0 where there is no such granule.
+    pub fn word(&self, granule: u32) -> u64 {
+        if granule < self.mem.size() / 8 {
+            return self.mem.load_cap(8 * granule).word;
+        }
+        0
+    }
+
+    /// Whether a granule is marked.
+    pub fn marked(&self, granule: u32) -> bool {
+        if granule < self.mem.size() / 8 {
+            return self.mem.marked(8 * granule);
         }
         false
     }

@@ -1,6 +1,7 @@
 //! What is answered, as lines.
 
 use crate::common::add;
+use crate::heap::swept::Swept;
 use ct_heap::{Found, HeapRefusal, NotWhole, Object};
 use std::alloc::{AllocError, Global};
 
@@ -54,4 +55,14 @@ pub fn add_found(alloc: Global, answer: Option<Found>, out: &mut String) -> Resu
         None => out.push_str("none")?,
     }
     out.push_str("\n")
+}
+
+/// What is left to each quota, and whether an object is quarantined.
+pub fn add_left(alloc: Global, swept: &Swept, out: &mut String) -> Result<(), AllocError> {
+    let waits = swept.quarantined();
+    let (a, b, c) = (swept.remaining(0), swept.remaining(1), swept.remaining(2));
+    add(
+        format!(in alloc; "left {a} {b} {c}, quarantined {waits}\n"),
+        out,
+    )
 }

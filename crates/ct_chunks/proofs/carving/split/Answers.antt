@@ -5,81 +5,33 @@ use Rattle.ct_chunks.proofs.carving.split.Goals as goal
 
 pub overflow_add-at : goal.overflow_add-at
 overflow_add-at g c =
-    let k = sized c.args.range.now (g.M.Memory.granules c.args.mem.now) c.args.at c.args.size c.args.next c.requires.tiled c.requires.stands in
-    let low = k.low in
-    let over = k.over in
-    let even = k.even in
-    let fits = k.fits in
-    let small = k.small in
-    let inside = k.inside in
-    let whole = k.whole in
-    let some = k.some in
-    omega (arith, low, over, even, fits, small, inside, whole, some)
+    let k = sized _ _ _ _ _ c.requires.tiled c.requires.stands in
+    omega (arith, k.low, k.over, k.even, k.fits, k.small, k.inside, k.whole, k.some)
 
 pub write_head-requires-clause-even : goal.write_head-requires-clause-even
 write_head-requires-clause-even g c =
-    let k = sized c.args.range.now (g.M.Memory.granules c.args.mem.now) c.args.at c.args.size c.args.next c.requires.tiled c.requires.stands in
-    let low = k.low in
-    let over = k.over in
-    let even = k.even in
-    let fits = k.fits in
-    let small = k.small in
-    let inside = k.inside in
-    let whole = k.whole in
-    let some = k.some in
-    omega (arith, low, over, even, fits, small, inside, whole, some)
+    let k = sized _ _ _ _ _ c.requires.tiled c.requires.stands in
+    omega (arith, k.low, k.over, k.even, k.fits, k.small, k.inside, k.whole, k.some)
 
 pub write_head-requires-clause-inside : goal.write_head-requires-clause-inside
 write_head-requires-clause-inside g c =
-    let k = sized c.args.range.now (g.M.Memory.granules c.args.mem.now) c.args.at c.args.size c.args.next c.requires.tiled c.requires.stands in
-    let low = k.low in
-    let over = k.over in
-    let even = k.even in
-    let fits = k.fits in
-    let small = k.small in
-    let inside = k.inside in
-    let whole = k.whole in
-    let some = k.some in
-    omega (arith, low, over, even, fits, small, inside, whole, some)
+    let k = sized _ _ _ _ _ c.requires.tiled c.requires.stands in
+    omega (arith, k.low, k.over, k.even, k.fits, k.small, k.inside, k.whole, k.some)
 
 pub overflow_add-at-2 : goal.overflow_add-at-2
 overflow_add-at-2 g c =
-    let k = sized c.args.range.now (g.M.Memory.granules c.args.mem.now) c.args.at c.args.size c.args.next c.requires.tiled c.requires.stands in
-    let low = k.low in
-    let over = k.over in
-    let even = k.even in
-    let fits = k.fits in
-    let small = k.small in
-    let inside = k.inside in
-    let whole = k.whole in
-    let some = k.some in
-    omega (arith, low, over, even, fits, small, inside, whole, some)
+    let k = sized _ _ _ _ _ c.requires.tiled c.requires.stands in
+    omega (arith, k.low, k.over, k.even, k.fits, k.small, k.inside, k.whole, k.some)
 
 pub write_head-requires-2-clause-even : goal.write_head-requires-2-clause-even
 write_head-requires-2-clause-even g c =
-    let k = sized c.args.range.now (g.M.Memory.granules c.args.mem.now) c.args.at c.args.size c.args.next c.requires.tiled c.requires.stands in
-    let low = k.low in
-    let over = k.over in
-    let even = k.even in
-    let fits = k.fits in
-    let small = k.small in
-    let inside = k.inside in
-    let whole = k.whole in
-    let some = k.some in
-    omega (arith, low, over, even, fits, small, inside, whole, some)
+    let k = sized _ _ _ _ _ c.requires.tiled c.requires.stands in
+    omega (arith, k.low, k.over, k.even, k.fits, k.small, k.inside, k.whole, k.some)
 
 pub write_head-requires-2-clause-inside : goal.write_head-requires-2-clause-inside
 write_head-requires-2-clause-inside g c =
-    let k = sized c.args.range.now (g.M.Memory.granules c.args.mem.now) c.args.at c.args.size c.args.next c.requires.tiled c.requires.stands in
-    let low = k.low in
-    let over = k.over in
-    let even = k.even in
-    let fits = k.fits in
-    let small = k.small in
-    let inside = k.inside in
-    let whole = k.whole in
-    let some = k.some in
-    omega (arith, low, over, even, fits, small, inside, whole, some)
+    let k = sized _ _ _ _ _ c.requires.tiled c.requires.stands in
+    omega (arith, k.low, k.over, k.even, k.fits, k.small, k.inside, k.whole, k.some)
 
 pub returns-clause-tiled : goal.returns-clause-tiled
 returns-clause-tiled g c = (split_done c.args.range.now (g.M.Memory.granules c.args.mem.now) (g.M.Memory.granules c.write_head.new.mem) (g.M.Memory.granules c.write_head-2.new.mem) c.args.at c.args.size c.args.first c.args.next c.requires.tiled c.requires.stands c.requires.whole c.requires.some c.requires.fits c.write_head.ensures.is c.write_head-2.ensures.is).tiled

@@ -9,42 +9,18 @@ relink-first-requires g c = record { place = linkable c.args.range.now (g.M.Memo
 
 pub overflow_add-size : goal.overflow_add-size
 overflow_add-size g c =
-    let k = sized c.args.range.now (g.M.Memory.granules c.args.mem.now) c.args.at c.args.size c.args.next c.requires.tiled c.requires.stands.free_stands in
-    let low = k.low in
-    let over = k.over in
-    let even = k.even in
-    let fits = k.fits in
-    let small = k.small in
-    let inside = k.inside in
-    let whole = k.whole in
-    let some = k.some in
-    omega (arith, low, over, even, fits, small, inside, whole, some)
+    let k = sized _ _ _ _ _ c.requires.tiled c.requires.stands.free_stands in
+    omega (arith, k.low, k.over, k.even, k.fits, k.small, k.inside, k.whole, k.some)
 
 pub write_head-requires-clause-even : goal.write_head-requires-clause-even
 write_head-requires-clause-even g c =
-    let k = sized c.args.range.now (g.M.Memory.granules c.args.mem.now) c.args.at c.args.size c.args.next c.requires.tiled c.requires.stands.free_stands in
-    let low = k.low in
-    let over = k.over in
-    let even = k.even in
-    let fits = k.fits in
-    let small = k.small in
-    let inside = k.inside in
-    let whole = k.whole in
-    let some = k.some in
-    omega (arith, low, over, even, fits, small, inside, whole, some)
+    let k = sized _ _ _ _ _ c.requires.tiled c.requires.stands.free_stands in
+    omega (arith, k.low, k.over, k.even, k.fits, k.small, k.inside, k.whole, k.some)
 
 pub write_head-requires-clause-inside : goal.write_head-requires-clause-inside
 write_head-requires-clause-inside g c =
-    let k = sized c.args.range.now (g.M.Memory.granules c.args.mem.now) c.args.at c.args.size c.args.next c.requires.tiled c.requires.stands.free_stands in
-    let low = k.low in
-    let over = k.over in
-    let even = k.even in
-    let fits = k.fits in
-    let small = k.small in
-    let inside = k.inside in
-    let whole = k.whole in
-    let some = k.some in
-    omega (arith, low, over, even, fits, small, inside, whole, some)
+    let k = sized _ _ _ _ _ c.requires.tiled c.requires.stands.free_stands in
+    omega (arith, k.low, k.over, k.even, k.fits, k.small, k.inside, k.whole, k.some)
 
 pub returns-clause-tiled : goal.returns-clause-tiled
 returns-clause-tiled g c = (take_done c.args.range.now (let x : Range = record { ram = c.args.range.now.ram; base = c.args.range.now.base; length = c.args.range.now.length; first = c.relink-first.result } in x) (g.M.Memory.granules c.args.mem.now) (g.M.Memory.granules c.relink-first.new.mem) (g.M.Memory.granules c.write_head.new.mem) c.args.at c.args.size c.args.number c.args.before c.args.before_size c.args.next c.requires.tiled c.requires.stands c.requires.wide (omega arith) c.relink-first.ensures.is c.write_head.ensures.is (ap (λ n. let x : Range = record { ram = c.args.range.now.ram; base = c.args.range.now.base; length = c.args.range.now.length; first = n } in x) c.relink-first.ensures.first)).tiled

@@ -7,18 +7,15 @@ use Rattle.def_chunks.specs.Gaps.{UsedStands}
 use Rattle.ct_chunks.proofs.states.paint_chunk.Goals as goal
 
 pub read_head-head-requires-clause-above : goal.read_head-head-requires-clause-above
-read_head-head-requires-clause-above g c = let k = sits c.args.range.now (g.M.Memory.granules c.args.mem.now) c.args.at c.requires.tiled c.requires.stands in k.over
+read_head-head-requires-clause-above g c = (sits _ _ _ c.requires.tiled c.requires.stands).over
 
 pub read_head-head-requires-clause-even : goal.read_head-head-requires-clause-even
-read_head-head-requires-clause-even g c = let k = sits c.args.range.now (g.M.Memory.granules c.args.mem.now) c.args.at c.requires.tiled c.requires.stands in k.even
+read_head-head-requires-clause-even g c = (sits _ _ _ c.requires.tiled c.requires.stands).even
 
 pub read_head-head-requires-clause-inside : goal.read_head-head-requires-clause-inside
 read_head-head-requires-clause-inside g c =
-    let k = sits c.args.range.now (g.M.Memory.granules c.args.mem.now) c.args.at c.requires.tiled c.requires.stands in
-    let inside = k.inside in
-    let over = k.over in
-    let some = k.shape.some in
-    omega (arith, inside, over, some)
+    let k = sits _ _ _ c.requires.tiled c.requires.stands in
+    omega (arith, k.inside, k.over, k.shape.some)
 
 pub set_state-requires-clause-stands : goal.set_state-requires-clause-stands
 set_state-requires-clause-stands g c =

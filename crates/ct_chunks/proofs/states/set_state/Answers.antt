@@ -13,18 +13,15 @@ overflow_add-size g c =
     omega (arith, small, size, most)
 
 pub write_head-requires-clause-above : goal.write_head-requires-clause-above
-write_head-requires-clause-above g c = let k = sits c.args.range.now (g.M.Memory.granules c.args.mem.now) c.args.at c.requires.tiled c.requires.stands.stands in k.over
+write_head-requires-clause-above g c = (sits _ _ _ c.requires.tiled c.requires.stands.stands).over
 
 pub write_head-requires-clause-even : goal.write_head-requires-clause-even
-write_head-requires-clause-even g c = let k = sits c.args.range.now (g.M.Memory.granules c.args.mem.now) c.args.at c.requires.tiled c.requires.stands.stands in k.even
+write_head-requires-clause-even g c = (sits _ _ _ c.requires.tiled c.requires.stands.stands).even
 
 pub write_head-requires-clause-inside : goal.write_head-requires-clause-inside
 write_head-requires-clause-inside g c =
-    let k = sits c.args.range.now (g.M.Memory.granules c.args.mem.now) c.args.at c.requires.tiled c.requires.stands.stands in
-    let inside = k.inside in
-    let over = k.over in
-    let some = k.shape.some in
-    omega (arith, inside, over, some)
+    let k = sits _ _ _ c.requires.tiled c.requires.stands.stands in
+    omega (arith, k.inside, k.over, k.shape.some)
 
 pub returns-clause-tiled : goal.returns-clause-tiled
 returns-clause-tiled g c = (state_done c.args.range.now (g.M.Memory.granules c.args.mem.now) (g.M.Memory.granules c.write_head.new.mem) c.args.at c.args.size c.args.number c.args.state c.requires.tiled c.requires.stands c.requires.some c.requires.most c.write_head.ensures.is).tiled

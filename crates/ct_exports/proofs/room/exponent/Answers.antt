@@ -2,8 +2,8 @@ use Rattle.std.proofs.Common.{◌≡◌, arith}
 use Rattle.ct_exports.proofs.Rooms.{found, missing, fits_so}
 use Rattle.ct_exports.proofs.room.exponent.Goals as goal
 
-pub returns-then-length-e-le511-clause-is : goal.returns-then-length-e-le511-clause-is
-returns-then-length-e-le511-clause-is c =
+pub returns-then-length-e-le-MOST_UNITS-clause-is : goal.returns-then-length-e-le-MOST_UNITS-clause-is
+returns-then-length-e-le-MOST_UNITS-clause-is c =
     found c.args.length c.loop-e.e (omega arith) (omega arith) (fits_so c.args.length c.loop-e.e (omega arith)) c.loop-e.invariant
 
 pub returns-clause-is : goal.returns-clause-is

@@ -3,74 +3,44 @@ use Rattle.def_chunks.specs.declared.rows.Head.{Head}
 use Rattle.def_chunks.specs.Chunks.{head_at, head_in}
 use Rattle.def_memory.specs.Ranges.{IsMarked}
 use Rattle.law_chunks.proofs.Reading.{sits}
-use Rattle.ct_chunks.proofs.Painting.{tells}
+use Rattle.ct_chunks.proofs.Painting.{size_told}
 use Rattle.ct_heap.proofs.Answering.{stays_named, loses_name}
 use Rattle.ct_heap.proofs.table.unname_chunk.Goals as goal
 
 pub read_head-head-requires-clause-above : goal.read_head-head-requires-clause-above
-read_head-head-requires-clause-above g c =
-    let k = sits c.args.range.now (g.M.Memory.granules c.args.mem.now) c.args.at c.requires.tiled c.requires.stands in
-    k.over
+read_head-head-requires-clause-above g c = (sits _ _ _ c.requires.tiled c.requires.stands).over
 
 pub read_head-head-requires-clause-even : goal.read_head-head-requires-clause-even
-read_head-head-requires-clause-even g c =
-    let k = sits c.args.range.now (g.M.Memory.granules c.args.mem.now) c.args.at c.requires.tiled c.requires.stands in
-    k.even
+read_head-head-requires-clause-even g c = (sits _ _ _ c.requires.tiled c.requires.stands).even
 
 pub read_head-head-requires-clause-inside : goal.read_head-head-requires-clause-inside
 read_head-head-requires-clause-inside g c =
-    let k = sits c.args.range.now (g.M.Memory.granules c.args.mem.now) c.args.at c.requires.tiled c.requires.stands in
-    let inside = k.inside in
-    let over = k.over in
-    let some = k.shape.some in
-    omega (arith, inside, over, some)
+    let k = sits _ _ _ c.requires.tiled c.requires.stands in
+    omega (arith, k.inside, k.over, k.shape.some)
 
 pub returns-then-head-ne-PAINTED-clause-unnames : goal.returns-then-head-ne-PAINTED-clause-unnames
 returns-then-head-ne-PAINTED-clause-unnames g c = stays_named c.args.range.now (g.M.Memory.granules c.args.mem.now) c.args.names.now.items c.args.at (head_in (head_at (g.M.Memory.granules c.args.mem.now) c.args.range.now.ram c.args.at)) (λ e. c.if-head-ne-PAINTED.true (ap (λ (x : Head). x.state) c.read_head-head.ensures ∙ e))
 
 pub overflow_sub-at : goal.overflow_sub-at
-overflow_sub-at g c =
-    let k = sits c.args.range.now (g.M.Memory.granules c.args.mem.now) c.args.at c.requires.tiled c.requires.stands in
-    k.over
+overflow_sub-at g c = (sits _ _ _ c.requires.tiled c.requires.stands).over
 
 pub overflow_sub-at-2 : goal.overflow_sub-at-2
-overflow_sub-at-2 g c =
-    let k = sits c.args.range.now (g.M.Memory.granules c.args.mem.now) c.args.at c.requires.tiled c.requires.stands in
-    k.over
+overflow_sub-at-2 g c = (sits _ _ _ c.requires.tiled c.requires.stands).over
 
 pub overflow_sub-at-3 : goal.overflow_sub-at-3
-overflow_sub-at-3 g c =
-    let k = sits c.args.range.now (g.M.Memory.granules c.args.mem.now) c.args.at c.requires.tiled c.requires.stands in
-    k.low
+overflow_sub-at-3 g c = (sits _ _ _ c.requires.tiled c.requires.stands).low
 
 pub overflow_add-at : goal.overflow_add-at
 overflow_add-at g c =
-    let k = sits c.args.range.now (g.M.Memory.granules c.args.mem.now) c.args.at c.requires.tiled c.requires.stands in
-    let low = k.low in
-    let over = k.over in
-    let even = k.even in
-    let inside = k.inside in
-    let fits = k.fits in
-    let some = k.shape.some in
-    let whole = k.shape.whole in
-    let t = tells c.args.range.now (g.M.Memory.granules c.args.mem.now) c.args.at c.requires.stands c.requires.tiled in
-    let size : c.read_head-head.result.size ≡ c.requires.stands.chunk.size = ap (λ (x : Head). x.size) c.read_head-head.ensures ∙ t.size in
-    let memory = c.size-size.ensures in
-    omega (arith, low, over, inside, size, memory)
+    let k = sits _ _ _ c.requires.tiled c.requires.stands in
+    let size = size_told c.args.range.now (g.M.Memory.granules c.args.mem.now) c.args.at c.read_head-head.result c.requires.stands c.requires.tiled c.read_head-head.ensures in
+    omega (arith, k.low, k.over, k.inside, size, c.size-size.ensures)
 
 pub mark-requires : goal.mark-requires
 mark-requires g c =
-    let k = sits c.args.range.now (g.M.Memory.granules c.args.mem.now) c.args.at c.requires.tiled c.requires.stands in
-    let low = k.low in
-    let over = k.over in
-    let even = k.even in
-    let inside = k.inside in
-    let fits = k.fits in
-    let some = k.shape.some in
-    let whole = k.shape.whole in
-    let t = tells c.args.range.now (g.M.Memory.granules c.args.mem.now) c.args.at c.requires.stands c.requires.tiled in
-    let size : c.read_head-head.result.size ≡ c.requires.stands.chunk.size = ap (λ (x : Head). x.size) c.read_head-head.ensures ∙ t.size in
-    record { start = even; finish = omega (arith, even, whole, size); order = omega arith; inside = omega (arith, inside, over, size) }
+    let k = sits _ _ _ c.requires.tiled c.requires.stands in
+    let size = size_told c.args.range.now (g.M.Memory.granules c.args.mem.now) c.args.at c.read_head-head.result c.requires.stands c.requires.tiled c.read_head-head.ensures in
+    record { start = k.even; finish = omega (arith, k.even, k.shape.whole, size); order = omega arith; inside = omega (arith, k.inside, k.over, size) }
 
 pub returns-clause-unnames : goal.returns-clause-unnames
 returns-clause-unnames g c =
@@ -79,10 +49,5 @@ returns-clause-unnames g c =
 
 pub clear_name-requires : goal.clear_name-requires
 clear_name-requires g c =
-    let k = sits c.args.range.now (g.M.Memory.granules c.args.mem.now) c.args.at c.requires.tiled c.requires.stands in
-    let low = k.low in
-    let fits = k.fits in
-    let some = k.shape.some in
-    let slots = c.requires.slots in
-    let even = c.requires.tiled.even.2 in
-    record { inside = omega (arith, low, fits, some, slots, even) }
+    let k = sits _ _ _ c.requires.tiled c.requires.stands in
+    record { inside = omega (arith, k.low, k.fits, k.shape.some, c.requires.slots, c.requires.tiled.even.2) }

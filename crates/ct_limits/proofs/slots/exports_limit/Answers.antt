@@ -2,7 +2,7 @@ use Rattle.std.proofs.Common.{[], sym, ◌∙◌, ◌+◌, ◌≡◌, take, leng
 use Rattle.std.proofs.lemmas.List.{length-take}
 use Rattle.def_image.specs.Limits.{export_limits}
 use Rattle.law_image.proofs.Walks.{goes_on, stops, ends}
-use Rattle.ct_limits.specs.Asked.{bounds_of}
+use Rattle.ct_limits.specs.Owners.{bounds_of}
 use Rattle.ct_limits.proofs.slots.exports_limit.Goals as goal
 
 pub returns-in-Some : goal.returns-in-Some

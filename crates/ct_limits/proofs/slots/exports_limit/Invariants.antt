@@ -2,7 +2,7 @@ use Rattle.std.proofs.Common.{◌≡◌, ◌+◌, ◌*◌, []}
 use Rattle.def_image.specs.Checks.{first, walked}
 use Rattle.def_image.specs.Limits.{export_limits}
 use Rattle.law_image.proofs.Walks.{Walks}
-use Rattle.ct_limits.specs.Asked.{bounds_of}
+use Rattle.ct_limits.specs.Owners.{bounds_of}
 use Rattle.ct_limits.proofs.slots.exports_limit.Given as goal
 
 -- the place of the next one, and what is left of the walk

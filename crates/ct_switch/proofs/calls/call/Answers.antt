@@ -1,86 +1,41 @@
-use Rattle.std.proofs.Common.{◌≡◌, ◌*◌, ◌/◌, ◌∙◌, true, length, refl, sym, ap, subst}
+use Rattle.std.proofs.Common.{◌≡◌, ◌*◌, ◌/◌, ◌∙◌, true, length, refl, sym, ap}
 use Rattle.def_words.specs.declared.Cap.{Cap}
 use Rattle.def_step.specs.Switch.{Trapped, TooDeep, NoStack, Enters}
 use Rattle.ct_areas.specs.Threads.{thread_of}
-use Rattle.ct_areas.specs.Parts.{register_in}
 use Rattle.ct_exports.specs.declared.exports.Export.{Export}
 use Rattle.ct_switch.specs.declared.calls.Called.TheVariants as called
-use Rattle.ct_switch.specs.Calls.{decided, told, switch_in, given_in, Enterable, MayEnter}
-use Rattle.ct_switch.proofs.Entering.{Kept, kept_so, given_same, call_told, call_thread, call_memory, call_row}
+use Rattle.ct_switch.specs.Calls.{decided, switch_in, given_in}
+use Rattle.ct_switch.proofs.Entering.{refused_so, enterable, given_same, call_told, call_thread, call_memory, call_row}
 use Rattle.ct_switch.proofs.Threads.{entered_others}
 use Rattle.ct_switch.proofs.calls.call.Goals as goal
 
 pub returns-in-Trapped : goal.returns-in-Trapped
 returns-in-Trapped g c =
-    let gs = g.M.Memory.granules c.args.mem.now in
-    let t = c.args.t.now in
-    let e = c.args.e.now in
-    let is : Trapped c.in-Trapped.trap ≡ switch_in gs e t = sym (ap (λ d. decided d) c.in-Trapped.is) ∙ c.decide.ensures.is in
-    let kept : Kept gs e t (switch_in gs e t) = kept_so gs e t (Trapped c.in-Trapped.trap) tt is in
-    record {
-      result = ap (λ s. told (register_in t 6) s) is;
-      thread = kept.thread;
-      memory = kept.memory;
-      row = kept.row;
-      others = λ u runs other. refl;
-    }
+    let kept = refused_so (g.M.Memory.granules c.args.mem.now) c.args.e.now c.args.t.now (Trapped c.in-Trapped.trap) tt (sym (ap (λ d. decided d) c.in-Trapped.is) ∙ c.decide.ensures.is) in
+    record { result = kept.result; thread = kept.thread; memory = kept.memory; row = kept.row; others = λ u runs other. refl }
 
 pub returns-in-TooDeep : goal.returns-in-TooDeep
 returns-in-TooDeep g c =
-    let gs = g.M.Memory.granules c.args.mem.now in
-    let t = c.args.t.now in
-    let e = c.args.e.now in
-    let is : TooDeep ≡ switch_in gs e t = sym (ap (λ d. decided d) c.in-TooDeep.is) ∙ c.decide.ensures.is in
-    let kept : Kept gs e t (switch_in gs e t) = kept_so gs e t TooDeep tt is in
-    record {
-      result = ap (λ s. told (register_in t 6) s) is;
-      thread = kept.thread;
-      memory = kept.memory;
-      row = kept.row;
-      others = λ u runs other. refl;
-    }
+    let kept = refused_so (g.M.Memory.granules c.args.mem.now) c.args.e.now c.args.t.now TooDeep tt (sym (ap (λ d. decided d) c.in-TooDeep.is) ∙ c.decide.ensures.is) in
+    record { result = kept.result; thread = kept.thread; memory = kept.memory; row = kept.row; others = λ u runs other. refl }
 
 pub returns-in-NoStack : goal.returns-in-NoStack
 returns-in-NoStack g c =
-    let gs = g.M.Memory.granules c.args.mem.now in
-    let t = c.args.t.now in
-    let e = c.args.e.now in
-    let is : NoStack ≡ switch_in gs e t = sym (ap (λ d. decided d) c.in-NoStack.is) ∙ c.decide.ensures.is in
-    let kept : Kept gs e t (switch_in gs e t) = kept_so gs e t NoStack tt is in
-    record {
-      result = ap (λ s. told (register_in t 6) s) is;
-      thread = kept.thread;
-      memory = kept.memory;
-      row = kept.row;
-      others = λ u runs other. refl;
-    }
+    let kept = refused_so (g.M.Memory.granules c.args.mem.now) c.args.e.now c.args.t.now NoStack tt (sym (ap (λ d. decided d) c.in-NoStack.is) ∙ c.decide.ensures.is) in
+    record { result = kept.result; thread = kept.thread; memory = kept.memory; row = kept.row; others = λ u runs other. refl }
 
 pub head_of-head-requires-clause-callable : goal.head_of-head-requires-clause-callable
-head_of-head-requires-clause-callable g c =
-    let gs = g.M.Memory.granules c.args.mem.now in
-    let may : Enterable c.args.e.now (8 * length gs) c.args.t.now c.in-Enters.export c.in-Enters.high =
-    subst (λ d. MayEnter c.args.e.now (8 * length gs) c.args.t.now d) c.in-Enters.is c.decide.ensures.enters in
-    may.callable
+head_of-head-requires-clause-callable g c = (enterable c.args.e.now (8 * length (g.M.Memory.granules c.args.mem.now)) c.args.t.now _ _ _ c.in-Enters.is c.decide.ensures.enters).callable
 
 pub head_of-head-requires-clause-callee : goal.head_of-head-requires-clause-callee
-head_of-head-requires-clause-callee g c =
-    let gs = g.M.Memory.granules c.args.mem.now in
-    let may : Enterable c.args.e.now (8 * length gs) c.args.t.now c.in-Enters.export c.in-Enters.high =
-    subst (λ d. MayEnter c.args.e.now (8 * length gs) c.args.t.now d) c.in-Enters.is c.decide.ensures.enters in
-    ap (λ (x : Export). x.callee) may.is
+head_of-head-requires-clause-callee g c = ap (λ (x : Export). x.callee) (enterable c.args.e.now (8 * length (g.M.Memory.granules c.args.mem.now)) c.args.t.now _ _ _ c.in-Enters.is c.decide.ensures.enters).is
 
 pub given-start-requires-clause-order : goal.given-start-requires-clause-order
-given-start-requires-clause-order g c =
-    let gs = g.M.Memory.granules c.args.mem.now in
-    let may : Enterable c.args.e.now (8 * length gs) c.args.t.now c.in-Enters.export c.in-Enters.high =
-    subst (λ d. MayEnter c.args.e.now (8 * length gs) c.args.t.now d) c.in-Enters.is c.decide.ensures.enters in
-    may.above
+given-start-requires-clause-order g c = (enterable c.args.e.now (8 * length (g.M.Memory.granules c.args.mem.now)) c.args.t.now _ _ _ c.in-Enters.is c.decide.ensures.enters).above
 
 pub enter-requires : goal.enter-requires
 enter-requires g c =
-    let gs = g.M.Memory.granules c.args.mem.now in
-    let may : Enterable c.args.e.now (8 * length gs) c.args.t.now c.in-Enters.export c.in-Enters.high =
-    subst (λ d. MayEnter c.args.e.now (8 * length gs) c.args.t.now d) c.in-Enters.is c.decide.ensures.enters in
+    let may = enterable c.args.e.now (8 * length (g.M.Memory.granules c.args.mem.now)) c.args.t.now _ _ _ c.in-Enters.is c.decide.ensures.enters in
     record { ready = c.requires.ready; room = may.room; low = may.above; high = may.below; even = may.even }
 
 pub returns-in-Enters : goal.returns-in-Enters
@@ -92,7 +47,7 @@ returns-in-Enters g c =
     let high = c.in-Enters.high in
     let hs = g.M.Memory.granules c.enter.new.mem in
     let is : Enters x.number high ≡ switch_in gs e t = sym (ap (λ d. decided d) c.in-Enters.is) ∙ c.decide.ensures.is in
-    let may : Enterable e (8 * length gs) t x high = subst (λ d. MayEnter e (8 * length gs) t d) c.in-Enters.is c.decide.ensures.enters in
+    let may = enterable e (8 * length gs) t _ x high c.in-Enters.is c.decide.ensures.enters in
     let start : c.given-start.result ≡ given_in gs e t x.number high =
     given_same gs e t x (c.head_of-head.result / 8) high c.given-start.result may.is c.head_of-head.ensures.is c.given-start.ensures in
     record {

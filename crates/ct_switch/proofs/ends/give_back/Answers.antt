@@ -4,7 +4,7 @@ use Rattle.def_reach.specs.Roots.{root_of}
 use Rattle.ct_areas.specs.Parts.{inner_frame}
 use Rattle.ct_areas.specs.Threads.{thread_of}
 use Rattle.ct_exports.specs.declared.exports.Export.{Export}
-use Rattle.ct_switch.specs.declared.ends.Kept.{Kept}
+use Rattle.ct_areas.specs.declared.frames.Saved.{Saved}
 use Rattle.ct_switch.specs.Calls.{handed}
 use Rattle.ct_switch.proofs.Leaving.{Answers, answers_are, answered_thread, answered_row}
 use Rattle.ct_switch.proofs.Threads.{left_others}
@@ -15,7 +15,7 @@ returns g c =
     let gs = g.M.Memory.granules c.args.mem.now in
     let t = c.args.t.now in
     let e = c.args.e.now in
-    let number : c.inner.result.export ≡ (inner_frame gs t).export = ap (λ (k : Kept). k.export) c.inner.ensures in
+    let number : c.innermost.result.export ≡ (inner_frame gs t).export = ap (λ (k : Saved). k.export) c.innermost.ensures in
     let passes : c.export_of-passes.result.passes ≡ (root_of e (inner_frame gs t).export).passes =
     ap (λ (x : Export). x.passes) c.export_of-passes.ensures ∙ ap (λ n. (root_of e n).passes) number in
     let both : Answers gs e t c.handed-first.result c.handed-second.result =

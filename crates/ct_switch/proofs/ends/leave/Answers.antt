@@ -24,8 +24,8 @@ returns g c =
     let ms = g.M.Memory.granules c.pop.new.mem in
     let hs = g.M.Memory.granules c.clear.new.mem in
     let t = c.args.t.now in
-    let kept : c.through-kept.result ≡ filtered_frame gs t.area.ram (inner_frame gs t) = c.through-kept.ensures (inner_frame gs t) c.inner-saved.ensures in
+    let kept : c.through-kept.result ≡ filtered_frame gs t.area.ram (inner_frame gs t) = c.through-kept.ensures (inner_frame gs t) c.innermost-saved.ensures in
     let left : Left gs hs t c.restore.new.t c.args.first c.args.second true =
     left_goes gs ms hs t c.pop.new.t c.restore.new.t c.through-kept.result c.args.first c.args.second c.requires c.pop.ensures.memory c.pop.ensures.row
-    c.clear.ensures c.if-depth-eq0.false c.pop.ensures.frames kept (c.restore.ensures (inner_frame gs t) c.inner-saved.ensures) in
+    c.clear.ensures c.if-depth-eq0.false c.pop.ensures.frames kept (c.restore.ensures (inner_frame gs t) c.innermost-saved.ensures) in
     record { result = left.result; thread = left.thread; memory = left.memory; row = left.row }

@@ -2,7 +2,7 @@ use Rattle.def_boot.specs.Boot.{board_of, boot_state}
 use Rattle.law_grants.proofs.Wiring.{wired}
 use Rattle.law_grants.proofs.Holding.{holds}
 use Rattle.law_booted.proofs.Whole.{partitioned}
-use Rattle.law_run.proofs.Running.{run_keeps, told_licensed}
+use Rattle.law_events.proofs.Running.{run_keeps, told_licensed}
 use Rattle.law_started.proofs.Whole.{keeps}
 use Rattle.law_started.proofs.started.lawful_runs.Goals as goal
 

@@ -1,18 +1,15 @@
-use Rattle.std.proofs.Common.{sym, subst}
 use Rattle.def_sched.specs.Statuses.{asleep}
 use Rattle.def_step.specs.Events.{MachineRow}
 use Rattle.def_step.specs.Instructions.{ran}
 use Rattle.def_step.specs.Routines.{yield}
-use Rattle.ct_machine.specs.Going.{Runs}
-use Rattle.ct_machine.proofs.Resting.{came_rest, kept_rest, runs_there}
+use Rattle.ct_machine.proofs.Resting.{came_rest, kept_rest, runs_there_in}
 use Rattle.ct_machine.proofs.Keeping.{came_by, counted_so}
 use Rattle.ct_machine.proofs.engine.Engine.pause.Goals as goal
 
 pub pause-requires-clause-there : goal.pause-requires-clause-there
 pause-requires-clause-there g c =
     let i = c.self.inside in
-    let runs = subst (λ (m : MachineRow). Runs m c.args.t) (sym c.self.view_is) c.requires.runs in
-    runs_there i.plan i.threads i.sched i.bus i.pending i.time i.counts c.args.t c.self.invariant.0 runs.some
+    runs_there_in i.plan i.threads i.sched i.bus i.pending i.time i.counts c.args.t c.self.invariant.0 _ c.self.view_is c.requires.runs
 
 pub invariant_of-self : goal.invariant_of-self
 invariant_of-self g c =

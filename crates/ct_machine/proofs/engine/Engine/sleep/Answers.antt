@@ -1,4 +1,3 @@
-use Rattle.std.proofs.Common.{sym, subst}
 use Rattle.def_words.specs.Authority.{cap_address}
 use Rattle.def_sched.specs.Statuses.{asleep}
 use Rattle.def_machine.specs.State.{register}
@@ -6,16 +5,14 @@ use Rattle.def_step.specs.Events.{MachineRow}
 use Rattle.def_step.specs.Instructions.{ran}
 use Rattle.def_step.specs.Routines.{sleep}
 use Rattle.ct_engine.specs.Seen.{thread}
-use Rattle.ct_machine.specs.Going.{Runs}
-use Rattle.ct_machine.proofs.Resting.{came_sleep, kept_rest, runs_there}
+use Rattle.ct_machine.proofs.Resting.{came_sleep, kept_rest, runs_there_in}
 use Rattle.ct_machine.proofs.Keeping.{came_by, counted_so}
 use Rattle.ct_machine.proofs.engine.Engine.sleep.Goals as goal
 
 pub sleep-requires-clause-there : goal.sleep-requires-clause-there
 sleep-requires-clause-there g c =
     let i = c.self.inside in
-    let runs = subst (λ (m : MachineRow). Runs m c.args.t) (sym c.self.view_is) c.requires.runs in
-    runs_there i.plan i.threads i.sched i.bus i.pending i.time i.counts c.args.t c.self.invariant.0 runs.some
+    runs_there_in i.plan i.threads i.sched i.bus i.pending i.time i.counts c.args.t c.self.invariant.0 _ c.self.view_is c.requires.runs
 
 pub invariant_of-self : goal.invariant_of-self
 invariant_of-self g c =

@@ -4,7 +4,7 @@ use Rattle.def_step.specs.declared.Event.{Event}
 use Rattle.def_machine.specs.Image.{root}
 use Rattle.def_machine.specs.Objects.{charges}
 use Rattle.def_step.specs.Events.{MachineRow, told, run}
-use Rattle.law_run.proofs.Running.{told_licensed}
+use Rattle.law_events.proofs.Running.{told_licensed}
 use Rattle.law_history.specs.Accesses.{UsesReach}
 use Rattle.law_history.specs.Clean.{CleanEvent}
 use Rattle.law_history.specs.Each.{EachEvent}

@@ -1,15 +1,12 @@
-use Rattle.std.proofs.Common.{◌≡◌, ◌*◌, ◌/◌, ◌%◌, ◌∙◌, length, sym, ap, subst}
-use Rattle.ct_planes.proofs.Planed.{seen_count, seen_granule}
+use Rattle.std.proofs.Common.{◌*◌, ◌/◌, ◌%◌, ◌∙◌, sym, ap, subst}
+use Rattle.ct_planes.proofs.Planed.{seen_sizes, seen_granule}
 use Rattle.def_memory.specs.declared.Granule.{Granule}
 use Rattle.def_memory.specs.Accesses.{IsAccess, part_of}
 use Rattle.ct_planes.proofs.planes.PlanesMemory.load.Goals as goal
 
 pub load-requires : goal.load-requires
 load-requires c =
-    let p = c.self.inside in
-    let gs = c.args.self.now in
-    let count : length p.words ≡ length gs = seen_count p.words p.tags p.shadows p.marks gs c.self.invariant c.self.view_is in
-    subst (λ n. IsAccess (8 * n) c.args.at c.args.width) (sym count) c.requires
+    subst (λ n. IsAccess (8 * n) c.args.at c.args.width) (sym (seen_sizes _ _ _ _ _ c.self.invariant c.self.view_is).words) c.requires
 
 pub returns : goal.returns
 returns c =

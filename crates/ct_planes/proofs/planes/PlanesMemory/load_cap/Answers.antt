@@ -1,30 +1,18 @@
-use Rattle.std.proofs.Common.{ℕ, ◌≡◌, ◌/◌, ◌∙◌, Bool, length, sym, ap, arith}
-use Rattle.ct_planes.proofs.Planed.{seen_count, seen_granule}
+use Rattle.std.proofs.Common.{ℕ, ◌/◌, ◌∙◌, Bool, sym, ap, arith}
+use Rattle.ct_planes.proofs.Planed.{seen_sizes, seen_granule}
 use Rattle.def_words.specs.declared.Cap.{Cap}
 use Rattle.def_words.specs.declared.Shadow.{Shadow}
 use Rattle.def_memory.specs.declared.Granule.{Granule}
 use Rattle.ct_planes.proofs.planes.PlanesMemory.load_cap.Goals as goal
 
 pub get-requires : goal.get-requires
-get-requires c =
-    let p = c.self.inside in
-    let gs = c.args.self.now in
-    let count : length p.words ≡ length gs = seen_count p.words p.tags p.shadows p.marks gs c.self.invariant c.self.view_is in
-    omega (arith, count, c.self.invariant.tags, c.requires.aligned, c.requires.inside)
+get-requires c = omega (arith, (seen_sizes _ _ _ _ _ c.self.invariant c.self.view_is).tags, c.requires.aligned, c.requires.inside)
 
 pub word-requires : goal.word-requires
-word-requires c =
-    let p = c.self.inside in
-    let gs = c.args.self.now in
-    let count : length p.words ≡ length gs = seen_count p.words p.tags p.shadows p.marks gs c.self.invariant c.self.view_is in
-    omega (arith, count, c.self.invariant.tags, c.requires.aligned, c.requires.inside)
+word-requires c = omega (arith, (seen_sizes _ _ _ _ _ c.self.invariant c.self.view_is).words, c.requires.aligned, c.requires.inside)
 
 pub get-requires-2 : goal.get-requires-2
-get-requires-2 c =
-    let p = c.self.inside in
-    let gs = c.args.self.now in
-    let count : length p.words ≡ length gs = seen_count p.words p.tags p.shadows p.marks gs c.self.invariant c.self.view_is in
-    omega (arith, count, c.self.invariant.shadows, c.requires.aligned, c.requires.inside)
+get-requires-2 c = omega (arith, (seen_sizes _ _ _ _ _ c.self.invariant c.self.view_is).shadows, c.requires.aligned, c.requires.inside)
 
 pub returns : goal.returns
 returns c =

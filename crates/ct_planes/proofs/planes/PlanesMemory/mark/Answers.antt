@@ -1,14 +1,10 @@
-use Rattle.std.proofs.Common.{◌≡◌, ◌*◌, ◌/◌, length, sym, arith, subst}
-use Rattle.ct_planes.proofs.Planed.{seen_count, marked_is, fit_marked}
+use Rattle.std.proofs.Common.{◌*◌, ◌/◌, length, sym, arith, subst}
+use Rattle.ct_planes.proofs.Planed.{seen_sizes, marked_is, fit_marked}
 use Rattle.def_memory.specs.Ranges.{IsRange}
 use Rattle.ct_planes.proofs.planes.PlanesMemory.mark.Goals as goal
 
 pub fill-requires-clause-inside : goal.fill-requires-clause-inside
-fill-requires-clause-inside c =
-    let p = c.self.inside in
-    let gs = c.args.self.now in
-    let count : length p.words ≡ length gs = seen_count p.words p.tags p.shadows p.marks gs c.self.invariant c.self.view_is in
-    omega (arith, count, c.self.invariant.marks, c.requires.inside)
+fill-requires-clause-inside c = omega (arith, (seen_sizes _ _ _ _ _ c.self.invariant c.self.view_is).marks, c.requires.inside)
 
 pub invariant_of-self : goal.invariant_of-self
 invariant_of-self c =
@@ -18,8 +14,6 @@ invariant_of-self c =
 pub returns : goal.returns
 returns c =
     let p = c.self.inside in
-    let gs = c.args.self.now in
-    let count : length p.words ≡ length gs = seen_count p.words p.tags p.shadows p.marks gs c.self.invariant c.self.view_is in
-    let range : IsRange (8 * length p.words) c.args.from c.args.to = subst (λ n. IsRange (8 * n) c.args.from c.args.to) (sym count) c.requires in
+    let range : IsRange (8 * length p.words) c.args.from c.args.to = subst (λ n. IsRange (8 * n) c.args.from c.args.to) (sym (seen_sizes _ _ _ _ _ c.self.invariant c.self.view_is).words) c.requires in
     let is = marked_is p.words p.tags p.shadows p.marks c.args.from c.args.to c.args.on c.self.invariant range in
     rw (c.fill.ensures, ← c.self.view_is) is

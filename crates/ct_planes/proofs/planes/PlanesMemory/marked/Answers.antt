@@ -1,14 +1,10 @@
-use Rattle.std.proofs.Common.{◌≡◌, ◌/◌, ◌∙◌, length, sym, ap, arith}
-use Rattle.ct_planes.proofs.Planed.{seen_count, seen_granule}
+use Rattle.std.proofs.Common.{◌/◌, ◌∙◌, sym, ap, arith}
+use Rattle.ct_planes.proofs.Planed.{seen_sizes, seen_granule}
 use Rattle.def_memory.specs.declared.Granule.{Granule}
 use Rattle.ct_planes.proofs.planes.PlanesMemory.marked.Goals as goal
 
 pub get-requires : goal.get-requires
-get-requires c =
-    let p = c.self.inside in
-    let gs = c.args.self.now in
-    let count : length p.words ≡ length gs = seen_count p.words p.tags p.shadows p.marks gs c.self.invariant c.self.view_is in
-    omega (arith, count, c.self.invariant.marks, c.requires)
+get-requires c = omega (arith, (seen_sizes _ _ _ _ _ c.self.invariant c.self.view_is).marks, c.requires)
 
 pub returns : goal.returns
 returns c =

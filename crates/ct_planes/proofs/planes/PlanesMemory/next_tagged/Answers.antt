@@ -1,4 +1,4 @@
-use Rattle.std.proofs.Common.{ℕ, ◌≡◌, ◌+◌, ◌*◌, ◌/◌, ◌<◌, false, arith, subst}
+use Rattle.std.proofs.Common.{ℕ, ◌≡◌, ◌*◌, false, arith, subst}
 use Rattle.ct_planes.proofs.Planed.{none_tagged, next_tagged_is}
 use Rattle.def_memory.specs.Ranges.{Inside, IsNextTagged, is_tagged}
 use Rattle.ct_planes.proofs.planes.PlanesMemory.next_tagged.Goals as goal

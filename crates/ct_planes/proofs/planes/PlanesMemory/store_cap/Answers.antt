@@ -1,5 +1,5 @@
-use Rattle.std.proofs.Common.{◌≡◌, ◌/◌, ◌∙◌, length, sym, ap, arith}
-use Rattle.ct_planes.proofs.Planed.{seen_count, seen_granule, set_of}
+use Rattle.std.proofs.Common.{◌/◌, ◌∙◌, sym, ap, arith}
+use Rattle.ct_planes.proofs.Planed.{seen_sizes, seen_granule, set_of}
 use Rattle.std.proofs.Math.ListN.{set}
 use Rattle.def_memory.specs.declared.Granule.{Granule}
 use Rattle.def_memory.specs.Granules.{granule_at}
@@ -7,25 +7,13 @@ use Rattle.ct_planes.specs.View.{granules_of}
 use Rattle.ct_planes.proofs.planes.PlanesMemory.store_cap.Goals as goal
 
 pub put_word-requires : goal.put_word-requires
-put_word-requires c =
-    let p = c.self.inside in
-    let gs = c.args.self.now in
-    let count : length p.words ≡ length gs = seen_count p.words p.tags p.shadows p.marks gs c.self.invariant c.self.view_is in
-    omega (arith, count, c.self.invariant.tags, c.requires.aligned, c.requires.inside)
+put_word-requires c = omega (arith, (seen_sizes _ _ _ _ _ c.self.invariant c.self.view_is).words, c.requires.aligned, c.requires.inside)
 
 pub put-requires : goal.put-requires
-put-requires c =
-    let p = c.self.inside in
-    let gs = c.args.self.now in
-    let count : length p.words ≡ length gs = seen_count p.words p.tags p.shadows p.marks gs c.self.invariant c.self.view_is in
-    omega (arith, count, c.self.invariant.tags, c.requires.aligned, c.requires.inside)
+put-requires c = omega (arith, (seen_sizes _ _ _ _ _ c.self.invariant c.self.view_is).tags, c.requires.aligned, c.requires.inside)
 
 pub put-requires-2 : goal.put-requires-2
-put-requires-2 c =
-    let p = c.self.inside in
-    let gs = c.args.self.now in
-    let count : length p.words ≡ length gs = seen_count p.words p.tags p.shadows p.marks gs c.self.invariant c.self.view_is in
-    omega (arith, count, c.self.invariant.shadows, c.requires.aligned, c.requires.inside)
+put-requires-2 c = omega (arith, (seen_sizes _ _ _ _ _ c.self.invariant c.self.view_is).shadows, c.requires.aligned, c.requires.inside)
 
 pub returns : goal.returns
 returns c =

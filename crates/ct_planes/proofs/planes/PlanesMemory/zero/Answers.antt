@@ -1,28 +1,16 @@
-use Rattle.std.proofs.Common.{◌≡◌, ◌*◌, ◌/◌, length, sym, arith, subst}
-use Rattle.ct_planes.proofs.Planed.{seen_count, zeroed_is, fit_zeroed}
+use Rattle.std.proofs.Common.{◌*◌, ◌/◌, length, sym, arith, subst}
+use Rattle.ct_planes.proofs.Planed.{seen_sizes, zeroed_is, fit_zeroed}
 use Rattle.def_memory.specs.Ranges.{IsRange}
 use Rattle.ct_planes.proofs.planes.PlanesMemory.zero.Goals as goal
 
 pub zero-requires-clause-inside : goal.zero-requires-clause-inside
-zero-requires-clause-inside c =
-    let p = c.self.inside in
-    let gs = c.args.self.now in
-    let count : length p.words ≡ length gs = seen_count p.words p.tags p.shadows p.marks gs c.self.invariant c.self.view_is in
-    omega (arith, count, c.requires.inside)
+zero-requires-clause-inside c = omega (arith, (seen_sizes _ _ _ _ _ c.self.invariant c.self.view_is).words, c.requires.inside)
 
 pub fill-requires-clause-inside : goal.fill-requires-clause-inside
-fill-requires-clause-inside c =
-    let p = c.self.inside in
-    let gs = c.args.self.now in
-    let count : length p.words ≡ length gs = seen_count p.words p.tags p.shadows p.marks gs c.self.invariant c.self.view_is in
-    omega (arith, count, c.self.invariant.tags, c.requires.inside)
+fill-requires-clause-inside c = omega (arith, (seen_sizes _ _ _ _ _ c.self.invariant c.self.view_is).tags, c.requires.inside)
 
 pub zero-requires-2-clause-inside : goal.zero-requires-2-clause-inside
-zero-requires-2-clause-inside c =
-    let p = c.self.inside in
-    let gs = c.args.self.now in
-    let count : length p.words ≡ length gs = seen_count p.words p.tags p.shadows p.marks gs c.self.invariant c.self.view_is in
-    omega (arith, count, c.self.invariant.shadows, c.requires.inside)
+zero-requires-2-clause-inside c = omega (arith, (seen_sizes _ _ _ _ _ c.self.invariant c.self.view_is).shadows, c.requires.inside)
 
 pub invariant_of-self : goal.invariant_of-self
 invariant_of-self c =
@@ -32,8 +20,6 @@ invariant_of-self c =
 pub returns : goal.returns
 returns c =
     let p = c.self.inside in
-    let gs = c.args.self.now in
-    let count : length p.words ≡ length gs = seen_count p.words p.tags p.shadows p.marks gs c.self.invariant c.self.view_is in
-    let range : IsRange (8 * length p.words) c.args.from c.args.to = subst (λ n. IsRange (8 * n) c.args.from c.args.to) (sym count) c.requires in
+    let range : IsRange (8 * length p.words) c.args.from c.args.to = subst (λ n. IsRange (8 * n) c.args.from c.args.to) (sym (seen_sizes _ _ _ _ _ c.self.invariant c.self.view_is).words) c.requires in
     let is = zeroed_is p.words p.tags p.shadows p.marks c.args.from c.args.to c.self.invariant range in
     rw (c.zero.ensures, c.fill.ensures, c.zero-2.ensures, ← c.self.view_is) is
