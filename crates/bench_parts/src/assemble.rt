@@ -2,10 +2,13 @@
 //! twelve lines the source has; each block has a label of its own, branches to it and to the block before, loads,
 //! stores, an import and a load of a number.
 
+ghost use Rattle.def_source.specs.Source.{IsLawful};
+ghost use Rattle.ct_source.specs.Views.{program_view};
+
 use crate::failure::{Failure, written};
 use crate::given::number;
 use ct_asm::{Names, assemble, undeclared};
-use ct_source::statements;
+use ct_source::{Program, statements};
 use def_source::AsmFault;
 use std::alloc::{AllocError, Global};
 
@@ -27,25 +30,34 @@ fn source_of(alloc: Global, blocks: u32) -> Result<String, AllocError> {
     Ok(source)
 }
 
-/// The number of bytes of the source's object.
-fn assembled(alloc: Global, source: &str) -> Result<usize, AsmFault> {
+/// The names that may be imported.
+fn imports(alloc: Global) -> Result<Names, AllocError> {
     let mut names = Names::new(alloc);
-    if names.add(alloc, "switch").is_err() || names.add(alloc, "uart").is_err() {
-        return Err(AsmFault::NoMemory);
-    }
-    let bytes = source.as_bytes();
-    if bytes.len() >= 1 << 32 {
-        return Err(AsmFault::NoMemory);
-    }
-    let program = match statements(alloc, bytes) {
-        Ok(program) => program,
-        Err(fault) => return Err(fault),
-    };
-    if undeclared(&program, &names).is_some() {
+    names.add(alloc, "switch")?;
+    names.add(alloc, "uart")?;
+    Ok(names)
+}
+
+/// The number of bytes of a program's object; 0 where it names what isn't imported.
+fn sized(alloc: Global, program: &Program<'_>, names: &Names) -> Result<usize, AsmFault>
+    requires { IsLawful (program_view program.now) }
+{
+    if undeclared(program, names).is_some() {
         return Ok(0);
     }
-    match assemble(alloc, &program, &names) {
+    match assemble(alloc, program, names) {
         Ok(object) => Ok(object.text.len()),
+        Err(fault) => Err(fault),
+    }
+}
+
+/// The number of bytes of the source's object.
+fn assembled(alloc: Global, source: &[u8], names: &Names) -> Result<usize, AsmFault> {
+    if source.len() >= 1 << 32 {
+        return Err(AsmFault::NoMemory);
+    }
+    match statements(alloc, source) {
+        Ok(program) => sized(alloc, &program, names),
         Err(fault) => Err(fault),
     }
 }
@@ -56,8 +68,11 @@ pub fn measure(rt: &HostRuntime, words: &[String]) -> Result<(), Failure> {
     let Ok(source) = source_of(alloc, number(words, 0)) else {
         return Err(Failure::Memory);
     };
+    let Ok(names) = imports(alloc) else {
+        return Err(Failure::Memory);
+    };
     let length = source.len();
-    let Ok(bytes) = assembled(alloc, source.as_str()) else {
+    let Ok(bytes) = assembled(alloc, source.as_bytes(), &names) else {
         return Err(Failure::Memory);
     };
     written(println!(rt; "{length} bytes of source, {bytes} bytes of text"))

@@ -3,21 +3,8 @@
 
 use crate::failure::{Failure, written};
 use crate::given::word;
-use ct_image::{ImageFault, accept};
-use std::alloc::{AllocError, Global};
 use std::fs;
-
-/// What is answered to bytes, in a word.
-fn answered(alloc: Global, bytes: &[u8]) -> Result<String, AllocError> {
-    if bytes.len() >= 1 << 32 {
-        return String::from_str(alloc, "large");
-    }
-    match accept(alloc, bytes) {
-        Ok(_) => String::from_str(alloc, "ok"),
-        Err(ImageFault::At { number, place }) => format!(in alloc; "{number} {place}"),
-        Err(ImageFault::NoMemory) => String::from_str(alloc, "memory"),
-    }
-}
+use worked_parts::answered;
 
 /// Measures the acceptance of an image's file.
 pub fn measure(rt: &HostRuntime, words: &[String]) -> Result<(), Failure> {

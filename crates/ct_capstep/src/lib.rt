@@ -34,7 +34,8 @@ pub fn capstep(i: Instr, x: Live, y: Live, pcc: Live) -> Result<Live, Trap>
     requires { IsTrue (is_capability i || is_system i) }
     ensures { MatchResult result
         (λ l. (is_system i ≡ false) × (l ≡ capability_result i x y pcc))
-        (λ trap. (is_system i ≡ true) × (trap ≡ capability_trap SYSTEM_REGISTER_CODE PCC_REGISTER)) }
+        (λ trap. (is_system i ≡ true)
+        × (trap ≡ capability_trap SYSTEM_REGISTER_CODE PCC_REGISTER)) }
 {
     match i {
         Instr::Csr { .. } | Instr::CSpecialRw { .. } => {

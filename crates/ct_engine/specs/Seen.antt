@@ -8,6 +8,7 @@ use Rattle.def_machine.specs.Heap.{is_number}
 use Rattle.def_machine.specs.Threads.{picked_with, jumped}
 use Rattle.def_machine.specs.Registers.{written}
 use Rattle.def_words.specs.declared.Cap.{Cap}
+use Rattle.def_words.specs.Capability.{integer, raised, with_address}
 use Rattle.def_words.specs.declared.Posture.{Posture}
 use Rattle.def_machine.specs.Memory.{filtered_in}
 use Rattle.def_veil.specs.Veil.{veiled}
@@ -78,6 +79,15 @@ no_area = record { ram = 0; stack = 0; stack_length = 0; trusted = 0; trusted_le
 -- a thread goes on elsewhere, and a register gets a value
 abbrev pub went : Seen → ℕ → Cap → Posture → ℕ → Cap → Seen
 went s t pcc posture to value = with_thread s t (jumped (thread s t) pcc posture to value)
+
+-- it goes on after its instruction
+abbrev pub advanced : Seen → ℕ → ℕ → Cap → Seen
+advanced s t to value = went s t (raised (thread s t).pcc 4) (thread s t).posture to value
+
+-- it goes on at an address, by the address rule, and no register changes
+abbrev pub moved_to : Seen → ℕ → ℕ → Seen
+moved_to s t at =
+    went s t (with_address (thread s t).pcc at) (thread s t).posture 0 (integer 0)
 
 -- its row
 abbrev pub row_gone : row.Thread → Cap → Posture → ℕ → Cap → row.Thread

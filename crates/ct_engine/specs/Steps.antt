@@ -1,5 +1,5 @@
 -- What an instruction of the running thread works on beside that thread, and what it finds and leaves there.
-use Rattle.std.specs.Prelude.{ℕ, ◌+◌, ◌*◌, ◌%◌, ◌==◌, ◌&&◌, ◌≡◌, ◌≤◌, Bool, nat_le, List, [], Some, None, Result, Ok, Err, MatchResult}
+use Rattle.std.specs.Prelude.{ℕ, ◌+◌, ◌*◌, ◌%◌, ◌==◌, ◌&&◌, ◌≡◌, ◌≤◌, Bool, nat_le, List, [], length, Some, None, Result, Ok, Err, MatchResult}
 use Rattle.def_profile.specs.declared.limits.TheConstants.{RAM_END}
 use Rattle.def_profile.specs.declared.native.TheConstants.{LAST_NATIVE, NATIVE_BASE, NATIVE_UNIT, RETURN}
 use Rattle.def_words.specs.declared.Cap.{Cap}
@@ -8,6 +8,7 @@ use Rattle.def_memory.specs.declared.Granule.{Granule}
 use Rattle.def_instr.specs.declared.Instr.{Instr}
 use Rattle.def_instr.specs.Table.{InRange}
 use Rattle.def_machine.specs.Memory.{lies_in}
+use Rattle.def_machine.specs.State.{register}
 use Rattle.def_step.specs.declared.Next.{Next}
 use Rattle.def_step.specs.declared.Next.TheVariants.{Returning, Instruction, Native, Nothing}
 use Rattle.def_step.specs.declared.TheConstants.{LAST_ROUTINE}
@@ -16,8 +17,9 @@ use Rattle.def_step.specs.Accesses.{Space, access_of, access_result}
 use Rattle.def_veil.specs.Steps.{SeesAccess}
 use Rattle.def_step.specs.Devices.{Bank}
 use Rattle.def_step.specs.Instructions.{next_at}
+use Rattle.ct_loadstore.specs.Quiet.{is_quiet_load, is_quiet_store}
 use Rattle.ct_loadstore.specs.Shapes.{MovedRow, space_of}
-use Rattle.ct_engine.specs.Seen.{Seen}
+use Rattle.ct_engine.specs.Seen.{Seen, thread}
 
 -- RAM as it is seen, with these devices at a time
 abbrev pub space_in : Seen → Bank → ℕ → Space
@@ -55,6 +57,10 @@ pub record IsHeapPlaced (ram heap granules : ℕ) : Type 0 where
   pub low : ram ≤ heap
   pub high : heap ≤ ram + 8 * granules
 
+-- so it is of the RAM that is seen
+abbrev pub HeapLies : Seen → ℕ → Type 0
+HeapLies s heap = IsHeapPlaced s.region.ram heap (length s.granules)
+
 -- A load or a store through x, of y where it stores: what it leaves of RAM and of the devices, and what it gives. Where
 -- a check fails, the trap, and all is as it was.
 abbrev pub IsMoved : Instr → Cap → Cap → Space → List Granule → Bank → Result MovedRow Trap → Type 0
@@ -83,3 +89,31 @@ IsStored a x y s gs =
     (i : Instr) (k : Bank) (time : ℕ) → access_of i ≡ a
     → access_result i x y (space_in s k time)
     ≡ Ok (record { value = None; act = None; granules = gs; bank = k })
+
+-- ---- the same of thread t, through its register n, and of what its register `stored` holds
+
+-- whether no check refuses it, and it lies in RAM
+abbrev pub loads_ram : Seen → ℕ → ℕ → Access → Bool
+loads_ram s t n a = is_quiet_load a (register (thread s t) n) s.region.ram s.granules
+
+abbrev pub stores_ram : Seen → ℕ → ℕ → ℕ → Access → Bool
+stores_ram s t n stored a =
+    is_quiet_store a (register (thread s t) n) (register (thread s t) stored) s.region.ram
+    s.granules
+
+-- where its checks pass nothing is hidden
+abbrev pub SeesLoad : (ℕ → Bool) → Seen → ℕ → ℕ → Access → Type 0
+SeesLoad hides s t n a =
+    (y : Cap) → SeesThrough hides s.region.ram a (register (thread s t) n) y
+
+abbrev pub SeesStore : (ℕ → Bool) → Seen → ℕ → ℕ → ℕ → Access → Type 0
+SeesStore hides s t n stored a =
+    SeesThrough hides s.region.ram a (register (thread s t) n) (register (thread s t) stored)
+
+-- what it gives, or leaves
+abbrev pub Loads : Seen → ℕ → ℕ → Access → Cap → Type 0
+Loads s t n a value = (y : Cap) → IsGiven a (register (thread s t) n) y s value
+
+abbrev pub Stores : Seen → ℕ → ℕ → ℕ → Access → List Granule → Type 0
+Stores s t n stored a gs =
+    IsStored a (register (thread s t) n) (register (thread s t) stored) s gs

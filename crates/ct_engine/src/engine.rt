@@ -10,7 +10,7 @@ ghost use Rattle.def_veil.specs.Steps.{IsSeen, SeesAccess};
 ghost use Rattle.ct_areas.specs.Parts.{saved_in};
 ghost use Rattle.ct_engine.specs.Starts.{MayStart, started};
 ghost use Rattle.ct_engine.specs.Seen.{hides, thread, has_room, innermost, with_granules, with_running, resumed, went, called, left};
-ghost use Rattle.ct_engine.specs.Steps.{space_in, next_in, NextInRange, IsHeapPlaced, IsMoved};
+ghost use Rattle.ct_engine.specs.Steps.{space_in, next_in, NextInRange, HeapLies, IsMoved};
 ghost use Rattle.ct_exports.specs.Exports.{AreSorted};
 ghost use Rattle.ct_switch.specs.Calls.{told};
 ghost use Rattle.ct_engine.specs.Calls.{TopLies, MayCall, switch_at, after_call, returned, ended_with};
@@ -215,17 +215,6 @@ impl<M: Memory + Drop> Engine<M> {
         calls::give_back(&mut self.rows, &mut self.mem, t, e)
     }
 
-    /// The innermost frame of the running thread ends with a value, as its error handler says: the return with c10 =
-    /// the value and c11 = 0. `false` exactly where the frame was the thread's last. docs/use/machine.md.
-    pub fn end_with(&mut self, t: u32, e: &Entries, value: u32) -> bool
-        requires runs { self.old.running ≡ Some t }
-        requires top { TopLies self.old t }
-        ensures result { result ≡ nat_lt 1 (length (thread self.old t).frames) }
-        ensures is { self.new ≡ ended_with self.old t value }
-    {
-        calls::end_with(&mut self.rows, &mut self.mem, t, e, value)
-    }
-
     /// The innermost frame of the running thread is unwound after a trap: the return with c10 = -1 and c11 = 0. `false`
     /// exactly where the frame was the thread's last. docs/use/machine.md.
     pub fn unwind(&mut self, t: u32, e: &Entries) -> bool
@@ -262,7 +251,7 @@ impl<M: Memory + Drop> Engine<M> {
         time: u64,
     ) -> Result<Moved, Trap>
         requires access { is_access instruction ≡ true }
-        requires heap { IsHeapPlaced self.old.region.ram heap (length self.old.granules) }
+        requires heap { HeapLies self.old heap }
         requires seen { SeesAccess (hides self.old.region) self.old.region.ram instruction x y }
         ensures is { IsMoved instruction x y (space_in self.old bus.old time) self.new.granules
             bus.new result }

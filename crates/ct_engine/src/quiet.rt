@@ -4,16 +4,14 @@
 ghost use Rattle.std.specs.Prelude.{◌≡◌, ◌%◌, ◌<◌, Some, IfSome, true, false, is_none, is_some, length};
 ghost use Rattle.def_instr.specs.Reading.{instruction_in};
 ghost use Rattle.def_machine.specs.State.{register};
-ghost use Rattle.def_words.specs.declared.Cap.{Cap};
 ghost use Rattle.def_words.specs.Authority.{cap_address};
-ghost use Rattle.def_words.specs.Capability.{integer, raised, with_address};
+ghost use Rattle.def_words.specs.Capability.{integer};
 ghost use Rattle.def_step.specs.Checks.{first_failed};
 ghost use Rattle.def_step.specs.Instructions.{fetch_checks, next_word};
 ghost use Rattle.def_veil.specs.Steps.{IsSeen};
-ghost use Rattle.ct_loadstore.specs.Quiet.{is_quiet_load, is_quiet_store};
 ghost use Rattle.ct_loadstore.specs.Shapes.{IsShape};
-ghost use Rattle.ct_engine.specs.Seen.{hides, thread, went, with_granules};
-ghost use Rattle.ct_engine.specs.Steps.{is_word_of_ram, next_in, IsGiven, IsStored, SeesThrough};
+ghost use Rattle.ct_engine.specs.Seen.{hides, thread, advanced, moved_to, with_granules};
+ghost use Rattle.ct_engine.specs.Steps.{is_word_of_ram, next_in, loads_ram, stores_ram, Loads, SeesLoad, SeesStore, Stores};
 
 use crate::engine::Engine;
 use crate::{accesses, fetching, steps};
@@ -89,8 +87,7 @@ impl<M: Memory + Drop> Engine<M> {
     pub fn put_number(&mut self, t: u32, to: u32, value: u32)
         requires runs { self.old.running ≡ Some t }
         requires to { to < 16 }
-        ensures { self.new ≡ went self.old t (raised (thread self.old t).pcc 4)
-            (thread self.old t).posture to (integer value) }
+        ensures { self.new ≡ advanced self.old t to (integer value) }
     {
         steps::put(&mut self.rows, t, to, Live::integer(value));
     }
@@ -100,8 +97,7 @@ impl<M: Memory + Drop> Engine<M> {
     pub fn put(&mut self, t: u32, to: u32, value: Live)
         requires runs { self.old.running ≡ Some t }
         requires to { to < 16 }
-        ensures { self.new ≡ went self.old t (raised (thread self.old t).pcc 4)
-            (thread self.old t).posture to value }
+        ensures { self.new ≡ advanced self.old t to value }
     {
         steps::put(&mut self.rows, t, to, value);
     }
@@ -110,8 +106,7 @@ impl<M: Memory + Drop> Engine<M> {
     #[inline(always)]
     pub fn branch_to(&mut self, t: u32, target: u32)
         requires { self.old.running ≡ Some t }
-        ensures { self.new ≡ went self.old t (with_address (thread self.old t).pcc target)
-            (thread self.old t).posture 0 (integer 0) }
+        ensures { self.new ≡ moved_to self.old t target }
     {
         steps::branch_to(&mut self.rows, t, target);
     }
@@ -128,13 +123,9 @@ impl<M: Memory + Drop> Engine<M> {
         requires shape { IsShape access.now }
         requires loads { access.now.loads ≡ true }
         requires part { access.now.whole ≡ false }
-        requires seen { (y : Cap) → SeesThrough (hides self.now.region) self.now.region.ram
-            access.now (register (thread self.now t) number) y }
-        ensures when { is_some result
-            ≡ is_quiet_load access.now (register (thread self.now t) number)
-            self.now.region.ram self.now.granules }
-        ensures given { IfSome result (λ n. (y : Cap) → IsGiven access.now
-            (register (thread self.now t) number) y self.now (integer n)) }
+        requires seen { SeesLoad (hides self.now.region) self.now t number access.now }
+        ensures when { is_some result ≡ loads_ram self.now t number access.now }
+        ensures given { IfSome result (λ n. Loads self.now t number access.now (integer n)) }
     {
         accesses::load_number(&self.rows, &self.mem, t, number, access)
     }
@@ -151,13 +142,9 @@ impl<M: Memory + Drop> Engine<M> {
         requires shape { IsShape access.now }
         requires loads { access.now.loads ≡ true }
         requires whole { access.now.whole ≡ true }
-        requires seen { (y : Cap) → SeesThrough (hides self.now.region) self.now.region.ram
-            access.now (register (thread self.now t) number) y }
-        ensures when { is_some result
-            ≡ is_quiet_load access.now (register (thread self.now t) number)
-            self.now.region.ram self.now.granules }
-        ensures given { IfSome result (λ c. (y : Cap) → IsGiven access.now
-            (register (thread self.now t) number) y self.now c) }
+        requires seen { SeesLoad (hides self.now.region) self.now t number access.now }
+        ensures when { is_some result ≡ loads_ram self.now t number access.now }
+        ensures given { IfSome result (λ c. Loads self.now t number access.now c) }
     {
         accesses::load_capability(&self.rows, &self.mem, t, number, access)
     }
@@ -174,13 +161,10 @@ impl<M: Memory + Drop> Engine<M> {
         requires even { self.old.region.ram % 16 ≡ 0 }
         requires shape { IsShape access.now }
         requires stores { access.now.loads ≡ false }
-        requires seen { SeesThrough (hides self.old.region) self.old.region.ram access.now
-            (register (thread self.old t) number) (register (thread self.old t) stored) }
-        ensures when { result
-            ≡ is_quiet_store access.now (register (thread self.old t) number)
-            (register (thread self.old t) stored) self.old.region.ram self.old.granules }
-        ensures is { result ≡ true → IsStored access.now (register (thread self.old t) number)
-            (register (thread self.old t) stored) self.old self.new.granules }
+        requires seen { SeesStore (hides self.old.region) self.old t number stored access.now }
+        ensures when { result ≡ stores_ram self.old t number stored access.now }
+        ensures is { result ≡ true
+            → Stores self.old t number stored access.now self.new.granules }
         ensures same { result ≡ false → self.new ≡ self.old }
         ensures kept { self.new ≡ with_granules self.old self.new.granules }
         ensures size { length self.new.granules ≡ length self.old.granules }

@@ -12,7 +12,7 @@ ghost use Rattle.def_step.specs.Checks.{first_failed};
 ghost use Rattle.def_step.specs.Instructions.{actor_of, fetch_checks};
 ghost use Rattle.ct_engine.specs.Heaps.{sifted};
 ghost use Rattle.ct_engine.specs.Kept.{Holds};
-ghost use Rattle.ct_engine.specs.Seen.{seen, thread, went, row_gone};
+ghost use Rattle.ct_engine.specs.Seen.{seen, thread, went, advanced, moved_to, row_gone};
 
 use crate::rows::Rows;
 use ct_areas::Thread;
@@ -235,9 +235,7 @@ pub(crate) fn put(rows: &mut Rows, t: u32, to: u32, value: Live)
     requires to { to < 16 }
     ensures holds { (gs : List Granule) → Holds gs rows.old → Holds gs rows.new }
     ensures seen { (gs : List Granule) → Holds gs rows.old
-        → seen gs rows.new ≡ went (seen gs rows.old) t
-        (raised (thread (seen gs rows.old) t).pcc 4)
-        (thread (seen gs rows.old) t).posture to value }
+        → seen gs rows.new ≡ advanced (seen gs rows.old) t to value }
 {
     put_row(&mut rows.list[t as usize], to, value);
 }
@@ -257,9 +255,7 @@ pub(crate) fn branch_to(rows: &mut Rows, t: u32, target: u32)
     requires runs { rows.old.running ≡ Some t }
     ensures holds { (gs : List Granule) → Holds gs rows.old → Holds gs rows.new }
     ensures seen { (gs : List Granule) → Holds gs rows.old
-        → seen gs rows.new ≡ went (seen gs rows.old) t
-        (with_address (thread (seen gs rows.old) t).pcc target)
-        (thread (seen gs rows.old) t).posture 0 (integer 0) }
+        → seen gs rows.new ≡ moved_to (seen gs rows.old) t target }
 {
     branch_row(&mut rows.list[t as usize], target);
 }

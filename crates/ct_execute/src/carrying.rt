@@ -1,15 +1,14 @@
 //! An instruction carried out on the running thread, RAM and the devices.
 
-ghost use Rattle.std.specs.Prelude.{ℕ, ◌≡◌, ◌<◌, Some, length, true, false};
+ghost use Rattle.std.specs.Prelude.{ℕ, ◌≡◌, ◌<◌, Some, true, false};
 ghost use Rattle.def_instr.specs.Shapes.{is_access, is_capability, is_integer, is_jump, is_system};
 ghost use Rattle.def_instr.specs.Table.{InRange};
-ghost use Rattle.def_words.specs.Capability.{raised};
 ghost use Rattle.def_step.specs.declared.Class.TheVariants as kinds;
 ghost use Rattle.def_step.specs.Devices.{Bank};
 ghost use Rattle.def_step.specs.Operands.{class_of};
-ghost use Rattle.ct_engine.specs.Seen.{thread, went};
+ghost use Rattle.ct_engine.specs.Seen.{thread, advanced};
 ghost use Rattle.ct_heaped.specs.Seen.{with_threads};
-ghost use Rattle.ct_engine.specs.Steps.{space_in, IsHeapPlaced};
+ghost use Rattle.ct_engine.specs.Steps.{space_in, HeapLies};
 ghost use Rattle.ct_execute.specs.Deciding.{decide_by, decide_instruction, Decided, HasOperands, Stays};
 ghost use Rattle.ct_execute.specs.Opening.{IsOpen};
 
@@ -33,10 +32,7 @@ use def_step::{Class, Operands};
 fn advance<M: Memory + Drop>(engine: &mut Engine<M>, t: u32, to: u32, value: Live)
     requires runs { engine.old.threads.running ≡ Some t }
     requires to { to < 16 }
-    ensures { engine.new
-        ≡ with_threads engine.old
-        (went engine.old.threads t (raised (thread engine.old.threads t).pcc 4)
-        (thread engine.old.threads t).posture to value) }
+    ensures { engine.new ≡ with_threads engine.old (advanced engine.old.threads t to value) }
 {
     let pcc = add_address(engine.pcc(t), 4);
     let posture = engine.posture(t);
@@ -93,8 +89,7 @@ fn carry_access<M: Memory + Drop>(
 ) -> Ran
     requires runs { engine.old.threads.running ≡ Some t }
     requires opened { IsOpen engine.old t }
-    requires heap { IsHeapPlaced engine.old.threads.region.ram heap
-        (length engine.old.threads.granules) }
+    requires heap { HeapLies engine.old.threads heap }
     requires has { HasOperands instruction operands }
     requires class { class_of instruction ≡ kinds.Access }
     requires access { is_access instruction ≡ true }
@@ -200,8 +195,7 @@ pub(crate) fn carry_out<M: Memory + Drop>(
 ) -> Ran
     requires runs { engine.old.threads.running ≡ Some t }
     requires opened { IsOpen engine.old t }
-    requires heap { IsHeapPlaced engine.old.threads.region.ram heap
-        (length engine.old.threads.granules) }
+    requires heap { HeapLies engine.old.threads heap }
     requires ranged { InRange instruction }
     ensures is { Decided
         (decide_instruction entries.now (thread engine.old.threads t)

@@ -1,7 +1,7 @@
 //! One instruction, from its fetch on.
 
-ghost use Rattle.std.specs.Prelude.{◌≡◌, Some, length};
-ghost use Rattle.ct_engine.specs.Steps.{IsHeapPlaced};
+ghost use Rattle.std.specs.Prelude.{◌≡◌, Some};
+ghost use Rattle.ct_engine.specs.Steps.{HeapLies};
 ghost use Rattle.ct_execute.specs.Deciding.{decision, Decided, IfUnfinished, RanInRange, Stays};
 ghost use Rattle.ct_execute.specs.Opening.{IsOpen};
 ghost use Rattle.ct_heaped.specs.Seen.{with_threads};
@@ -31,8 +31,7 @@ pub fn execute<M: Memory + Drop>(
 ) -> Ran
     requires runs { engine.old.threads.running ≡ Some t }
     requires opened { IsOpen engine.old t }
-    requires heap { IsHeapPlaced engine.old.threads.region.ram heap
-        (length engine.old.threads.granules) }
+    requires heap { HeapLies engine.old.threads heap }
     ensures is { Decided (decision entries.now engine.old.threads t bus.old time) t
         engine.old.threads bus.old engine.new.threads bus.new result }
     ensures kept { engine.new ≡ with_threads engine.old engine.new.threads }

@@ -8,9 +8,8 @@ ghost use Rattle.def_step.specs.Devices.{Bank};
 ghost use Rattle.def_step.specs.Instructions.{next_word};
 ghost use Rattle.def_step.specs.Jumps.{target_at};
 ghost use Rattle.def_step.specs.Operands.{class_of, operands_of};
-ghost use Rattle.def_words.specs.Capability.{integer, with_address};
 ghost use Rattle.ct_decoded.specs.Reading.{AreRegisters};
-ghost use Rattle.ct_engine.specs.Seen.{thread, went};
+ghost use Rattle.ct_engine.specs.Seen.{thread, moved_to};
 ghost use Rattle.ct_execute.specs.Deciding.{decision, Stays, WentQuietly};
 ghost use Rattle.ct_execute.specs.Opening.{IsOpen};
 ghost use Rattle.ct_execute.specs.Quiet.{accesses_ram, goes_at, goes_quietly, jump_by, jump_offset, jumps_whole, CarriesQuietly, Says};
@@ -180,10 +179,7 @@ fn go_by<M: Memory + Drop>(engine: &mut Engine<M>, t: u32, by: u32) -> bool
     requires { engine.old.threads.running ≡ Some t }
     ensures whole { result ≡ (target_at (thread engine.old.threads t).pcc by % 4 == 0) }
     ensures gone { result ≡ true → engine.new ≡ with_threads engine.old
-        (went engine.old.threads t
-        (with_address (thread engine.old.threads t).pcc
-        (target_at (thread engine.old.threads t).pcc by))
-        (thread engine.old.threads t).posture 0 (integer 0)) }
+        (moved_to engine.old.threads t (target_at (thread engine.old.threads t).pcc by)) }
     ensures same { result ≡ false → engine.new ≡ engine.old }
 {
     let target = engine.address(t).wrapping_add(by);

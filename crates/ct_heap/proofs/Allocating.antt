@@ -1,6 +1,6 @@
 -- An object is placed: what becomes of chunks, table, accounts and rows.
 use Rattle.std.proofs.Common.{ℕ, ◌≡◌, ◌+◌, ◌-◌, ◌*◌, ◌/◌, ◌%◌, ◌^◌, ◌<◌, ◌≤◌, inl, inr, true, false, cond, nat_eq, List, [], ◌∷◌, ◌++◌, length, refl, sym, ap, ◌∙◌, arith, subst}
-use Rattle.std.proofs.Math.ListN.{get_or, set}
+use Rattle.std.proofs.Math.ListN.{set}
 use Rattle.std.proofs.lemmas.List.{length-set, append_assoc}
 use Rattle.law_lists.proofs.Tests.{bool_tells, eq_tells, le_tells, lt_tells}
 use Rattle.def_memory.specs.declared.Granule.{Granule}
@@ -15,7 +15,7 @@ use Rattle.def_chunks.specs.Chunks.{Chunk, is_free, total, Starts, AreChunks}
 use Rattle.def_chunks.specs.Tiles.{chunks, Settled}
 use Rattle.def_chunks.specs.Changes.{replaced, gap, InUse, Spared, Keeps}
 use Rattle.def_chunks.specs.Gaps.{carved}
-use Rattle.def_chunks.specs.Heaps.{HeapRow, account, no_account, name_of, is_named, quota_named, is_used_at, object_at, objects_in, objects_of, Distinct, waiting_in, Laid}
+use Rattle.def_chunks.specs.Heaps.{HeapRow, account, name_of, is_named, quota_named, is_used_at, object_at, objects_in, objects_of, Distinct, waiting_in, Laid}
 use Rattle.law_chunks.proofs.Lays.{total_both, are_split, are_join}
 use Rattle.law_chunks.proofs.Reading.{sits, replaced_is}
 use Rattle.law_chunks.proofs.Joins.{gap_are, gap_total}
@@ -26,7 +26,7 @@ use Rattle.ct_chunks.proofs.Cuts.{carving}
 use Rattle.ct_heap.specs.Effects.{Stays, Same}
 use Rattle.ct_heap.specs.Steps.{Placing, placed_object}
 use Rattle.ct_heap.proofs.Named.{used_low, used_high, used_between, used_split, used_first, used_second, set_quota}
-use Rattle.ct_heap.proofs.Tables.{OneMore, one_named, other_quota, account_set}
+use Rattle.ct_heap.proofs.Tables.{OneMore, one_named, other_quota, account_after, limit_after, within_after}
 
 -- ---- the chunks
 
@@ -248,8 +248,8 @@ place_done h n gs ms hs quota extent g l quota_in few p left =
     let behind : Each (λ q. o.base < q.base) qs = each_more (λ q. base + total s.above + c.size + 8 ≤ q.base) (λ q. o.base < q.base) qs (λ q lo. omega (arith, lo, place, high, size_is)) (rows_low h.names base (base + total s.above + c.size) s.below) in
     let placed : rs ++ o ∷ qs ≡ placed_among o (objects_in h.names base base (chunks r gs)) = sym (placed_between o rs qs before behind) ∙ ap (placed_among o) (sym old_rows) in
     let accounts_length : length n.accounts ≡ length h.accounts = ap length left.accounts ∙ length-set h.accounts quota (record { limit = (account h quota).limit; charged = (account h quota).charged + (extent + 8) }) in
-    let account_is : (q : ℕ) → account n q ≡ cond (nat_eq quota q) (record { limit = (account h quota).limit; charged = (account h quota).charged + (extent + 8) }) (account h q) = λ q.
-    ap (λ a. get_or a q no_account) left.accounts ∙ account_set h.accounts quota q (record { limit = (account h quota).limit; charged = (account h quota).charged + (extent + 8) }) quota_in in
+    let account_is : (q : ℕ) → account n q ≡ cond (nat_eq quota q) (record { limit = (account h quota).limit; charged = (account h quota).charged + (extent + 8) }) (account h q) =
+    account_after h n quota ((account h quota).charged + (extent + 8)) quota_in left.accounts in
     let quotas_old = each_split (λ x. x.quota < length h.accounts) rs qs (subst (λ x. Each (λ y. y.quota < length h.accounts) x) old_rows l.quotas) in
     let numbers_old = each_split (λ x. x.number < h.next) rs qs (subst (λ x. Each (λ y. y.number < h.next) x) old_rows l.numbers) in
     let wider : (x : Object) → x.quota < length h.accounts → x.quota < length n.accounts = λ x lt. omega (arith, lt, accounts_length) in
@@ -271,25 +271,9 @@ place_done h n gs ms hs quota extent g l quota_in few p left =
           omega (arith, mine, was, now_)
     ]
     ) in
-    let within_old = l.within in
     let within_new = p.within in
-    let stays_limit : (q : ℕ) → (account n q).limit ≡ (account h q).limit = λ q. elim (eq_tells quota q) [
-      | inl e ↦ ap (λ (a : Account). a.limit) (account_is q) ∙ rw e.0 (ap (λ t. (account h t).limit) e.1)
-      | inr e ↦ ap (λ (a : Account). a.limit) (account_is q) ∙ rw e.0 refl
-    ] in
-    let within_now : (q : ℕ) → (account n q).charged ≤ (account n q).limit = λ q. elim (eq_tells quota q) [
-      | inl e ↦
-          let both : account n q ≡ record { limit = (account h quota).limit; charged = (account h quota).charged + (extent + 8) } = account_is q ∙ rw e.0 refl in
-          let a : (account n q).charged ≡ (account h quota).charged + (extent + 8) = ap (λ (x : Account). x.charged) both in
-          let b : (account n q).limit ≡ (account h quota).limit = ap (λ (x : Account). x.limit) both in
-          omega (arith, a, b, within_new)
-      | inr e ↦
-          let both : account n q ≡ account h q = account_is q ∙ rw e.0 refl in
-          let a : (account n q).charged ≡ (account h q).charged = ap (λ (x : Account). x.charged) both in
-          let b : (account n q).limit ≡ (account h q).limit = ap (λ (x : Account). x.limit) both in
-          let w = within_old q in
-          omega (arith, a, b, w)
-    ] in
+    let within_now : (q : ℕ) → (account n q).charged ≤ (account n q).limit =
+    within_after h n quota ((account h quota).charged + (extent + 8)) quota_in left.accounts (omega (arith, within_new)) l.within in
     let named_old : (x : ℕ) → x % 8 ≡ 0 → is_named h.names x ≡ is_used_at (base + x) base (s.above ++ c ∷ s.below) = λ x x_even. l.named x x_even ∙ ap (λ cs. is_used_at (base + x) base cs) s.whole in
     let slot_at : (base + total s.above + front - base) / 16 < length h.names = rw at_offset slot_in in
     let named_now : (x : ℕ) → x % 8 ≡ 0 → is_named n.names x ≡ is_used_at (n.range.base + x) n.range.base (chunks n.range hs) = λ x x_even.
@@ -334,7 +318,7 @@ place_done h n gs ms hs quota extent g l quota_in few p left =
               ]
             ]) ∙ left.keeps.rest j spared;
       };
-      same = record { range = left.range; limits = stays_limit; quotas = accounts_length };
+      same = record { range = left.range; limits = limit_after h n quota ((account h quota).charged + (extent + 8)) quota_in left.accounts; quotas = accounts_length };
     }
   where
     zero_marks : (from to : ℕ) (old new : List Granule) (j : ℕ) → IsZeroed from to old new → (granule_at new j).mark ≡ (granule_at old j).mark

@@ -1,7 +1,6 @@
 -- What the calls answer, from what their steps did.
 use Rattle.std.proofs.Common.{ℕ, zero, suc, ◌≡◌, ◌+◌, ◌-◌, ◌*◌, ◌/◌, ◌%◌, ◌^◌, ◌<◌, ◌≤◌, inl, inr, true, false, List, Some, length, refl, sym, ap, ◌∙◌, arith, subst}
-use Rattle.std.proofs.Math.ListN.{get_or, set}
-use Rattle.std.proofs.lemmas.List.{get_or-set_same}
+use Rattle.std.proofs.Math.ListN.{set}
 use Rattle.law_lists.proofs.Tests.{eq_tells}
 use Rattle.def_words.specs.LeastBounds.{alignment_of}
 use Rattle.def_memory.specs.declared.Granule.{Granule}
@@ -11,10 +10,9 @@ use Rattle.def_machine.specs.Heap.{length_for, IsPlaceFor}
 use Rattle.def_chunks.specs.declared.rows.Range.{Range}
 use Rattle.def_chunks.specs.declared.rows.Gap.{Gap}
 use Rattle.def_chunks.specs.declared.rows.Head.{Head}
-use Rattle.def_chunks.specs.declared.rows.Account.{Account}
 use Rattle.def_chunks.specs.Tiles.{chunks, Tiled}
 use Rattle.def_chunks.specs.Gaps.{IsGap, NoGap}
-use Rattle.def_chunks.specs.Heaps.{HeapRow, account, no_account, objects_of, IsHeapOf, IsUnit, Laid}
+use Rattle.def_chunks.specs.Heaps.{HeapRow, account, objects_of, IsHeapOf, IsUnit, Laid}
 use Rattle.law_chunks.proofs.Reading.{sits}
 use Rattle.law_chunks.proofs.Places.{gap_place, no_gap_place}
 use Rattle.ct_heap.specs.declared.rows.Found.{Found}
@@ -22,6 +20,7 @@ use Rattle.ct_heap.specs.Lookups.{whole_of}
 use Rattle.ct_heap.specs.Effects.{Allocates, NoPlace, Frees}
 use Rattle.ct_heap.specs.Steps.{Placing, Placed, Freeing, Freed, waiting_chunks, UnnamesChunk, Unnames}
 use Rattle.ct_heap.proofs.Finds.{FoundTells}
+use Rattle.ct_heap.proofs.Tables.{charged_after}
 use Rattle.ct_heap.proofs.Allocating as placing
 use Rattle.ct_heap.proofs.Freeing as freeing
 use Rattle.ct_heap.proofs.Flushing.{waiting_rows, none_waiting, some_waiting, unnamed_same}
@@ -175,8 +174,7 @@ pub placed_ends : (h n : HeapRow) (gs ms hs : List Granule) (quota extent : ℕ)
     → live ≡ (account h quota).charged + (extent + 8) → PlacedEnds h n gs hs quota extent g live
 placed_ends h n gs ms hs quota extent g live l quota_in few p left live_is =
     let d = placing.place_done h n gs ms hs quota extent g l quota_in few p left in
-    let new : Account = record { limit = (account h quota).limit; charged = (account h quota).charged + (extent + 8) } in
-    let now : (account n quota).charged ≡ (account h quota).charged + (extent + 8) = ap (λ a. (get_or a quota no_account).charged) left.accounts ∙ ap (λ (a : Account). a.charged) (get_or-set_same h.accounts quota new no_account quota_in) in
+    let now = charged_after h n quota ((account h quota).charged + (extent + 8)) quota_in left.accounts in
     record {
       laid = d.laid;
       placed = record {
@@ -201,8 +199,7 @@ pub freed_ends : (h n : HeapRow) (gs ms ns hs : List Granule) (number base exten
 freed_ends h n gs ms ns hs number base extent quota live l f left live_is =
     let d = freeing.free_done h n gs ms ns hs number base extent quota l f left in
     let w = freeing.row_of h gs number base extent quota l f in
-    let new : Account = record { limit = (account h quota).limit; charged = (account h quota).charged - (extent + 8) } in
-    let now : (account n quota).charged ≡ (account h quota).charged - (extent + 8) = ap (λ a. (get_or a quota no_account).charged) left.accounts ∙ ap (λ (a : Account). a.charged) (get_or-set_same h.accounts quota new no_account w.quota_in) in
+    let now = charged_after h n quota ((account h quota).charged - (extent + 8)) w.quota_in left.accounts in
     record {
       laid = d.laid;
       freed = record {

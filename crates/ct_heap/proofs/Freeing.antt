@@ -1,6 +1,6 @@
 -- An object is quarantined: what becomes of chunks, accounts and rows.
 use Rattle.std.proofs.Common.{ℕ, ◌≡◌, ◌+◌, ◌-◌, ◌*◌, ◌/◌, ◌%◌, ◌^◌, ◌<◌, ◌≤◌, ◌⊎◌, inl, inr, Bool, true, false, cond, nat_eq, List, [], ◌∷◌, ◌++◌, length, refl, sym, ap, ◌∙◌, arith, subst}
-use Rattle.std.proofs.Math.ListN.{get_or, set}
+use Rattle.std.proofs.Math.ListN.{set}
 use Rattle.std.proofs.lemmas.List.{length-set}
 use Rattle.law_lists.proofs.Tests.{bool_tells, eq_tells, le_tells, lt_tells}
 use Rattle.def_memory.specs.declared.Granule.{Granule}
@@ -13,7 +13,7 @@ use Rattle.def_chunks.specs.declared.rows.Account.{Account}
 use Rattle.def_chunks.specs.Chunks.{Chunk, is_free, total, Starts, AreChunks, NoneTouch}
 use Rattle.def_chunks.specs.Tiles.{chunks, Tiled, Settled}
 use Rattle.def_chunks.specs.Changes.{replaced, in_state, InUse, NoTagComes, Keeps}
-use Rattle.def_chunks.specs.Heaps.{HeapRow, account, no_account, is_named, quota_named, is_used_at, object_at, objects_in, objects_of, Distinct, waiting_in, Laid}
+use Rattle.def_chunks.specs.Heaps.{HeapRow, account, is_named, quota_named, is_used_at, object_at, objects_in, objects_of, Distinct, waiting_in, Laid}
 use Rattle.law_chunks.proofs.Reading.{sits, replaced_is}
 use Rattle.law_chunks.proofs.Joins.{state_apart}
 use Rattle.law_chunks.proofs.Rows.{UsedStarts, objects_both, each_both, each_split, charges_both, waiting_both, distinct_around, distinct_same, quarantine_between}
@@ -22,7 +22,7 @@ use Rattle.law_chunks.proofs.Kept.{SameChunks, settled_same, head_there, mark_ca
 use Rattle.ct_heap.specs.Effects.{Same}
 use Rattle.ct_heap.specs.Steps.{Freeing}
 use Rattle.ct_heap.proofs.Named.{used_split, used_first, used_second, tests_same}
-use Rattle.ct_heap.proofs.Tables.{account_set}
+use Rattle.ct_heap.proofs.Tables.{account_after, limit_after, within_after}
 
 -- ---- what is known of the object
 
@@ -207,8 +207,8 @@ free_done h n gs ms ns hs number base extent quota l f left =
     let numbers_old = each_split (λ x. x.number < h.next) rs (o ∷ qs) (subst (λ x. Each (λ y. y.number < h.next) x) old_rows l.numbers) in
     let new_account : Account = record { limit = (account h quota).limit; charged = (account h quota).charged - (extent + 8) } in
     let accounts_length : length n.accounts ≡ length h.accounts = ap length left.accounts ∙ length-set h.accounts quota new_account in
-    let account_is : (q : ℕ) → account n q ≡ cond (nat_eq quota q) (record { limit = (account h quota).limit; charged = (account h quota).charged - (extent + 8) }) (account h q) = λ q.
-    ap (λ a. get_or a q no_account) left.accounts ∙ account_set h.accounts quota q new_account w.quota_in in
+    let account_is : (q : ℕ) → account n q ≡ cond (nat_eq quota q) (record { limit = (account h quota).limit; charged = (account h quota).charged - (extent + 8) }) (account h q) =
+    account_after h n quota ((account h quota).charged - (extent + 8)) w.quota_in left.accounts in
     let charged_now : (q : ℕ) → (account n q).charged ≡ charges q (rs ++ gone ∷ qs) = λ q. (
     let was : (account h q).charged ≡ charges q rs + (cond (nat_eq quota q) (extent + 8) 0 + charges q qs) = l.charged q ∙ ap (charges q) old_rows ∙ charges_both q rs (o ∷ qs) in
     let now : charges q (rs ++ gone ∷ qs) ≡ charges q rs + (0 + charges q qs) = charges_both q rs (gone ∷ qs) in
@@ -224,25 +224,9 @@ free_done h n gs ms ns hs number base extent quota l f left =
           omega (arith, mine, was_, now)
     ]
     ) in
-    let within_old = l.within in
-    let stays_limit : (q : ℕ) → (account n q).limit ≡ (account h q).limit = λ q. elim (eq_tells quota q) [
-      | inl e ↦ ap (λ (a : Account). a.limit) (account_is q) ∙ rw e.0 (ap (λ t. (account h t).limit) e.1)
-      | inr e ↦ ap (λ (a : Account). a.limit) (account_is q) ∙ rw e.0 refl
-    ] in
-    let within_now : (q : ℕ) → (account n q).charged ≤ (account n q).limit = λ q. elim (eq_tells quota q) [
-      | inl e ↦
-          let both : account n q ≡ record { limit = (account h quota).limit; charged = (account h quota).charged - (extent + 8) } = account_is q ∙ rw e.0 refl in
-          let a : (account n q).charged ≡ (account h quota).charged - (extent + 8) = ap (λ (x : Account). x.charged) both in
-          let b : (account n q).limit ≡ (account h quota).limit = ap (λ (x : Account). x.limit) both in
-          let v = within_old quota in
-          omega (arith, a, b, v)
-      | inr e ↦
-          let both : account n q ≡ account h q = account_is q ∙ rw e.0 refl in
-          let a : (account n q).charged ≡ (account h q).charged = ap (λ (x : Account). x.charged) both in
-          let b : (account n q).limit ≡ (account h q).limit = ap (λ (x : Account). x.limit) both in
-          let v = within_old q in
-          omega (arith, a, b, v)
-    ] in
+    let within_old = l.within quota in
+    let within_now : (q : ℕ) → (account n q).charged ≤ (account n q).limit =
+    within_after h n quota ((account h quota).charged - (extent + 8)) w.quota_in left.accounts (omega (arith, within_old)) l.within in
     let to_new : (q : ℕ) → UsedStarts q lo (s.above ++ c ∷ s.below) → UsedStarts q lo ds = λ q x. elim (used_split q lo s.above (c ∷ s.below) x) [
       | inl a ↦ used_first q lo s.above (d ∷ s.below) a
       | inr b ↦ elim b [ inl z ↦ used_second q lo s.above (d ∷ s.below) (inl (refl, z.1)) | inr z ↦ used_second q lo s.above (d ∷ s.below) (inr z) ]
@@ -287,7 +271,7 @@ free_done h n gs ms ns hs number base extent quota l f left =
           ∙ left.zeroed.rest j (elim out [ inl a ↦ inl (omega (arith, a, over)) | inr b ↦ inr (omega (arith, b, over)) ])
           ∙ left.elsewhere j (λ is. elim out [ inl a ↦ omega (arith, a, is, over) | inr b ↦ omega (arith, b, is, over) ]);
       size = left.marked.size ∙ left.zeroed.size ∙ left.keeps.size;
-      same = record { range = left.range ∙ ap (λ m. let y : Range = record r { first = m } in y) (ap (λ (y : Range). y.first) (sym left.range)); limits = stays_limit; quotas = accounts_length };
+      same = record { range = left.range ∙ ap (λ m. let y : Range = record r { first = m } in y) (ap (λ (y : Range). y.first) (sym left.range)); limits = limit_after h n quota ((account h quota).charged - (extent + 8)) w.quota_in left.accounts; quotas = accounts_length };
     }
   where
     inside_zeroed : (j : ℕ) → h.range.ram + 8 * j < base + extent → j < length ns

@@ -1,12 +1,12 @@
 -- The table and the accounts after one of their entries was set.
-use Rattle.std.proofs.Common.{ℕ, ◌≡◌, ◌+◌, ◌-◌, ◌/◌, ◌%◌, ◌<◌, inl, inr, true, false, cond, nat_eq, List, length, sym, ap, ◌∙◌, arith, subst}
+use Rattle.std.proofs.Common.{ℕ, ◌≡◌, ◌+◌, ◌-◌, ◌/◌, ◌%◌, ◌<◌, ◌≤◌, inl, inr, true, false, cond, nat_eq, List, length, refl, sym, ap, ◌∙◌, arith, subst}
 use Rattle.std.proofs.Math.ListN.{get_or, set}
 use Rattle.std.proofs.lemmas.Bool.{cases_eq}
 use Rattle.std.proofs.lemmas.List.{get_or-set_same, get_or-set_other}
 use Rattle.law_lists.proofs.Tests.{bool_tells, eq_tells}
 use Rattle.def_chunks.specs.declared.rows.Account.{Account}
 use Rattle.def_chunks.specs.Chunks.{Chunk, AreChunks}
-use Rattle.def_chunks.specs.Heaps.{no_account, name_of, is_named, quota_named, is_used_at}
+use Rattle.def_chunks.specs.Heaps.{HeapRow, account, no_account, name_of, is_named, quota_named, is_used_at}
 use Rattle.law_chunks.proofs.Rows.{UsedStarts}
 use Rattle.ct_heap.proofs.Named.{used_low, used_even, used_apart, used_test, used_says, tests_same, named_same, set_named, set_elsewhere, set_beside}
 
@@ -74,3 +74,34 @@ account_set accounts quota q a inside = elim (eq_tells quota q) [
   | inl e ↦ rw e.0 (ap (λ k. get_or (set accounts quota a) k no_account) (sym e.1) ∙ get_or-set_same accounts quota a no_account inside)
   | inr e ↦ rw e.0 (get_or-set_other accounts quota q a no_account (λ is. e.1 (sym is)))
 ]
+
+-- one account is charged so much from now on
+module _ (h n : HeapRow) (quota charged : ℕ) (inside : quota < length h.accounts) (is : n.accounts ≡ set h.accounts quota (record { limit = (account h quota).limit; charged = charged })) where
+  abbrev anew : Account
+  anew = record { limit = (account h quota).limit; charged = charged }
+
+  pub account_after : (q : ℕ) → account n q ≡ cond (nat_eq quota q) anew (account h q)
+  account_after q = ap (λ a. get_or a q no_account) is ∙ account_set h.accounts quota q anew inside
+
+  pub charged_after : (account n quota).charged ≡ charged
+  charged_after = ap (λ a. (get_or a quota no_account).charged) is ∙ ap (λ (a : Account). a.charged) (get_or-set_same h.accounts quota anew no_account inside)
+
+  pub limit_after : (q : ℕ) → (account n q).limit ≡ (account h q).limit
+  limit_after q = elim (eq_tells quota q) [
+    | inl e ↦ ap (λ (a : Account). a.limit) (account_after q) ∙ rw e.0 (ap (λ k. (account h k).limit) e.1)
+    | inr e ↦ ap (λ (a : Account). a.limit) (account_after q) ∙ rw e.0 refl
+  ]
+
+  pub within_after : charged ≤ (account h quota).limit → ((q : ℕ) → (account h q).charged ≤ (account h q).limit) → (q : ℕ) → (account n q).charged ≤ (account n q).limit
+  within_after here others q = elim (eq_tells quota q) [
+    | inl e ↦
+        let both : account n q ≡ anew = account_after q ∙ rw e.0 refl in
+        let a : (account n q).charged ≡ charged = ap (λ (x : Account). x.charged) both in
+        let b : (account n q).limit ≡ (account h quota).limit = ap (λ (x : Account). x.limit) both in
+        omega (arith, a, b, here)
+    | inr e ↦
+        let both : account n q ≡ account h q = account_after q ∙ rw e.0 refl in
+        let a : (account n q).charged ≡ (account h q).charged = ap (λ (x : Account). x.charged) both in
+        let b : (account n q).limit ≡ (account h q).limit = ap (λ (x : Account). x.limit) both in
+        omega (arith, a, b, others q)
+  ]

@@ -1,10 +1,10 @@
 -- A slice of the revoker over all that is seen: it begins a sweep, passes granules, and ends a sweep.
-use Rattle.std.specs.Prelude.{ℕ, ◌+◌, ◌*◌, cond, nat_le, length, min, Option, Some, None}
+use Rattle.std.specs.Prelude.{ℕ, ◌+◌, ◌*◌, ◌≡◌, ◌≤◌, cond, false, nat_le, List, [], ◌∷◌, length, min, Option, Some, None}
 use Rattle.def_memory.specs.declared.Granule.{Granule}
 use Rattle.def_machine.specs.Heap as machine
 use Rattle.def_machine.specs.Objects.{has_quarantined, painted, unpainted, is_painted_at}
-use Rattle.std.specs.Prelude.{List, [], ◌∷◌, false}
 use Rattle.def_machine.specs.State.{Object}
+use Rattle.ct_engine.specs.Heaps.{NoneLeft}
 use Rattle.ct_engine.specs.Seen as engine
 use Rattle.ct_engine.specs.Sweeps as engine_sweeps
 use Rattle.ct_heaped.specs.Seen.{Seen, with_threads}
@@ -53,3 +53,10 @@ passed_on s rate (Some front) =
 
 abbrev pub swept_by : Seen → ℕ → Seen
 swept_by s rate = passed_on (began s s.front) rate (began s s.front).front
+
+-- where such a slice ends the sweep, no capability of a painted object is left
+abbrev pub EndsClean : Seen → ℕ → Type 0
+EndsClean s rate =
+    (front : ℕ) → (began s s.front).front ≡ Some front → size_of s ≤ slice_end s rate front
+    → NoneLeft (began s s.front).objects
+    (with_slice (began s s.front) front (slice_end s rate front)).threads

@@ -45,17 +45,6 @@ impl<M: Memory + Drop> Engine<M> {
         self.threads.give_back(t, e)
     }
 
-    /// The innermost frame of the running thread ends with a value: the return with c10 = the value and c11 = 0.
-    /// `false` exactly where the frame was the thread's last. docs/use/machine.md.
-    pub fn end_with(&mut self, t: u32, e: &Entries, value: u32) -> bool
-        requires runs { self.old.threads.running ≡ Some t }
-        requires top { TopLies self.old.threads t }
-        ensures result { result ≡ nat_lt 1 (length (thread self.old.threads t).frames) }
-        ensures is { self.new ≡ with_threads self.old (ended_with self.old.threads t value) }
-    {
-        self.threads.end_with(t, e, value)
-    }
-
     /// The innermost frame of the running thread is unwound after a trap: the return with c10 = -1 and c11 = 0. `false`
     /// exactly where the frame was the thread's last. docs/use/machine.md.
     pub fn unwind(&mut self, t: u32, e: &Entries) -> bool

@@ -5,7 +5,7 @@ ghost use Rattle.def_instr.specs.Shapes.{is_access};
 ghost use Rattle.def_memory.specs.Accesses.{IsAccess, loaded};
 ghost use Rattle.def_veil.specs.Steps.{IsSeen, SeesAccess};
 ghost use Rattle.ct_engine.specs.Seen.{with_granules};
-ghost use Rattle.ct_engine.specs.Steps.{space_in, next_in, NextInRange, IsHeapPlaced, IsMoved};
+ghost use Rattle.ct_engine.specs.Steps.{space_in, next_in, NextInRange, HeapLies, IsMoved};
 ghost use Rattle.ct_heaped.specs.Seen.{hides, with_threads};
 
 use crate::engine::Engine;
@@ -51,8 +51,7 @@ impl<M: Memory + Drop> Engine<M> {
         time: u64,
     ) -> Result<Moved, Trap>
         requires access { is_access instruction ≡ true }
-        requires heap { IsHeapPlaced self.old.threads.region.ram heap
-            (length self.old.threads.granules) }
+        requires heap { HeapLies self.old.threads heap }
         requires seen { SeesAccess (hides self.old) self.old.threads.region.ram instruction x y }
         ensures is { IsMoved instruction x y (space_in self.old.threads bus.old time)
             self.new.threads.granules bus.new result }

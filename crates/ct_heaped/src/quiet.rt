@@ -4,16 +4,14 @@
 ghost use Rattle.std.specs.Prelude.{◌≡◌, ◌%◌, ◌<◌, Some, IfSome, true, false, is_none, is_some, length};
 ghost use Rattle.def_instr.specs.Reading.{instruction_in};
 ghost use Rattle.def_machine.specs.State.{register};
-ghost use Rattle.def_words.specs.declared.Cap.{Cap};
 ghost use Rattle.def_words.specs.Authority.{cap_address};
-ghost use Rattle.def_words.specs.Capability.{integer, raised, with_address};
+ghost use Rattle.def_words.specs.Capability.{integer};
 ghost use Rattle.def_step.specs.Checks.{first_failed};
 ghost use Rattle.def_step.specs.Instructions.{fetch_checks, next_word};
 ghost use Rattle.def_veil.specs.Steps.{IsSeen};
-ghost use Rattle.ct_loadstore.specs.Quiet.{is_quiet_load, is_quiet_store};
 ghost use Rattle.ct_loadstore.specs.Shapes.{IsShape};
-ghost use Rattle.ct_engine.specs.Seen.{thread, went, with_granules};
-ghost use Rattle.ct_engine.specs.Steps.{is_word_of_ram, next_in, IsGiven, IsStored, SeesThrough};
+ghost use Rattle.ct_engine.specs.Seen.{thread, advanced, moved_to, with_granules};
+ghost use Rattle.ct_engine.specs.Steps.{is_word_of_ram, next_in, loads_ram, stores_ram, Loads, SeesLoad, SeesStore, Stores};
 ghost use Rattle.ct_heaped.specs.Seen.{hides, with_threads};
 
 use crate::engine::Engine;
@@ -91,9 +89,7 @@ impl<M: Memory + Drop> Engine<M> {
         requires runs { self.old.threads.running ≡ Some t }
         requires to { to < 16 }
         ensures { self.new
-            ≡ with_threads self.old
-            (went self.old.threads t (raised (thread self.old.threads t).pcc 4)
-            (thread self.old.threads t).posture to (integer value)) }
+            ≡ with_threads self.old (advanced self.old.threads t to (integer value)) }
     {
         self.threads.put_number(t, to, value);
     }
@@ -103,10 +99,7 @@ impl<M: Memory + Drop> Engine<M> {
     pub fn put(&mut self, t: u32, to: u32, value: Live)
         requires runs { self.old.threads.running ≡ Some t }
         requires to { to < 16 }
-        ensures { self.new
-            ≡ with_threads self.old
-            (went self.old.threads t (raised (thread self.old.threads t).pcc 4)
-            (thread self.old.threads t).posture to value) }
+        ensures { self.new ≡ with_threads self.old (advanced self.old.threads t to value) }
     {
         self.threads.put(t, to, value);
     }
@@ -115,10 +108,7 @@ impl<M: Memory + Drop> Engine<M> {
     #[inline(always)]
     pub fn branch_to(&mut self, t: u32, target: u32)
         requires { self.old.threads.running ≡ Some t }
-        ensures { self.new
-            ≡ with_threads self.old
-            (went self.old.threads t (with_address (thread self.old.threads t).pcc target)
-            (thread self.old.threads t).posture 0 (integer 0)) }
+        ensures { self.new ≡ with_threads self.old (moved_to self.old.threads t target) }
     {
         self.threads.branch_to(t, target);
     }
@@ -135,13 +125,10 @@ impl<M: Memory + Drop> Engine<M> {
         requires shape { IsShape access.now }
         requires loads { access.now.loads ≡ true }
         requires part { access.now.whole ≡ false }
-        requires seen { (y : Cap) → SeesThrough (hides self.now) self.now.threads.region.ram
-            access.now (register (thread self.now.threads t) number) y }
-        ensures when { is_some result
-            ≡ is_quiet_load access.now (register (thread self.now.threads t) number)
-            self.now.threads.region.ram self.now.threads.granules }
-        ensures given { IfSome result (λ n. (y : Cap) → IsGiven access.now
-            (register (thread self.now.threads t) number) y self.now.threads (integer n)) }
+        requires seen { SeesLoad (hides self.now) self.now.threads t number access.now }
+        ensures when { is_some result ≡ loads_ram self.now.threads t number access.now }
+        ensures given { IfSome result
+            (λ n. Loads self.now.threads t number access.now (integer n)) }
     {
         self.threads.load_number(t, number, access)
     }
@@ -158,13 +145,9 @@ impl<M: Memory + Drop> Engine<M> {
         requires shape { IsShape access.now }
         requires loads { access.now.loads ≡ true }
         requires whole { access.now.whole ≡ true }
-        requires seen { (y : Cap) → SeesThrough (hides self.now) self.now.threads.region.ram
-            access.now (register (thread self.now.threads t) number) y }
-        ensures when { is_some result
-            ≡ is_quiet_load access.now (register (thread self.now.threads t) number)
-            self.now.threads.region.ram self.now.threads.granules }
-        ensures given { IfSome result (λ c. (y : Cap) → IsGiven access.now
-            (register (thread self.now.threads t) number) y self.now.threads c) }
+        requires seen { SeesLoad (hides self.now) self.now.threads t number access.now }
+        ensures when { is_some result ≡ loads_ram self.now.threads t number access.now }
+        ensures given { IfSome result (λ c. Loads self.now.threads t number access.now c) }
     {
         self.threads.load_capability(t, number, access)
     }
@@ -181,17 +164,10 @@ impl<M: Memory + Drop> Engine<M> {
         requires even { self.old.threads.region.ram % 16 ≡ 0 }
         requires shape { IsShape access.now }
         requires stores { access.now.loads ≡ false }
-        requires seen { SeesThrough (hides self.old) self.old.threads.region.ram access.now
-            (register (thread self.old.threads t) number)
-            (register (thread self.old.threads t) stored) }
-        ensures when { result
-            ≡ is_quiet_store access.now (register (thread self.old.threads t) number)
-            (register (thread self.old.threads t) stored) self.old.threads.region.ram
-            self.old.threads.granules }
+        requires seen { SeesStore (hides self.old) self.old.threads t number stored access.now }
+        ensures when { result ≡ stores_ram self.old.threads t number stored access.now }
         ensures is { result ≡ true
-            → IsStored access.now (register (thread self.old.threads t) number)
-            (register (thread self.old.threads t) stored) self.old.threads
-            self.new.threads.granules }
+            → Stores self.old.threads t number stored access.now self.new.threads.granules }
         ensures same { result ≡ false → self.new ≡ self.old }
         ensures kept { self.new
             ≡ with_threads self.old (with_granules self.old.threads self.new.threads.granules) }

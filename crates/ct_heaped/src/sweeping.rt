@@ -9,7 +9,7 @@ ghost use Rattle.ct_engine.specs.Heaps.{NoneLeft};
 ghost use Rattle.ct_engine.specs.Written.{HasAreas};
 ghost use Rattle.ct_heaped.specs.Seen.{Seen};
 ghost use Rattle.ct_heaped.specs.Shared.{state_with};
-ghost use Rattle.ct_heaped.specs.Sweeps.{size_of, began, passed_on, with_slice, slice_end, over, swept_by};
+ghost use Rattle.ct_heaped.specs.Sweeps.{size_of, began, passed_on, with_slice, slice_end, over, swept_by, EndsClean};
 
 use crate::engine::Engine;
 use ct_mem::Memory;
@@ -64,11 +64,7 @@ impl<M: Memory + Drop> Engine<M> {
     /// One slice of the revoker, also where no sweep runs and none is to begin: then nothing changes.
     #[inline(never)]
     fn sweep_on(&mut self, rate: u32)
-        requires left { (front : ℕ) → (began self.old self.old.front).front ≡ Some front
-            → size_of self.old ≤ slice_end self.old rate front
-            → NoneLeft (began self.old self.old.front).objects
-            (with_slice (began self.old self.old.front) front
-            (slice_end self.old rate front)).threads }
+        requires left { EndsClean self.old rate }
         ensures { self.new ≡ swept_by self.old rate }
     {
         self.begin();
@@ -82,11 +78,7 @@ impl<M: Memory + Drop> Engine<M> {
     /// Condition: where it ends, no capability of a painted object is left, which a sweep sees to.
     #[inline(always)]
     pub fn sweep(&mut self, rate: u32)
-        requires left { (front : ℕ) → (began self.old self.old.front).front ≡ Some front
-            → size_of self.old ≤ slice_end self.old rate front
-            → NoneLeft (began self.old self.old.front).objects
-            (with_slice (began self.old self.old.front) front
-            (slice_end self.old rate front)).threads }
+        requires left { EndsClean self.old rate }
         ensures { self.new ≡ swept_by self.old rate }
     {
         if self.has_sweep() {

@@ -9,9 +9,9 @@ ghost use Rattle.def_instr.specs.declared.shapes.ImmediateOperation.TheVariants 
 
 use def_instr::Instr;
 use def_instr::shapes::{
-    BranchOperation, CapabilityOperation, ImmediateOperation, IntegerOperation, LoadOperation,
-    RegisterOperation, Shape, ShiftOperation, SignedOperation, SourceOperation, StoreOperation,
-    UpperOperation,
+    BranchOperation, CapabilityOperation as Capability, ImmediateOperation, IntegerOperation,
+    LoadOperation, RegisterOperation, Shape, ShiftOperation, SignedOperation, SourceOperation,
+    StoreOperation, UpperOperation,
 };
 
 /// The shape of an instruction.
@@ -133,33 +133,23 @@ fn capability_shape(instruction: Instr) -> Shape
             rs1,
             immediate,
         ),
-        Instr::CSetBounds { rd, rs1, rs2 } => capability(
-            CapabilityOperation::CSetBounds,
-            rd,
-            rs1,
-            rs2,
-        ),
+        Instr::CSetBounds { rd, rs1, rs2 } => capability(Capability::CSetBounds, rd, rs1, rs2),
         Instr::CSetBoundsExact { rd, rs1, rs2 } => capability(
-            CapabilityOperation::CSetBoundsExact,
+            Capability::CSetBoundsExact,
             rd,
             rs1,
             rs2,
         ),
-        Instr::CSeal { rd, rs1, rs2 } => capability(CapabilityOperation::CSeal, rd, rs1, rs2),
-        Instr::CUnseal { rd, rs1, rs2 } => capability(CapabilityOperation::CUnseal, rd, rs1, rs2),
-        Instr::CAndPerm { rd, rs1, rs2 } => capability(CapabilityOperation::CAndPerm, rd, rs1, rs2),
-        Instr::CSetAddr { rd, rs1, rs2 } => capability(CapabilityOperation::CSetAddr, rd, rs1, rs2),
-        Instr::CIncAddr { rd, rs1, rs2 } => capability(CapabilityOperation::CIncAddr, rd, rs1, rs2),
-        Instr::CSub { rd, rs1, rs2 } => capability(CapabilityOperation::CSub, rd, rs1, rs2),
-        Instr::CSetHigh { rd, rs1, rs2 } => capability(CapabilityOperation::CSetHigh, rd, rs1, rs2),
-        Instr::CTestSubset { rd, rs1, rs2 } => capability(
-            CapabilityOperation::CTestSubset,
-            rd,
-            rs1,
-            rs2,
-        ),
+        Instr::CSeal { rd, rs1, rs2 } => capability(Capability::CSeal, rd, rs1, rs2),
+        Instr::CUnseal { rd, rs1, rs2 } => capability(Capability::CUnseal, rd, rs1, rs2),
+        Instr::CAndPerm { rd, rs1, rs2 } => capability(Capability::CAndPerm, rd, rs1, rs2),
+        Instr::CSetAddr { rd, rs1, rs2 } => capability(Capability::CSetAddr, rd, rs1, rs2),
+        Instr::CIncAddr { rd, rs1, rs2 } => capability(Capability::CIncAddr, rd, rs1, rs2),
+        Instr::CSub { rd, rs1, rs2 } => capability(Capability::CSub, rd, rs1, rs2),
+        Instr::CSetHigh { rd, rs1, rs2 } => capability(Capability::CSetHigh, rd, rs1, rs2),
+        Instr::CTestSubset { rd, rs1, rs2 } => capability(Capability::CTestSubset, rd, rs1, rs2),
         Instr::CSetEqualExact { rd, rs1, rs2 } => capability(
-            CapabilityOperation::CSetEqualExact,
+            Capability::CSetEqualExact,
             rd,
             rs1,
             rs2,
@@ -191,7 +181,7 @@ fn integer(operation: IntegerOperation, rd: u32, rs1: u32, rs2: u32) -> Shape
     }
 }
 
-fn capability(operation: CapabilityOperation, rd: u32, rs1: u32, rs2: u32) -> Shape
+fn capability(operation: Capability, rd: u32, rs1: u32, rs2: u32) -> Shape
     ensures { result ≡ shapes.Registers (registers.Capability operation) rd rs1 rs2 }
 {
     Shape::Registers {

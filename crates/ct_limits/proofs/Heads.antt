@@ -57,33 +57,16 @@ among_three name a b c = among_two name (a ++ b) c ∙ ap (λ x. x || among name
 
 -- ---- all
 
-pub limits_first : (r : RawImage) → first (limit_checks r) ≡ or_else (first (header_limits r)) (first_of_parts r)
-unfolding limit_checks
-limits_first r =
-    let h = header_limits r in
-    let d = walked device_limits (λ d. DEVICE) (devices_at r) [] r.devices in
-    let s = walked shared_limits (λ s. SHARED) (shared_at r) [] r.shared in
-    let x = walked sealed_limits sealed_size (sealed_at r) [] r.sealed in
-    let c = walked compartment_limits compartment_size (compartments_at r) [] r.compartments in
-    let l = walked (library_limits r) library_size (libraries_at r) [] r.libraries in
-    let t = walked (thread_limits r) (λ t. THREAD) (threads_at r) [] r.threads in
-    let a1 = first_both (h ++ d ++ s ++ x ++ c ++ l) t in
-    let a2 = first_both (h ++ d ++ s ++ x ++ c) l in
-    let a3 = first_both (h ++ d ++ s ++ x) c in
-    let a4 = first_both (h ++ d ++ s) x in
-    let a5 = first_both (h ++ d) s in
-    let a6 = first_both h d in
-    let ft = first t in
-    let fl = first l in
-    let fc = first c in
-    let fx = first x in
-    let fs = first s in
-    let fd = first d in
-    let fh = first h in
-    let all : first (limit_checks r) ≡ or_else (or_else (or_else (or_else (or_else (or_else fh fd) fs) fx) fc) fl) ft =
-    a1 ∙ ap (λ p. or_else p ft) (a2 ∙ ap (λ p. or_else p fl) (a3 ∙ ap (λ p. or_else p fc) (a4 ∙ ap (λ p. or_else p fx) (a5 ∙ ap (λ p. or_else p fs) a6)))) in
-    all ∙ regrouped fh fd fs fx fc fl ft
+-- seven lists, one after the other
+seven_first : (h d s x c l t : List Check)
+    → first (h ++ d ++ s ++ x ++ c ++ l ++ t) ≡ or_else (first h) (or_else (first d) (or_else (first s) (or_else (first x) (or_else (first c) (or_else (first l) (first t))))))
+seven_first h d s x c l t =
+    onto (h ++ d ++ s ++ x ++ c ++ l) t _ (onto (h ++ d ++ s ++ x ++ c) l _ (onto (h ++ d ++ s ++ x) c _ (onto (h ++ d ++ s) x _ (onto (h ++ d) s _ (first_both h d)))))
+    ∙ regrouped (first h) (first d) (first s) (first x) (first c) (first l) (first t)
   where
+    onto : (cs more : List Check) (o : Option ℕ) → first cs ≡ o → first (cs ++ more) ≡ or_else o (first more)
+    onto cs more o e = first_both cs more ∙ ap (λ p. or_else p (first more)) e
+
     regrouped : (h d s x c l t : Option ℕ) → or_else (or_else (or_else (or_else (or_else (or_else h d) s) x) c) l) t ≡ or_else h (or_else d (or_else s (or_else x (or_else c (or_else l t)))))
     regrouped None None None None None l t = refl
     regrouped None None None None (Some n) l t = refl
@@ -91,3 +74,14 @@ limits_first r =
     regrouped None None (Some n) x c l t = refl
     regrouped None (Some n) s x c l t = refl
     regrouped (Some n) d s x c l t = refl
+
+pub limits_first : (r : RawImage) → first (limit_checks r) ≡ or_else (first (header_limits r)) (first_of_parts r)
+unfolding limit_checks
+limits_first r =
+    seven_first (header_limits r)
+    (walked device_limits (λ d. DEVICE) (devices_at r) [] r.devices)
+    (walked shared_limits (λ s. SHARED) (shared_at r) [] r.shared)
+    (walked sealed_limits sealed_size (sealed_at r) [] r.sealed)
+    (walked compartment_limits compartment_size (compartments_at r) [] r.compartments)
+    (walked (library_limits r) library_size (libraries_at r) [] r.libraries)
+    (walked (thread_limits r) (λ t. THREAD) (threads_at r) [] r.threads)

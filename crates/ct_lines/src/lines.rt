@@ -1,15 +1,17 @@
 //! Entries as JSON values.
 
-ghost use Rattle.std.specs.Prelude.{◌≡◌, ◌+◌, ◌++◌, ◌∷◌, [], map, IfOk, OnOk, codes, string_bytes};
+ghost use Rattle.std.specs.Prelude.{◌≡◌, ◌+◌, ◌++◌, ◌∷◌, map, IfOk, OnOk, codes, string_bytes};
 ghost use Rattle.serde_json.specs.Data.{put, string};
 ghost use Rattle.serde_json.specs.View.{members_view, view};
 ghost use Rattle.def_lines.specs.Lines as spec;
+ghost use Rattle.def_lines.specs.Rights.{rights_text};
+ghost use Rattle.ct_lines.specs.Members.{export_members, named_members, slot_members, with_call, with_place, with_plain};
 ghost use Rattle.ct_lines.specs.Shown.{line_of, of_name, shown};
 
 use crate::labels::{Label, Of};
-use crate::rights::rights_text;
+use crate::rights::{add_after, rights_text};
 use ct_entry::{Entry, Kind, Mode, Owner};
-use serde_json::{Map, Value, json};
+use serde_json::{Map, Value};
 use std::alloc::{AllocError, Global};
 
 /// An entry with its number and its label.
@@ -20,57 +22,111 @@ struct Line<'a> {
     label: Label<'a>,
 }
 
+/// The members with a text.
+fn add_text(
+    members: &mut Map<String, Value>,
+    alloc: Global,
+    key: &str,
+    text: &str,
+) -> Result<(), AllocError>
+    ensures { OnOk result (members_view members.new.entries
+        ≡ put key.now (string text.now) (members_view members.old.entries)) }
+{
+    let value = Value::String(String::from_str(alloc, text)?);
+    serde_json::put(members, alloc, key, value)
+}
+
+/// The members with a number.
+fn add_number(
+    members: &mut Map<String, Value>,
+    alloc: Global,
+    key: &str,
+    number: u64,
+) -> Result<(), AllocError>
+    ensures { OnOk result (members_view members.new.entries
+        ≡ put key.now (spec.num number) (members_view members.old.entries)) }
+{
+    serde_json::put(members, alloc, key, Value::from(number))
+}
+
+/// The members with the names of permissions.
+fn add_rights(
+    members: &mut Map<String, Value>,
+    alloc: Global,
+    rights: u32,
+) -> Result<(), AllocError>
+    ensures { OnOk result (members_view members.new.entries
+        ≡ put (codes "rights") (string (rights_text rights)) (members_view members.old.entries)) }
+{
+    let value = Value::String(rights_text(alloc, rights)?);
+    serde_json::put(members, alloc, "rights", value)
+}
+
+/// The members with an entry's place: its base, its length and its number.
+fn add_place(members: &mut Map<String, Value>, alloc: Global, line: &Line) -> Result<(), AllocError>
+    ensures { OnOk result (members_view members.new.entries
+        ≡ with_place (line_of line.now) (members_view members.old.entries)) }
+{
+    add_number(members, alloc, "base", u64::from(line.entry.base))?;
+    add_number(members, alloc, "length", u64::from(line.entry.length))?;
+    add_number(members, alloc, "number", line.number as u64)
+}
+
+/// The members with what every entry has.
+fn add_plain(
+    members: &mut Map<String, Value>,
+    alloc: Global,
+    kind: &str,
+    line: &Line,
+) -> Result<(), AllocError>
+    ensures { OnOk result (members_view members.new.entries
+        ≡ with_plain kind.now (line_of line.now) (members_view members.old.entries)) }
+{
+    add_text(members, alloc, "kind", kind)?;
+    add_text(members, alloc, "owner", line.label.owner)?;
+    add_rights(members, alloc, line.entry.rights)?;
+    add_place(members, alloc, line)
+}
+
+/// The members of an entry that has a name.
+fn named_members(alloc: Global, kind: &str, line: &Line) -> Result<Map<String, Value>, AllocError>
+    ensures { IfOk result
+        (λ m. members_view m.entries ≡ named_members kind.now (line_of line.now)) }
+{
+    let mut members = Map::new(alloc);
+    add_plain(&mut members, alloc, kind, line)?;
+    add_text(&mut members, alloc, "name", line.label.name)?;
+    Ok(members)
+}
+
 fn plain_value(alloc: Global, kind: &str, line: &Line) -> Result<Value, AllocError>
     ensures { IfOk result (λ v. view v ≡ spec.plain_data kind.now (line_of line.now)) }
 {
-    let rights = rights_text(alloc, line.entry.rights)?;
-    json!(in alloc; {
-        "base": line.entry.base,
-        "kind": kind,
-        "length": line.entry.length,
-        "number": line.number,
-        "owner": line.label.owner,
-        "rights": &rights
-    })
+    let mut members = Map::new(alloc);
+    add_plain(&mut members, alloc, kind, line)?;
+    Ok(Value::Object(members))
 }
 
 fn key_value(alloc: Global, line: &Line) -> Result<Value, AllocError>
     ensures { IfOk result (λ v. view v ≡ spec.key_data (line_of line.now)) }
 {
-    let rights = rights_text(alloc, line.entry.rights)?;
-    json!(in alloc; {
-        "base": line.entry.base,
-        "kind": "key",
-        "length": line.entry.length,
-        "name": line.label.name,
-        "number": line.number,
-        "owner": line.label.owner,
-        "rights": &rights
-    })
+    let members = named_members(alloc, "key", line)?;
+    Ok(Value::Object(members))
 }
 
 fn quota_value(alloc: Global, line: &Line) -> Result<Value, AllocError>
     ensures { IfOk result (λ v. view v ≡ spec.quota_data (line_of line.now)) }
 {
-    let rights = rights_text(alloc, line.entry.rights)?;
-    json!(in alloc; {
-        "base": line.entry.base,
-        "kind": "quota",
-        "length": line.entry.length,
-        "limit": line.entry.limit,
-        "name": line.label.name,
-        "number": line.number,
-        "owner": line.label.owner,
-        "rights": &rights
-    })
+    let mut members = named_members(alloc, "quota", line)?;
+    add_number(&mut members, alloc, "limit", u64::from(line.entry.limit))?;
+    Ok(Value::Object(members))
 }
 
 fn export_name(alloc: Global, owner: &str, name: &str) -> Result<String, AllocError>
     ensures { IfOk result (λ s. string_bytes s ≡ owner.now ++ 46 ∷ name.now) }
 {
     let mut text = String::from_str(alloc, owner)?;
-    text.push('.')?;
-    text.push_str(name)?;
+    add_after(&mut text, ".", name)?;
     Ok(text)
 }
 
@@ -84,59 +140,29 @@ fn of_text(alloc: Global, of: &Of) -> Result<String, AllocError>
     }
 }
 
+/// The members of a slot.
+fn slot_members(alloc: Global, kind: &str, line: &Line) -> Result<Map<String, Value>, AllocError>
+    ensures { IfOk result (λ m. members_view m.entries ≡ slot_members kind.now (line_of line.now)) }
+{
+    let mut members = named_members(alloc, kind, line)?;
+    let of = Value::String(of_text(alloc, &line.label.of)?);
+    serde_json::put(&mut members, alloc, "of", of)?;
+    Ok(members)
+}
+
 fn slot_value(alloc: Global, kind: &str, line: &Line) -> Result<Value, AllocError>
     ensures { IfOk result (λ v. view v ≡ spec.slot_data kind.now (line_of line.now)) }
 {
-    let rights = rights_text(alloc, line.entry.rights)?;
-    let of = of_text(alloc, &line.label.of)?;
-    json!(in alloc; {
-        "base": line.entry.base,
-        "kind": kind,
-        "length": line.entry.length,
-        "name": line.label.name,
-        "number": line.number,
-        "of": &of,
-        "owner": line.label.owner,
-        "rights": &rights
-    })
-}
-
-/// The members that say where an entry is and whose, and its name.
-fn add_range(alloc: Global, members: &mut Map<String, Value>, line: &Line) -> Result<(), AllocError>
-    ensures { OnOk result (members_view members.new.entries
-        ≡ put (codes "owner") (string line.now.label.owner.now)
-        (put (codes "number") (spec.num line.now.number)
-        (put (codes "name") (string line.now.label.name.now)
-        (put (codes "length") (spec.num line.now.entry.length)
-        (put (codes "base") (spec.num line.now.entry.base) (members_view members.old.entries)))))) }
-{
-    serde_json::put(members, alloc, "base", Value::from(line.entry.base))?;
-    serde_json::put(members, alloc, "length", Value::from(line.entry.length))?;
-    let name = String::from_str(alloc, line.label.name)?;
-    serde_json::put(members, alloc, "name", Value::String(name))?;
-    serde_json::put(members, alloc, "number", Value::from(line.number))?;
-    let owner = String::from_str(alloc, line.label.owner)?;
-    serde_json::put(members, alloc, "owner", Value::String(owner))
+    let members = slot_members(alloc, kind, line)?;
+    Ok(Value::Object(members))
 }
 
 fn sealed_value(alloc: Global, line: &Line) -> Result<Value, AllocError>
     ensures { IfOk result (λ v. view v ≡ spec.sealed_data (line_of line.now)) }
 {
-    let rights = rights_text(alloc, line.entry.rights)?;
-    let of = of_text(alloc, &line.label.of)?;
-    let value = json!(in alloc; {
-        "kind": "sealed",
-        "of": &of,
-        "rights": &rights,
-        "type": line.label.seal
-    })?;
-    match value {
-        Value::Object(mut members) => {
-            add_range(alloc, &mut members, line)?;
-            Ok(Value::Object(members))
-        }
-        other => Ok(other),
-    }
+    let mut members = slot_members(alloc, "sealed", line)?;
+    add_number(&mut members, alloc, "type", u64::from(line.label.seal))?;
+    Ok(Value::Object(members))
 }
 
 fn posture_text(posture: Mode) -> &'static str
@@ -155,44 +181,42 @@ fn passes_text(capabilities: bool) -> &'static str
     if capabilities { "capabilities" } else { "data" }
 }
 
+/// The members of an export of a library.
+fn export_members(alloc: Global, line: &Line) -> Result<Map<String, Value>, AllocError>
+    ensures { IfOk result (λ m. members_view m.entries ≡ export_members (line_of line.now)) }
+{
+    let mut members = named_members(alloc, "export", line)?;
+    let posture = posture_text(line.label.export.posture);
+    add_text(&mut members, alloc, "posture", posture)?;
+    Ok(members)
+}
+
 /// An export of a library.
 fn library_export_value(alloc: Global, line: &Line) -> Result<Value, AllocError>
     ensures { IfOk result (λ v. view v ≡ spec.library_export_data (line_of line.now)) }
 {
-    let rights = rights_text(alloc, line.entry.rights)?;
-    let posture = posture_text(line.label.export.posture);
-    json!(in alloc; {
-        "base": line.entry.base,
-        "kind": "export",
-        "length": line.entry.length,
-        "name": line.label.name,
-        "number": line.number,
-        "owner": line.label.owner,
-        "posture": posture,
-        "rights": &rights
-    })
+    let members = export_members(alloc, line)?;
+    Ok(Value::Object(members))
+}
+
+/// The members with what a call of an export takes, passes and needs.
+fn add_call(members: &mut Map<String, Value>, alloc: Global, line: &Line) -> Result<(), AllocError>
+    ensures { OnOk result (members_view members.new.entries
+        ≡ with_call (line_of line.now) (members_view members.old.entries)) }
+{
+    let export = &line.label.export;
+    add_number(members, alloc, "args", u64::from(export.args))?;
+    add_text(members, alloc, "passes", passes_text(export.capabilities))?;
+    add_number(members, alloc, "stack", u64::from(export.stack))
 }
 
 /// An export of a compartment.
 fn export_value(alloc: Global, line: &Line) -> Result<Value, AllocError>
     ensures { IfOk result (λ v. view v ≡ spec.export_data (line_of line.now)) }
 {
-    let rights = rights_text(alloc, line.entry.rights)?;
-    let value = json!(in alloc; {
-        "args": line.label.export.args,
-        "kind": "export",
-        "passes": passes_text(line.label.export.capabilities),
-        "posture": posture_text(line.label.export.posture),
-        "rights": &rights,
-        "stack": line.label.export.stack
-    })?;
-    match value {
-        Value::Object(mut members) => {
-            add_range(alloc, &mut members, line)?;
-            Ok(Value::Object(members))
-        }
-        other => Ok(other),
-    }
+    let mut members = export_members(alloc, line)?;
+    add_call(&mut members, alloc, line)?;
+    Ok(Value::Object(members))
 }
 
 /// An export, by its owner.

@@ -1,6 +1,6 @@
 //! The names of a set of permissions.
 
-ghost use Rattle.std.specs.Prelude.{◌≡◌, map, string_bytes, if◌then◌else◌, IfOk, OnOk};
+ghost use Rattle.std.specs.Prelude.{◌≡◌, ◌++◌, map, string_bytes, if◌then◌else◌, IfOk, OnOk};
 ghost use Rattle.def_lines.specs.Rights as spec;
 
 use std::alloc::{AllocError, Global};
@@ -10,14 +10,23 @@ const NAMES: [&str; 12] = [
     "GL", "LG", "SD", "LM", "SL", "LD", "MC", "SR", "EX", "US", "SE", "U0",
 ];
 
+/// A text goes on with a mark and a word.
+pub(crate) fn add_after(text: &mut String, mark: &str, word: &str) -> Result<(), AllocError>
+    ensures { OnOk result
+        (string_bytes text.new ≡ string_bytes text.old ++ (mark.now ++ word.now)) }
+{
+    text.push_str(mark)?;
+    text.push_str(word)
+}
+
 fn add_word(text: &mut String, word: &str) -> Result<(), AllocError>
     ensures { OnOk result
         (string_bytes text.new ≡ spec.with_word (string_bytes text.old) word.now) }
 {
-    if !text.is_empty() {
-        text.push(' ')?;
+    if text.is_empty() {
+        return text.push_str(word);
     }
-    text.push_str(word)
+    add_after(text, " ", word)
 }
 
 fn add_if(text: &mut String, has: bool, word: &str) -> Result<(), AllocError>

@@ -10,7 +10,7 @@ use Rattle.def_description.specs.Rows.{ExportRow, SharedRow, SealedRow, ThreadRo
 use Rattle.def_link.specs.declared.LinkFault.TheVariants as fault
 use Rattle.def_link.specs.Linked.{compartment_sizes, library_code_size, area_size}
 use Rattle.law_link.proofs.Walks.{all_joined, all_mapped, all_so}
-use Rattle.law_link_regions.proofs.Lying.{threads_most}
+use Rattle.law_link_regions.proofs.Lying.{threads_most, shared_sizes, sealed_sizes, stack_sizes, trusted_size}
 use Rattle.law_link_regions.proofs.Placings.{few_areas}
 use Rattle.ct_asm.specs.Labels.{Assembled}
 use Rattle.ct_objects.specs.Objects.{built_of, Refuses}
@@ -56,25 +56,26 @@ are_lent d own lent h = record {
 pub are_counted : (d : DescRow) (own lent : List Assembled) → AreObjects d own lent → AreCounted d
 are_counted d own lent h =
     let few = h.lawful.few in
-    let devices = few.devices in
-    let shared = few.shared in
-    let sealed = few.sealed in
-    let compartments = few.compartments in
-    let libraries = few.libraries in
     record {
-      devices = omega (arith, devices);
-      shared = omega (arith, shared);
-      sealed = omega (arith, sealed);
-      compartments = omega (arith, compartments);
-      libraries = omega (arith, libraries);
-      exporter = all_so (IsLawfulCompartment d) IsExporter d.compartments (λ c w. let exports = w.exports in omega (arith, exports)) h.lawful.compartment;
-      library_exporter = all_so (IsLawfulLibrary d) IsLibraryExporter d.libraries (λ l w. let exports = w.exports in omega (arith, exports)) h.lawful.library;
+      devices = omega (arith, few.devices);
+      shared = omega (arith, few.shared);
+      sealed = omega (arith, few.sealed);
+      compartments = omega (arith, few.compartments);
+      libraries = omega (arith, few.libraries);
+      exporter = all_so (IsLawfulCompartment d) IsExporter d.compartments (λ c w. omega (arith, w.exports)) h.lawful.compartment;
+      library_exporter = all_so (IsLawfulLibrary d) IsLibraryExporter d.libraries (λ l w. omega (arith, w.exports)) h.lawful.library;
     }
 
 -- ---- sizes
 
 IsSmall : ℕ → Type 0
 IsSmall n = n ≤ 2097152
+
+abbrev own_sizes : DescRow → List Assembled → List ℕ
+own_sizes d own = compartment_sizes (own_built d.compartments own)
+
+abbrev lent_sizes : DescRow → List Assembled → List ℕ
+lent_sizes d lent = map library_code_size (lent_built d.libraries lent)
 
 small_own : (cs : List CompartmentRow) (os : List Assembled) → AllByRecursion IsSmallOwner cs → AllByRecursion IsSized os → AllByRecursion IsSmall (compartment_sizes (own_built cs os))
 unfolding IsSmall
@@ -115,24 +116,22 @@ areas_few d law =
     omega (arith, small)
 
 small_all : (d : DescRow) (own lent : List Assembled) → AreObjects d own lent → AllByRecursion IsSmall (sizes_with d own lent)
-unfolding IsSmall
+unfolding IsSmall shared_sizes sealed_sizes stack_sizes trusted_size
 small_all d own lent h =
     let law = h.lawful in
-    let a = compartment_sizes (own_built d.compartments own) in
-    let b = map library_code_size (lent_built d.libraries lent) in
-    let s = map (λ (s : SharedRow). s.size) d.shared in
-    let x = map (λ (s : SealedRow). length s.bytes) d.sealed in
-    let t = map (λ (t : ThreadRow). t.stack) d.threads in
-    let z = (16 + sum_of area_size d.threads) ∷ [] in
+    let a = own_sizes d own in
+    let b = lent_sizes d lent in
+    let s = shared_sizes d in
+    let x = sealed_sizes d in
     let areas = areas_few d law in
     let in_a = small_own d.compartments own (are_own d own lent h).rows h.own_sized in
     let in_b = small_lent d.libraries lent (are_lent d own lent h).rows h.lent_sized in
     let in_s = all_mapped IsSmall (λ (s : SharedRow). s.size) d.shared (all_so IsLawfulShared (λ (y : SharedRow). y.size ≤ 2097152) d.shared (λ y w. let k = w.1 in omega (arith, k)) law.shared_object) in
     let in_x = all_mapped IsSmall (λ (s : SealedRow). length s.bytes) d.sealed (all_so IsLawfulSealed (λ (y : SealedRow). length y.bytes ≤ 2097152) d.sealed (λ y w. let k = w.few.1 in omega (arith, k)) law.sealed_object) in
     let in_t = all_mapped IsSmall (λ (t : ThreadRow). t.stack) d.threads (all_so (IsLawfulThread d) (λ (y : ThreadRow). y.stack ≤ 2097152) d.threads (λ y w. let k = w.stack.1 in omega (arith, k)) law.thread) in
-    let in_z : AllByRecursion IsSmall z = (omega (arith, areas), tt) in
-    all_joined IsSmall (a ++ b ++ s ++ x ++ t) z
-    (all_joined IsSmall (a ++ b ++ s ++ x) t
+    let in_z : AllByRecursion IsSmall (trusted_size d ∷ []) = (omega (arith, areas), tt) in
+    all_joined IsSmall (a ++ b ++ s ++ x ++ stack_sizes d) (trusted_size d ∷ [])
+    (all_joined IsSmall (a ++ b ++ s ++ x) (stack_sizes d)
     (all_joined IsSmall (a ++ b ++ s) x
     (all_joined IsSmall (a ++ b) s (all_joined IsSmall a b in_a in_b) in_s) in_x) in_t) in_z
 
@@ -147,30 +146,23 @@ lent_count (l ∷ ls) [] e = absurd (omega (arith, e))
 lent_count (l ∷ ls) (o ∷ os) e = let rest = lent_count ls os (omega (arith, e)) in omega (arith, rest)
 
 few_all : (d : DescRow) (own lent : List Assembled) → AreObjects d own lent → length (sizes_with d own lent) < 1024
+unfolding shared_sizes sealed_sizes stack_sizes trusted_size
 few_all d own lent h =
     let few = h.lawful.few in
-    let shared = few.shared in
-    let sealed = few.sealed in
-    let compartments = few.compartments in
-    let libraries = few.libraries in
     let threads = threads_few d h.lawful in
-    let a = compartment_sizes (own_built d.compartments own) in
-    let b = map library_code_size (lent_built d.libraries lent) in
-    let s = map (λ (s : SharedRow). s.size) d.shared in
-    let x = map (λ (s : SealedRow). length s.bytes) d.sealed in
-    let t = map (λ (t : ThreadRow). t.stack) d.threads in
-    let z = (16 + sum_of area_size d.threads) ∷ [] in
+    let a = own_sizes d own in
+    let b = lent_sizes d lent in
     let na = own_count d.compartments own (are_own d own lent h).each in
     let nb = lent_count d.libraries lent (are_lent d own lent h).each in
     let ns = length-map d.shared (λ (s : SharedRow). s.size) in
     let nx = length-map d.sealed (λ (s : SealedRow). length s.bytes) in
     let nt = length-map d.threads (λ (t : ThreadRow). t.stack) in
     let l1 = length-append a b in
-    let l2 = length-append (a ++ b) s in
-    let l3 = length-append (a ++ b ++ s) x in
-    let l4 = length-append (a ++ b ++ s ++ x) t in
-    let l5 = length-append (a ++ b ++ s ++ x ++ t) z in
-    omega (arith, shared, sealed, compartments, libraries, threads, na, nb, ns, nx, nt, l1, l2, l3, l4, l5)
+    let l2 = length-append (a ++ b) (shared_sizes d) in
+    let l3 = length-append (a ++ b ++ shared_sizes d) (sealed_sizes d) in
+    let l4 = length-append (a ++ b ++ shared_sizes d ++ sealed_sizes d) (stack_sizes d) in
+    let l5 = length-append (a ++ b ++ shared_sizes d ++ sealed_sizes d ++ stack_sizes d) (trusted_size d ∷ []) in
+    omega (arith, few.shared, few.sealed, few.compartments, few.libraries, threads, na, nb, ns, nx, nt, l1, l2, l3, l4, l5)
 
 pub are_placeable : (d : DescRow) (own lent : List Assembled) (s : SizesRow) → AreObjects d own lent → s ≡ record { base = d.ram.base; size = d.ram.size; regions = sizes_with d own lent } → IsPlaceable s
 unfolding IsSmall

@@ -18,7 +18,7 @@ use Rattle.def_machine.specs.Frames.{given, entered}
 use Rattle.def_step.specs.Devices.{Bank}
 use Rattle.def_step.specs.Switch.{Switched, Trapped, TooDeep, NoStack, Enters, switch_of, frame_top}
 use Rattle.def_step.specs.Routines.{switched_to, switch, code}
-use Rattle.def_step.specs.Instructions.{Board, ran, deed}
+use Rattle.def_step.specs.Instructions.{ran, deed}
 use Rattle.def_step.specs.Events.{MachineRow}
 use Rattle.ct_areas.specs.Threads as areas
 use Rattle.ct_sched.specs.Sched.{SchedRow}
@@ -36,20 +36,17 @@ use Rattle.ct_machine.specs.Parts.{state_by, IsKept}
 use Rattle.ct_machine.specs.Going.{ran_by_call, CameTo}
 use Rattle.ct_machine.proofs.Statuses.{thread_with, like_with, set_with}
 use Rattle.ct_machine.proofs.Taking.{ram_is, frames_with}
-use Rattle.ct_machine.proofs.Keeping.{same_kept}
+use Rattle.ct_machine.proofs.Keeping.{machine_by, same_kept}
 use Rattle.ct_machine.proofs.Opened.{placed_at}
 use Rattle.ct_machine.proofs.Resting.{answers_are, register_alike}
 
 module _ (i : Image) (e : Seen) (r : SchedRow) (k : Bank) (pending : Bool) (time : ℕ) (c : Counts) (t : ℕ) (kept : IsKept i e r)
     (base : (area_at e.threads t).stack ≡ stack_base i t) (most : areas.frames_most (area_at e.threads t) ≡ frames_most i t) where
-  abbrev board : Board
-  board = record { image = i; bases = k.bases }
-
   abbrev here : State
   here = state_by e r pending k.states time c
 
   abbrev machine : Seen → MachineRow
-  machine x = record { board = board; state = state_by x r pending k.states time c }
+  machine x = machine_by i x r k pending time c
 
   -- what the written switch comes to
   abbrev comes : Switched
@@ -93,7 +90,7 @@ module _ (i : Image) (e : Seen) (r : SchedRow) (k : Bank) (pending : Bool) (time
   -- ---- what a call came to
 
   came_so : (w : Switched) (e' : Seen) (x : Called) → ((export high : ℕ) → w ≡ Enters export high → HeadStands i e.threads t export) → x ≡ told (register (engine.thread e.threads t) 6) w → e' ≡ with_threads e (switched_in e.threads i.entries t w)
-      → CameTo (machine e) (machine e') t (ran_by_call x) (ran board here t (switched_to i here t w))
+      → CameTo (machine e) (machine e') t (ran_by_call x) (ran (machine e).board here t (switched_to i here t w))
   came_so (Trapped why) e' x heads told_is now = rw (told_is, now) (record { is = refl; board = refl; counts = refl; unfinished = refl })
   came_so TooDeep e' x heads told_is now = rw (told_is, now, ← answers_are i e r k pending time c t kept (code 12)) (record { is = refl; board = refl; counts = refl; unfinished = tt })
   came_so NoStack e' x heads told_is now = rw (told_is, now, ← answers_are i e r k pending time c t kept (code 11)) (record { is = refl; board = refl; counts = refl; unfinished = tt })
@@ -110,7 +107,7 @@ module _ (i : Image) (e : Seen) (r : SchedRow) (k : Bank) (pending : Bool) (time
 
   pub came_call : (entries : Listed) (e' : Seen) (x : Called) → entries ≡ i.entries → ((export high : ℕ) → switch_at e.threads i.entries t ≡ Enters export high → HeadStands i e.threads t export)
       → x ≡ told (register (engine.thread e.threads t) 6) (switch_at e.threads entries t) → e' ≡ with_threads e (switched_in e.threads entries t (switch_at e.threads entries t))
-      → CameTo (machine e) (machine e') t (ran_by_call x) (ran board here t (switch i here t))
+      → CameTo (machine e) (machine e') t (ran_by_call x) (ran (machine e).board here t (switch i here t))
   came_call entries e' x same heads told_is now =
       let is = comes_is entries same in
       came_so comes e' x (λ export high enters. heads export high (comes_is i.entries refl ∙ enters)) (told_is ∙ ap (told (register (engine.thread e.threads t) 6)) is)

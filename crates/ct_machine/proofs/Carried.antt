@@ -33,7 +33,7 @@ use Rattle.ct_execute.proofs.Executed.{executed_is}
 use Rattle.ct_machine.specs.Parts.{state_by, IsKept}
 use Rattle.ct_machine.specs.Going.{left_after, goes_after, status_after, deed_by, finished, IsDone, CameTo}
 use Rattle.ct_machine.proofs.Statuses.{thread_with, set_with, end_with, like_with}
-use Rattle.ct_machine.proofs.Keeping.{two_more, unfinished_map}
+use Rattle.ct_machine.proofs.Keeping.{machine_by, two_more, unfinished_map}
 use Rattle.ct_machine.proofs.Taking.{ram_is, frames_with}
 
 -- the stack stands where the image has it, and the actor is the frame's
@@ -131,7 +131,7 @@ module _ (i : Image) (entries : Listed) (e : Seen) (r : SchedRow) (k : Bank) (pe
 
   -- a machine of the same image
   abbrev machine : Seen → Bank → MachineRow
-  machine x b = record { board = record { image = i; bases = b.bases }; state = state_by x r pending b.states time c }
+  machine x b = machine_by i x r b pending time c
 
   same_machine : (e' : Seen) (k' : Bank) → (e' ≡ e) × (k' ≡ k) → machine e' k' ≡ machine e k
   same_machine e' k' h = rw (h.0, h.1) refl

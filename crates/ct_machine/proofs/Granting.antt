@@ -1,10 +1,12 @@
 -- What the code leaves of a routine of the heap is what the written routine leaves.
 use Rattle.std.proofs.Common.{ℕ, ◌+◌, ◌-◌, ◌==◌, ◌≡◌, ◌≤◌, ◌<◌, Bool, true, false, inr, if◌then◌else◌, map, List, length, Option, Some, None, refl, sym, ap, ◌∙◌, subst, arith}
+use Rattle.std.specs.Prelude.{option_map}
 use Rattle.std.proofs.Math.ListN.{get_or, set}
 use Rattle.std.proofs.lemmas.List.{length-set}
 use Rattle.std.proofs.lemmas.Bool.{eqb-true, and_parts}
 use Rattle.law_granules.proofs.Lists.{zeroed_length, marked_length}
 use Rattle.ct_entry.specs.declared.acts.Act.{Act}
+use Rattle.ct_entry.specs.declared.acts.Deed.{Deed}
 use Rattle.ct_entry.specs.declared.acts.Act.TheVariants.{Allocate, Free}
 use Rattle.ct_entry.specs.declared.rows.Kind.TheVariants as kind
 use Rattle.def_profile.specs.declared.layout.TheConstants.{CHUNK_HEAD}
@@ -32,7 +34,7 @@ use Rattle.def_step.specs.Routines as routine
 use Rattle.def_step.specs.Routines.{Leaves, code}
 use Rattle.def_step.specs.Quotas as quotas
 use Rattle.def_step.specs.Quotas.{Allocation, Refused, Made, is_quota_cap, whole_of, allocation}
-use Rattle.def_step.specs.Instructions.{Board, ran, deed}
+use Rattle.def_step.specs.Instructions.{actor_of, deed_told, ran}
 use Rattle.def_step.specs.Events.{MachineRow}
 use Rattle.law_jumps.proofs.Moves.{in_rooted}
 use Rattle.ct_sched.specs.Sched.{SchedRow}
@@ -44,10 +46,10 @@ use Rattle.ct_heaped.specs.Seen.{Seen, with_threads, limit_at}
 use Rattle.ct_heaped.specs.Grants.{with_object, quarantined, freed}
 use Rattle.ct_services.specs.Granted as granted
 use Rattle.ct_machine.specs.Parts.{state_by, IsKept}
-use Rattle.ct_machine.specs.Going.{CameTo, IsDone, MayGoOn}
+use Rattle.ct_machine.specs.Going.{CameTo, IsDone, MayGoOn, deed_by}
 use Rattle.ct_machine.proofs.Statuses.{thread_with, set_with}
 use Rattle.ct_machine.proofs.Taking.{ram_is}
-use Rattle.ct_machine.proofs.Keeping.{stays_kept}
+use Rattle.ct_machine.proofs.Keeping.{machine_by, stays_kept}
 use Rattle.ct_machine.proofs.Resting.{by_trap, checked_once, answers_are, register_alike}
 
 -- what passed the load filter of the memory that the machine has
@@ -71,18 +73,15 @@ sifted_is i x r k pending time c t kept =
     }) (ram_is i x r kept)
 
 module _ (i : Image) (e : Seen) (r : SchedRow) (k : Bank) (pending : Bool) (time : ℕ) (c : Counts) (t : ℕ) (kept : IsKept i e r) where
-  abbrev board : Board
-  board = record { image = i; bases = k.bases }
-
   abbrev here : State
   here = state_by e r pending k.states time c
 
   abbrev machine : Seen → MachineRow
-  machine x = record { board = board; state = state_by x r pending k.states time c }
+  machine x = machine_by i x r k pending time c
 
   -- what a routine left of the engine and came to, as the written one; so many objects were made at most
   pub record Serves (most : ℕ) (p : Seen × Ran) (x : routine.Ran) : Type 0 where
-    pub came : CameTo (machine e) (machine p.0) t p.1 (ran board here t x)
+    pub came : CameTo (machine e) (machine p.0) t p.1 (ran (machine e).board here t x)
     pub done : IsDone p.1
     pub stays : IsKept i p.0 r
     pub made : p.0.next ≤ most
@@ -104,31 +103,26 @@ module _ (i : Image) (e : Seen) (r : SchedRow) (k : Bank) (pending : Bool) (time
       stays_kept i x (granted.answers x t v) r r.statuses held
       (record { region = refl; areas = refl; size = refl; threads = length-set x.threads.threads t _; heap_base = refl; heap_end = refl; limits = refl }) refl held.ready
 
-  -- an answer of an engine that has become this, of a machine that has become that
+  -- an answer of an engine that has become this, of a machine that has become that, where the thread went on and told as much
+  serves_went : (most : ℕ) (x : Seen) (s : State) (act : Option Act) (entry : ℕ) (told : Option (ℕ × Act)) (v : Cap) → deed_by t (actor_of (thread here t).frames) (Went act entry) ≡ option_map (deed_told here t) told
+      → IsKept i x r → x.next ≤ most → state_by x r pending k.states time c ≡ s → Serves most (granted.answers x t v, Went act entry) (Leaves (routine.answers s t v) told)
+  serves_went most x s act entry told v tells held few is = record {
+    came = record {
+      is = ap (λ (d : Option Deed). (state_by (granted.answers x t v) r pending k.states time c, d)) tells
+          ∙ ap (λ (z : State). (z, option_map (deed_told here t) told)) (answers_are i x r k pending time c t held v ∙ ap (λ (z : State). routine.answers z t v) is);
+      board = refl;
+      counts = refl;
+      unfinished = tt;
+    };
+    done = tt;
+    stays = answered_kept x v held;
+    made = few;
+  }
+
   serves_as : (most : ℕ) (x : Seen) (s : State) (told : Option (ℕ × Act)) (v : Cap) → IsKept i x r → x.next ≤ most → state_by x r pending k.states time c ≡ s
       → Serves most (granted.answers x t v, went told) (Leaves (routine.answers s t v) told)
-  serves_as most x s None v held few is = record {
-    came = record {
-      is = ap (λ (z : State). (z, None)) (answers_are i x r k pending time c t held v ∙ ap (λ (z : State). routine.answers z t v) is);
-      board = refl;
-      counts = refl;
-      unfinished = tt;
-    };
-    done = tt;
-    stays = answered_kept x v held;
-    made = few;
-  }
-  serves_as most x s (Some told) v held few is = record {
-    came = record {
-      is = ap (λ (z : State). (z, Some (deed here t told.0 told.1))) (answers_are i x r k pending time c t held v ∙ ap (λ (z : State). routine.answers z t v) is);
-      board = refl;
-      counts = refl;
-      unfinished = tt;
-    };
-    done = tt;
-    stays = answered_kept x v held;
-    made = few;
-  }
+  serves_as most x s None v held few is = serves_went most x s None 0 None v refl held few is
+  serves_as most x s (Some told) v held few is = serves_went most x s (Some told.1) told.0 (Some told) v refl held few is
 
   serves_told : (most : ℕ) (v : Cap) → e.next ≤ most → Serves most (granted.tells e t v) (routine.tells here t v)
   serves_told most v few = serves_as most e here None v kept few refl

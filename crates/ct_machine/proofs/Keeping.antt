@@ -30,8 +30,12 @@ use Rattle.ct_execute.specs.declared.ran.Ran.{Ran}
 use Rattle.ct_execute.specs.declared.ran.Ran.TheVariants.{Went, Returned, Native, Trapped}
 use Rattle.ct_execute.specs.Deciding.{Decision, Goes, Returns, Serves, Traps, Decided, IfUnfinished, Stays}
 use Rattle.ct_launch.specs.Placed.{ArePlaced}
-use Rattle.ct_machine.specs.Parts.{IsKept, IsCounted}
+use Rattle.ct_machine.specs.Parts.{state_by, IsKept, IsCounted}
 use Rattle.ct_machine.specs.Going.{left_after, goes_after, status_after, CameTo}
+
+-- the machine that these parts make
+abbrev pub machine_by : Image → Seen → SchedRow → Bank → Bool → ℕ → Counts → MachineRow
+machine_by i e r k pending time c = record { board = record { image = i; bases = k.bases }; state = state_by e r pending k.states time c }
 
 pub two_more : (n : ℕ) → nat_lt 1 (suc (suc n)) ≡ true
 two_more n = elim (lt_tells 1 (suc (suc n))) [ inl a ↦ a.0 | inr a ↦ absurd (let few = a.1 in omega (arith, few)) ]

@@ -35,7 +35,7 @@ use Rattle.ct_loadstore.specs.Shapes.{space_of}
 use Rattle.ct_execute.specs.Quiet.{goes_quietly, goes_at, goes_by, jump_by, jumps_whole, offset_of}
 use Rattle.ct_machine.specs.Going.{silence, runner_goes, steps_quietly}
 use Rattle.ct_machine.proofs.Carried.{came}
-use Rattle.ct_machine.proofs.Keeping.{ran_kept, counted_so}
+use Rattle.ct_machine.proofs.Keeping.{machine_by, ran_kept, counted_so}
 use Rattle.ct_machine.proofs.Statuses.{thread_with}
 use Rattle.ct_machine.proofs.Stepping.{carried_so, quietly_left}
 use Rattle.ct_machine.proofs.Taking.{ram_is, posture_with, not_pending, runs_scheduled}
@@ -124,7 +124,7 @@ goes_alike w s ram gs =
 
 module _ (i : Image) (e : Seen) (r : SchedRow) (k : Bank) (pending : Bool) (time : ℕ) (c : Counts) where
   abbrev here : MachineRow
-  here = record { board = record { image = i; bases = k.bases }; state = state_by e r pending k.states time c }
+  here = machine_by i e r k pending time c
 
   pub when_late : pending ≡ true → false ≡ steps_quietly here
   when_late late = rw late refl

@@ -31,7 +31,7 @@ use Rattle.ct_heaped.specs.Seen.{Seen, with_threads}
 use Rattle.ct_services.specs.Served.{answered_in, rested, waited, with_status, either, unless, unless_row}
 use Rattle.ct_machine.specs.Parts.{state_by, IsKept}
 use Rattle.ct_machine.specs.Going.{ran_by_service, CameTo, Runs}
-use Rattle.ct_machine.proofs.Keeping.{RunsReady, kept_so, none_runs}
+use Rattle.ct_machine.proofs.Keeping.{machine_by, RunsReady, kept_so, none_runs}
 use Rattle.ct_machine.proofs.Opened.{some_within}
 use Rattle.ct_machine.proofs.Taking.{frames_with}
 use Rattle.ct_machine.proofs.Statuses.{thread_with, like_with, set_with, set_both, set_over, statuses_with}
@@ -86,7 +86,7 @@ module _ (i : Image) (e : Seen) (r : SchedRow) (k : Bank) (pending : Bool) (time
   here = state_by e r pending k.states time c
 
   abbrev machine : Seen → SchedRow → MachineRow
-  machine x y = record { board = board; state = state_by x y pending k.states time c }
+  machine x y = machine_by i x y k pending time c
 
   -- where no check fails the threads become this
   abbrev left_as : Option Trap → engine.Seen → Seen

@@ -25,7 +25,8 @@ use Rattle.ct_engine.specs.Steps.{IsHeapPlaced}
 use Rattle.ct_sched.specs.Sched.{SchedRow}
 use Rattle.ct_launch.specs.Launching.{launched}
 use Rattle.ct_launch.specs.Placed.{ArePlaced}
-use Rattle.ct_machine.specs.Parts.{state_by, HasQuotas, IsKept, IsCounted}
+use Rattle.ct_machine.specs.Parts.{HasQuotas, IsKept, IsCounted}
+use Rattle.ct_machine.proofs.Keeping.{machine_by}
 use Rattle.ct_machine.specs.Starting.{IsPlan, bank_of, limits_of, rows_of}
 
 -- ---- what contracts see
@@ -35,10 +36,7 @@ ready_with p n [] = refl
 ready_with p n (t ∷ ts) = ap (λ (us : List Thread). first_thread p n t ∷ us) (ready_with p (n + 1) ts)
 
 abbrev pub row_of : Image → Seen → SchedRow → Bank → MachineRow
-row_of i e r k = record {
-  board = record { image = i; bases = k.bases };
-  state = state_by e r false k.states 0 no_counts;
-}
+row_of i e r k = machine_by i e r k false 0 no_counts
 
 booted_is : (p : PartsRow) (limits : List ℕ) → row_of (image_of p) (launched p limits) (rows_of p) (bank_of p) ≡ booted_machine p
 unfolding boot_state

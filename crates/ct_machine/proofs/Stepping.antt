@@ -12,14 +12,13 @@ use Rattle.ct_heaped.specs.Seen.{Seen}
 use Rattle.ct_execute.specs.declared.ran.Ran.{Ran}
 use Rattle.ct_execute.specs.declared.ran.Ran.TheVariants.{Went, Returned, Native, Trapped}
 use Rattle.ct_execute.specs.Deciding.{IfUnfinished}
-use Rattle.ct_machine.specs.Parts.{state_by}
 use Rattle.ct_machine.specs.Going.{MayGoOn, Runs, MayEnd, CameTo, finished, is_quiet}
-use Rattle.ct_machine.proofs.Keeping.{unfinished_map}
+use Rattle.ct_machine.proofs.Keeping.{machine_by, unfinished_map}
 use Rattle.ct_machine.proofs.Taking.{frames_with}
 
 module _ (i : Image) (e : Seen) (r : SchedRow) (k : Bank) (pending : Bool) (time : ℕ) (c : Counts) (t : ℕ) where
   abbrev machine : MachineRow
-  machine = record { board = record { image = i; bases = k.bases }; state = state_by e r pending k.states time c }
+  machine = machine_by i e r k pending time c
 
   pub runs_by : e.threads.running ≡ Some t → 0 < length (engine.thread e.threads t).frames → Runs machine t
   runs_by runs some = record { runs = runs; some = subst (λ (fs : List Frame). 0 < length fs) (sym (frames_with e.threads.threads r.statuses t)) some }

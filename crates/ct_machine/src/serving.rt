@@ -12,7 +12,7 @@ use crate::engine::Engine;
 use ct_entry::Act;
 use ct_execute::Ran;
 use ct_mem::Memory;
-use ct_services::{Called, allocate, free, pause, remaining, sleep, switch, wait, wake};
+use ct_services::{Called, allocate, free, remaining, rest, switch, wait, wake};
 use def_profile::native::{ALLOCATE, FREE, SLEEP, SWITCH, WAIT, WAKE, YIELD};
 use def_words::Trap;
 
@@ -68,17 +68,18 @@ impl<M: Memory + Drop> Engine<M> {
             (ran self.old.board self.old.state t (routine.yield self.old.state t)) }
         ensures done { IsDone result }
     {
-        ran_by_service(pause(&mut self.threads, &mut self.sched, t))
+        ran_by_service(rest(&mut self.threads, &mut self.sched, t, 0))
     }
 
-    /// Sleep.
+    /// Sleep, for as many ticks as c10's address says.
     fn sleep(&mut self, t: u32) -> Ran
         requires runs { Runs self.old t }
         ensures came { CameTo self.old self.new t result
             (ran self.old.board self.old.state t (routine.sleep self.old.state t)) }
         ensures done { IsDone result }
     {
-        ran_by_service(sleep(&mut self.threads, &mut self.sched, t))
+        let ticks = self.threads.address_in(t, 10);
+        ran_by_service(rest(&mut self.threads, &mut self.sched, t, ticks))
     }
 
     /// Wait.

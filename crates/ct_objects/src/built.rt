@@ -6,7 +6,7 @@ ghost use Rattle.def_link.specs.Owners as owner;
 ghost use Rattle.ct_objects.specs.Objects.{IsLinkable, file_of, files_of, IsBuilt, AreBuilt, Adds, Refuses, IsOwn, IsShared};
 
 use crate::code::code_object;
-use crate::exports::{first_library_lost, first_lost};
+use crate::exports::first_lost;
 use crate::files::files_in;
 use crate::names::{library_names_of, names_of};
 use crate::sources::Sources;
@@ -70,7 +70,7 @@ fn library_object(
         return Err(LinkFault::NoMemory);
     };
     let object = code_object(alloc, owner, &slots, &library.code, source)?;
-    match first_library_lost(&object, library.exports.as_slice()) {
+    match first_lost(&object, library.exports.as_slice()) {
         Some(item) => Err(LinkFault::Export { owner, item }),
         None => {
             if has_initial(&object) {

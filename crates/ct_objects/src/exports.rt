@@ -2,7 +2,7 @@
 
 ghost use Rattle.std.specs.Prelude.{◌≡◌, ◌<◌, ◌^◌, length, map};
 ghost use Rattle.def_link.specs.Owners as owner;
-ghost use Rattle.def_description.specs.Rows.{ExportRow, LexportRow};
+ghost use Rattle.def_description.specs.Rows.{AtRow};
 ghost use Rattle.ct_objects.specs.Objects.{built_of};
 
 use ct_asm::Object;
@@ -38,31 +38,39 @@ pub fn begin_of(object: &Object, at: &At) -> Option<u64>
     }
 }
 
-/// The first export of a compartment that begins nowhere.
-pub(crate) fn first_lost(object: &Object, exports: &[Export]) -> Option<u32>
-    requires { length exports.now < 2 ^ 32 }
-    ensures { result ≡ owner.first_lost (built_of object.now) 0
-        (map (λ (x : ExportRow). x.at) exports.now) }
-{
-    let mut item = 0;
-    for export in exports {
-        if begin_of(object, &export.at).is_none() {
-            return Some(item);
-        }
-        item += 1;
-    }
-    None
+/// An export, of a compartment or of a library.
+pub(crate) trait Exported {
+    /// Where it begins.
+    ghost at_of: { Self → AtRow };
+
+    fn at(&self) -> &At
+        ensures { result.now ≡ at_of self.now };
 }
 
-/// The first export of a library that begins nowhere.
-pub(crate) fn first_library_lost(object: &Object, exports: &[LibraryExport]) -> Option<u32>
+impl Exported for Export {
+    ghost at_of = { λ x. x.at };
+
+    fn at(&self) -> &At {
+        &self.at
+    }
+}
+
+impl Exported for LibraryExport {
+    ghost at_of = { λ x. x.at };
+
+    fn at(&self) -> &At {
+        &self.at
+    }
+}
+
+/// The first export that begins nowhere.
+pub(crate) fn first_lost<T: Exported>(object: &Object, exports: &[T]) -> Option<u32>
     requires { length exports.now < 2 ^ 32 }
-    ensures { result ≡ owner.first_lost (built_of object.now) 0
-        (map (λ (x : LexportRow). x.at) exports.now) }
+    ensures { result ≡ owner.first_lost (built_of object.now) 0 (map T.at_of exports.now) }
 {
     let mut item = 0;
     for export in exports {
-        if begin_of(object, &export.at).is_none() {
+        if begin_of(object, export.at()).is_none() {
             return Some(item);
         }
         item += 1;

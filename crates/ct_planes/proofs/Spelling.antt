@@ -1,11 +1,12 @@
 -- Bits and the words that spell them.
-use Rattle.std.proofs.Common.{ℕ, zero, suc, ◌≡◌, ◌+◌, ◌*◌, ◌/◌, ◌%◌, ◌^◌, ◌<◌, ◌≤◌, inl, inr, Bool, true, false, cond, nat_eq, List, length, take, drop, get_or, replicate, refl, sym, ap, ◌∙◌, arith, lit<, subst}
+use Rattle.std.proofs.Common.{ℕ, zero, suc, ◌≡◌, ◌+◌, ◌*◌, ◌/◌, ◌%◌, ◌^◌, ◌<◌, ◌≤◌, inl, inr, Bool, true, false, cond, nat_eq, Vec, List, length, take, drop, get_or, replicate, refl, sym, ap, ◌∙◌, arith, lit<, subst}
 use Rattle.std.proofs.Math.ListN.{set}
 use Rattle.std.proofs.Math.Nat.{pow-le-pow_right}
 use Rattle.std.specs.Int.{bit_at}
+use Rattle.std.specs.Vec.{with_items}
 use Rattle.std.proofs.lemmas.Simd.{bit_mask_l, mask_l-lt}
 use Rattle.std.proofs.lemmas.Nat.Bits.{same_from_bits_below, bit_at-zero}
-use Rattle.std.proofs.lemmas.List.{length-take, length-set, length-replicate, get_or-take, get_or-drop, get_or-set_same, get_or-set_other}
+use Rattle.std.proofs.lemmas.List.{with_items_is, length-take, length-set, length-replicate, get_or-take, get_or-drop, get_or-set_same, get_or-set_other}
 use Rattle.std.proofs.lemmas.List.FromFn.{fill_by_all, length-map-range_with_len}
 use Rattle.law_lists.proofs.Tests.{eq_tells}
 use Rattle.ct_planes.specs.Bits.{word_of, words_of, flag_in, flags_of, Spells, Kept}
@@ -95,6 +96,11 @@ kept count ws bits small size s =
 
 pub kept_flags : (count : ℕ) (ws : List ℕ) (bits : List Bool) → length bits ≡ count → Spells bits ws → flags_of count ws ≡ bits
 kept_flags count ws bits size s = subst (λ n. flags_of n ws ≡ bits) size (flags_back bits ws s)
+
+-- words written anew in their place, that spell these bits
+pub written_anew : {Z : Type 0} (count : ℕ) (v : Vec ℕ Z) (ws : List ℕ) (bits : List Bool) → count < 2 ^ 29 → length ws ≡ v.len → length bits ≡ count → Spells bits ws → Kept count (with_items v ws).items × (flags_of count (with_items v ws).items ≡ bits)
+written_anew count v ws bits small size many s =
+    subst (λ l. Kept count l × (flags_of count l ≡ bits)) (sym (with_items_is v ws size)) (kept count ws bits small many s, kept_flags count ws bits many s)
 
 pub length_flags : (count : ℕ) (ws : List ℕ) → length (flags_of count ws) ≡ count
 length_flags count ws = length-map-range_with_len (flag_in ws) 0 count

@@ -4,6 +4,7 @@ use Rattle.std.proofs.Math.ListN.{get_or, get_or-replicate, length-replicate, le
 use Rattle.std.proofs.lemmas.Grind.{get_or-set_at}
 use Rattle.std.proofs.lemmas.List.{drop_all, get_or-set_other}
 use Rattle.law_lists.proofs.Tests.{eq_tells}
+use Rattle.ct_entry.specs.Listed.{Listed}
 use Rattle.ct_entry.specs.declared.rows.Gate.{Gate}
 use Rattle.def_reach.specs.Roots.{gate_for, no_gate}
 use Rattle.ct_policy.specs.Gates.{AreGates}
@@ -50,22 +51,44 @@ left_out gs n k all inside none are =
       ];
     }
 
--- ---- the same, by the gate that was read
+-- ---- the same, by the entries as they are seen and the gate that was read
+
+rows_seen : (seen e : Listed) → seen ≡ e → length seen.rows ≡ length e.rows
+rows_seen seen e view = ap (λ (l : Listed). length l.rows) view
 
 read_is : (gs : List Gate) (k : ℕ) (g d : Gate) → k < length gs → g ≡ get_or gs k g → get_or gs k d ≡ g
 read_is [] k g d inside is = absurd (omega (arith, inside))
 read_is (x ∷ xs) ℕ.zero g d inside is = sym is
 read_is (x ∷ xs) (suc k) g d inside is = read_is xs k g d (omega (arith, inside)) is
 
-pub put_gate : (gs : List Gate) (n k : ℕ) (all : List Gate) (g : Gate) → k < length gs → g ≡ get_or gs k g → 1 ≤ g.entry → g.entry ≤ n
-    → AreGates (drop (suc k) gs) n all → AreGates (drop k gs) n (slice_set all (g.entry - 1) g)
-put_gate gs n k all g inside is some within are =
-    let same : get_or gs k no_gate ≡ g = read_is gs k g no_gate inside is in
-    subst (λ (x : Gate). AreGates (drop k gs) n (slice_set all (x.entry - 1) x)) same
-    (put_in gs n k all inside (omega (arith, some, ap (λ (x : Gate). x.entry) same)) (omega (arith, within, ap (λ (x : Gate). x.entry) same)) are)
+-- a step from the last gates to the one before them
+record Next (gates : List Gate) (n place : ℕ) (all : List Gate) (g : Gate) : Type 0 where
+  inside : place < length gates
+  read : get_or gates place no_gate ≡ g
+  are : AreGates (drop (suc place) gates) n all
 
-pub left_gate : (gs : List Gate) (n k : ℕ) (all : List Gate) (g : Gate) → k < length gs → g ≡ get_or gs k g → (1 ≤ g.entry → g.entry ≤ n → ⊥)
-    → AreGates (drop (suc k) gs) n all → AreGates (drop k gs) n all
-left_gate gs n k all g inside is none are =
-    let same : get_or gs k no_gate ≡ g = read_is gs k g no_gate inside is in
-    left_out gs n k all inside (λ some within. none (omega (arith, some, ap (λ (x : Gate). x.entry) same)) (omega (arith, within, ap (λ (x : Gate). x.entry) same))) are
+next_gate : (seen e : Listed) (left : ℕ) (all : List Gate) (g : Gate) → seen ≡ e → 0 < left → left ≤ length e.gates → g ≡ get_or seen.gates (left - 1) g
+    → AreGates (drop left e.gates) (length e.rows) all → Next e.gates (length e.rows) (left - 1) all g
+next_gate seen e left all g view some inside read are =
+    let before : left - 1 < length e.gates = omega (arith, some, inside) in
+    let next : left ≡ suc (left - 1) = omega (arith, some) in
+    record {
+      inside = before;
+      read = read_is e.gates (left - 1) g no_gate before (read ∙ ap (λ (l : Listed). get_or l.gates (left - 1) g) view);
+      are = subst (λ j. AreGates (drop j e.gates) (length e.rows) all) next are;
+    }
+
+pub put_gate : (seen e : Listed) (left : ℕ) (all : List Gate) (g : Gate) → seen ≡ e → 0 < left → left ≤ length e.gates → g ≡ get_or seen.gates (left - 1) g → 1 ≤ g.entry → g.entry ≤ length seen.rows
+    → AreGates (drop left e.gates) (length e.rows) all → AreGates (drop (left - 1) e.gates) (length e.rows) (slice_set all (g.entry - 1) g)
+put_gate seen e left all g view here inside read some within are =
+    let k = next_gate seen e left all g view here inside read are in
+    let same = ap (λ (x : Gate). x.entry) k.read in
+    subst (λ (x : Gate). AreGates (drop (left - 1) e.gates) (length e.rows) (slice_set all (x.entry - 1) x)) k.read
+    (put_in e.gates (length e.rows) (left - 1) all k.inside (omega (arith, some, same)) (omega (arith, within, same, rows_seen seen e view)) k.are)
+
+pub left_gate : (seen e : Listed) (left : ℕ) (all : List Gate) (g : Gate) → seen ≡ e → 0 < left → left ≤ length e.gates → g ≡ get_or seen.gates (left - 1) g → (1 ≤ g.entry → g.entry ≤ length seen.rows → ⊥)
+    → AreGates (drop left e.gates) (length e.rows) all → AreGates (drop (left - 1) e.gates) (length e.rows) all
+left_gate seen e left all g view here inside read none are =
+    let k = next_gate seen e left all g view here inside read are in
+    let same = ap (λ (x : Gate). x.entry) k.read in
+    left_out e.gates (length e.rows) (left - 1) all k.inside (λ some within. none (omega (arith, some, same)) (omega (arith, within, same, rows_seen seen e view))) k.are

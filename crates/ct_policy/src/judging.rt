@@ -11,6 +11,7 @@ ghost use Rattle.ct_policy.specs.Gates.{AreGates};
 ghost use Rattle.ct_policy.specs.Kept.{Adds, IsUntrusted};
 
 use crate::breaking::{breaks, counted};
+use crate::names::name_of;
 use crate::rulings::Ruling;
 use ct_entry::{Comp, Entries, Gate, Owner};
 use ct_graph::Graph;
@@ -67,23 +68,6 @@ fn add_entries(
         }
     }
     Ok(())
-}
-
-/// An owner's name; nothing for one that the image doesn't have.
-fn name_of(parts: &Parts, owner: Owner) -> &str
-    ensures { result.now ≡ name.name_of parts.now owner }
-{
-    match owner {
-        Owner::Compartment(index) => match parts.compartments.get(index as usize) {
-            Some(compartment) => compartment.code.name.as_str(),
-            None => "",
-        },
-        Owner::Library(index) => match parts.libraries.get(index as usize) {
-            Some(library) => library.name.as_str(),
-            None => "",
-        },
-        _ => "",
-    }
 }
 
 /// The names of owners, each after a space, and the end of the line.

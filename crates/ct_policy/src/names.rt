@@ -76,8 +76,10 @@ fn index_of<T: Named>(all: &[T], name: &[u8]) -> Option<u32>
     None
 }
 
-/// The compartment of this name, by its index.
-pub(crate) fn compartment_named(parts: &Parts, name: &[u8]) -> Option<u32>
+/// The first compartment of this name, by its index.
+///
+/// Condition: the parts are those of an image.
+pub fn compartment_named(parts: &Parts, name: &[u8]) -> Option<u32>
     requires { Sound parts.now }
     ensures { result ≡ spec.compartment_named parts.now name.now }
 {
@@ -121,8 +123,10 @@ pub(crate) fn service_named(name: &[u8]) -> Option<u32>
     None
 }
 
-/// The compartment, or else the library, of this name.
-pub(crate) fn owner_named(parts: &Parts, name: &[u8]) -> Option<Owner>
+/// The first compartment of this name, or else the first library.
+///
+/// Condition: the parts are those of an image.
+pub fn owner_named(parts: &Parts, name: &[u8]) -> Option<Owner>
     requires { Sound parts.now }
     ensures { result ≡ spec.owner_named parts.now name.now }
 {
@@ -132,6 +136,23 @@ pub(crate) fn owner_named(parts: &Parts, name: &[u8]) -> Option<Owner>
             Some(index) => Some(Owner::Library(index)),
             None => None,
         },
+    }
+}
+
+/// An owner's name; nothing for one that the image doesn't have.
+pub fn name_of(parts: &Parts, owner: Owner) -> &str
+    ensures { result.now ≡ spec.name_of parts.now owner }
+{
+    match owner {
+        Owner::Compartment(index) => match parts.compartments.get(index as usize) {
+            Some(compartment) => compartment.code.name.as_str(),
+            None => "",
+        },
+        Owner::Library(index) => match parts.libraries.get(index as usize) {
+            Some(library) => library.name.as_str(),
+            None => "",
+        },
+        _ => "",
     }
 }
 

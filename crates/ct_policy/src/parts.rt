@@ -1,33 +1,13 @@
 //! The parts of a word: a number, and the sides of a point.
 
-ghost use Rattle.std.specs.Prelude.{ℕ, ◌≡◌, ◌<◌, ◌≤◌, ◌^◌, decimal, length, MatchOption, option_map};
+ghost use Rattle.std.specs.Prelude.{◌≡◌, ◌≤◌, length, option_map};
 ghost use Rattle.std.specs.List.{prefix_len};
 ghost use Rattle.def_policy.specs.Rules.{is_no_point};
 ghost use Rattle.ct_policy.specs.Forms as spec;
 ghost use Rattle.ct_policy.specs.Forms.{sides_row};
 
+use ct_script::number_of;
 use def_policy::MOST_TOTAL;
-use itoa::Buffer;
-
-/// The number whose decimal digits these are, with no sign and no leading zero.
-fn number_of(digits: &[u8]) -> Option<u64>
-    ensures { MatchOption result ((n : ℕ) → n < 2 ^ 64 → decimal n ≡ digits.now → ⊥)
-        (λ n. decimal n ≡ digits.now) }
-{
-    let number: u64 = match std::str::from_utf8(digits) {
-        Ok(text) => match text.parse() {
-            Ok(number) => number,
-            Err(_) => return None,
-        },
-        Err(_) => return None,
-    };
-    let mut buffer = Buffer::new();
-    if buffer.format(number).as_bytes() == digits {
-        Some(number)
-    } else {
-        None
-    }
-}
 
 /// A number of bytes, at most 2,199,023,255,551.
 #[tactic(auto, using(crate::proofs::Numbers::no_number, crate::proofs::Numbers::number_is, crate::proofs::Numbers::too_many))]

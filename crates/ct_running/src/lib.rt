@@ -43,7 +43,10 @@ pub fn write_run<M: Memory + Drop, S: Sink>(
         (S.faults sink.new) (report.now ++ run_lines machine.old script.now quantum limit) result }
 {
     match sink.write(report) {
-        Ok(()) => write_lines(machine, script, quantum, limit, sink),
+        Ok(()) => match rounds::write_rounds(machine, script, quantum, limit, sink) {
+            Ok(()) => lines::write_last(machine, sink),
+            Err(failed) => Err(failed),
+        },
         Err(failed) => Err(failed),
     }
 }
@@ -67,25 +70,4 @@ pub fn write_summary<M: Memory + Drop, S: Sink>(
 {
     rounds::make_rounds(machine, quantum, limit);
     lines::write_last(machine, sink)
-}
-
-/// Writes the lines of a run.
-fn write_lines<M: Memory + Drop, S: Sink>(
-    machine: &mut Machine<M>,
-    script: &Script,
-    quantum: u32,
-    limit: u32,
-    sink: &mut S,
-) -> Result<(), WriteFailed>
-    requires booted { IsUncounted machine.old.state.counts }
-    requires script { IsPlayable script.now machine.old.state }
-    requires quantum { 1 ≤ quantum }
-    requires limit { limit ≤ MOST_STEPS }
-    ensures { WriteAnswers (S.bytes sink.old) (S.bytes sink.new) (S.faults sink.old)
-        (S.faults sink.new) (run_lines machine.old script.now quantum limit) result }
-{
-    match rounds::write_rounds(machine, script, quantum, limit, sink) {
-        Ok(()) => lines::write_last(machine, sink),
-        Err(failed) => Err(failed),
-    }
 }

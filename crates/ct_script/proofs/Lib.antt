@@ -1,3 +1,4 @@
 pub mod Accounts
 pub mod Parts
 pub mod Windows
+mod Digits

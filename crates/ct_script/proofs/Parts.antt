@@ -5,6 +5,7 @@ use Rattle.std.specs.List.{list_all, prefix_len}
 use Rattle.std.proofs.Math.Seq.{take-length}
 use Rattle.std.proofs.lemmas.List.{length-take-le, length-drop}
 use Rattle.std.proofs.lemmas.Bool.{both_ways}
+use Rattle.std.proofs.lemmas.Fmt.{decimal_injective}
 use Rattle.law_lists.proofs.Tests.{bool_tells, both_left}
 use Rattle.def_profile.specs.declared.limits.TheConstants.{MOST_STEPS}
 use Rattle.def_script.specs.Script.{Row, IsRow, Begins, NoLine, is_inner}
@@ -54,6 +55,12 @@ place_of text = prefix_len is_inner text
 
 number_small : (n : ℕ) → n < 2 ^ 32 → n < 2 ^ 64
 number_small n small = omega (arith, small)
+
+-- a number that isn't small is no small one
+pub not_small : (digits : List ℕ) (m : ℕ) → m < 2 ^ 64 → decimal m ≡ digits → 2 ^ 32 ≤ m → (n : ℕ) → n < 2 ^ 32 → decimal n ≡ digits → ⊥
+not_small digits m most is large n small same =
+    let both : m ≡ n = decimal_injective m n most (number_small n small) (is ∙ sym same) in
+    omega (arith, both, large, small)
 
 pub endless : (text : List ℕ) (end : ℕ) → is_inner end ≡ false → length text ≤ place_of text → NoNumber text end
 endless text end ends long n rest is =

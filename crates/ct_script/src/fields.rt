@@ -51,12 +51,13 @@ fn run_length(text: &[u8]) -> usize
     text.len()
 }
 
-/// The number whose decimal digits these are, with no sign and no leading zero.
-fn number_of(digits: &[u8]) -> Option<u32>
-    ensures { MatchOption result ((n : ℕ) → n < 2 ^ 32 → decimal n ≡ digits.now → ⊥)
+/// The number whose decimal digits these are, with no sign and no leading zero; None where there is
+/// none below 2 to the 64.
+pub fn number_of(digits: &[u8]) -> Option<u64>
+    ensures { MatchOption result ((n : ℕ) → n < 2 ^ 64 → decimal n ≡ digits.now → ⊥)
         (λ n. decimal n ≡ digits.now) }
 {
-    let number: u32 = match std::str::from_utf8(digits) {
+    let number: u64 = match std::str::from_utf8(digits) {
         Ok(text) => match text.parse() {
             Ok(number) => number,
             Err(_) => return None,
@@ -68,6 +69,24 @@ fn number_of(digits: &[u8]) -> Option<u32>
         Some(number)
     } else {
         None
+    }
+}
+
+/// The number below 2 to the 32 whose decimal digits these are.
+#[tactic(auto, using(crate::proofs::Parts::not_small))]
+fn small_number_of(digits: &[u8]) -> Option<u32>
+    ensures { MatchOption result ((n : ℕ) → n < 2 ^ 32 → decimal n ≡ digits.now → ⊥)
+        (λ n. decimal n ≡ digits.now) }
+{
+    match number_of(digits) {
+        Some(number) => {
+            if number < 1 << 32 {
+                Some(number as u32)
+            } else {
+                None
+            }
+        }
+        None => None,
     }
 }
 
@@ -85,7 +104,7 @@ fn number_before(text: &[u8], end: u8) -> Option<Counted<'_>>
     if text[place] != end {
         return None;
     }
-    match number_of(&text[..place]) {
+    match small_number_of(&text[..place]) {
         Some(number) => Some(Counted {
             number,
             rest: &text[place + 1..],

@@ -11,4 +11,5 @@ mod reading;
 mod script;
 
 pub use def_script::{Given, ScriptFault};
+pub use fields::number_of;
 pub use script::{Script, read};

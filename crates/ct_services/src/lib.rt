@@ -17,4 +17,4 @@ pub use answering::answer;
 pub use calling::switch;
 pub use ct_heaped::Called;
 pub use granting::{allocate, free, remaining};
-pub use resting::{pause, sleep, wait, wake};
+pub use resting::{rest, wait, wake};

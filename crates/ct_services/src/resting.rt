@@ -39,9 +39,9 @@ fn stop_for<M: Memory + Drop>(engine: &mut Engine<M>, sched: &mut Sched, t: u32,
     sched.sleep(t, ticks);
 }
 
-/// The running thread stops, to be ready after so many ticks. The trap is the check of c1 that fails; then
-/// nothing changes.
-fn rest<M: Memory + Drop>(
+/// Yield, for no ticks, and sleep: the running thread stops, to be ready after so many ticks. The trap is the
+/// check of c1 that fails; then nothing changes.
+pub fn rest<M: Memory + Drop>(
     engine: &mut Engine<M>,
     sched: &mut Sched,
     t: u32,
@@ -81,43 +81,6 @@ fn first_trap<M: Memory + Drop>(engine: &Engine<M>, t: u32, ram: u32) -> Option<
         return Some(trap);
     }
     word_trap(ram, engine.size(), engine.register(t, 10))
-}
-
-/// Yield: the running thread stops and stays ready. The trap is the check of c1 that fails; then nothing
-/// changes.
-pub fn pause<M: Memory + Drop>(engine: &mut Engine<M>, sched: &mut Sched, t: u32) -> Option<Trap>
-    requires runs { engine.old.threads.running ≡ Some t }
-    requires there { t < length sched.old.statuses }
-    requires ready { status_of sched.old.statuses t ≡ Ready }
-    ensures trap { result
-        ≡ first_failed (return_checks (register (thread engine.old.threads t) 1)) }
-    ensures engine { engine.new
-        ≡ with_threads engine.old
-        (unless result engine.old.threads (rested engine.old.threads t)) }
-    ensures sched { sched.new
-        ≡ unless_row result sched.old (with_status sched.old t (asleep 0)) }
-{
-    rest(engine, sched, t, 0)
-}
-
-/// Sleep: the running thread stops for as many ticks as c10's address says. The trap is the check of c1
-/// that fails; then nothing changes.
-pub fn sleep<M: Memory + Drop>(engine: &mut Engine<M>, sched: &mut Sched, t: u32) -> Option<Trap>
-    requires runs { engine.old.threads.running ≡ Some t }
-    requires there { t < length sched.old.statuses }
-    requires ready { status_of sched.old.statuses t ≡ Ready }
-    ensures trap { result
-        ≡ first_failed (return_checks (register (thread engine.old.threads t) 1)) }
-    ensures engine { engine.new
-        ≡ with_threads engine.old
-        (unless result engine.old.threads (rested engine.old.threads t)) }
-    ensures sched { sched.new
-        ≡ unless_row result sched.old
-        (with_status sched.old t
-        (asleep (cap_address (register (thread engine.old.threads t) 10)))) }
-{
-    let ticks = engine.register(t, 10).address();
-    rest(engine, sched, t, ticks)
 }
 
 /// What the word holds that c10 names.

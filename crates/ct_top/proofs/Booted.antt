@@ -1,5 +1,5 @@
 -- What the machine asks of an image, and what it is booted to.
-use Rattle.std.proofs.Common.{ℕ, ◌≡◌, ◌%◌, ◌/◌, ◌^◌, ◌<◌, ◌≤◌, ◌++◌, List, [], length, replicate, refl, sym, subst, arith}
+use Rattle.std.proofs.Common.{ℕ, ◌≡◌, ◌%◌, ◌/◌, ◌^◌, ◌<◌, ◌≤◌, ◌++◌, List, [], length, replicate, refl, sym, subst, ap, ◌∙◌, arith}
 use Rattle.std.specs.List.{All}
 use Rattle.std.proofs.lemmas.List.{length-map}
 use Rattle.ct_entry.specs.Listed.{DeviceRow}
@@ -28,8 +28,12 @@ whole_granules p f = (sound p f).ram.size
 pub zeros : (p : PartsRow) (gs : List Granule) → gs ≡ replicate (p.size / 8) nothing → gs ≡ empty_granules p
 zeros p gs is = is
 
-pub some_quantum : (p : PartsRow) → IsFaultless p → 1 ≤ p.quantum
-some_quantum p f = (sound p f).quantum.0
+-- the parts that a call reads are the image's, so their quantum is
+pub same_quantum : (p q v : PartsRow) → q ≡ p → v ≡ q → v.quantum ≡ p.quantum
+same_quantum p q v is seen = ap (λ (x : PartsRow). x.quantum) (seen ∙ is)
+
+pub some_quantum : (p q v : PartsRow) → IsFaultless p → q ≡ p → v ≡ q → 1 ≤ v.quantum
+some_quantum p q v f is seen = rw (same_quantum p q v is seen) (sound p f).quantum.0
 
 none_counted : (p : PartsRow) → IsUncounted (booted_machine p).state.counts
 unfolding boot_state
@@ -38,9 +42,10 @@ none_counted p = record { steps = refl; ticks = refl; sweeps = refl; inputs = re
 pub uncounted : (p : PartsRow) (m : MachineRow) → m ≡ booted_machine p → IsUncounted m.state.counts
 uncounted p m boots = rw boots (none_counted p)
 
-pub text_is : (p : PartsRow) (script : List Due) (limit quantum : ℕ) (report : List ℕ) (m : MachineRow) → report ≡ report_line p → m ≡ booted_machine p → quantum ≡ p.quantum → report ++ run_lines m script quantum limit ≡ run_text p script limit
+pub text_is : (p q v : PartsRow) (script : List Due) (limit : ℕ) (report : List ℕ) (m : MachineRow) → report ≡ report_line p → m ≡ booted_machine p → q ≡ p → v ≡ q
+    → report ++ run_lines m script v.quantum limit ≡ run_text p script limit
 unfolding run_text
-text_is p script limit quantum report m reports boots same = rw (reports, boots, same) refl
+text_is p q v script limit report m reports boots is seen = rw (reports, boots, same_quantum p q v is seen) refl
 
 -- ---- scripts
 
@@ -61,6 +66,6 @@ playable p text script m small is boots = record {
 pub none_playable : (s : State) → IsPlayable [] s
 none_playable s = record { few = omega arith; named = λ k d inside. absurd (omega (arith, inside)) }
 
-pub demo_is : (p : PartsRow) (quantum : ℕ) (m : MachineRow) → m ≡ booted_machine p → quantum ≡ p.quantum → summary_after m quantum DEMO_STEPS ≡ demo_text p
+pub demo_is : (p q v : PartsRow) (m : MachineRow) → m ≡ booted_machine p → q ≡ p → v ≡ q → summary_after m v.quantum DEMO_STEPS ≡ demo_text p
 unfolding demo_text
-demo_is p quantum m boots same = rw (boots, same) refl
+demo_is p q v m boots is seen = rw (boots, same_quantum p q v is seen) refl

@@ -156,18 +156,26 @@ pub(crate) fn run<F: Folder, S: Sink>(
     }
 }
 
+/// Writes the summary of a machine that stands as booted, after the steps of a demonstration.
+fn summarise<S: Sink>(image: &Image, machine: &mut Machine<Planes>, sink: &mut S) -> Status
+    requires machine { machine.old ≡ booted_machine image.now }
+    ensures { Closes (S.bytes sink.old) (S.bytes sink.new) (S.faults sink.old) (S.faults sink.new)
+        (demo_text image.now) Done result }
+{
+    let quantum = image.parts().quantum;
+    match write_summary(machine, quantum, DEMO_STEPS, sink) {
+        Ok(()) => Status::Done,
+        Err(_failed) => Status::WriteFault,
+    }
+}
+
 /// Runs an image for the steps of a demonstration, and writes the summary.
 pub(crate) fn demonstrate<S: Sink>(alloc: Global, image: &Image, sink: &mut S) -> Status
     ensures { IsDone (S.bytes sink.old) (S.bytes sink.new) (S.faults sink.old)
         (S.faults sink.new) (demo_text image.now) result }
 {
-    let mut machine = match ready(alloc, image) {
-        Ok(machine) => machine,
-        Err(_) => return Status::NoMemory,
-    };
-    let quantum = image.parts().quantum;
-    match write_summary(&mut machine, quantum, DEMO_STEPS, sink) {
-        Ok(()) => Status::Done,
-        Err(_failed) => Status::WriteFault,
+    match ready(alloc, image) {
+        Ok(mut machine) => summarise(image, &mut machine, sink),
+        Err(_) => Status::NoMemory,
     }
 }

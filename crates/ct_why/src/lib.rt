@@ -2,7 +2,6 @@
 //! definitions in def_program's Paths).
 #![tactic(auto)]
 
-mod names;
 mod texts;
 
 ghost use Rattle.std.specs.Prelude.{◌≡◌, IfOk, option_map, string_bytes};
@@ -13,6 +12,7 @@ ghost use Rattle.ct_why.specs.Found.{IsFound};
 use ct_entry::Comp;
 use ct_graph::Graph;
 use ct_image::Image;
+use ct_policy::{compartment_named, owner_named};
 use def_refusals::NoMemory;
 use std::alloc::Global;
 
@@ -39,11 +39,11 @@ pub fn line(
         (compartment_named image.now compartment.now) (option_map string_bytes found)) }
 {
     let parts = image.parts();
-    let from = match names::owner_named(parts, owner) {
+    let from = match owner_named(parts, owner.as_bytes()) {
         Some(from) => from,
         None => return Ok(None),
     };
-    let to = match names::compartment_named(parts, compartment) {
+    let to = match compartment_named(parts, compartment.as_bytes()) {
         Some(to) => to,
         None => return Ok(None),
     };

@@ -5,10 +5,10 @@ ghost use Rattle.ct_entry.specs.declared.rows.Owner.TheVariants.{Trusted};
 ghost use Rattle.def_boot.specs.Gates.{entries_of};
 ghost use Rattle.def_program.specs.Paths.{IsWhyLine, none_line, path_line};
 
-use crate::names::name_of;
 use ct_entry::{Comp, Owner};
 use ct_graph::Graph;
 use ct_image::Parts;
+use ct_policy::name_of;
 use def_refusals::NoMemory;
 use std::alloc::{AllocError, Global};
 

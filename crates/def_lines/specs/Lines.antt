@@ -20,65 +20,64 @@ pub record Line : Type 0 where
   pub entry : Entry
   pub label : Label
 
-abbrev pub rights_data : Line → Data
-rights_data l = string (rights_text l.entry.rights)
+-- ---- the members that entries share
+
+abbrev pub with_base : Line → Members → Members
+with_base l more = member (codes "base") (num l.entry.base) more
+
+abbrev pub with_kind : List ℕ → Members → Members
+with_kind kind more = member (codes "kind") (string kind) more
+
+abbrev pub with_length : Line → Members → Members
+with_length l more = member (codes "length") (num l.entry.length) more
+
+abbrev pub with_name : Line → Members → Members
+with_name l more = member (codes "name") (string l.label.name) more
+
+abbrev pub with_number : Line → Members → Members
+with_number l more = member (codes "number") (num l.number) more
+
+abbrev pub with_object : Line → Members → Members
+with_object l more = member (codes "of") (string l.label.of) more
+
+abbrev pub with_owner : Line → Members → Members
+with_owner l more = member (codes "owner") (string l.label.owner) more
+
+abbrev pub with_rights : Line → Members → Members
+with_rights l more = member (codes "rights") (string (rights_text l.entry.rights)) more
+
+-- ---- an entry's members, by its kind
 
 -- what every entry has
 abbrev pub plain_data : List ℕ → Line → Data
 plain_data kind l = object
-    (member (codes "base") (num l.entry.base)
-    (member (codes "kind") (string kind)
-    (member (codes "length") (num l.entry.length)
-    (member (codes "number") (num l.number)
-    (member (codes "owner") (string l.label.owner)
-    (member (codes "rights") (rights_data l) no_members))))))
+    (with_base l (with_kind kind (with_length l
+    (with_number l (with_owner l (with_rights l no_members))))))
 
 -- a key has a name too
 abbrev pub key_data : Line → Data
 key_data l = object
-    (member (codes "base") (num l.entry.base)
-    (member (codes "kind") (string (codes "key"))
-    (member (codes "length") (num l.entry.length)
-    (member (codes "name") (string l.label.name)
-    (member (codes "number") (num l.number)
-    (member (codes "owner") (string l.label.owner)
-    (member (codes "rights") (rights_data l) no_members)))))))
+    (with_base l (with_kind (codes "key") (with_length l (with_name l
+    (with_number l (with_owner l (with_rights l no_members)))))))
 
 -- and a quota its limit
 abbrev pub quota_data : Line → Data
 quota_data l = object
-    (member (codes "base") (num l.entry.base)
-    (member (codes "kind") (string (codes "quota"))
-    (member (codes "length") (num l.entry.length)
+    (with_base l (with_kind (codes "quota") (with_length l
     (member (codes "limit") (num l.entry.limit)
-    (member (codes "name") (string l.label.name)
-    (member (codes "number") (num l.number)
-    (member (codes "owner") (string l.label.owner)
-    (member (codes "rights") (rights_data l) no_members))))))))
+    (with_name l (with_number l (with_owner l (with_rights l no_members))))))))
 
 -- any other slot has the name of what it is of
 abbrev pub slot_data : List ℕ → Line → Data
 slot_data kind l = object
-    (member (codes "base") (num l.entry.base)
-    (member (codes "kind") (string kind)
-    (member (codes "length") (num l.entry.length)
-    (member (codes "name") (string l.label.name)
-    (member (codes "number") (num l.number)
-    (member (codes "of") (string l.label.of)
-    (member (codes "owner") (string l.label.owner)
-    (member (codes "rights") (rights_data l) no_members))))))))
+    (with_base l (with_kind kind (with_length l (with_name l
+    (with_number l (with_object l (with_owner l (with_rights l no_members))))))))
 
 -- a sealed object its type besides
 abbrev pub sealed_data : Line → Data
 sealed_data l = object
-    (member (codes "base") (num l.entry.base)
-    (member (codes "kind") (string (codes "sealed"))
-    (member (codes "length") (num l.entry.length)
-    (member (codes "name") (string l.label.name)
-    (member (codes "number") (num l.number)
-    (member (codes "of") (string l.label.of)
-    (member (codes "owner") (string l.label.owner)
-    (member (codes "rights") (rights_data l)
+    (with_base l (with_kind (codes "sealed") (with_length l (with_name l
+    (with_number l (with_object l (with_owner l (with_rights l
     (member (codes "type") (num l.label.seal) no_members)))))))))
 
 abbrev pub posture_text : Mode → List ℕ
@@ -93,28 +92,20 @@ passes_text capabilities = if capabilities then codes "capabilities" else codes 
 abbrev pub export_data : Line → Data
 export_data l = object
     (member (codes "args") (num l.label.export.args)
-    (member (codes "base") (num l.entry.base)
-    (member (codes "kind") (string (codes "export"))
-    (member (codes "length") (num l.entry.length)
-    (member (codes "name") (string l.label.name)
-    (member (codes "number") (num l.number)
-    (member (codes "owner") (string l.label.owner)
+    (with_base l (with_kind (codes "export") (with_length l (with_name l
+    (with_number l (with_owner l
     (member (codes "passes") (string (passes_text l.label.export.capabilities))
     (member (codes "posture") (string (posture_text l.label.export.posture))
-    (member (codes "rights") (rights_data l)
+    (with_rights l
     (member (codes "stack") (num l.label.export.stack) no_members)))))))))))
 
 -- one of a library its posture alone
 abbrev pub library_export_data : Line → Data
 library_export_data l = object
-    (member (codes "base") (num l.entry.base)
-    (member (codes "kind") (string (codes "export"))
-    (member (codes "length") (num l.entry.length)
-    (member (codes "name") (string l.label.name)
-    (member (codes "number") (num l.number)
-    (member (codes "owner") (string l.label.owner)
+    (with_base l (with_kind (codes "export") (with_length l (with_name l
+    (with_number l (with_owner l
     (member (codes "posture") (string (posture_text l.label.export.posture))
-    (member (codes "rights") (rights_data l) no_members))))))))
+    (with_rights l no_members))))))))
 
 abbrev pub export_of : Owner → Line → Data
 export_of (owner.Library n) l = library_export_data l

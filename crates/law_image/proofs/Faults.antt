@@ -1,5 +1,5 @@
 -- Bytes have one answer: an image, or one fault at one place.
-use Rattle.std.proofs.Common.{ℕ, suc, ◌≡◌, ◌<◌, ◌^◌, ◌⊎◌, inl, inr, Bool, true, false, nat_le, List, ◌∷◌, length, take, drop, Option, Some, None, refl, sym, ap, ◌∙◌, subst, arith}
+use Rattle.std.proofs.Common.{ℕ, suc, ◌≡◌, ◌<◌, ◌^◌, ◌⊎◌, inl, inr, Bool, true, false, nat_le, List, length, take, drop, Option, Some, None, refl, sym, ap, ◌∙◌, subst, arith}
 use Rattle.std.specs.Prelude.{bytes_eq, ◌&&◌}
 use Rattle.std.specs.Int.{w32, from_le_bytes}
 use Rattle.def_image.specs.Raw.{RawImage}
@@ -110,114 +110,75 @@ right_once bytes k j a b = same k j (rights b.0) (moved bytes a.0 b.0 rights (pl
 abbrev Same : ℕ → ℕ → ℕ → ℕ → Type 0
 Same n m k j = (n ≡ m) × (k ≡ j)
 
-abbrev Cuts : List ℕ → ℕ → ℕ → Type 0
-Cuts bytes n k = (n ≡ 2) × IsCut bytes k
+-- of two kinds that are each told once, and never both, one is told once
+abbrev Once : (ℕ → ℕ → Type 0) → Type 0
+Once A = (n m k j : ℕ) → A n k → A m j → Same n m k j
 
-abbrev Limits : List ℕ → ℕ → ℕ → Type 0
-Limits bytes n k = (n ≡ 3) × BreaksLimit bytes k
+abbrev Never : (ℕ → ℕ → Type 0) → (ℕ → ℕ → Type 0) → Type 0
+Never A B = (n m k j : ℕ) → A n k → B m j → ⊥
 
-abbrev Regions : List ℕ → ℕ → ℕ → Type 0
-Regions bytes n k = (n ≡ 4) × BreaksRegion bytes k
+abbrev Either : (ℕ → ℕ → Type 0) → (ℕ → ℕ → Type 0) → ℕ → ℕ → Type 0
+Either A B n k = A n k ⊎ B n k
 
-abbrev Indexes : List ℕ → ℕ → ℕ → Type 0
-Indexes bytes n k = (n ≡ 5) × BreaksIndex bytes k
-
-abbrev Rights : List ℕ → ℕ → ℕ → Type 0
-Rights bytes n k = (n ≡ 6) × BreaksRight bytes k
-
-abbrev Later : List ℕ → ℕ → ℕ → Type 0
-Later bytes n k = Cuts bytes n k ⊎ Limits bytes n k ⊎ Regions bytes n k ⊎ Indexes bytes n k ⊎ Rights bytes n k
-
--- with a cut
-with_cut : (bytes : List ℕ) (n m k j : ℕ) → Cuts bytes n k → Later bytes m j → Same n m k j
-with_cut bytes n m k j a b = elim b [
-  | inl c ↦ (a.0 ∙ sym c.0, a.1.0 ∙ sym c.1.0)
-  | inr d ↦ elim d [
-    | inl c ↦ absurd (cut_limit bytes k j a.1 c.1)
-    | inr f ↦ elim f [
-      | inl c ↦ absurd (cut_stands bytes k c.1.0 a.1 c.1.1)
-      | inr g ↦ elim g [
-        | inl c ↦ absurd (cut_stands bytes k c.1.0 a.1 c.1.1)
-        | inr c ↦ absurd (cut_stands bytes k c.1.0 a.1 c.1.1)
-      ]
-    ]
-  ]
+either_once : (A B : ℕ → ℕ → Type 0) → Once A → Never A B → Once B → Once (Either A B)
+either_once A B one apart other n m k j x y = elim x [
+  | inl a ↦ elim y [ inl b ↦ one n m k j a b | inr b ↦ absurd (apart n m k j a b) ]
+  | inr a ↦ elim y [ inl b ↦ absurd (apart m n j k b a) | inr b ↦ other n m k j a b ]
 ]
 
-with_limit : (bytes : List ℕ) (n m k j : ℕ) → Limits bytes n k → Later bytes m j → Same n m k j
-with_limit bytes n m k j a b = elim b [
-  | inl c ↦ absurd (cut_limit bytes j k c.1 a.1)
-  | inr d ↦ elim d [
-    | inl c ↦ (a.0 ∙ sym c.0, limit_once bytes k j a.1 c.1)
-    | inr f ↦ elim f [
-      | inl c ↦ absurd (limit_apart bytes k c.1.0 a.1 c.1.1)
-      | inr g ↦ elim g [
-        | inl c ↦ absurd (limit_apart bytes k c.1.0 a.1 c.1.1)
-        | inr c ↦ absurd (limit_apart bytes k c.1.0 a.1 c.1.1)
-      ]
-    ]
-  ]
-]
+-- a kind has a number, and is told at one place
+abbrev Kind : ℕ → (ℕ → Type 0) → ℕ → ℕ → Type 0
+Kind number Told n k = (n ≡ number) × Told k
 
-with_region : (bytes : List ℕ) (n m k j : ℕ) → Regions bytes n k → Later bytes m j → Same n m k j
-with_region bytes n m k j a b = elim b [
-  | inl c ↦ absurd (cut_stands bytes j a.1.0 c.1 a.1.1)
-  | inr d ↦ elim d [
-    | inl c ↦ absurd (limit_apart bytes j a.1.0 c.1 a.1.1)
-    | inr f ↦ elim f [
-      | inl c ↦ (a.0 ∙ sym c.0, region_once bytes k j a.1 c.1)
-      | inr g ↦ elim g [
-        | inl c ↦ absurd (region_later bytes k c.1.0 a.1 c.1.1 c.1.2)
-        | inr c ↦ absurd (region_later bytes k c.1.0 a.1 c.1.1 c.1.2)
-      ]
-    ]
-  ]
-]
+kind_once : (number : ℕ) (Told : ℕ → Type 0) → ((k j : ℕ) → Told k → Told j → k ≡ j) → Once (Kind number Told)
+kind_once number Told once n m k j a b = (a.0 ∙ sym b.0, once k j a.1 b.1)
 
-with_index : (bytes : List ℕ) (n m k j : ℕ) → Indexes bytes n k → Later bytes m j → Same n m k j
-with_index bytes n m k j a b = elim b [
-  | inl c ↦ absurd (cut_stands bytes j a.1.0 c.1 a.1.1)
-  | inr d ↦ elim d [
-    | inl c ↦ absurd (limit_apart bytes j a.1.0 c.1 a.1.1)
-    | inr f ↦ elim f [
-      | inl c ↦ absurd (region_later bytes j a.1.0 c.1 a.1.1 a.1.2)
-      | inr g ↦ elim g [
-        | inl c ↦ (a.0 ∙ sym c.0, index_once bytes k j a.1 c.1)
-        | inr c ↦ absurd (index_later bytes k c.1.0 a.1 c.1.1 c.1.3)
-      ]
-    ]
-  ]
-]
+module _ (bytes : List ℕ) where
+  abbrev Cuts : ℕ → ℕ → Type 0
+  Cuts = Kind 2 (IsCut bytes)
 
-with_right : (bytes : List ℕ) (n m k j : ℕ) → Rights bytes n k → Later bytes m j → Same n m k j
-with_right bytes n m k j a b = elim b [
-  | inl c ↦ absurd (cut_stands bytes j a.1.0 c.1 a.1.1)
-  | inr d ↦ elim d [
-    | inl c ↦ absurd (limit_apart bytes j a.1.0 c.1 a.1.1)
-    | inr f ↦ elim f [
-      | inl c ↦ absurd (region_later bytes j a.1.0 c.1 a.1.1 a.1.2)
-      | inr g ↦ elim g [
-        | inl c ↦ absurd (index_later bytes j a.1.0 c.1 a.1.1 a.1.3)
-        | inr c ↦ (a.0 ∙ sym c.0, right_once bytes k j a.1 c.1)
-      ]
-    ]
-  ]
-]
+  abbrev Limits : ℕ → ℕ → Type 0
+  Limits = Kind 3 (BreaksLimit bytes)
 
-later : (bytes : List ℕ) (n m k j : ℕ) → Later bytes n k → Later bytes m j → Same n m k j
-later bytes n m k j a b = elim a [
-  | inl c ↦ with_cut bytes n m k j c b
-  | inr d ↦ elim d [
-    | inl c ↦ with_limit bytes n m k j c b
-    | inr f ↦ elim f [
-      | inl c ↦ with_region bytes n m k j c b
-      | inr g ↦ elim g [
-        | inl c ↦ with_index bytes n m k j c b
-        | inr c ↦ with_right bytes n m k j c b
-      ]
-    ]
-  ]
-]
+  abbrev Regions : ℕ → ℕ → Type 0
+  Regions = Kind 4 (BreaksRegion bytes)
+
+  abbrev Indexes : ℕ → ℕ → Type 0
+  Indexes = Kind 5 (BreaksIndex bytes)
+
+  abbrev Rights : ℕ → ℕ → Type 0
+  Rights = Kind 6 (BreaksRight bytes)
+
+  -- what later kinds say of the parts
+  parted : (n k : ℕ) → Either Regions (Either Indexes Rights) n k → (p : PartsRow) × Stands bytes p
+  parted n k (inl a) = (a.1.0, a.1.1)
+  parted n k (inr (inl a)) = (a.1.0, a.1.1)
+  parted n k (inr (inr a)) = (a.1.0, a.1.1)
+
+  laid : (n k : ℕ) → Either Indexes Rights n k → (p : PartsRow) × Stands bytes p × (regions p ≡ None)
+  laid n k (inl a) = (a.1.0, a.1.1, a.1.2)
+  laid n k (inr a) = (a.1.0, a.1.1, a.1.2)
+
+  cut_never : Never Cuts (Either Limits (Either Regions (Either Indexes Rights)))
+  cut_never n m k j a (inl b) = cut_limit bytes k j a.1 b.1
+  cut_never n m k j a (inr b) = let s = parted m j b in cut_stands bytes k s.0 a.1 s.1
+
+  limit_never : Never Limits (Either Regions (Either Indexes Rights))
+  limit_never n m k j a b = let s = parted m j b in limit_apart bytes k s.0 a.1 s.1
+
+  region_never : Never Regions (Either Indexes Rights)
+  region_never n m k j a b = let s = laid m j b in region_later bytes k s.0 a.1 s.1 s.2
+
+  index_never : Never Indexes Rights
+  index_never n m k j a b = index_later bytes k b.1.0 a.1 b.1.1 b.1.3
+
+  later : Once (Either Cuts (Either Limits (Either Regions (Either Indexes Rights))))
+  later =
+      either_once Cuts (Either Limits (Either Regions (Either Indexes Rights))) (kind_once 2 (IsCut bytes) (λ k j a b. a.0 ∙ sym b.0)) cut_never
+      (either_once Limits (Either Regions (Either Indexes Rights)) (kind_once 3 (BreaksLimit bytes) (limit_once bytes)) limit_never
+      (either_once Regions (Either Indexes Rights) (kind_once 4 (BreaksRegion bytes) (region_once bytes)) region_never
+      (either_once Indexes Rights (kind_once 5 (BreaksIndex bytes) (index_once bytes)) index_never
+      (kind_once 6 (BreaksRight bytes) (right_once bytes)))))
 
 unbegun : (b : Bool) → b ≡ false → b ≡ true → ⊥
 unbegun b e f = absurd (let no : false ≡ true = sym e ∙ f in cc)

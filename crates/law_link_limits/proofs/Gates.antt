@@ -38,43 +38,43 @@ passes_within : (p : Passes) → outside 1 2 (passes_byte (passes_capabilities p
 passes_within Capabilities = refl
 passes_within Data = refl
 
+-- the fields of an export that the kind of its owner bounds
+record Within (b : Bounds) (x : GateRow) : Type 0 where
+  stack : x.row.stack ≤ b.stack
+  most : b.stack < 2 ^ 32
+  args : x.row.args ≤ b.args
+  posture : outside b.posture 3 (posture_byte x.row.posture) ≡ false
+  passes : outside 1 b.passes (passes_byte x.row.capabilities) ≡ false
+
 -- an export's offset is a word of the text
-begin_is : (b : Built) (at : AtRow) → (h : Begins b at) → unwrap_or (begin_of b at) 0 ≡ h.offset
-begin_is b at h = ap (λ o. unwrap_or o 0) h.is
+begins_good : (bounds : Bounds) (b : Built) (at : AtRow) (x : GateRow) → x.row.offset ≡ unwrap_or (begin_of b at) 0 → length b.text ≤ MOST_BYTES → x.row.entry < 2 ^ 32 → Begins b at → is_name x.name ≡ true
+    → Within bounds x → GateGood bounds (length b.text) x
+begins_good bounds b at x begun small few begins formed within =
+    let is = begun ∙ ap (λ o. unwrap_or o 0) begins.is in
+    record {
+      named = formed;
+      even = ap (λ n. n % 4) is ∙ begins.even;
+      inside = omega (arith, begins.inside, is);
+      small = small;
+      stack = within.stack;
+      most = within.most;
+      args = within.args;
+      posture = within.posture;
+      passes = within.passes;
+      entry_small = few;
+    }
 
 pub gate_good : (b : Built) (entry : ℕ) (x : ExportRow) → length b.text ≤ MOST_BYTES → entry < 2 ^ 32 → Begins b x.at → IsLawfulExport x → is_name x.name ≡ true
     → GateGood compartment_bounds (length b.text) (export_gate b entry x)
 gate_good b entry x small few at law formed =
-    let is = begin_is b x.at at in
-    record {
-      named = formed;
-      even = ap (λ n. n % 4) is ∙ at.even;
-      inside = (let lt = at.inside in omega (arith, lt, is));
-      small = small;
-      stack = law.stack;
-      most = omega arith;
-      args = law.args;
-      posture = posture_within x.posture law.posture;
-      passes = passes_within x.passes;
-      entry_small = few;
-    }
+    begins_good compartment_bounds b x.at (export_gate b entry x) refl small few at formed
+    (record { stack = law.stack; most = omega arith; args = law.args; posture = posture_within x.posture law.posture; passes = passes_within x.passes })
 
 pub lexport_good : (b : Built) (entry : ℕ) (x : LexportRow) → length b.text ≤ MOST_BYTES → entry < 2 ^ 32 → Begins b x.at → is_name x.name ≡ true
     → GateGood library_bounds (length b.text) (lexport_gate b entry x)
 lexport_good b entry x small few at formed =
-    let is = begin_is b x.at at in
-    record {
-      named = formed;
-      even = ap (λ n. n % 4) is ∙ at.even;
-      inside = (let lt = at.inside in omega (arith, lt, is));
-      small = small;
-      stack = omega arith;
-      most = omega arith;
-      args = omega arith;
-      posture = any_posture x.posture;
-      passes = refl;
-      entry_small = few;
-    }
+    begins_good library_bounds b x.at (lexport_gate b entry x) refl small few at formed
+    (record { stack = omega arith; most = omega arith; args = omega arith; posture = any_posture x.posture; passes = refl })
 
 -- ---- the exports of an owner, numbered on from an entry
 

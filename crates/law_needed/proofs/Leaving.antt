@@ -1,5 +1,5 @@
 -- Without the fact a return leads out of the invariant.
-use Rattle.std.proofs.Common.{ℕ, zero, suc, ◌+◌, ◌≡◌, ◌||◌, inl, inr, Bool, not, true, false, List, [], ◌∷◌, refl, sym, ap, ◌∙◌, subst, arith, lit<, lit≤}
+use Rattle.std.proofs.Common.{ℕ, zero, suc, ◌+◌, ◌≡◌, ◌||◌, ◌⊎◌, inl, inr, Bool, not, true, false, List, [], ◌∷◌, refl, sym, ap, ◌∙◌, subst, arith, lit<, lit≤}
 use Rattle.def_profile.specs.declared.rights.TheConstants.{GLOBALS_RIGHTS, SERVICE_RIGHTS}
 use Rattle.def_profile.specs.declared.native.TheConstants.{NATIVE_LENGTH, RETURN_ENTRY}
 use Rattle.def_profile.specs.declared.seals.TheConstants.{RETURN_ENABLE}
@@ -73,19 +73,13 @@ not_reached h =
     let none : h.by ≡ 0 = alone h.by h.joined.members 0 h.joined.leads in
     omega (arith, one, none)
 
-not_boot : IsBootType 0 → ⊥
-not_boot (inl e) = omega (arith, e)
-not_boot (inr (inl e)) = omega (arith, e)
-not_boot (inr (inr (inl e))) = omega (arith, e)
-not_boot (inr (inr (inr (inl e)))) = omega (arith, e)
-not_boot (inr (inr (inr (inr e)))) = omega (arith, e)
-
-not_boot_five : IsBootType RETURN_ENABLE → ⊥
-not_boot_five (inl e) = omega (arith, e)
-not_boot_five (inr (inl e)) = omega (arith, e)
-not_boot_five (inr (inr (inl e))) = omega (arith, e)
-not_boot_five (inr (inr (inr (inl e)))) = omega (arith, e)
-not_boot_five (inr (inr (inr (inr e)))) = omega (arith, e)
+-- neither no seal nor a return's is one of boot
+not_boot : (n : ℕ) → (n ≡ 0) ⊎ (n ≡ RETURN_ENABLE) → IsBootType n → ⊥
+not_boot n off (inl e) = elim off [ inl z ↦ omega (arith, z, e) | inr r ↦ omega (arith, r, e) ]
+not_boot n off (inr (inl e)) = elim off [ inl z ↦ omega (arith, z, e) | inr r ↦ omega (arith, r, e) ]
+not_boot n off (inr (inr (inl e))) = elim off [ inl z ↦ omega (arith, z, e) | inr r ↦ omega (arith, r, e) ]
+not_boot n off (inr (inr (inr (inl e)))) = elim off [ inl z ↦ omega (arith, z, e) | inr r ↦ omega (arith, r, e) ]
+not_boot n off (inr (inr (inr (inr e)))) = elim off [ inl z ↦ omega (arith, z, e) | inr r ↦ omega (arith, r, e) ]
 
 sentry_rooted : Rooted two sentry
 unfolding root_of gate_for bit
@@ -104,7 +98,7 @@ sentry_rooted = made_rooted two sentry (record { root = 0; source = 0 }) RETURN_
   off = λ four. omega (arith, four);
   calls = λ nine. absurd (omega (arith, nine));
   native = λ is. sym is_sentry.0.address_is;
-}) (λ any. absurd (not_boot_five any))
+}) (λ any. absurd (not_boot RETURN_ENABLE (inr refl) any))
 
 globals_rooted : Rooted two inner_globals
 unfolding root_of gate_for bit
@@ -123,7 +117,7 @@ globals_rooted = made_rooted two inner_globals (record { root = 4; source = 0 })
   off = λ four. omega (arith, four);
   calls = λ nine. absurd (omega (arith, nine));
   native = λ is. absurd (let clash : false ≡ true = is in cc);
-}) (λ any. absurd (not_boot any))
+}) (λ any. absurd (not_boot 0 (inl refl) any))
 
 sentry_placed : (S : Cap → Type 0) → Placed two [] (λ y. y ≡ 0) S sentry
 unfolding root_of gate_for

@@ -26,7 +26,7 @@ use Rattle.ct_heap.specs.declared.rows.Object.{Object as Told}
 use Rattle.ct_heap.specs.declared.rows.HeapRefusal.{HeapRefusal}
 use Rattle.ct_heap.specs.declared.rows.NotWhole.{NotWhole}
 use Rattle.ct_heap.specs.Lookups.{whole_of}
-use Rattle.ct_heap.specs.Effects.{made, Allocates, Refuses, Frees, Paints, NoneStale, Flushes}
+use Rattle.ct_heap.specs.Effects.{Same, made, Allocates, Refuses, Frees, Paints, NoneStale, Flushes}
 use Rattle.ct_revoke.specs.Slices.{IsSliced, CleanFrom}
 use Rattle.ct_revoke.proofs.Filters.{untagged_passes, passes_clean}
 use Rattle.run_rows.specs.declared.heap.swept.TheConstants.{RAM}
@@ -54,6 +54,24 @@ idle_start : (front : Option ℕ) → is_some front ≡ false → unwrap_or fron
 idle_start None none = refl
 idle_start (Some front) none = absurd (let clash : true ≡ false = none in cc)
 
+-- ---- heads and heap change, and the heap stays where it lies
+
+moved : (s : SweptRow) (n : HeapRow) (hs : List Granule) (front : Option ℕ) (count : ℕ) (qs : List Object) → IsSwept s → Laid n hs → Same s.heap n → objects_of n hs ≡ qs → n.next ≤ count + 1 → unwrap_or front 0 ≤ 8 * length hs → Each (λ r. Held s.heap.range.ram hs r) qs → PassedClean front qs hs → IsSwept (record s { heap = n; granules = hs; front = front; made = count })
+moved s n hs front count qs is laid same objects next high held clean =
+    let e_ram : n.range.ram ≡ s.heap.range.ram = ap (λ (r : Range). r.ram) same.range in
+    let e_base : n.range.base ≡ s.heap.range.base = ap (λ (r : Range). r.base) same.range in
+    let low = is.low in
+    record {
+      ram = e_ram ∙ is.ram;
+      laid = laid;
+      quotas = same.quotas ∙ is.quotas;
+      made = next;
+      low = omega (arith, low, e_ram, e_base);
+      front = high;
+      held = subst (λ m. Each (λ r. Held m hs r) (objects_of n hs)) (sym e_ram) (subst (λ rs. Each (λ r. Held s.heap.range.ram hs r) rs) (sym objects) held);
+      clean = subst (λ rs. PassedClean front rs hs) (sym objects) clean;
+    }
+
 -- ---- allocations
 
 pub asked : (s : SweptRow) → IsSwept s → IsSwept (record s { made = s.made + 1 })
@@ -70,9 +88,6 @@ asked s is = record {
 
 allocated : (s : SweptRow) (n : HeapRow) (hs : List Granule) (quota size number base extent live : ℕ) → IsSwept s → Laid n hs → Allocates s.heap n s.granules hs quota size number base extent live → IsSwept (record s { heap = n; granules = hs; made = s.made + 1 })
 allocated s n hs quota size number base extent live is laid a =
-    let e_ram : n.range.ram ≡ s.heap.range.ram = ap (λ (r : Range). r.ram) a.same.range in
-    let e_base : n.range.base ≡ s.heap.range.base = ap (λ (r : Range). r.base) a.same.range in
-    let low = is.low in
     let most = is.made in
     let next = a.next in
     let front = is.front in
@@ -83,17 +98,9 @@ allocated s n hs quota size number base extent live is laid a =
       marked = λ dead. absurd (let clash : true ≡ false = dead in cc);
       freed = λ paint. absurd (let clash : false ≡ true = paint in cc);
     } in
-    let all : Each (λ r. Held s.heap.range.ram hs r) (placed_among o (rows s)) = each_placed (λ r. Held s.heap.range.ram hs r) o (rows s) new (all_held_on s.heap.range.ram s.granules hs (rows s) stay is.held) in
-    record {
-      ram = e_ram ∙ is.ram;
-      laid = laid;
-      quotas = a.same.quotas ∙ is.quotas;
-      made = omega (arith, most, next);
-      low = omega (arith, low, e_ram, e_base);
-      front = omega (arith, front, long);
-      held = subst (λ m. Each (λ r. Held m hs r) (objects_of n hs)) (sym e_ram) (subst (λ rs. Each (λ r. Held s.heap.range.ram hs r) rs) (sym a.objects) all);
-      clean = subst (λ rs. PassedClean s.front rs hs) (sym a.objects) (clean_on s.front (rows s) (placed_among o (rows s)) s.granules hs a.stays.tags (λ x. painted_placed o (rows s) x refl) is.clean);
-    }
+    moved s n hs s.front (s.made + 1) (placed_among o (rows s)) is laid a.same a.objects (omega (arith, most, next)) (omega (arith, front, long))
+    (each_placed (λ r. Held s.heap.range.ram hs r) o (rows s) new (all_held_on s.heap.range.ram s.granules hs (rows s) stay is.held))
+    (clean_on s.front (rows s) (placed_among o (rows s)) s.granules hs a.stays.tags (λ x. painted_placed o (rows s) x refl) is.clean)
 
 -- nothing of heap and memory has changed
 same_swept : (s : SweptRow) (n : HeapRow) (hs : List Granule) (count : ℕ) → n ≡ s.heap → hs ≡ s.granules → IsSwept (record s { made = count }) → IsSwept (record s { heap = n; granules = hs; made = count })
@@ -134,24 +141,13 @@ new_marks s n hs quota base top number object_base extent live is f whole low x 
 
 was_freed : (s : SweptRow) (n : HeapRow) (hs : List Granule) (quota base top number object_base extent live : ℕ) → IsSwept s → Laid n hs → Frees s.heap n s.granules hs quota base top number object_base extent live → IsSwept (record s { heap = n; granules = hs })
 was_freed s n hs quota base top number object_base extent live is laid f =
-    let e_ram : n.range.ram ≡ s.heap.range.ram = ap (λ (r : Range). r.ram) f.same.range in
-    let e_base : n.range.base ≡ s.heap.range.base = ap (λ (r : Range). r.base) f.same.range in
-    let low = is.low in
     let most = is.made in
     let next = f.next in
     let front = is.front in
     let long = f.size in
-    let all = freed_held s.heap.range s.granules hs quota base top f.object (rows s) (freed_marks s n hs quota base top number object_base extent live f) (new_marks s n hs quota base top number object_base extent live is f) is.laid.distinct (objects_inside s.heap s.granules is.laid) f.is is.held in
-    record {
-      ram = e_ram ∙ is.ram;
-      laid = laid;
-      quotas = f.same.quotas ∙ is.quotas;
-      made = omega (arith, most, next);
-      low = omega (arith, low, e_ram, e_base);
-      front = omega (arith, front, long);
-      held = subst (λ m. Each (λ r. Held m hs r) (objects_of n hs)) (sym e_ram) (subst (λ rs. Each (λ r. Held s.heap.range.ram hs r) rs) (sym f.objects) all);
-      clean = subst (λ rs. PassedClean s.front rs hs) (sym f.objects) (clean_on s.front (rows s) (quarantine f.object.number (rows s)) s.granules hs f.tags (λ x. painted_quarantined f.object.number (rows s) x) is.clean);
-    }
+    moved s n hs s.front s.made (quarantine f.object.number (rows s)) is laid f.same f.objects (omega (arith, most, next)) (omega (arith, front, long))
+    (freed_held s.heap.range s.granules hs quota base top f.object (rows s) (freed_marks s n hs quota base top number object_base extent live f) (new_marks s n hs quota base top number object_base extent live is f) is.laid.distinct (objects_inside s.heap s.granules is.laid) f.is is.held)
+    (clean_on s.front (rows s) (quarantine f.object.number (rows s)) s.granules hs f.tags (λ x. painted_quarantined f.object.number (rows s) x) is.clean)
 
 pub after_free : (s : SweptRow) (n : HeapRow) (hs : List Granule) (quota base top : ℕ) (result : Result Told NotWhole) → IsSwept s → Laid n hs
     → MatchResult result (λ o. Frees s.heap n s.granules hs quota base top o.number o.base o.length o.live) (λ e. whole_of quota base top (rows s) ≡ None)
@@ -285,21 +281,9 @@ none_stale s is ended k tagged some = elim (lt_tells k (length s.granules)) [
 
 pub after_flush : (s : SweptRow) (n : HeapRow) (hs : List Granule) (front : Option ℕ) → IsSwept s → Laid n hs → Flushes s.heap n s.granules hs → front ≡ None → IsSwept (record s { heap = n; granules = hs; front = front })
 after_flush s n hs front is laid f none =
-    let e_ram : n.range.ram ≡ s.heap.range.ram = ap (λ (r : Range). r.ram) f.same.range in
-    let e_base : n.range.base ≡ s.heap.range.base = ap (λ (r : Range). r.base) f.same.range in
-    let low = is.low in
     let most = is.made in
     let next = f.next in
     let even = is.laid.settled.tiled.even.0 in
-    let all = flushed_held s.heap.range s.granules hs (rows s) (omega (arith, even)) is.laid.settled.tiled.above f.marks (objects_apart s.heap s.granules is.laid) (objects_inside s.heap s.granules is.laid) is.held in
     subst (λ m. IsSwept (record s { heap = n; granules = hs; front = m })) (sym none)
-    (record {
-      ram = e_ram ∙ is.ram;
-      laid = laid;
-      quotas = f.same.quotas ∙ is.quotas;
-      made = omega (arith, most, next);
-      low = omega (arith, low, e_ram, e_base);
-      front = omega arith;
-      held = subst (λ m. Each (λ r. Held m hs r) (objects_of n hs)) (sym e_ram) (subst (λ rs. Each (λ r. Held s.heap.range.ram hs r) rs) (sym f.objects) all);
-      clean = tt;
-    })
+    (moved s n hs None s.made (unpainted (rows s)) is laid f.same f.objects (omega (arith, most, next)) (omega arith)
+    (flushed_held s.heap.range s.granules hs (rows s) (omega (arith, even)) is.laid.settled.tiled.above f.marks (objects_apart s.heap s.granules is.laid) (objects_inside s.heap s.granules is.laid) is.held) tt)

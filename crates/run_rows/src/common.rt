@@ -60,6 +60,11 @@ pub fn print_lines(rt: &HostRuntime, lines: &str) -> Result<(), Failure> {
     }
 }
 
+/// A truth value as a word.
+pub fn truth(holds: bool) -> &'static str {
+    if holds { "true" } else { "false" }
+}
+
 /// Adds a text that was made.
 pub fn add(made: Result<String, AllocError>, out: &mut String) -> Result<(), AllocError> {
     let text = made?;

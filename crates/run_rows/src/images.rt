@@ -2,10 +2,11 @@
 //! them out apart from it; then whether what is written of each is its bytes, and what is answered to
 //! the upgraded one; and the answers to the small image with a number put into it, worked out by hand.
 
-use crate::common::{Failure, add, print_lines, read_file};
+use crate::common::{Failure, add, print_lines, read_file, truth};
 use ct_entry::{Comp, Owner};
-use ct_image::{Image, ImageFault, accept, write};
+use ct_image::{Image, accept, write};
 use std::alloc::{AllocError, Global};
+use worked_parts::answered;
 
 /// What is put in the place of a byte, by the number of the change.
 fn changed(byte: u8, change: u8) -> u8 {
@@ -18,36 +19,37 @@ fn changed(byte: u8, change: u8) -> u8 {
     }
 }
 
-/// The answer to bytes, in a word.
-fn answered(alloc: Global, bytes: &[u8]) -> Result<String, AllocError> {
-    if bytes.len() >= 1 << 32 {
-        return String::from_str(alloc, "large");
-    }
-    match accept(alloc, bytes) {
-        Ok(_) => String::from_str(alloc, "ok"),
-        Err(ImageFault::At { number, place }) => format!(in alloc; "{number} {place}"),
-        Err(ImageFault::NoMemory) => String::from_str(alloc, "memory"),
-    }
-}
-
-/// The answers to the changes of one byte, which is put back.
-fn row(alloc: Global, bytes: &mut Vec<u8>, at: usize) -> Result<String, AllocError> {
-    let mut line = format!(in alloc; "{at}:")?;
-    let byte = match bytes.get(at) {
-        Some(byte) => *byte,
-        None => 0,
-    };
-    for change in 0u8..5 {
-        if at < bytes.len() {
-            bytes[at] = changed(byte, change);
-        }
-        line.push_str(if change == 0 { " " } else { ", " })?;
-        add(answered(alloc, bytes.as_slice()), &mut line)?;
-    }
+/// Puts a byte in a place, where there is such a place.
+fn put(bytes: &mut [u8], at: usize, byte: u8) {
     if at < bytes.len() {
         bytes[at] = byte;
     }
-    Ok(line)
+}
+
+/// The byte in a place; 0 where there is no such place.
+fn byte_at(bytes: &[u8], at: usize) -> u8 {
+    match bytes.get(at) {
+        Some(byte) => *byte,
+        None => 0,
+    }
+}
+
+/// What stands between the answer to a change and what comes before it.
+fn gap(change: u8) -> &'static str {
+    if change == 0 { " " } else { ", " }
+}
+
+/// The answers to the changes of one byte, which is put back.
+fn add_row(alloc: Global, bytes: &mut [u8], at: usize, out: &mut String) -> Result<(), AllocError> {
+    let byte = byte_at(bytes, at);
+    add(format!(in alloc; "{at}:"), out)?;
+    for change in 0u8..5 {
+        put(bytes, at, changed(byte, change));
+        out.push_str(gap(change))?;
+        add(answered(alloc, bytes), out)?;
+    }
+    put(bytes, at, byte);
+    out.push_str("\n")
 }
 
 /// Whether what is written of an image is these bytes.
@@ -81,68 +83,111 @@ fn counted(alloc: Global, part: Option<&[u8]>) -> Result<String, AllocError> {
     }
 }
 
+/// How many bytes the texts of three compartments, three libraries and the trusted part have.
+fn add_texts(alloc: Global, image: &Image, line: &mut String) -> Result<(), AllocError> {
+    for index in 0u32..3 {
+        add(counted(alloc, image.text(Owner::Compartment(index))), line)?;
+    }
+    for index in 0u32..3 {
+        add(counted(alloc, image.text(Owner::Library(index))), line)?;
+    }
+    add(counted(alloc, image.text(Owner::Trusted)), line)
+}
+
+/// How many bytes the globals of three compartments begin with.
+fn add_initial(alloc: Global, image: &Image, line: &mut String) -> Result<(), AllocError> {
+    for index in 0u32..3 {
+        add(counted(alloc, image.init(Comp(index))), line)?;
+    }
+    Ok(())
+}
+
 /// How many bytes the texts of three compartments and three libraries have, and the bytes that the
-/// globals of three compartments begin with, of a copy of the image.
-fn handed(alloc: Global, image: &Image) -> Result<String, AllocError> {
-    let Ok(copy) = image.copy(alloc) else {
-        return String::from_str(alloc, "memory");
-    };
-    let mut line = String::from_str(alloc, "texts")?;
-    for index in 0u32..3 {
-        add(
-            counted(alloc, copy.text(Owner::Compartment(index))),
-            &mut line,
-        )?;
-    }
-    for index in 0u32..3 {
-        add(counted(alloc, copy.text(Owner::Library(index))), &mut line)?;
-    }
-    add(counted(alloc, copy.text(Owner::Trusted)), &mut line)?;
+/// globals of three compartments begin with.
+fn add_parts(alloc: Global, image: &Image, line: &mut String) -> Result<(), AllocError> {
+    line.push_str("texts")?;
+    add_texts(alloc, image, line)?;
     line.push_str(", initial")?;
-    for index in 0u32..3 {
-        add(counted(alloc, copy.init(Comp(index))), &mut line)?;
+    add_initial(alloc, image, line)
+}
+
+/// The same of a copy of the image.
+fn add_copied(alloc: Global, image: &Image, line: &mut String) -> Result<(), AllocError> {
+    match image.copy(alloc) {
+        Ok(copy) => add_parts(alloc, &copy, line),
+        Err(_) => line.push_str("memory"),
     }
-    Ok(line)
+}
+
+/// What is told of an image whose bytes these are.
+fn add_image(
+    alloc: Global,
+    image: &Image,
+    bytes: &[u8],
+    line: &mut String,
+) -> Result<(), AllocError> {
+    let same = truth(is_written(alloc, image, bytes));
+    add(format!(in alloc; "written {same}, "), line)?;
+    add_copied(alloc, image, line)?;
+    line.push_str(", upgraded ")
 }
 
 /// What is told of the whole image.
-fn of_whole(alloc: Global, bytes: &[u8]) -> Result<String, AllocError> {
+fn add_whole(alloc: Global, bytes: &[u8], line: &mut String) -> Result<(), AllocError> {
     if bytes.len() >= 1 << 32 {
-        return String::from_str(alloc, "large");
+        return line.push_str("large");
     }
     match accept(alloc, bytes) {
         Ok(image) => {
-            let same = is_written(alloc, &image, bytes);
-            let parts = handed(alloc, &image)?;
-            let later = upgraded(alloc, image)?;
-            format!(in alloc; "written {same}, {parts}, upgraded {later}")
+            add_image(alloc, &image, bytes, line)?;
+            add(upgraded(alloc, image), line)
         }
-        Err(_) => String::from_str(alloc, "refused"),
+        Err(_) => line.push_str("refused"),
     }
+}
+
+/// The answers to the changes of each byte.
+fn add_changes(alloc: Global, bytes: &mut [u8], out: &mut String) -> Result<(), AllocError> {
+    for at in 0..bytes.len() {
+        add_row(alloc, bytes, at, out)?;
+    }
+    Ok(())
+}
+
+/// The answer to so many of the first bytes.
+fn add_cut(alloc: Global, bytes: &[u8], n: usize, out: &mut String) -> Result<(), AllocError> {
+    add(format!(in alloc; "cut {n}: "), out)?;
+    match bytes.get(..n) {
+        Some(front) => add(answered(alloc, front), out)?,
+        None => out.push_str("none")?,
+    }
+    out.push_str("\n")
+}
+
+/// The answers to the bytes cut at each length.
+fn add_cuts(alloc: Global, bytes: &[u8], out: &mut String) -> Result<(), AllocError> {
+    for n in 0..bytes.len() {
+        add_cut(alloc, bytes, n, out)?;
+    }
+    Ok(())
+}
+
+/// The answer to bytes, under its name.
+fn add_named(alloc: Global, name: &str, bytes: &[u8], out: &mut String) -> Result<(), AllocError> {
+    let word = answered(alloc, bytes)?;
+    add(format!(in alloc; "{name}: {word}\n"), out)
 }
 
 /// All lines of one image.
 fn lines(alloc: Global, bytes: &mut Vec<u8>, out: &mut String) -> Result<(), AllocError> {
-    let count = bytes.len();
-    for at in 0..count {
-        add(row(alloc, bytes, at), out)?;
-        out.push_str("\n")?;
-    }
-    for n in 0..count {
-        let word = match bytes.get(..n) {
-            Some(front) => answered(alloc, front)?,
-            None => String::from_str(alloc, "none")?,
-        };
-        add(format!(in alloc; "cut {n}: {word}\n"), out)?;
-    }
-    let whole = answered(alloc, bytes.as_slice())?;
-    let told = of_whole(alloc, bytes.as_slice())?;
+    add_changes(alloc, bytes.as_mut_slice(), out)?;
+    add_cuts(alloc, bytes.as_slice(), out)?;
+    add_named(alloc, "whole", bytes.as_slice(), out)?;
     bytes.push(0)?;
-    let more = answered(alloc, bytes.as_slice())?;
-    add(
-        format!(in alloc; "whole: {whole}\nand a byte: {more}\n{told}\n"),
-        out,
-    )
+    add_named(alloc, "and a byte", bytes.as_slice(), out)?;
+    let _ = bytes.pop();
+    add_whole(alloc, bytes.as_slice(), out)?;
+    out.push_str("\n")
 }
 
 /// Offsets in the small image and the numbers that are put there: the version, the quantum, the heap's
@@ -165,23 +210,37 @@ const NUMBERS: [(usize, u32); 11] = [
 /// The same of the upgraded image: the sweep rate, the globals' base.
 const UPGRADED_NUMBERS: [(usize, u32); 2] = [(52, 0), (176, 0x8000_0030)];
 
-/// The answers to bytes with a number put into them.
+/// Puts a number into bytes, as far as they reach.
+fn put_number(bytes: &mut [u8], at: usize, number: u32) {
+    let number = number.to_le_bytes();
+    for index in 0usize..4 {
+        put(bytes, at.saturating_add(index), number[index]);
+    }
+}
+
+/// The answer to bytes with a number put into them.
+fn add_number(
+    alloc: Global,
+    bytes: &[u8],
+    (at, number): (usize, u32),
+    out: &mut String,
+) -> Result<(), AllocError> {
+    let mut changed = Vec::from_slice(alloc, bytes)?;
+    put_number(changed.as_mut_slice(), at, number);
+    add(format!(in alloc; "{number} at {at}: "), out)?;
+    add(answered(alloc, changed.as_slice()), out)?;
+    out.push_str("\n")
+}
+
+/// The answers to bytes with each of these numbers put into them.
 fn numbered(
     alloc: Global,
     bytes: &[u8],
     numbers: &[(usize, u32)],
     out: &mut String,
 ) -> Result<(), AllocError> {
-    for (at, number) in numbers {
-        let mut changed = Vec::from_slice(alloc, bytes)?;
-        let put = number.to_le_bytes();
-        for index in 0usize..4 {
-            if *at < changed.len() && index < changed.len() - *at {
-                changed[*at + index] = put[index];
-            }
-        }
-        let word = answered(alloc, changed.as_slice())?;
-        add(format!(in alloc; "{number} at {at}: {word}\n"), out)?;
+    for row in numbers {
+        add_number(alloc, bytes, *row, out)?;
     }
     Ok(())
 }

@@ -17,6 +17,58 @@ fn tell(out: &mut String, alloc: Global, shows: &str, told: &str) -> Result<(), 
     add(format!(in alloc; "{shows}: {told}\n"), out)
 }
 
+/// Adds the line of a description and texts: what it shows, and what they are linked to.
+fn add_linked(
+    out: &mut String,
+    alloc: Global,
+    shows: &str,
+    description: &str,
+    texts: &[&str],
+    wanted: &[u8],
+) -> Result<(), AllocError> {
+    let told = linked(alloc, description, texts, wanted)?;
+    tell(out, alloc, shows, told.as_str())
+}
+
+/// The smallest sample by words, with this number of bytes of RAM and this place of its export.
+fn add_by_words(
+    out: &mut String,
+    alloc: Global,
+    shows: &str,
+    (size, at): (&str, &str),
+    texts: &[&str],
+    wanted: &[u8],
+) -> Result<(), AllocError> {
+    let words = tiny(alloc, size, WORDS, at)?;
+    add_linked(out, alloc, shows, words.as_str(), texts, wanted)
+}
+
+/// The smallest sample by a source, with this place of its export.
+fn add_by_source(
+    out: &mut String,
+    alloc: Global,
+    shows: &str,
+    at: &str,
+    source: &str,
+    wanted: &[u8],
+) -> Result<(), AllocError> {
+    let file = tiny(alloc, "4096", FILE, at)?;
+    add_linked(out, alloc, shows, file.as_str(), &[source], wanted)
+}
+
+/// The sample with a library, with this number of bytes of RAM.
+fn add_board(
+    out: &mut String,
+    alloc: Global,
+    shows: &str,
+    size: &str,
+    texts: &[&str],
+    wanted: &[u8],
+) -> Result<(), AllocError> {
+    let desc = board(alloc, size)?;
+    add_linked(out, alloc, shows, desc.as_str(), texts, wanted)
+}
+
 /// The samples, with the images that are wanted of them.
 fn add_samples(
     out: &mut String,
@@ -25,29 +77,24 @@ fn add_samples(
     whole: &[u8],
     large: &[u8],
 ) -> Result<(), AllocError> {
-    let words = tiny(alloc, "4096", WORDS, "0")?;
-    let told = linked(alloc, words.as_str(), &[], small)?;
-    tell(out, alloc, "tiny by words", told.as_str())?;
-    let file = tiny(alloc, "4096", FILE, LABEL)?;
-    let told = linked(alloc, file.as_str(), &[MAIN], small)?;
-    tell(out, alloc, "tiny by a source", told.as_str())?;
-    let desc = board(alloc, "4096")?;
-    let told = linked(alloc, desc.as_str(), &[APP, DRIVER, HEX], whole)?;
-    tell(out, alloc, "board", told.as_str())?;
-    let told = linked(alloc, LARGE, &[ONE, LIB], large)?;
-    tell(out, alloc, "large", told.as_str())
+    add_by_words(out, alloc, "tiny by words", ("4096", "0"), &[], small)?;
+    add_by_source(out, alloc, "tiny by a source", LABEL, MAIN, small)?;
+    add_board(out, alloc, "board", "4096", &[APP, DRIVER, HEX], whole)?;
+    add_linked(out, alloc, "large", LARGE, &[ONE, LIB], large)
 }
 
 /// Texts of another number than that of the files.
 fn add_other_texts(out: &mut String, alloc: Global) -> Result<(), AllocError> {
-    let words = tiny(alloc, "4096", WORDS, "0")?;
-    let told = linked(alloc, words.as_str(), &[MAIN], &[])?;
-    tell(out, alloc, "a text of no file", told.as_str())?;
-    let desc = board(alloc, "4096")?;
-    let told = linked(alloc, desc.as_str(), &[APP, DRIVER], &[])?;
-    tell(out, alloc, "a text too few", told.as_str())?;
-    let told = linked(alloc, desc.as_str(), &[APP, DRIVER, HEX, HEX], &[])?;
-    tell(out, alloc, "a text too many", told.as_str())
+    add_by_words(out, alloc, "a text of no file", ("4096", "0"), &[MAIN], &[])?;
+    add_board(out, alloc, "a text too few", "4096", &[APP, DRIVER], &[])?;
+    add_board(
+        out,
+        alloc,
+        "a text too many",
+        "4096",
+        &[APP, DRIVER, HEX, HEX],
+        &[],
+    )
 }
 
 /// The words of a source of the smallest sample.
@@ -61,14 +108,10 @@ fn add_words(out: &mut String, alloc: Global) -> Result<(), AllocError> {
 /// The smallest sample altered.
 fn add_small(out: &mut String, alloc: Global) -> Result<(), AllocError> {
     for (shows, size, at) in &BY_WORDS {
-        let words = tiny(alloc, *size, WORDS, *at)?;
-        let told = linked(alloc, words.as_str(), &[], &[])?;
-        tell(out, alloc, *shows, told.as_str())?;
+        add_by_words(out, alloc, *shows, (*size, *at), &[], &[])?;
     }
     for (shows, at, source) in &BY_SOURCE {
-        let file = tiny(alloc, "4096", FILE, *at)?;
-        let told = linked(alloc, file.as_str(), &[*source], &[])?;
-        tell(out, alloc, *shows, told.as_str())?;
+        add_by_source(out, alloc, *shows, *at, *source, &[])?;
     }
     Ok(())
 }
@@ -76,9 +119,7 @@ fn add_small(out: &mut String, alloc: Global) -> Result<(), AllocError> {
 /// The sample with a library altered.
 fn add_boards(out: &mut String, alloc: Global) -> Result<(), AllocError> {
     for (shows, size, texts) in &BOARDS {
-        let desc = board(alloc, *size)?;
-        let told = linked(alloc, desc.as_str(), texts, &[])?;
-        tell(out, alloc, *shows, told.as_str())?;
+        add_board(out, alloc, *shows, *size, texts, &[])?;
     }
     Ok(())
 }

@@ -5,29 +5,33 @@ use crate::common::{Failure, print_lines, read_file};
 use ct_entries::entries;
 use ct_graph::Graph;
 use ct_image::{Image, accept};
-use ct_policy::{PolicyFault, broken, read};
+use ct_policy::{PolicyFault, Rules, broken, read};
 use def_refusals::NoMemory;
 use std::alloc::Global;
+
+/// What denies an image by these rules, or that nothing does.
+fn denied(alloc: Global, image: &Image, rules: &Rules) -> Result<String, NoMemory> {
+    let rows = entries(alloc, image)?;
+    let graph = Graph::of(alloc, &rows)?;
+    let lines = broken(alloc, rules, image, &rows, &graph)?;
+    if lines.is_empty() {
+        return Ok(String::from_str(alloc, "allow\n")?);
+    }
+    Ok(lines)
+}
 
 /// What is written of an image's policy.
 fn judged(alloc: Global, image: &Image, policy: &str) -> Result<String, NoMemory> {
     if policy.len() >= 1 << 32 {
         return Ok(String::from_str(alloc, "large\n")?);
     }
-    let rules = match read(alloc, policy.as_bytes(), image) {
-        Ok(rules) => rules,
-        Err(PolicyFault::NoMemory) => return Err(NoMemory),
+    match read(alloc, policy.as_bytes(), image) {
+        Ok(rules) => denied(alloc, image, &rules),
+        Err(PolicyFault::NoMemory) => Err(NoMemory),
         Err(PolicyFault::At { number, line }) => {
-            return Ok(format!(in alloc; "policy P{number} {line}\n")?);
+            Ok(format!(in alloc; "policy P{number} {line}\n")?)
         }
-    };
-    let rows = entries(alloc, image)?;
-    let graph = Graph::of(alloc, &rows)?;
-    let lines = broken(alloc, &rules, image, &rows, &graph)?;
-    if lines.is_empty() {
-        return Ok(String::from_str(alloc, "allow\n")?);
     }
-    Ok(lines)
 }
 
 const POLICIES: [(&str, &str); 38] = [
@@ -80,19 +84,28 @@ const POLICIES: [(&str, &str); 38] = [
     ("large.image", "apart lib two\napart base one\n"),
 ];
 
+/// What is written of the policy of an image whose bytes these are.
+fn told(alloc: Global, bytes: &[u8], policy: &str) -> Result<String, Failure> {
+    if bytes.len() >= 1 << 32 {
+        return Err(Failure::Large);
+    }
+    let Ok(image) = accept(alloc, bytes) else {
+        return Err(Failure::Image);
+    };
+    Ok(judged(alloc, &image, policy)?)
+}
+
+/// Prints the lines of one policy.
+fn print_row(rt: &HostRuntime, name: &str, policy: &str) -> Result<(), Failure> {
+    let bytes = read_file(rt, name)?;
+    let lines = told(rt.alloc(), bytes.as_slice(), policy)?;
+    print_lines(rt, lines.as_str())
+}
+
 /// Prints the part's lines.
 pub fn run(rt: &HostRuntime) -> Result<(), Failure> {
-    let alloc = rt.alloc();
     for (name, policy) in &POLICIES {
-        let bytes = read_file(rt, *name)?;
-        if bytes.len() >= 1 << 32 {
-            return Err(Failure::Large);
-        }
-        let Ok(image) = accept(alloc, bytes.as_slice()) else {
-            return Err(Failure::Image);
-        };
-        let lines = judged(alloc, &image, *policy)?;
-        print_lines(rt, lines.as_str())?;
+        print_row(rt, *name, *policy)?;
     }
     Ok(())
 }

@@ -6,8 +6,8 @@ ghost use Rattle.ct_entry.specs.declared.rows.Owner.TheVariants.{Trusted};
 
 use crate::common::{Failure, add, print_lines, read_file};
 use ct_entries::entries;
-use ct_entry::{Comp, Entries, Mode, Owner};
-use ct_graph::Graph;
+use ct_entry::{Comp, Entries, Gate, Mode, Owner};
+use ct_graph::{Graph, Path};
 use ct_image::{Image, ImageFault, accept};
 use ct_lines::text;
 use def_refusals::NoMemory;
@@ -21,19 +21,27 @@ fn posture_word(posture: Mode) -> &'static str {
     }
 }
 
+fn passes_word(capabilities: bool) -> &'static str {
+    if capabilities { "capabilities" } else { "data" }
+}
+
+/// The line of a gate.
+fn add_gate(alloc: Global, gate: &Gate, out: &mut String) -> Result<(), AllocError> {
+    let (number, code, stack, args) = (gate.entry, gate.code, gate.stack, gate.args);
+    add(format!(in alloc; "gate {number} code {code}"), out)?;
+    add(format!(in alloc; " stack {stack} args {args}"), out)?;
+    let posture = posture_word(gate.posture);
+    let passes = passes_word(gate.capabilities);
+    add(
+        format!(in alloc; " posture {posture} passes {passes}\n"),
+        out,
+    )
+}
+
 /// A line for each gate.
 fn add_gates(alloc: Global, entries: &Entries, out: &mut String) -> Result<(), AllocError> {
     for gate in &entries.gates {
-        let (number, code, stack, args) = (gate.entry, gate.code, gate.stack, gate.args);
-        let posture = posture_word(gate.posture);
-        let passes = if gate.capabilities {
-            "capabilities"
-        } else {
-            "data"
-        };
-        let front = format!(in alloc; "gate {number} code {code} stack {stack} args {args}")?;
-        let line = format!(in alloc; "{front} posture {posture} passes {passes}\n");
-        add(line, out)?;
+        add_gate(alloc, gate, out)?;
     }
     Ok(())
 }
@@ -47,6 +55,20 @@ fn owner_word(alloc: Global, owner: Owner) -> Result<String, AllocError> {
     }
 }
 
+/// The members of a path, or that there is none.
+fn add_path(alloc: Global, path: Option<Path>, out: &mut String) -> Result<(), AllocError> {
+    match path {
+        Some(path) => {
+            out.push_str(" path")?;
+            for owner in &path.owners {
+                add(owner_word(alloc, *owner), out)?;
+            }
+        }
+        None => out.push_str(" none")?,
+    }
+    out.push_str("\n")
+}
+
 /// How an owner reaches a compartment, by the members of the path.
 fn add_way(
     alloc: Global,
@@ -57,18 +79,11 @@ fn add_way(
 ) -> Result<(), NoMemory>
     requires { from ≢ Trusted }
 {
-    let word = owner_word(alloc, from)?;
-    add(format!(in alloc; "why{word} c{to}"), out)?;
-    match graph.path(alloc, from, Comp(to))? {
-        Some(path) => {
-            out.push_str(" path")?;
-            for owner in &path.owners {
-                add(owner_word(alloc, *owner), out)?;
-            }
-        }
-        None => out.push_str(" none")?,
-    }
-    out.push_str("\n")?;
+    out.push_str("why")?;
+    add(owner_word(alloc, from), out)?;
+    add(format!(in alloc; " c{to}"), out)?;
+    let path = graph.path(alloc, from, Comp(to))?;
+    add_path(alloc, path, out)?;
     Ok(())
 }
 
@@ -93,6 +108,23 @@ fn add_ways(
     Ok(())
 }
 
+/// How each compartment and each library reaches each compartment.
+fn add_all_ways(
+    alloc: Global,
+    graph: &Graph,
+    compartments: u32,
+    libraries: u32,
+    out: &mut String,
+) -> Result<(), NoMemory> {
+    for from in 0..compartments {
+        add_ways(alloc, graph, Owner::Compartment(from), compartments, out)?;
+    }
+    for from in 0..libraries {
+        add_ways(alloc, graph, Owner::Library(from), compartments, out)?;
+    }
+    Ok(())
+}
+
 /// The report line, the lines of the gates, and how owners reach compartments.
 fn reported(alloc: Global, image: &Image) -> Result<String, NoMemory> {
     let rows = entries(alloc, image)?;
@@ -101,18 +133,8 @@ fn reported(alloc: Global, image: &Image) -> Result<String, NoMemory> {
     add_gates(alloc, &rows, &mut out)?;
     let parts = image.parts();
     let compartments = count(parts.compartments.len());
-    for from in 0..compartments {
-        add_ways(
-            alloc,
-            &graph,
-            Owner::Compartment(from),
-            compartments,
-            &mut out,
-        )?;
-    }
-    for from in 0..count(parts.libraries.len()) {
-        add_ways(alloc, &graph, Owner::Library(from), compartments, &mut out)?;
-    }
+    let libraries = count(parts.libraries.len());
+    add_all_ways(alloc, &graph, compartments, libraries, &mut out)?;
     Ok(out)
 }
 

@@ -1,6 +1,6 @@
 //! Threads that take turns over plain memory. Expected values follow from the rules of docs/use/machine.md.
 
-ghost use Rattle.std.specs.Prelude.{◌≡◌, [], slice_index_or};
+ghost use Rattle.std.specs.Prelude.{◌≡◌, ◌+◌, ◌*◌, ◌≤◌, [], slice_index_or};
 ghost use Rattle.def_memory.specs.Granules.{plain};
 
 use ct_areas::{Area, Saved};
@@ -12,13 +12,21 @@ use def_profile::traps::TAG_CODE;
 use std::alloc::Global;
 use std::test::Fail;
 
-/// A thread with room for two frames, whose second register holds its number.
-fn fresh(number: u32, trusted: u32, stack: u32) -> Fresh
+/// The trusted region of both threads.
+const REGION: Region = Region {
+    ram: 0x8000_0000,
+    trusted: 0x8000_0010,
+    end: 0x8000_0250,
+};
+
+/// The first or second thread, with room for two frames, whose second register holds its number.
+fn fresh(number: u32) -> Fresh
+    requires number { number ≤ 2 }
     ensures area { result.area ≡ record {
       ram = 2147483648;
-      stack = stack;
+      stack = 2147484416 + 256 * number;
       stack_length = 256;
-      trusted = trusted;
+      trusted = 2147483376 + 288 * number;
       trusted_length = 288;
     } }
     ensures zero { slice_index_or result.regs 0 (plain 0) ≡ plain 0 }
@@ -52,9 +60,9 @@ fn fresh(number: u32, trusted: u32, stack: u32) -> Fresh
         export: 7,
         area: Area {
             ram: 0x8000_0000,
-            stack,
+            stack: 0x8000_0300 + 256 * number,
             stack_length: 256,
-            trusted,
+            trusted: 0x7FFF_FEF0 + 288 * number,
             trusted_length: 288,
         },
     }
@@ -64,16 +72,8 @@ fn fresh(number: u32, trusted: u32, stack: u32) -> Fresh
 /// what it held, and returns twice.
 #[test]
 fn threads_take_turns(rt: HostRuntime) -> Result<(), Fail> {
-    let region = Region {
-        ram: 0x8000_0000,
-        trusted: 0x8000_0010,
-        end: 0x8000_0250,
-    };
-    let threads = [
-        fresh(1, 0x8000_0010, 0x8000_0400),
-        fresh(2, 0x8000_0130, 0x8000_0500),
-    ];
-    let mut engine = Engine::start(rt.alloc(), Plain::new(rt.alloc(), 2048)?, region, &threads)?;
+    let threads = [fresh(1), fresh(2)];
+    let mut engine = Engine::start(rt.alloc(), Plain::new(rt.alloc(), 2048)?, REGION, &threads)?;
     assert!(rt; engine.count() == 2);
     engine.pick(1);
     assert!(rt; engine.register(1, 2).cap.word == 2);
@@ -132,17 +132,9 @@ fn no_entries(alloc: Global) -> Entries
 /// ends the thread.
 #[test]
 fn frames_end(rt: HostRuntime) -> Result<(), Fail> {
-    let region = Region {
-        ram: 0x8000_0000,
-        trusted: 0x8000_0010,
-        end: 0x8000_0250,
-    };
-    let threads = [
-        fresh(1, 0x8000_0010, 0x8000_0400),
-        fresh(2, 0x8000_0130, 0x8000_0500),
-    ];
+    let threads = [fresh(1), fresh(2)];
     let none = no_entries(rt.alloc());
-    let mut engine = Engine::start(rt.alloc(), Plain::new(rt.alloc(), 2048)?, region, &threads)?;
+    let mut engine = Engine::start(rt.alloc(), Plain::new(rt.alloc(), 2048)?, REGION, &threads)?;
     engine.pick(1);
     assert!(rt; engine.push(1, 2, 9, 0x8000_0580));
     assert!(rt; engine.unwind(1, &none));

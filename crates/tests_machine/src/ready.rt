@@ -1,137 +1,28 @@
 //! Three compartments deep, too deep and no stack. Numbers are put together by hand from the layout of
 //! docs/use/machine.md: RAM from 0x80000000, a stack of 1,024 bytes, an area of two or three frames.
 
-ghost use Rattle.std.specs.Prelude.{◌≡◌, ◌+◌, ◌≤◌, ◌<◌, replicate};
+ghost use Rattle.std.specs.Prelude.{◌≡◌, ◌+◌, ◌≤◌};
 ghost use Rattle.def_profile.specs.declared.limits.TheConstants.{RAM_END};
-ghost use Rattle.def_memory.specs.Granules.{nothing};
 ghost use Rattle.ct_areas.specs.Threads.{HasArea};
 
-use ct_cap::{Cap, Live, Posture, Shadow, Trap, derive, shrink};
-use ct_entry::{Entries, Entry, Gate, Kind, Mode, Owner};
+use ct_cap::{Cap, Live, Shadow, Trap, shrink};
+use ct_entry::Entries;
 use ct_mem::{Memory, Plain};
 use ct_ready::{is_ready, may_call};
 use ct_switch::{Area, Called, Thread, call, give_back, resume, save, unwind};
-use def_profile::rights::{
-    CODE_RIGHTS, EXECUTABLE_ROOT, EXPORT_RIGHTS, GLOBALS_RIGHTS, MEMORY_ROOT, STACK_RIGHTS,
-};
-use def_profile::seals::{EXPORT_TYPE, RETURN_ENABLE};
 use def_profile::traps::TAG_CODE;
+use def_refusals::NoMemory;
 use std::alloc::Global;
 use std::process::Abort;
 use std::test::Fail;
-
-const RAM: u32 = 0x8000_0000;
-
-const CODE: u32 = 0x8000_0000;
-
-const TABLE: u32 = 0x8000_0200;
-
-const GLOBALS: u32 = 0x8000_0400;
+use worked_parts::{CODE, GLOBALS, RAM, TRUSTED, dress, entries, heads, thread};
 
 const STACK: u32 = 0x8000_0800;
 
-const TRUSTED: u32 = 0x8000_1000;
-
-fn row(owner: u32, kind: Kind, base: u32, length: u32, of: u32) -> Entry {
-    Entry {
-        owner: Owner::Compartment(owner),
-        kind,
-        base,
-        length,
-        rights: 0,
-        of,
-        limit: 0,
-    }
-}
-
-/// Compartment n has entries 4 n + 1 to 4 n + 4: its code, its globals, a call of the next one's export, its export.
-fn rows(alloc: Global) -> Result<Vec<Entry>, Fail> {
-    let mut rows = Vec::new(alloc);
-    for n in 0..3u32 {
-        rows.push(row(n, Kind::Code, CODE + 64 * n, 64, 0))?;
-        rows.push(row(n, Kind::Globals, GLOBALS + 16 * n, 16, 0))?;
-        rows.push(row(n, Kind::Call, TABLE + 32 * n + 48, 16, 4 * n + 8))?;
-        rows.push(row(n, Kind::Export, TABLE + 32 * n + 16, 16, 0))?;
-    }
-    Ok(rows)
-}
-
-/// Exports that pass plain values, take two arguments and ask for so many bytes of stack.
-fn entries(alloc: Global, stack: u32) -> Result<Entries, Fail> {
-    let mut gates = Vec::new(alloc);
-    for n in 0..3u32 {
-        gates.push(Gate {
-            entry: 4 * n + 4,
-            code: CODE + 64 * n + 8,
-            stack,
-            args: 2,
-            posture: Mode::Enabled,
-            capabilities: false,
-        })?;
-    }
-    Ok(Entries {
-        rows: rows(alloc)?,
-        gates,
-    })
-}
-
-fn from(root: u32) -> Shadow {
-    Shadow { root, source: 0 }
-}
-
-/// The heads of the export tables.
-fn heads(mem: &mut Plain) {
-    for n in 0..3u32 {
-        let code = derive(
-            EXECUTABLE_ROOT,
-            CODE + 64 * n,
-            64,
-            CODE_RIGHTS,
-            CODE + 64 * n,
-            0,
-            from(4 * n + 1),
-        );
-        let globals = derive(
-            MEMORY_ROOT,
-            GLOBALS + 16 * n,
-            16,
-            GLOBALS_RIGHTS,
-            GLOBALS + 16 * n,
-            0,
-            from(4 * n + 2),
-        );
-        if mem.size() == 8192 {
-            mem.store_cap(0x200 + 32 * n, shrink(code));
-            mem.store_cap(0x208 + 32 * n, shrink(globals));
-        }
-    }
-}
-
-/// Registers for a call by compartment n: a return sentry in c1, the stack at an address in c2, an argument in c10, the
-/// import in c6.
-fn registers(n: u32, at: u32) -> [Live; 16]
-    requires { n < 3 }
-{
+/// Registers for a call by compartment 0, whose stack's address is given: an argument in c10 beside what it calls with.
+fn registers(at: u32) -> [Live; 16] {
     let mut regs = [Live::integer(0); 16];
-    regs[1] = derive(
-        EXECUTABLE_ROOT,
-        CODE,
-        64,
-        CODE_RIGHTS,
-        CODE + 4,
-        RETURN_ENABLE,
-        from(1),
-    );
-    regs[2] = derive(MEMORY_ROOT, STACK, 1024, STACK_RIGHTS, at, 0, from(13));
-    regs[6] = derive(
-        MEMORY_ROOT,
-        TABLE + 48,
-        16,
-        EXPORT_RIGHTS,
-        TABLE + 48,
-        EXPORT_TYPE,
-        from(4 * n + 3),
-    );
+    dress(&mut regs, 0, STACK, 1024, at);
     regs[10] = Live::integer(7);
     regs
 }
@@ -149,24 +40,11 @@ fn area(frames: u32) -> Area
     }
 }
 
-/// A thread of compartment 0 in memory that reads as zero, with room for so many frames.
-fn thread(mem: &mut Plain, frames: u32) -> Thread
-    requires { mem.old ≡ replicate 1024 nothing }
-{
-    let posture = Posture {
-        off: false,
-        source: 0,
-    };
-    let pcc = derive(EXECUTABLE_ROOT, CODE, 64, CODE_RIGHTS, CODE + 8, 0, from(1));
-    Thread::new(
-        mem,
-        pcc,
-        registers(0, STACK + 512),
-        posture,
-        0,
-        4,
-        area(frames),
-    )
+/// A thread of compartment 0 with room for so many frames, in memory that has the heads of the export tables.
+fn begun(alloc: Global, frames: u32) -> Result<(Plain, Thread), NoMemory> {
+    let (mut mem, t) = thread(alloc, 8192, registers(STACK + 512), area(frames))?;
+    heads(&mut mem);
+    Ok((mem, t))
 }
 
 /// The call of the export in c6, where it may be made.
@@ -230,9 +108,7 @@ fn all(alloc: Global, mem: &Plain) -> Result<Vec<Cap>, Fail> {
 /// The second compartment's frame stands over the first's, and its own stack holds data and a capability above the
 /// address at which it calls the third.
 fn second(t: &mut Thread, mem: &mut Plain) {
-    t.regs[1] = registers(1, STACK + 256)[1];
-    t.regs[2] = registers(1, STACK + 256)[2];
-    t.regs[6] = registers(1, STACK + 256)[6];
+    dress(&mut t.regs, 1, STACK, 1024, STACK + 256);
     t.regs[8] = Live::integer(8);
     t.regs[9] = t.regs[3];
     put(mem, 0x800 + 264, t.regs[3]);
@@ -385,9 +261,7 @@ const ENDED: [(Look, u64); 3] = [
 #[test]
 fn three_compartments_deep(rt: HostRuntime) -> Result<(), Fail> {
     let e = entries(rt.alloc(), 128)?;
-    let mut mem = Plain::new(rt.alloc(), 8192)?;
-    let mut t = thread(&mut mem, 3);
-    heads(&mut mem);
+    let (mut mem, mut t) = begun(rt.alloc(), 3)?;
     put(&mut mem, 0x800 + 40, t.regs[1]);
     t.regs[12] = Live::integer(9);
     enters(&rt, &mut t, &mut mem, &e, 3, 8);
@@ -406,6 +280,13 @@ fn three_compartments_deep(rt: HostRuntime) -> Result<(), Fail> {
     Ok(())
 }
 
+/// The stack's capability alone comes to stand at an address.
+fn stand_at(t: &mut Thread, at: u32) {
+    let mut dressed = t.regs;
+    dress(&mut dressed, 0, STACK, 1024, at);
+    t.regs[2] = dressed[2];
+}
+
 const FIRST: [(Look, u64); 3] = [
     (Look::Depth, 1),
     (Look::Actor, 0),
@@ -420,17 +301,15 @@ const SECOND: [(Look, u64); 3] = [
 
 #[test]
 fn too_deep_and_no_stack(rt: HostRuntime) -> Result<(), Fail> {
-    let mut mem = Plain::new(rt.alloc(), 8192)?;
-    let mut t = thread(&mut mem, 2);
-    heads(&mut mem);
+    let (mut mem, mut t) = begun(rt.alloc(), 2)?;
     let e = entries(rt.alloc(), 128)?;
     let large = entries(rt.alloc(), 512)?;
     // an export with stack 512, room 256, and a free frame
-    t.regs[2] = registers(0, STACK + 256)[2];
+    stand_at(&mut t, STACK + 256);
     refuses(&rt, &mut t, &mut mem, &large, Called::NoStack)?;
     see(&rt, &t, &mem, &FIRST);
     // depth 2 of 2 frames
-    t.regs[2] = registers(0, STACK + 512)[2];
+    stand_at(&mut t, STACK + 512);
     enters(&rt, &mut t, &mut mem, &e, 3, 8);
     second(&mut t, &mut mem);
     put(&mut mem, 0x800 + 8, t.regs[3]);
@@ -447,9 +326,7 @@ fn too_deep_and_no_stack(rt: HostRuntime) -> Result<(), Fail> {
 #[test]
 fn plain_results(rt: HostRuntime) -> Result<(), Fail> {
     let e = entries(rt.alloc(), 128)?;
-    let mut mem = Plain::new(rt.alloc(), 8192)?;
-    let mut t = thread(&mut mem, 3);
-    heads(&mut mem);
+    let (mut mem, mut t) = begun(rt.alloc(), 3)?;
     enters(&rt, &mut t, &mut mem, &e, 3, 8);
     let mut plain = shrink(t.regs[3]);
     t.regs[10] = t.regs[3];
@@ -525,9 +402,7 @@ const CALLER: [(Look, u64); 3] = [
 #[test]
 fn frames_by_their_layout(rt: HostRuntime) -> Result<(), Fail> {
     let e = entries(rt.alloc(), 128)?;
-    let mut mem = Plain::new(rt.alloc(), 8192)?;
-    let mut t = thread(&mut mem, 3);
-    heads(&mut mem);
+    let (mut mem, mut t) = begun(rt.alloc(), 3)?;
     see(&rt, &t, &mem, &FRAME_0);
     t.handling = true;
     t.regs[3] = Live::integer(33);

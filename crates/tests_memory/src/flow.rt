@@ -7,14 +7,19 @@ ghost use Rattle.def_instr.specs.Shapes.{is_jump};
 use ct_cap::{Cap, Live, Posture, Shadow, Trap, expand};
 use ct_flow::{Flow, flow};
 use def_instr::Instr;
+use std::process::Abort;
 
 /// A tagged capability of an entry.
-fn of_entry(root: u32, word: u64) -> Live {
-    expand(Cap {
+fn code(root: u32, word: u64) -> Cap {
+    Cap {
         tag: true,
         word,
         shadow: Shadow { root, source: 0 },
-    })
+    }
+}
+
+fn of_entry(root: u32, word: u64) -> Live {
+    expand(code(root, word))
 }
 
 /// An integer.
@@ -37,61 +42,83 @@ fn jump(instruction: Instr, x: Live, y: Live) -> Result<Flow, Trap>
     flow(instruction, x, y, of_entry(1, 0x5600_0030_8000_0010), on, 0)
 }
 
+/// Where a jump goes on, or its trap.
+fn target(went: &Result<Flow, Trap>) -> Result<Cap, Trap> {
+    match went {
+        Ok(went) => Ok(went.pcc.cap),
+        Err(trap) => Err(*trap),
+    }
+}
+
+/// In which posture a jump goes on, or its trap.
+fn posture(went: &Result<Flow, Trap>) -> Result<Posture, Trap> {
+    match went {
+        Ok(went) => Ok(went.posture),
+        Err(trap) => Err(*trap),
+    }
+}
+
+/// What a jump links.
+fn link(went: &Result<Flow, Trap>) -> Option<Cap> {
+    match went {
+        Ok(
+            Flow {
+                link: Some(link),
+                ..
+            },
+        ) => Some(link.cap),
+        _ => None,
+    }
+}
+
+/// A trap of a register's capability.
+fn refused(code: u32, register: u32) -> Trap {
+    Trap {
+        cause: 28,
+        code,
+        register,
+    }
+}
+
+/// The trap of a misaligned target.
+const MISALIGNED: Trap = Trap {
+    cause: 0,
+    code: 0,
+    register: 0,
+};
+
 #[test]
 fn jal_links_as_a_return_sentry(rt: HostRuntime) {
-    let instruction = Instr::Jal { rd: 1, offset: 8 };
-    match jump(instruction, number(0), number(0)) {
-        Ok(went) => {
-            assert_eq!(rt; went.pcc.cap.word, 0x5600_0030_8000_0018);
-            match went.link {
-                Some(link) => {
-                    assert_eq!(rt; link.cap.word, 0x5740_0030_8000_0014);
-                    assert_eq!(rt; link.cap.tag, true);
-                    assert_eq!(rt; link.cap.shadow, Shadow { root: 1, source: 0 });
-                }
-                None => assert!(rt; false),
-            }
-        }
-        Err(_) => assert!(rt; false),
-    }
+    let went = jump(Instr::Jal { rd: 1, offset: 8 }, number(0), number(0));
+    assert!(rt; target(&went) == Ok(code(1, 0x5600_0030_8000_0018)));
+    assert!(rt; link(&went) == Some(code(1, 0x5740_0030_8000_0014)));
+}
+
+/// Where a branch of registers 5 and 6 goes on: `blt` by 8, `bltu` by 8 or `beq` by 6.
+fn branch(which: u32, x: u64, y: u64) -> Result<Cap, Trap> {
+    let (rs1, rs2, offset) = (5, 6, 8);
+    let (x, y) = (number(x), number(y));
+    let went = match which {
+        0 => jump(Instr::Blt { rs1, rs2, offset }, x, y),
+        1 => jump(Instr::Bltu { rs1, rs2, offset }, x, y),
+        _ => jump(
+            Instr::Beq {
+                rs1,
+                rs2,
+                offset: 6,
+            },
+            x,
+            y,
+        ),
+    };
+    target(&went)
 }
 
 #[test]
 fn branches_compare_and_align(rt: HostRuntime) {
-    let signed = Instr::Blt {
-        rs1: 5,
-        rs2: 6,
-        offset: 8,
-    };
-    match jump(signed, number(0xFFFF_FFFF), number(1)) {
-        Ok(went) => assert_eq!(rt; went.pcc.cap.word, 0x5600_0030_8000_0018),
-        Err(_) => assert!(rt; false),
-    }
-    let unsigned = Instr::Bltu {
-        rs1: 5,
-        rs2: 6,
-        offset: 8,
-    };
-    match jump(unsigned, number(0xFFFF_FFFF), number(1)) {
-        Ok(went) => assert_eq!(rt; went.pcc.cap.word, 0x5600_0030_8000_0014),
-        Err(_) => assert!(rt; false),
-    }
-    let between = Instr::Beq {
-        rs1: 5,
-        rs2: 6,
-        offset: 6,
-    };
-    match jump(between, number(1), number(1)) {
-        Ok(_) => assert!(rt; false),
-        Err(trap) => assert_eq!(rt;
-            trap,
-            Trap {
-                cause: 0,
-                code: 0,
-                register: 0
-            }
-        ),
-    }
+    assert!(rt; branch(0, 0xFFFF_FFFF, 1) == Ok(code(1, 0x5600_0030_8000_0018)));
+    assert!(rt; branch(1, 0xFFFF_FFFF, 1) == Ok(code(1, 0x5600_0030_8000_0014)));
+    assert!(rt; branch(2, 1, 1) == Err(MISALIGNED));
 }
 
 /// A return through the sentry of the native return, and through a forward sentry, which it refuses.
@@ -102,24 +129,11 @@ fn returns_take_return_sentries(rt: HostRuntime) {
         rs1: 1,
         immediate: 0,
     };
-    match jump(back, of_entry(0, 0x5140_2018_0001_0010), number(0)) {
-        Ok(went) => {
-            assert_eq!(rt; went.pcc.cap.word, 0x5000_2018_0001_0010);
-            assert_eq!(rt; went.posture.off, false);
-        }
-        Err(_) => assert!(rt; false),
-    }
-    match jump(back, of_entry(3, 0x5040_0008_0001_0000), number(0)) {
-        Ok(_) => assert!(rt; false),
-        Err(trap) => assert_eq!(rt;
-            trap,
-            Trap {
-                cause: 28,
-                code: 3,
-                register: 1
-            }
-        ),
-    }
+    let went = jump(back, of_entry(0, 0x5140_2018_0001_0010), number(0));
+    assert!(rt; target(&went) == Ok(code(0, 0x5000_2018_0001_0010)));
+    assert!(rt; posture(&went) == Ok(ON));
+    let forward = jump(back, of_entry(3, 0x5040_0008_0001_0000), number(0));
+    assert!(rt; target(&forward) == Err(refused(3, 1)));
 }
 
 /// Interrupts on, and off by export 6.
@@ -161,15 +175,6 @@ fn through(rd: u32, rs1: u32, immediate: u32, word: u64, posture: Posture) -> Re
     )
 }
 
-/// A trap of a register's capability.
-fn refused(code: u32, register: u32) -> Trap {
-    Trap {
-        cause: 28,
-        code,
-        register,
-    }
-}
-
 /// Of a register for the link and one for the target, which types the jump takes, from unsealed to 5:
 /// the return, calls, and any other.
 const TAKEN: [(u32, u32, [bool; 6]); 6] = [
@@ -181,23 +186,25 @@ const TAKEN: [(u32, u32, [bool; 6]); 6] = [
     (7, 1, [true, true, false, false, false, false]),
 ];
 
+/// A row of `TAKEN`: the jump goes on at the unsealed target, or is refused by its type.
+fn takes(rt: &impl Abort, rd: u32, rs1: u32, taken: &[bool; 6]) {
+    for kind in 0..6 {
+        let due = if taken[kind] {
+            Ok(code(2, 0x5600_0030_8000_0020))
+        } else {
+            Err(refused(3, rs1))
+        };
+        assert!(rt;
+            target(&through(rd, rs1, 0, TARGETS[kind], ON)) == due,
+            "type {kind}"
+        );
+    }
+}
+
 #[test]
 fn jumps_take_their_sentries(rt: HostRuntime) {
     for (rd, rs1, taken) in &TAKEN {
-        for kind in 0..6 {
-            match through(*rd, *rs1, 0, TARGETS[kind], ON) {
-                Ok(went) => {
-                    assert!(rt; taken[kind], "type {kind}");
-                    assert_eq!(rt; went.pcc.cap.word, 0x5600_0030_8000_0020);
-                    assert_eq!(rt; went.pcc.cap.tag, true);
-                    assert_eq!(rt; went.pcc.cap.shadow, Shadow { root: 2, source: 0 });
-                }
-                Err(trap) => {
-                    assert!(rt; !taken[kind], "type {kind}");
-                    assert_eq!(rt; trap, refused(3, *rs1));
-                }
-            }
-        }
+        takes(&rt, *rd, *rs1, taken);
     }
 }
 
@@ -218,78 +225,52 @@ const POSTURES: [(u32, usize, Posture, bool, u32); 9] = [
 #[test]
 fn targets_decide_the_posture(rt: HostRuntime) {
     for (rd, kind, before, off, source) in &POSTURES {
-        match TARGETS.get(*kind) {
-            Some(word) => match through(*rd, 1, 0, *word, *before) {
-                Ok(went) => assert_eq!(rt;
-                    (went.posture.off, went.posture.source),
-                    (*off, *source)
-                ),
-                Err(_) => assert!(rt; false, "type {kind}"),
-            },
-            None => assert!(rt; false),
-        }
+        let due = Posture {
+            off: *off,
+            source: *source,
+        };
+        assert!(rt; *kind < 6, "type {kind}");
+        let went = through(*rd, 1, 0, TARGETS[*kind % 6], *before);
+        assert!(rt; posture(&went) == Ok(due), "type {kind}");
     }
 }
 
 /// Where interrupts were off the link turns them off again, by the same export.
 #[test]
 fn links_keep_interrupts_off(rt: HostRuntime) {
-    match through(7, 5, 0, TARGETS[0], OFF) {
-        Ok(went) => match went.link {
-            Some(link) => {
-                assert_eq!(rt; link.cap.word, 0x5700_0030_8000_0014);
-                assert_eq!(rt; link.cap.shadow, Shadow { root: 1, source: 6 });
-            }
-            None => assert!(rt; false),
-        },
-        Err(_) => assert!(rt; false),
-    }
+    let due = Cap {
+        tag: true,
+        word: 0x5700_0030_8000_0014,
+        shadow: Shadow { root: 1, source: 6 },
+    };
+    assert!(rt; link(&through(7, 5, 0, TARGETS[0], OFF)) == Some(due));
 }
 
 #[test]
 fn immediates_of_unsealed_targets_alone(rt: HostRuntime) {
     for kind in 1..4 {
-        match through(1, 5, 4, TARGETS[kind], ON) {
-            Ok(_) => assert!(rt; false, "type {kind}"),
-            Err(trap) => assert_eq!(rt; trap, refused(3, 5)),
-        }
+        assert!(rt;
+            target(&through(1, 5, 4, TARGETS[kind], ON)) == Err(refused(3, 5)),
+            "type {kind}"
+        );
     }
-    match through(1, 5, 5, TARGETS[0], ON) {
-        Ok(went) => assert_eq!(rt; went.pcc.cap.word, 0x5600_0030_8000_0024),
-        Err(_) => assert!(rt; false),
-    }
-    match through(1, 5, 6, TARGETS[0], ON) {
-        Ok(_) => assert!(rt; false),
-        Err(trap) => assert_eq!(rt;
-            trap,
-            Trap {
-                cause: 0,
-                code: 0,
-                register: 0
-            }
-        ),
-    }
+    let due = code(2, 0x5600_0030_8000_0024);
+    assert!(rt; target(&through(1, 5, 5, TARGETS[0], ON)) == Ok(due));
+    assert!(rt; target(&through(1, 5, 6, TARGETS[0], ON)) == Err(MISALIGNED));
 }
 
 /// A sealed export, of type 9, is no target; an unsealed capability of data isn't executable; an
 /// integer has no tag.
 #[test]
 fn data_is_no_target(rt: HostRuntime) {
-    match through(1, 5, 0, 0x6440_8050_8000_0040, ON) {
-        Ok(_) => assert!(rt; false),
-        Err(trap) => assert_eq!(rt; trap, refused(3, 5)),
-    }
-    match through(1, 5, 0, 0x6400_8050_8000_0040, ON) {
-        Ok(_) => assert!(rt; false),
-        Err(trap) => assert_eq!(rt; trap, refused(17, 5)),
+    for (word, fault) in [(0x6440_8050_8000_0040, 3), (0x6400_8050_8000_0040, 17)] {
+        assert!(rt; target(&through(1, 5, 0, word, ON)) == Err(refused(fault, 5)));
     }
     let call = Instr::CJalr {
         rd: 1,
         rs1: 5,
         immediate: 0,
     };
-    match jump(call, number(0x8000_0020), number(0)) {
-        Ok(_) => assert!(rt; false),
-        Err(trap) => assert_eq!(rt; trap, refused(2, 5)),
-    }
+    let went = jump(call, number(0x8000_0020), number(0));
+    assert!(rt; target(&went) == Err(refused(2, 5)));
 }

@@ -1,5 +1,6 @@
 //! One call of the program, and its line.
 
+use crate::common::add;
 use crate::faults::cases::{Case, Due, Fault};
 use crate::faults::outside::{Counted, Watched};
 use ct_port::{FolderMem, NoMemory, SinkMem};
@@ -122,23 +123,36 @@ fn answer(
     capfw(alloc, words, folder, sink)
 }
 
-/// The line of a call with these words, of which this fails and to which this is due: how many files
-/// were read, the status, and what was written.
-fn line_of(
+/// The front of a call's line: its words, what fails of it, how many files were read, and the status.
+fn front_told(
+    alloc: Global,
+    words: &str,
+    fault: Fault,
+    reads: u64,
+    code: u8,
+) -> Result<String, AllocError> {
+    let fails = fault_told(alloc, fault)?;
+    format!(in alloc; "{words}, {fails}: reads {reads}, status {code}, ")
+}
+
+/// Adds the line of a call with these words, of which this fails and to which this is due: how many
+/// files were read, the status, and what was written.
+fn add_line(
+    out: &mut String,
     alloc: Global,
     files: &[Stored],
     words: &str,
     due: &[u8],
     fault: Fault,
-) -> Result<String, NoMemory> {
+) -> Result<(), NoMemory> {
     let all = words_of(alloc, words)?;
     let mut folder = folder_of(alloc, files, fault)?;
     let mut sink = sink_of(alloc, fault)?;
     let status = answer(alloc, all.as_slice(), &mut folder, &mut sink);
-    let front = fault_told(alloc, fault)?;
-    let back = output_told(alloc, status, &sink, due)?;
-    let (reads, code) = (folder.reads, status.code());
-    Ok(format!(in alloc; "{words}, {front}: reads {reads}, status {code}, {back}")?)
+    let code = status.code();
+    add(front_told(alloc, words, fault, folder.reads, code), out)?;
+    add(output_told(alloc, status, &sink, due), out)?;
+    Ok(())
 }
 
 /// The lines of these calls.
@@ -151,8 +165,7 @@ pub fn add_lines(
     for (words, due, faults) in cases {
         let bytes = bytes_of(files, *due);
         for fault in *faults {
-            let line = line_of(alloc, files, *words, bytes, *fault)?;
-            out.push_str(line.as_str())?;
+            add_line(out, alloc, files, *words, bytes, *fault)?;
         }
     }
     Ok(())

@@ -2,9 +2,10 @@
 
 ghost use Rattle.std.specs.Prelude.{◌<◌};
 
-use crate::common::add;
+use crate::common::{add, truth};
 use crate::heap::swept::{Slice, Swept};
-use crate::heap::told::{add_allocated, add_found, add_freed, add_left};
+use crate::heap::told::{add_allocated, add_begun, add_found, add_freed, add_left};
+use ct_heap::Object;
 use def_refusals::NoMemory;
 use std::alloc::{AllocError, Global};
 
@@ -38,6 +39,13 @@ struct Made {
     base: u32,
     top: u64,
     quota: u32,
+}
+
+/// A heap, and the objects that were made of it.
+#[derive(Drop)]
+struct Tried {
+    swept: Swept,
+    made: Vec<Made>,
 }
 
 /// One of the last 24 objects that were made, or none.
@@ -74,54 +82,40 @@ fn some_bounds(made: &[Made], seed: u64) -> Made {
     object
 }
 
-/// An allocation, whose capability goes into a slot.
-fn allocate(
-    alloc: Global,
-    swept: &mut Swept,
-    made: &mut Vec<Made>,
-    seed: u64,
-    out: &mut String,
-) -> Result<(), AllocError> {
+/// An object of a quota was made: its capability goes into a slot.
+fn keep(run: &mut Tried, quota: u32, slot: u32, object: Object) -> Result<(), AllocError> {
+    let base = object.base;
+    let top = base as u64 + object.length as u64;
+    run.made.push(Made { base, top, quota })?;
+    run.swept.keep(slot, object);
+    Ok(())
+}
+
+/// An allocation.
+fn allocate(alloc: Global, run: &mut Tried, seed: u64, out: &mut String) -> Result<(), AllocError> {
     let quota = part(seed, 8, 3);
     let most = if seed % 16 == 4 { 9000 } else { 1000 };
     let size = part(seed, 16, most);
-    let answer = swept.allocate(quota, size);
+    let answer = run.swept.allocate(quota, size);
     if let Ok(object) = answer {
-        made.push(Made {
-            base: object.base,
-            top: object.base as u64 + object.length as u64,
-            quota,
-        })?;
-        swept.keep(part(seed, 40, SLOTS), object);
+        keep(run, quota, part(seed, 40, SLOTS), object)?;
     }
     add(format!(in alloc; "allocate {quota} {size}: "), out)?;
     add_allocated(alloc, answer, out)
 }
 
 /// A free.
-fn free(
-    alloc: Global,
-    swept: &mut Swept,
-    made: &[Made],
-    seed: u64,
-    out: &mut String,
-) -> Result<(), AllocError> {
-    let Made { base, top, quota } = some_bounds(made, seed);
-    let answer = swept.free(quota, base, top);
+fn free(alloc: Global, run: &mut Tried, seed: u64, out: &mut String) -> Result<(), AllocError> {
+    let Made { base, top, quota } = some_bounds(run.made.as_slice(), seed);
+    let answer = run.swept.free(quota, base, top);
     add(format!(in alloc; "free {quota} {base} {top}: "), out)?;
     add_freed(alloc, answer, out)
 }
 
 /// A look-up.
-fn find(
-    alloc: Global,
-    swept: &Swept,
-    made: &[Made],
-    seed: u64,
-    out: &mut String,
-) -> Result<(), AllocError> {
-    let Made { base, top, .. } = some_bounds(made, seed);
-    let answer = swept.find(base, top);
+fn find(alloc: Global, run: &Tried, seed: u64, out: &mut String) -> Result<(), AllocError> {
+    let Made { base, top, .. } = some_bounds(run.made.as_slice(), seed);
+    let answer = run.swept.find(base, top);
     add(format!(in alloc; "find {base} {top}: "), out)?;
     add_found(alloc, answer, out)
 }
@@ -135,7 +129,7 @@ fn move_one(
 ) -> Result<(), AllocError> {
     let (from, to) = (part(seed, 16, SLOTS), part(seed, 40, SLOTS));
     swept.move_to(from, to);
-    let tagged = swept.is_tagged(to);
+    let tagged = truth(swept.is_tagged(to));
     add(format!(in alloc; "move {from} {to}: {tagged}\n"), out)
 }
 
@@ -147,7 +141,7 @@ fn end(alloc: Global, swept: &mut Swept, out: &mut String) -> Result<(), AllocEr
             add(format!(in alloc; " {slot}"), out)?;
         }
     }
-    let flushed = swept.flush();
+    let flushed = truth(swept.flush());
     add(format!(in alloc; ", flushed {flushed}\n"), out)
 }
 
@@ -163,35 +157,39 @@ fn slice(alloc: Global, swept: &mut Swept, seed: u64, out: &mut String) -> Resul
 }
 
 /// One random call.
-fn call(
+fn call(alloc: Global, run: &mut Tried, seed: u64, out: &mut String) -> Result<(), AllocError> {
+    match seed % 16 {
+        0 => add_begun(alloc, &mut run.swept, out),
+        1 | 2 | 3 => slice(alloc, &mut run.swept, seed, out),
+        4 | 5 | 6 | 7 | 8 => allocate(alloc, run, seed, out),
+        9 | 10 | 11 | 12 => free(alloc, run, seed, out),
+        13 => move_one(alloc, &mut run.swept, seed, out),
+        14 => add_left(alloc, &run.swept, out),
+        _ => find(alloc, run, seed, out),
+    }
+}
+
+/// Adds the lines of so many random calls.
+fn add_calls(
     alloc: Global,
-    swept: &mut Swept,
-    made: &mut Vec<Made>,
-    seed: u64,
+    run: &mut Tried,
+    first: u64,
+    count: u32,
     out: &mut String,
 ) -> Result<(), AllocError> {
-    match seed % 16 {
-        0 => {
-            let begun = swept.begin();
-            add(format!(in alloc; "begin: {begun}\n"), out)
-        }
-        1 | 2 | 3 => slice(alloc, swept, seed, out),
-        4 | 5 | 6 | 7 | 8 => allocate(alloc, swept, made, seed, out),
-        9 | 10 | 11 | 12 => free(alloc, swept, made.as_slice(), seed, out),
-        13 => move_one(alloc, swept, seed, out),
-        14 => add_left(alloc, swept, out),
-        _ => find(alloc, swept, made.as_slice(), seed, out),
+    let mut seed = first.wrapping_add(0x9E37_79B9_7F4A_7C15);
+    for _ in 0..count {
+        seed = next(seed);
+        call(alloc, run, seed, out)?;
     }
+    Ok(())
 }
 
 /// Adds the lines of so many random calls of a heap that is empty.
 pub fn calls(alloc: Global, first: u64, count: u32, out: &mut String) -> Result<(), NoMemory> {
-    let mut swept = Swept::new(alloc, LOW + LENGTH, LOW, LENGTH, LIMIT)?;
-    let mut made = Vec::new(alloc);
-    let mut seed = first.wrapping_add(0x9E37_79B9_7F4A_7C15);
-    for _ in 0..count {
-        seed = next(seed);
-        call(alloc, &mut swept, &mut made, seed, out)?;
-    }
+    let swept = Swept::new(alloc, LOW + LENGTH, LOW, LENGTH, LIMIT)?;
+    let made = Vec::new(alloc);
+    let mut run = Tried { swept, made };
+    add_calls(alloc, &mut run, first, count, out)?;
     Ok(())
 }

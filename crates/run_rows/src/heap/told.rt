@@ -1,6 +1,6 @@
 //! What is answered, as lines.
 
-use crate::common::add;
+use crate::common::{add, truth};
 use crate::heap::swept::Swept;
 use ct_heap::{Found, HeapRefusal, NotWhole, Object};
 use std::alloc::{AllocError, Global};
@@ -59,10 +59,16 @@ pub fn add_found(alloc: Global, answer: Option<Found>, out: &mut String) -> Resu
 
 /// What is left to each quota, and whether an object is quarantined.
 pub fn add_left(alloc: Global, swept: &Swept, out: &mut String) -> Result<(), AllocError> {
-    let waits = swept.quarantined();
+    let waits = truth(swept.quarantined());
     let (a, b, c) = (swept.remaining(0), swept.remaining(1), swept.remaining(2));
     add(
         format!(in alloc; "left {a} {b} {c}, quarantined {waits}\n"),
         out,
     )
+}
+
+/// Begins a sweep, and adds whether one began.
+pub fn add_begun(alloc: Global, swept: &mut Swept, out: &mut String) -> Result<(), AllocError> {
+    let begun = truth(swept.begin());
+    add(format!(in alloc; "begin: {begun}\n"), out)
 }

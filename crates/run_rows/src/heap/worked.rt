@@ -1,9 +1,9 @@
 //! Worked heaps: a heap of 64 bytes whose one object is freed and has room again only behind a sweep; two objects,
 //! a quota that is full, a free, and a third object behind the quarantined chunk; and a heap of no bytes.
 
-use crate::common::add;
+use crate::common::{add, truth};
 use crate::heap::swept::{Slice, Swept};
-use crate::heap::told::{add_allocated, add_found, add_freed, add_left};
+use crate::heap::told::{add_allocated, add_begun, add_found, add_freed, add_left};
 use def_refusals::NoMemory;
 use std::alloc::{AllocError, Global};
 
@@ -24,7 +24,7 @@ enum Row {
 }
 
 /// The object that a heap of 64 bytes has room for.
-const ALONE: [Row; 7] = [
+const ALONE: &[Row] = &[
     Row::Allocate(40),
     Row::Free(0x8000_0008, 0x8000_0030),
     Row::Allocate(40),
@@ -35,7 +35,7 @@ const ALONE: [Row; 7] = [
 ];
 
 /// The heap lies from 0x80000550 on, and its quota is 64.
-const PLACES: [Row; 14] = [
+const PLACES: &[Row] = &[
     Row::Allocate(24),
     Row::Allocate(24),
     Row::Granule(0x550 / 8),
@@ -52,18 +52,30 @@ const PLACES: [Row; 14] = [
     Row::Free(0x8000_0578, 0x8000_0588),
 ];
 
-const NOTHING: [Row; 3] = [
+const NOTHING: &[Row] = &[
     Row::Allocate(8),
     Row::Begin,
     Row::Find(0x8000_0008, 0x8000_0010),
 ];
 
+fn alone() -> &'static [Row] {
+    ALONE
+}
+
+fn places() -> &'static [Row] {
+    PLACES
+}
+
+fn nothing() -> &'static [Row] {
+    NOTHING
+}
+
 /// Sweeps, and adds the line of it.
 fn sweep(alloc: Global, swept: &mut Swept, out: &mut String) -> Result<(), AllocError> {
-    let waits = swept.quarantined();
-    let painted = swept.begin();
-    let ended = matches!(swept.slice(8), Slice::Ended);
-    let flushed = swept.flush();
+    let waits = truth(swept.quarantined());
+    let painted = truth(swept.begin());
+    let ended = truth(matches!(swept.slice(8), Slice::Ended));
+    let flushed = truth(swept.flush());
     add_sweep(alloc, (waits, painted), (ended, flushed), out)
 }
 
@@ -71,12 +83,14 @@ fn sweep(alloc: Global, swept: &mut Swept, out: &mut String) -> Result<(), Alloc
 /// whether the painted ones left.
 fn add_sweep(
     alloc: Global,
-    (waits, painted): (bool, bool),
-    (ended, flushed): (bool, bool),
+    (waits, painted): (&str, &str),
+    (ended, flushed): (&str, &str),
     out: &mut String,
 ) -> Result<(), AllocError> {
-    let begun = format!(in alloc; "quarantined {waits}, painted {painted}");
-    add(begun, out)?;
+    add(
+        format!(in alloc; "quarantined {waits}, painted {painted}"),
+        out,
+    )?;
     add(
         format!(in alloc; ", ended {ended}, flushed {flushed}\n"),
         out,
@@ -87,7 +101,7 @@ fn add_sweep(
 fn granule(alloc: Global, swept: &Swept, slot: u32, out: &mut String) -> Result<(), AllocError> {
     let word = swept.word(slot);
     let (low, high) = (word % (1 << 32), word / (1 << 32));
-    let marked = swept.marked(slot);
+    let marked = truth(swept.marked(slot));
     add(format!(in alloc; "{low} {high}, marked {marked}\n"), out)
 }
 
@@ -98,10 +112,7 @@ fn answer(alloc: Global, swept: &mut Swept, row: Row, out: &mut String) -> Resul
         Row::Free(base, top) => add_freed(alloc, swept.free(0, base, top), out),
         Row::Find(base, top) => add_found(alloc, swept.find(base, top), out),
         Row::Left => add_left(alloc, swept, out),
-        Row::Begin => {
-            let begun = swept.begin();
-            add(format!(in alloc; "begin: {begun}\n"), out)
-        }
+        Row::Begin => add_begun(alloc, swept, out),
         Row::Sweep => sweep(alloc, swept, out),
         Row::Granule(slot) => granule(alloc, swept, slot, out),
     }
@@ -120,13 +131,30 @@ fn calls(
     Ok(())
 }
 
+/// The heap of one object.
+fn add_alone(alloc: Global, out: &mut String) -> Result<(), NoMemory> {
+    let mut swept = Swept::new(alloc, 64, 0, 64, 200)?;
+    calls(alloc, &mut swept, alone(), out)?;
+    Ok(())
+}
+
+/// The heap of two objects and a third.
+fn add_places(alloc: Global, out: &mut String) -> Result<(), NoMemory> {
+    let mut swept = Swept::new(alloc, 4096, 0x550, 2736, 64)?;
+    calls(alloc, &mut swept, places(), out)?;
+    Ok(())
+}
+
+/// The heap of no bytes.
+fn add_nothing(alloc: Global, out: &mut String) -> Result<(), NoMemory> {
+    let mut swept = Swept::new(alloc, 64, 64, 0, 200)?;
+    calls(alloc, &mut swept, nothing(), out)?;
+    Ok(())
+}
+
 /// Adds the lines of the three heaps.
 pub fn worked(alloc: Global, out: &mut String) -> Result<(), NoMemory> {
-    let mut alone = Swept::new(alloc, 64, 0, 64, 200)?;
-    calls(alloc, &mut alone, &ALONE, out)?;
-    let mut places = Swept::new(alloc, 4096, 0x550, 2736, 64)?;
-    calls(alloc, &mut places, &PLACES, out)?;
-    let mut nothing = Swept::new(alloc, 64, 64, 0, 200)?;
-    calls(alloc, &mut nothing, &NOTHING, out)?;
-    Ok(())
+    add_alone(alloc, out)?;
+    add_places(alloc, out)?;
+    add_nothing(alloc, out)
 }

@@ -12,6 +12,26 @@ fn is_accepted(alloc: Global, bytes: &[u8]) -> bool {
     bytes.len() < 1 << 32 && accept(alloc, bytes).is_ok()
 }
 
+/// Whether an image's bytes are accepted.
+fn again_told(alloc: Global, bytes: &[u8]) -> &'static str {
+    if is_accepted(alloc, bytes) {
+        "accepted"
+    } else {
+        "refused"
+    }
+}
+
+/// Where bytes are wanted, whether an image's are these.
+fn same_told(bytes: &[u8], wanted: &[u8]) -> &'static str {
+    if wanted.is_empty() {
+        ""
+    } else if bytes == wanted {
+        ", as wanted"
+    } else {
+        ", not as wanted"
+    }
+}
+
 /// An image, by its length and its heap's base, whether its bytes are accepted, and where others are
 /// wanted, whether they are these.
 fn image_told(alloc: Global, image: &Image, wanted: &[u8]) -> Result<String, AllocError> {
@@ -19,18 +39,8 @@ fn image_told(alloc: Global, image: &Image, wanted: &[u8]) -> Result<String, All
         Ok(bytes) => {
             let count = bytes.len();
             let heap = image.parts().heap;
-            let again = if is_accepted(alloc, bytes.as_slice()) {
-                "accepted"
-            } else {
-                "refused"
-            };
-            let same = if wanted.is_empty() {
-                ""
-            } else if bytes.as_slice() == wanted {
-                ", as wanted"
-            } else {
-                ", not as wanted"
-            };
+            let again = again_told(alloc, bytes.as_slice());
+            let same = same_told(bytes.as_slice(), wanted);
             format!(in alloc; "{count} bytes, heap {heap}, {again}{same}")
         }
         Err(_) => String::from_str(alloc, "memory"),
@@ -46,6 +56,23 @@ fn owner_told(alloc: Global, owner: Owner) -> Result<String, AllocError> {
     }
 }
 
+/// A fault of an owner, by its letter and number, with what it is about: a line or an item.
+fn owner_fault(
+    alloc: Global,
+    (letter, number): (&str, u32),
+    owner: Owner,
+    (about, place): (&str, u32),
+) -> Result<String, AllocError> {
+    let owner = owner_told(alloc, owner)?;
+    format!(in alloc; "{letter}{number} {owner} {about} {place}")
+}
+
+/// A library's fault that its globals begin with bytes.
+fn initial_fault(alloc: Global, owner: Owner) -> Result<String, AllocError> {
+    let owner = owner_told(alloc, owner)?;
+    format!(in alloc; "L4 {owner}")
+}
+
 /// A fault, by its number and of whom, with its line, item or numbers of bytes.
 fn fault_told(alloc: Global, fault: LinkFault) -> Result<String, AllocError> {
     match fault {
@@ -53,23 +80,11 @@ fn fault_told(alloc: Global, fault: LinkFault) -> Result<String, AllocError> {
             owner,
             number,
             line,
-        } => {
-            let owner = owner_told(alloc, owner)?;
-            format!(in alloc; "A{number} {owner} line {line}")
-        }
-        LinkFault::Export { owner, item } => {
-            let owner = owner_told(alloc, owner)?;
-            format!(in alloc; "L1 {owner} export {item}")
-        }
+        } => owner_fault(alloc, ("A", number), owner, ("line", line)),
+        LinkFault::Export { owner, item } => owner_fault(alloc, ("L", 1), owner, ("export", item)),
         LinkFault::NoRoom { needed, has } => format!(in alloc; "L2 {needed} {has}"),
-        LinkFault::Import { owner, line } => {
-            let owner = owner_told(alloc, owner)?;
-            format!(in alloc; "L3 {owner} line {line}")
-        }
-        LinkFault::Initial { owner } => {
-            let owner = owner_told(alloc, owner)?;
-            format!(in alloc; "L4 {owner}")
-        }
+        LinkFault::Import { owner, line } => owner_fault(alloc, ("L", 3), owner, ("line", line)),
+        LinkFault::Initial { owner } => initial_fault(alloc, owner),
         LinkFault::NoMemory => String::from_str(alloc, "memory"),
     }
 }
@@ -118,14 +133,19 @@ pub fn linked(
     }
 }
 
+/// Adds a word in eight digits, behind a blank where another stands before it.
+fn add_word(alloc: Global, word: u32, out: &mut String) -> Result<(), AllocError> {
+    let gap = if out.is_empty() { "" } else { " " };
+    add(format!(in alloc; "{gap}{word:08x}"), out)
+}
+
 /// The words of the first compartment's text, eight digits each.
 fn words_told(alloc: Global, image: &Image) -> Result<String, AllocError> {
     let mut out = String::new(alloc);
     if let Some(text) = image.text(Owner::Compartment(0)) {
         for bytes in text.chunks_exact(4) {
             let word = u32::from_le_bytes([bytes[0], bytes[1], bytes[2], bytes[3]]);
-            let gap = if out.is_empty() { "" } else { " " };
-            add(format!(in alloc; "{gap}{word:08x}"), &mut out)?;
+            add_word(alloc, word, &mut out)?;
         }
     }
     Ok(out)

@@ -12,7 +12,7 @@ returns-in-Some-clause-err c =
     let row = c.args.library.now in
     let o = c.in_ok-object.object in
     let h : IsBuilt (built (Library c.args.index) (library_slot_names row) row.code c.args.source.now) o = rw (← c.in-Ok.ensures, ← c.library.view_is) c.in_ok-object.ensures.ok in
-    let found : first_lost (built_of o) 0 (map (λ (x : LexportRow). x.at) row.exports) ≡ Some c.in-Some.item = rw (← c.library.view_is, ← c.as_slice.ensures.value) (sym c.first_library_lost.ensures ∙ c.in-Some.is) in
+    let found : first_lost (built_of o) 0 (map (λ (x : LexportRow). x.at) row.exports) ≡ Some c.in-Some.item = rw (← c.library.view_is, ← c.as_slice.ensures.value) (sym c.first_lost.ensures ∙ c.in-Some.is) in
     library_lost c.args.index row c.args.source.now o c.in-Some.item h found
 
 pub returns-clause-ok : goal.returns-clause-ok
@@ -20,7 +20,7 @@ returns-clause-ok c =
     let row = c.args.library.now in
     let o = c.in_ok-object.object in
     let h : IsBuilt (built (Library c.args.index) (library_slot_names row) row.code c.args.source.now) o = rw (← c.in-Ok.ensures, ← c.library.view_is) c.in_ok-object.ensures.ok in
-    let none : first_lost (built_of o) 0 (map (λ (x : LexportRow). x.at) row.exports) ≡ None = rw (← c.library.view_is, ← c.as_slice.ensures.value) (sym c.first_library_lost.ensures ∙ c.in-None.is) in
+    let none : first_lost (built_of o) 0 (map (λ (x : LexportRow). x.at) row.exports) ≡ None = rw (← c.library.view_is, ← c.as_slice.ensures.value) (sym c.first_lost.ensures ∙ c.in-None.is) in
     let clean : nat_lt 0 (length o.init) ≡ false = cc in
     library_placed c.args.index row c.args.source.now o h none clean
 
@@ -29,6 +29,6 @@ returns-then-has_initial-clause-err c =
     let row = c.args.library.now in
     let o = c.in_ok-object.object in
     let h : IsBuilt (built (Library c.args.index) (library_slot_names row) row.code c.args.source.now) o = rw (← c.in-Ok.ensures, ← c.library.view_is) c.in_ok-object.ensures.ok in
-    let none : first_lost (built_of o) 0 (map (λ (x : LexportRow). x.at) row.exports) ≡ None = rw (← c.library.view_is, ← c.as_slice.ensures.value) (sym c.first_library_lost.ensures ∙ c.in-None.is) in
+    let none : first_lost (built_of o) 0 (map (λ (x : LexportRow). x.at) row.exports) ≡ None = rw (← c.library.view_is, ← c.as_slice.ensures.value) (sym c.first_lost.ensures ∙ c.in-None.is) in
     let stray : nat_lt 0 (length o.init) ≡ true = cc in
     library_stray c.args.index row c.args.source.now o h none stray

@@ -1,28 +1,12 @@
-use Rattle.std.proofs.Common.{◌≡◌, decimal, Ok, arith, sym, subst, ◌∙◌, ap, true, false}
-use Rattle.std.specs.Str.{IsUtf8}
-use Rattle.std.proofs.lemmas.Fmt.{parse-decimal, IsAscii-decimal}
-use Rattle.std.proofs.lemmas.Str.{IsUtf8-from_ascii}
-use Rattle.std.specs.Str.{bytes_eq}
-use Rattle.std.proofs.lemmas.Slice.Eq.{bytes_eq-Decides}
+use Rattle.std.proofs.Common.{◌∙◌}
+use Rattle.ct_script.proofs.Digits.{no_text, refused, spelled_otherwise}
 use Rattle.ct_script.proofs.fields.number_of.Goals as goal
 
 pub returns-in-Err-parse : goal.returns-in-Err-parse
-returns-in-Err-parse c = λ n small e.
-    let text : c.in-Ok.text.now ≡ decimal n = c.in-Ok.ensures.cases.0 ∙ sym e in
-    let read : c.parse.result ≡ Ok n = parse-decimal 32 n c.in-Ok.text.now c.parse.result small (omega (arith, small)) text c.parse.ensures.value.0 in
-    let bad = sym c.in-Err-parse.is ∙ read in
-    absurd (cc)
+returns-in-Err-parse c = λ n small. refused n c.args.digits.now c.in-Ok.text.now c.parse.result _ small c.in-Ok.ensures.cases.0 c.parse.ensures.value.0 c.in-Err-parse.is
 
 pub returns-in-Err : goal.returns-in-Err
-returns-in-Err c = λ n small e. c.in-Err.ensures.cases.0 (subst (λ t. IsUtf8 t) e (IsUtf8-from_ascii (decimal n) (IsAscii-decimal n (omega (arith, small)))))
+returns-in-Err c = λ n small. no_text n c.args.digits.now small c.in-Err.ensures.cases.0
 
 pub returns-else-eq : goal.returns-else-eq
-returns-else-eq c = λ n small e.
-    let text : c.in-Ok.text.now ≡ decimal n = c.in-Ok.ensures.cases.0 ∙ sym e in
-    let read : c.parse.result ≡ Ok n = parse-decimal 32 n c.in-Ok.text.now c.parse.result small (omega (arith, small)) text c.parse.ensures.value.0 in
-    let same : Ok c.in-Ok-parse.number ≡ Ok n = sym c.in-Ok-parse.is ∙ read in
-    let number : c.in-Ok-parse.number ≡ n = cc in
-    let equal : c.as_bytes.result.now ≡ c.args.digits.now = c.as_bytes.ensures.value ∙ c.format.ensures.text ∙ ap (λ k. decimal k) number ∙ e in
-    let told : bytes_eq c.as_bytes.result.now c.args.digits.now ≡ true = (bytes_eq-Decides c.as_bytes.result.now c.args.digits.now).1 equal in
-    let bad : false ≡ true = c.if-eq.ensures ∙ told in
-    absurd (cc)
+returns-else-eq c = λ n small. spelled_otherwise n c.in-Ok-parse.number c.args.digits.now c.in-Ok.text.now c.as_bytes.result.now c.parse.result small c.in-Ok.ensures.cases.0 c.parse.ensures.value.0 c.in-Ok-parse.is (c.as_bytes.ensures.value ∙ c.format.ensures.text) c.if-eq.ensures

@@ -1,5 +1,4 @@
-use Rattle.std.proofs.Common.{◌≡◌, ◌≤◌, ◌++◌, ◌∙◌, ap, refl, inl, inr}
-use Rattle.def_image.specs.Parts.{PartsRow}
+use Rattle.std.proofs.Common.{◌≡◌, ◌++◌, ◌∙◌, refl, inl, inr}
 use Rattle.def_program.specs.Runs.{run_lines, run_text}
 use Rattle.ct_top.proofs.Booted.{text_is, uncounted, some_quantum}
 use Rattle.ct_top.proofs.runs.play.Goals as goal
@@ -9,22 +8,16 @@ write_run-requires-clause-booted g c = uncounted c.args.image.now c.args.machine
 
 pub write_run-requires-clause-quantum : goal.write_run-requires-clause-quantum
 write_run-requires-clause-quantum g c =
-    let some : 1 ≤ c.args.image.now.quantum = some_quantum c.args.image.now c.parts.ensures.faultless in
-    let seen : 1 ≤ c.parts.result.now.quantum = rw c.parts.ensures.parts some in
-    rw (← c.behind-image.view_is) at seen
+    some_quantum c.args.image.now c.parts.result.now _ c.parts.ensures.faultless c.parts.ensures.parts c.behind-image.view_is
 
 pub returns-in-Ok : goal.returns-in-Ok
 returns-in-Ok g c =
-    let seen : c.parts.result.now.quantum ≡ c.args.image.now.quantum = ap (λ (p : PartsRow). p.quantum) c.parts.ensures.parts in
-    let quantum : c.behind-image.inside.quantum ≡ c.args.image.now.quantum = rw (← c.behind-image.view_is) at seen in
     let whole : c.as_bytes.result.now ++ run_lines c.args.machine.now c.args.script.now c.behind-image.inside.quantum c.args.limit ≡ run_text c.args.image.now c.args.script.now c.args.limit =
-    text_is c.args.image.now c.args.script.now c.args.limit c.behind-image.inside.quantum c.as_bytes.result.now c.args.machine.now (c.as_bytes.ensures.value ∙ c.requires.report) c.requires.machine quantum in
+    text_is c.args.image.now c.parts.result.now _ c.args.script.now c.args.limit c.as_bytes.result.now c.args.machine.now (c.as_bytes.ensures.value ∙ c.requires.report) c.requires.machine c.parts.ensures.parts c.behind-image.view_is in
     inl (refl, rw whole at c.in-Ok.ensures)
 
 pub returns-in-Err : goal.returns-in-Err
 returns-in-Err g c =
-    let seen : c.parts.result.now.quantum ≡ c.args.image.now.quantum = ap (λ (p : PartsRow). p.quantum) c.parts.ensures.parts in
-    let quantum : c.behind-image.inside.quantum ≡ c.args.image.now.quantum = rw (← c.behind-image.view_is) at seen in
     let whole : c.as_bytes.result.now ++ run_lines c.args.machine.now c.args.script.now c.behind-image.inside.quantum c.args.limit ≡ run_text c.args.image.now c.args.script.now c.args.limit =
-    text_is c.args.image.now c.args.script.now c.args.limit c.behind-image.inside.quantum c.as_bytes.result.now c.args.machine.now (c.as_bytes.ensures.value ∙ c.requires.report) c.requires.machine quantum in
+    text_is c.args.image.now c.parts.result.now _ c.args.script.now c.args.limit c.as_bytes.result.now c.args.machine.now (c.as_bytes.ensures.value ∙ c.requires.report) c.requires.machine c.parts.ensures.parts c.behind-image.view_is in
     inr (refl, rw whole at c.in-Err.ensures)
