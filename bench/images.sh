@@ -3,16 +3,12 @@
 # (many devices, one list of slots, one text), and the largest lawful list of owners, each with as many
 # slots and exports as may be and 64 KiB of text.
 # Build first: (cd crates/bench_parts && rt run -- decode 1000)
-here=$(cd "$(dirname "$0")/.." && pwd)
-program=$here/crates/bench_parts/out/bench_parts
-work=$(mktemp -d)
-trap 'rm -rf "$work"' EXIT
-python3 -B - "$here/crates/run_rows/reference" "$work" <<'PYTHON'
+source "$(dirname "$0")/common.sh"
+python3 -B - "$here/bench" "$work" <<'PYTHON'
 import sys
 sys.path.insert(0, sys.argv[1])
-import images as r
+from laid import Laid, MIB, images as r
 
-MIB = 1 << 20
 SERVICE = r.import_row(1, 40, 2)
 
 
@@ -31,46 +27,31 @@ for mib in (1, 4, 16):
     put(f"slots-{mib}", image(owners=[r.owner(True, "c", 0x80000000, 48, slots, [], r.TEXT)]))
     put(f"text-{mib}", image(owners=[r.owner(True, "c", 0x80000000, 48, [r.SWITCH], [], bytes(mib * MIB))]))
 
-end = 0x80000000
-
-
-def placed(size):
-    """The base and the length of a region of that many bytes after the last one."""
-    global end
-    length = r.region_length(size)
-    while r.least(end, end + length) != (end, end + length):
-        end += 16
-    base, end = end, end + length
-    return base, length
-
 
 def exports(entry, own):
     row = (64, 0, 3, 2) if own else (0, 0, 1, 1)
     return [(r.export_row(4 * i, *row, entry + i), f"e{i}") for i in range(64)]
 
 
-entry, owners, libraries, text = 1, [], [], bytes(65536)
+laid, entry, owners, libraries, text = Laid(), 1, [], [], bytes(65536)
 for i in range(64):
     slots = [r.SWITCH] + [(r.import_row(5, 50, (i * 7 + j) % 64, j % 64), f"i{j}") for j in range(147)]
-    code, table, data = placed(8 * 148 + len(text)), placed(16 + 16 * 64), placed(8176)
+    code, table, data = laid.placed(8 * 148 + len(text)), laid.placed(16 + 16 * 64), laid.placed(8176)
     owners.append(r.owner(True, f"c{i}", *code, slots, exports(entry + 150, True), text, table[0], *data))
     entry += 2 + 148 + 64
 for i in range(32):
     slots = [(r.import_row(6, 43, (i * 5 + j) % 32, j % 64), f"i{j}") for j in range(128)]
-    code = placed(8 * 128 + len(text))
+    code = laid.placed(8 * 128 + len(text))
     libraries.append(r.owner(False, f"l{i}", *code, slots, exports(entry + 129, False), text))
     entry += 1 + 128 + 64
-threads = [(f"t{i}", *placed(256), 63, 63, 1, 96) for i in range(64)]
-trusted = placed(16 + 64 * (160 + 64 * 96))[0]
+threads = [(f"t{i}", *laid.placed(256), 63, 63, 1, 96) for i in range(64)]
+trusted = laid.placed(16 + 64 * (160 + 64 * 96))[0]
 put("largest", image([(f"d{i}", 1, 0x10000000 + 16 * i) for i in range(16)], owners, libraries, threads,
-                     64 * MIB, trusted, -(-end // 16) * 16))
+                     64 * MIB, trusted, laid.rest()))
 PYTHON
 for file in $(ls -v "$work"); do
-    size=$(stat -c %s "$work/$file")
     for form in accept read; do
-        start=$(date +%s.%N)
-        answer=$("$program" image "$form" "$work/$file")
-        end=$(date +%s.%N)
-        printf '%-12s %9d bytes, %s s: %s\n' "$file" "$size" "$(echo "$end - $start" | bc)" "$answer"
+        timed "$parts" image "$form" "$work/$file"
+        printf '%-12s %9d bytes, %s s: %s\n' "$file" "$(stat -c %s "$work/$file")" "$seconds" "$(cat "$output")"
     done
 done

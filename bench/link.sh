@@ -3,10 +3,7 @@
 # of 148 slots and 64 exports and libraries of 128 slots and 64 exports, each with a source of 1,024 or 16,384
 # words of text.
 # Build first: (cd crates/bench_parts && rt run -- decode 1000)
-here=$(cd "$(dirname "$0")/.." && pwd)
-program=$here/crates/bench_parts/out/bench_parts
-work=$(mktemp -d)
-trap 'rm -rf "$work"' EXIT
+source "$(dirname "$0")/common.sh"
 python3 - "$work" <<'PYTHON'
 import json
 import sys
@@ -53,17 +50,7 @@ sample("64-32-long", 64, 32, 16384)
 PYTHON
 for name in 01-01 08-04 64-32 64-32-long; do
     for form in read link; do
-        python3 - "$program" "$form" "$work" "$name" <<'PYTHON'
-import glob
-import os
-import resource
-import subprocess
-import sys
-program, form, work, name = sys.argv[1:]
-words = [program, "link", form, "%s/%s" % (work, name)] + sorted(glob.glob("%s/%s-[0-9][0-9][0-9].s" % (work, name)))
-answer = subprocess.run(words, capture_output=True, text=True).stdout.strip()
-used = resource.getrusage(resource.RUSAGE_CHILDREN)
-print("%-10s %-4s %.3f s, %5.1f MiB: %s" % (name, form, used.ru_utime + used.ru_stime, used.ru_maxrss / 1024, answer))
-PYTHON
+        printf '%-10s %-4s %s\n' "$name" "$form" \
+            "$(used "$parts" link "$form" "$work/$name" "$work/$name"-[0-9][0-9][0-9].s)"
     done
 done

@@ -3,50 +3,35 @@
 # 64 compartments of 148 slots and 64 exports with 64 threads, and the largest with 32 libraries besides. Names
 # have 32 letters, each compartment calls and shares with every other.
 # Build first: (cd crates/bench_parts && rt run -- decode 1000)
-here=$(cd "$(dirname "$0")/.." && pwd)
-program=$here/crates/bench_parts/out/bench_parts
-work=$(mktemp -d)
-trap 'rm -rf "$work"' EXIT
-python3 -B - "$here/crates/run_rows/reference" "$work" <<'PYTHON'
+source "$(dirname "$0")/common.sh"
+python3 -B - "$here/bench" "$work" <<'PYTHON'
 import sys
 sys.path.insert(0, sys.argv[1])
-import images as r
-
-MIB = 1 << 20
+from laid import Laid, MIB, images as r
 
 
 def largest(count, libraries):
-    end = 0x80000000
-
-    def placed(size):
-        nonlocal end
-        length = r.region_length(size)
-        while r.least(end, end + length) != (end, end + length):
-            end += 16
-        base, end = end, end + length
-        return base, length
-
     def exports(entry, own):
         row = (0, 0, 6, 2, 1) if own else (0, 0, 0, 2, 1)
         return [(r.export_row(*row, entry + i), ("e%d" % i).ljust(32, "x")) for i in range(64)]
 
-    entry, owners, lent = 1, [], []
+    laid, entry, owners, lent = Laid(), 1, [], []
     for i in range(count):
         slots = [r.SWITCH] + [(r.import_row(3, 59, (i + j) % 64), ("s%d" % j).ljust(32, "x")) for j in range(40)]
         slots += [(r.import_row(5, 50, (i * 7 + j) % count, j % 64), ("i%d" % j).ljust(32, "x")) for j in range(107)]
-        code, table, data = placed(8 * 148 + 16), placed(16 + 16 * 64), placed(16)
+        code, table, data = laid.placed(8 * 148 + 16), laid.placed(16 + 16 * 64), laid.placed(16)
         owners.append(r.owner(True, ("c%d" % i).ljust(32, "x"), *code, slots, exports(entry + 150, True), bytes(16),
                               table[0], *data))
         entry += 2 + 148 + 64
     for i in range(libraries):
         slots = [(r.import_row(6, 43, (i * 5 + j) % libraries, j % 64), ("i%d" % j).ljust(32, "x")) for j in range(128)]
-        code = placed(8 * 128 + 16)
+        code = laid.placed(8 * 128 + 16)
         lent.append(r.owner(False, ("l%d" % i).ljust(32, "x"), *code, slots, exports(entry + 129, False), bytes(16)))
         entry += 1 + 128 + 64
-    shared = [(("o%d" % i).ljust(32, "x"), *placed(16)) for i in range(64)]
-    threads = [(("t%d" % i).ljust(32, "x"), *placed(256), count - 1, 63, 1, 96) for i in range(64)]
-    trusted = placed(16 + 64 * (160 + 64 * 96))[0]
-    return r.image(2, 100, 0x80000000, 64 * MIB, trusted, -(-end // 16) * 16, 64, "f", [], shared, [], owners, lent,
+    shared = [(("o%d" % i).ljust(32, "x"), *laid.placed(16)) for i in range(64)]
+    threads = [(("t%d" % i).ljust(32, "x"), *laid.placed(256), count - 1, 63, 1, 96) for i in range(64)]
+    trusted = laid.placed(16 + 64 * (160 + 64 * 96))[0]
+    return r.image(2, 100, 0x80000000, 64 * MIB, trusted, laid.rest(), 64, "f", [], shared, [], owners, lent,
                    threads)
 
 
@@ -57,15 +42,6 @@ for count, libraries in ((8, 0), (16, 0), (32, 0), (64, 0), (64, 32)):
 PYTHON
 for file in $(ls "$work"); do
     for form in accept report; do
-        /usr/bin/env python3 - "$program" "$form" "$work/$file" "$file" <<'PYTHON'
-import os
-import resource
-import subprocess
-import sys
-answer = subprocess.run([sys.argv[1], "report"] + sys.argv[2:4], capture_output=True, text=True).stdout.strip()
-used = resource.getrusage(resource.RUSAGE_CHILDREN)
-print("%-6s %-7s %.3f s, %5.1f MiB: %s" % (sys.argv[4], sys.argv[2], used.ru_utime + used.ru_stime,
-                                           used.ru_maxrss / 1024, answer))
-PYTHON
+        printf '%-6s %-7s %s\n' "$file" "$form" "$(used "$parts" report "$form" "$work/$file")"
     done
 done

@@ -3,11 +3,9 @@
 # the register jump) that loads and stores in the globals, and the smallest loop, a jump to itself.
 # The second word is the number of steps, 100 million by default.
 # Build first: bin/build
-here=$(cd "$(dirname "$0")/.." && pwd)
-program=${1:-$here/crates/ct_main/out/ct_main}
+source "$(dirname "$0")/common.sh"
+program=${1:-$program}
 limit=${2:-100000000}
-work=$(mktemp -d)
-trap 'rm -rf "$work"' EXIT
 python3 - "$here/samples/tiny/tiny.json" "$work" <<'PYTHON'
 import json, sys
 for name, words in (("five", ["00000097", "0001b283", "00150513", "00a1a023", "00008067"]), ("jump", ["0000006f"])):
@@ -16,11 +14,7 @@ for name, words in (("five", ["00000097", "0001b283", "00150513", "00a1a023", "0
     json.dump(firmware, open(f"{sys.argv[2]}/{name}", "w"))
 PYTHON
 for name in five jump; do
-    start=$(date +%s.%N)
-    "$program" run "$work/$name" "$limit" > "$work/output"
-    status=$?
-    end=$(date +%s.%N)
-    seconds=$(echo "$end - $start" | bc)
-    printf '%s: status %d, %s\n  %s s, %s steps a second\n' "$name" "$status" "$(tail -n 1 "$work/output")" "$seconds" \
+    timed "$program" run "$work/$name" "$limit"
+    printf '%s: status %d, %s\n  %s s, %s steps a second\n' "$name" "$status" "$(tail -n 1 "$output")" "$seconds" \
         "$(echo "$limit / $seconds" | bc)"
 done

@@ -30,12 +30,11 @@ fn source_of(alloc: Global, blocks: u32) -> Result<String, AllocError> {
     Ok(source)
 }
 
-/// The names that may be imported.
-fn imports(alloc: Global) -> Result<Names, AllocError> {
-    let mut names = Names::new(alloc);
+/// Adds the names that may be imported.
+fn add_imports(alloc: Global, names: &mut Names) -> Result<(), AllocError> {
     names.add(alloc, "switch")?;
     names.add(alloc, "uart")?;
-    Ok(names)
+    Ok(())
 }
 
 /// The number of bytes of a program's object; 0 where it names what isn't imported.
@@ -62,18 +61,25 @@ fn assembled(alloc: Global, source: &[u8], names: &Names) -> Result<usize, AsmFa
     }
 }
 
+/// The line of a source, with the names that may be imported.
+fn measured(rt: &HostRuntime, source: &str, names: &mut Names) -> Result<(), Failure> {
+    if add_imports(rt.alloc(), names).is_err() {
+        return Err(Failure::Memory);
+    }
+    let length = source.len();
+    match assembled(rt.alloc(), source.as_bytes(), names) {
+        Ok(bytes) => written(println!(rt; "{length} bytes of source, {bytes} bytes of text")),
+        Err(_) => Err(Failure::Memory),
+    }
+}
+
 /// Measures the assembly of a source of as many blocks as the word says.
 pub fn measure(rt: &HostRuntime, words: &[String]) -> Result<(), Failure> {
-    let alloc = rt.alloc();
-    let Ok(source) = source_of(alloc, number(words, 0)) else {
+    let Ok(source) = source_of(rt.alloc(), number(words, 0)) else {
         return Err(Failure::Memory);
     };
-    let Ok(names) = imports(alloc) else {
-        return Err(Failure::Memory);
-    };
-    let length = source.len();
-    let Ok(bytes) = assembled(alloc, source.as_bytes(), &names) else {
-        return Err(Failure::Memory);
-    };
-    written(println!(rt; "{length} bytes of source, {bytes} bytes of text"))
+    let mut names = Names::new(rt.alloc());
+    let end = measured(rt, source.as_str(), &mut names);
+    drop(names);
+    end
 }

@@ -15,6 +15,7 @@ fn described(rt: &HostRuntime, alloc: Global, bytes: &[u8]) -> io::Result<()> {
             let compartments = desc.compartments.len();
             let libraries = desc.libraries.len();
             let threads = desc.threads.len();
+            drop(desc);
             println!(rt;
                 "{devices} devices, {compartments} compartments, {libraries} libraries, {threads} threads"
             )

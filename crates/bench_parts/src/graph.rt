@@ -29,28 +29,45 @@ fn slot(owner: Owner, kind: Kind, of: u32) -> Entry {
     }
 }
 
-/// Rows of each library's code and export, then of each compartment's code and slots: shared objects
-/// that its neighbours share too, and one library.
-fn rows(alloc: Global, size: Size) -> Result<Vec<Entry>, AllocError> {
-    let mut rows = Vec::new(alloc);
+/// Adds the rows of a library's code and export.
+fn add_library(rows: &mut Vec<Entry>, library: u32) -> Result<(), AllocError> {
+    let owner = Owner::Library(library);
+    rows.push(slot(owner, Kind::Code, 0))?;
+    rows.push(slot(owner, Kind::Export, 0))?;
+    Ok(())
+}
+
+/// Adds the rows of a compartment's code and slots: shared objects that its neighbours share too, and one library.
+fn add_compartment(rows: &mut Vec<Entry>, size: Size, compartment: u32) -> Result<(), AllocError> {
+    let owner = Owner::Compartment(compartment);
+    rows.push(slot(owner, Kind::Code, 0))?;
+    for import in 0..size.imports {
+        rows.push(slot(owner, Kind::Shared, compartment.wrapping_add(import) / 2))?;
+    }
+    let library = compartment % size.libraries.max(1);
+    rows.push(slot(
+        owner,
+        Kind::Library,
+        library.wrapping_mul(2).wrapping_add(2),
+    ))?;
+    Ok(())
+}
+
+/// Adds the rows of each library, then of each compartment.
+fn add_rows(rows: &mut Vec<Entry>, size: Size) -> Result<(), AllocError> {
     for library in 0..size.libraries {
-        let owner = Owner::Library(library);
-        rows.push(slot(owner, Kind::Code, 0))?;
-        rows.push(slot(owner, Kind::Export, 0))?;
+        add_library(rows, library)?;
     }
     for compartment in 0..size.compartments {
-        let owner = Owner::Compartment(compartment);
-        rows.push(slot(owner, Kind::Code, 0))?;
-        for import in 0..size.imports {
-            rows.push(slot(owner, Kind::Shared, compartment.wrapping_add(import) / 2))?;
-        }
-        let library = compartment % size.libraries.max(1);
-        rows.push(slot(
-            owner,
-            Kind::Library,
-            library.wrapping_mul(2).wrapping_add(2),
-        ))?;
+        add_compartment(rows, size, compartment)?;
     }
+    Ok(())
+}
+
+/// The rows of a firmware of this size.
+fn rows(alloc: Global, size: Size) -> Result<Vec<Entry>, AllocError> {
+    let mut rows = Vec::new(alloc);
+    add_rows(&mut rows, size)?;
     Ok(rows)
 }
 

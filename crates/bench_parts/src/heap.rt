@@ -59,13 +59,20 @@ fn flushes(heap: &mut Laden, count: u32) -> u64 {
     sum
 }
 
-fn run(alloc: Global, work: &str, count: u32, number: u32) -> Result<u64, NoMemory> {
-    let mut heap = with_gaps(alloc, number)?;
+/// The work on a heap with gaps.
+fn worked(heap: &mut Laden, work: &str, count: u32) -> u64 {
     if work == "flush" {
-        return Ok(flushes(&mut heap, count));
+        return flushes(heap, count);
     }
     let size = if work == "last" { 64 } else { 56 };
-    Ok(turns(&mut heap, count, size))
+    turns(heap, count, size)
+}
+
+fn run(alloc: Global, work: &str, count: u32, number: u32) -> Result<u64, NoMemory> {
+    let mut heap = with_gaps(alloc, number)?;
+    let sum = worked(&mut heap, work, count);
+    drop(heap);
+    Ok(sum)
 }
 
 /// Measures a heap at the work that the words say.

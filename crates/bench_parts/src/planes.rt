@@ -114,25 +114,50 @@ fn fresh<M: Memory>(mut memory: M) -> M {
     memory
 }
 
+/// The first tagged granule of new plain memory.
+fn plain_made(alloc: Global, count: u32) -> Result<u64, NoMemory> {
+    let size = count - count % 16;
+    let next = fresh(Plain::new(alloc, size)?).next_tagged(0, size);
+    Ok(next.unwrap_or(0) as u64)
+}
+
+/// The first tagged granule of new memory in planes.
+fn planes_made(alloc: Global, count: u32) -> Result<u64, NoMemory> {
+    let size = count - count % 16;
+    let next = fresh(Planes::new(alloc, size)?).next_tagged(0, size);
+    Ok(next.unwrap_or(0) as u64)
+}
+
+/// What the work on plain memory adds up.
+fn plain_run(alloc: Global, task: &str, count: u32) -> Result<u64, NoMemory> {
+    Ok(work(&mut Plain::new(alloc, SIZE)?, task, count))
+}
+
+/// What the work on memory in planes adds up.
+fn planes_run(alloc: Global, task: &str, count: u32) -> Result<u64, NoMemory> {
+    Ok(work(&mut Planes::new(alloc, SIZE)?, task, count))
+}
+
+/// What the work on an array of words adds up.
+fn array_run(alloc: Global, task: &str, count: u32) -> Result<u64, NoMemory> {
+    let mut words = vec![in alloc; 0u64; 8192]?;
+    Ok(array_work(&mut words, task, count))
+}
+
 /// What a run adds up, or the first tagged granule of new memory.
 fn run(alloc: Global, kind: &str, task: &str, count: u32) -> Result<u64, NoMemory> {
     if task == "make" {
-        let size = count - count % 16;
-        let next = if kind == "plain" {
-            fresh(Plain::new(alloc, size)?).next_tagged(0, size)
+        return if kind == "plain" {
+            plain_made(alloc, count)
         } else {
-            fresh(Planes::new(alloc, size)?).next_tagged(0, size)
+            planes_made(alloc, count)
         };
-        return Ok(next.unwrap_or(0) as u64);
     }
-    if kind == "plain" {
-        return Ok(work(&mut Plain::new(alloc, SIZE)?, task, count));
+    match kind {
+        "plain" => plain_run(alloc, task, count),
+        "planes" => planes_run(alloc, task, count),
+        _ => array_run(alloc, task, count),
     }
-    if kind == "planes" {
-        return Ok(work(&mut Planes::new(alloc, SIZE)?, task, count));
-    }
-    let mut words = vec![in alloc; 0u64; 8192]?;
-    Ok(array_work(&mut words, task, count))
 }
 
 /// Measures memory at the work that the words say.

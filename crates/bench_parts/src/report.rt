@@ -19,20 +19,29 @@ fn reported(alloc: Global, image: &Image) -> Result<(usize, usize), NoMemory> {
     Ok((rows.rows.len(), line.len()))
 }
 
+/// What is answered to an image, in a few words.
+fn told(alloc: Global, image: &Image, reports: bool) -> Result<String, AllocError> {
+    if !reports {
+        return String::from_str(alloc, "accepted");
+    }
+    match reported(alloc, image) {
+        Ok((count, size)) => format!(in alloc; "{count} entries, a line of {size} bytes"),
+        Err(_) => String::from_str(alloc, "memory"),
+    }
+}
+
 /// What is answered to bytes, in a few words.
 fn answered(alloc: Global, bytes: &[u8], reports: bool) -> Result<String, AllocError> {
     if bytes.len() >= 1 << 32 {
         return String::from_str(alloc, "large");
     }
-    let Ok(image) = accept(alloc, bytes) else {
-        return String::from_str(alloc, "refused");
-    };
-    if !reports {
-        return String::from_str(alloc, "accepted");
-    }
-    match reported(alloc, &image) {
-        Ok((count, size)) => format!(in alloc; "{count} entries, a line of {size} bytes"),
-        Err(_) => String::from_str(alloc, "memory"),
+    match accept(alloc, bytes) {
+        Ok(image) => {
+            let answer = told(alloc, &image, reports);
+            drop(image);
+            answer
+        }
+        Err(_) => String::from_str(alloc, "refused"),
     }
 }
 

@@ -81,16 +81,31 @@ fn planes(alloc: Global, size: u32) -> Result<Planes, NoMemory>
     Planes::new(alloc, size)
 }
 
+/// The sum of the fronts over so many slices of memory that is filled first.
+fn swept<M: Memory>(memory: &mut M, share: u32, count: u32) -> u64
+    requires { length (M.granules memory.old) ≡ 1048576 }
+{
+    fill(memory, share);
+    slices(memory, count)
+}
+
+fn plain_run(alloc: Global, share: u32, count: u32) -> Result<u64, NoMemory> {
+    let mut memory = plain(alloc, SIZE)?;
+    Ok(swept(&mut memory, share, count))
+}
+
+fn planes_run(alloc: Global, share: u32, count: u32) -> Result<u64, NoMemory> {
+    let mut memory = planes(alloc, SIZE)?;
+    Ok(swept(&mut memory, share, count))
+}
+
 /// The sum of the fronts over so many slices.
 fn run(alloc: Global, kind: &str, share: u32, count: u32) -> Result<u64, NoMemory> {
     if kind == "plain" {
-        let mut memory = plain(alloc, SIZE)?;
-        fill(&mut memory, share);
-        return Ok(slices(&mut memory, count));
+        plain_run(alloc, share, count)
+    } else {
+        planes_run(alloc, share, count)
     }
-    let mut memory = planes(alloc, SIZE)?;
-    fill(&mut memory, share);
-    Ok(slices(&mut memory, count))
 }
 
 /// Measures as many slices as the words say.

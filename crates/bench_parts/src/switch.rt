@@ -72,22 +72,37 @@ fn area() -> Area
     }
 }
 
-/// How many rounds were done.
-fn run(alloc: Global, task: &str, room: u32, count: u32) -> Result<u32, NoMemory> {
-    let e = entries(alloc, 0)?;
-    let (mut mem, mut t) = thread(alloc, SIZE, [Live::integer(0); 16], area())?;
-    heads(&mut mem);
+/// How many of so many rounds were done.
+fn rounds(
+    t: &mut Thread,
+    mem: &mut Plain,
+    e: &Entries,
+    task: &str,
+    (room, count): (u32, u32),
+) -> u32 {
     let mut done = 0u32;
     for _ in 0..count {
         let fine = if task == "clear" {
-            cleared(&mut mem, room)
+            cleared(mem, room)
         } else {
-            round(&mut t, &mut mem, &e, room, task == "call")
+            round(t, mem, e, room, task == "call")
         };
         if fine {
             done = done.wrapping_add(1);
         }
     }
+    done
+}
+
+/// How many rounds were done.
+fn run(alloc: Global, task: &str, room: u32, count: u32) -> Result<u32, NoMemory> {
+    let e = entries(alloc, 0)?;
+    let (mut mem, mut t) = thread(alloc, SIZE, [Live::integer(0); 16], area())?;
+    heads(&mut mem);
+    let done = rounds(&mut t, &mut mem, &e, task, (room, count));
+    drop(t);
+    drop(mem);
+    drop(e);
     Ok(done)
 }
 

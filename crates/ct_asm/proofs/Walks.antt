@@ -10,7 +10,7 @@ use Rattle.def_source.specs.Source.{Name, Statements, lawful_from, is_lawful, in
 use Rattle.def_object.specs.declared.Place.{Place}
 use Rattle.def_object.specs.declared.Fault.{Fault}
 use Rattle.def_object.specs.Object.{Labels, advanced, grown, size_at, offset, is_least, lesser, on_line, statement_fault, reference_fault, size_fault, fault_from, section_bytes, bytes_from}
-use Rattle.ct_source.specs.Views.{statement_view, statements_view}
+use Rattle.ct_source.specs.Views.{part_view, statement_view, statements_view}
 use Rattle.ct_asm.specs.Emitting.{IsFound}
 
 -- the statements from number k on begin with number k
@@ -26,6 +26,10 @@ parts_of s p e =
 -- a lawful statement at the front
 pub first_lawful : (s : Section) (x : Statement Name) (xs all : Statements) → all ≡ x ∷ xs → lawful_from s all ≡ true → (in_section s x.part ≡ true) × (numbers_fit x.part ≡ true) × (registers_exist x.part ≡ true)
 first_lawful s x xs all cut e = parts_of s x.part (and_parts (is_lawful s x.part) (lawful_from (section_after s (Some x.part)) xs) (sym (ap (lawful_from s) cut) ∙ e)).0
+
+-- of lawful statements that are left, the numbers of the next one fit
+pub next_fits : (ss : List (Statement (Bor Name))) (k : ℕ) (d : Statement (Bor Name)) (s : Section) → k < length ss → lawful_from s (statements_view (drop k ss)) ≡ true → numbers_fit (part_view (get_or ss k d).part) ≡ true
+next_fits ss k d s inside lawful = (first_lawful s _ _ _ (from_here ss k d inside) lawful).1
 
 grown_section : (p : Place) (n : ℕ) → (grown p n).section ≡ p.section
 grown_section p n = by_test (is_text p.section)

@@ -42,6 +42,7 @@ fn push_in(
 }
 
 /// The bytes of one section.
+#[tactic(auto, using(crate::proofs::Walks::next_fits))]
 pub(crate) fn section_bytes(
     alloc: Global,
     wanted: Section,

@@ -163,6 +163,7 @@ fn on_line(line: u32, number: Option<u32>) -> Option<Fault>
 }
 
 /// The least fault of all statements.
+#[tactic(auto, using(crate::proofs::Walks::next_fits))]
 pub(crate) fn least_fault(labels: &Labels, statements: &[Statement<&[u8]>]) -> Option<Fault>
     requires { source.IsLawful (statements_view statements.now) }
     ensures { result

@@ -38,6 +38,7 @@ fn note(
 }
 
 /// The labels of a source, each by the first of its name.
+#[tactic(auto, using(crate::proofs::Walks::next_fits))]
 pub(crate) fn labels_of(
     alloc: Global,
     statements: &[Statement<&[u8]>],

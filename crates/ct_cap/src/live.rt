@@ -38,11 +38,28 @@ impl Model for Live {
 
     ghost view = { λ l. l.cap };
 
-    ghost invariant = { λ l. (l.bounds ≡ cap_bounds l.cap) × (l.perms ≡ record { 0 = cap_perms l.cap }) × (l.seal ≡ cap_seal l.cap) };
+    ghost invariant = { λ l. (l.bounds ≡ cap_bounds l.cap)
+        × (l.perms ≡ record { 0 = cap_perms l.cap })
+        × (l.seal ≡ cap_seal l.cap) };
 
-    ghost inverse = { λ c. record { cap = c; bounds = cap_bounds c; perms = record { 0 = cap_perms c }; seal = cap_seal c } };
+    ghost inverse = { λ c. record {
+      cap = c;
+      bounds = cap_bounds c;
+      perms = record { 0 = cap_perms c };
+      seal = cap_seal c;
+    } };
 
-    ghost inverse_ok = { λ a h. ap (λ b. record { cap = a.cap; bounds = b; perms = record { 0 = cap_perms a.cap }; seal = cap_seal a.cap }) (sym h.0) ∙ ap (λ p. record { cap = a.cap; bounds = a.bounds; perms = p; seal = cap_seal a.cap }) (sym h.1) ∙ ap (λ s. record { cap = a.cap; bounds = a.bounds; perms = a.perms; seal = s }) (sym h.2) };
+    ghost inverse_ok = { λ a h.
+        ap (λ b. record {
+          cap = a.cap;
+          bounds = b;
+          perms = record { 0 = cap_perms a.cap };
+          seal = cap_seal a.cap;
+        }) (sym h.0)
+        ∙ ap (λ p. record { cap = a.cap; bounds = a.bounds; perms = p; seal = cap_seal a.cap })
+        (sym h.1)
+        ∙ ap (λ s. record { cap = a.cap; bounds = a.bounds; perms = a.perms; seal = s })
+        (sym h.2) };
 }
 
 /// The capability decoded.

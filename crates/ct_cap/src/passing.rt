@@ -43,7 +43,8 @@ pub fn attenuate(by: Live, l: Live) -> Live
 /// The permissions that a load lets pass.
 fn passed(unsealed: bool, mutable: bool, globals: bool) -> u32
     ensures { (set : ℕ) → bit_and set result ≡ removed set (if unsealed
-        then (if mutable then [] else store_data ∷ load_mutable ∷ []) ++ (if globals then [] else global ∷ load_global ∷ [])
+        then (if mutable then [] else store_data ∷ load_mutable ∷ [])
+        ++ (if globals then [] else global ∷ load_global ∷ [])
         else (if globals then [] else global ∷ [])) }
 {
     if unsealed {

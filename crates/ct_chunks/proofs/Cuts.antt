@@ -1,7 +1,7 @@
 -- A gap's chunk is cut, and the object's part taken.
-use Rattle.std.proofs.Common.{ℕ, ◌≡◌, ◌+◌, ◌-◌, ◌*◌, ◌/◌, ◌%◌, ◌^◌, ◌<◌, ◌≤◌, ◌⊎◌, inl, inr, Bool, true, false, cond, nat_eq, List, [], ◌∷◌, ◌++◌, length, refl, sym, ap, ◌∙◌, arith, subst}
-use Rattle.std.proofs.lemmas.List.{append_assoc, append-nil}
-use Rattle.law_lists.proofs.Tests.{bool_tells, eq_tells}
+use Rattle.std.proofs.Common.{ℕ, ◌≡◌, ◌+◌, ◌-◌, ◌*◌, ◌%◌, ◌^◌, ◌<◌, ◌≤◌, inl, inr, true, false, List, [], ◌∷◌, ◌++◌, length, refl, sym, ap, ◌∙◌, arith, subst}
+use Rattle.std.proofs.lemmas.List.{append_assoc}
+use Rattle.law_lists.proofs.Tests.{eq_tells}
 use Rattle.def_memory.specs.declared.Granule.{Granule}
 use Rattle.def_memory.specs.Granules.{plain}
 use Rattle.def_memory.specs.Accesses.{stored_cap}
@@ -9,14 +9,14 @@ use Rattle.def_chunks.specs.declared.heads.TheConstants.{NO_CHUNK}
 use Rattle.def_chunks.specs.declared.rows.Range.{Range}
 use Rattle.def_chunks.specs.declared.rows.Gap.{Gap}
 use Rattle.def_chunks.specs.Chunks.{Chunk, is_free, total, first_free, IsChunk, AreChunks, NoneTouch}
-use Rattle.def_chunks.specs.Tiles.{chunks, TiledBy, Tiled, Settled}
-use Rattle.def_chunks.specs.Changes.{replaced, parts, taken, free_chunk, gap, linked, InUse, Spared, Keeps}
-use Rattle.def_chunks.specs.Gaps.{NoFree, LastFree, Stands, FreeStands, FreeLinked, carved}
+use Rattle.def_chunks.specs.Tiles.{chunks, Tiled, Settled}
+use Rattle.def_chunks.specs.Changes.{replaced, parts, taken, free_chunk, gap, linked, InUse, Keeps}
+use Rattle.def_chunks.specs.Gaps.{Stands, FreeStands, FreeLinked, carved}
 use Rattle.law_chunks.proofs.Lays.{total_both, are_split, are_join}
-use Rattle.law_chunks.proofs.Reading.{Sits, sits, sits_by, replaced_is, Done}
+use Rattle.law_chunks.proofs.Reading.{sits, replaced_is}
 use Rattle.law_chunks.proofs.Carves.{free_state, sat, not_none}
 use Rattle.law_chunks.proofs.Joins.{gap_are, gap_total, carved_apart}
-use Rattle.law_chunks.proofs.Spares.{in_use_split, in_use_first, in_use_second, in_use_low, in_use_high, free_unused, head_unused, starts_second, starts_first, keeps_same, keeps_then, keeps_store, loose, head_loose, spared_more}
+use Rattle.law_chunks.proofs.Spares.{in_use_split, in_use_first, in_use_second, free_unused, keeps_same, keeps_then, keeps_store, loose, spared_more}
 use Rattle.ct_chunks.specs.Cuts.{CutBack, CutFront, Fitting}
 use Rattle.ct_chunks.specs.Writes.{Linkable}
 use Rattle.ct_chunks.proofs.Walks.{last_free}
@@ -41,9 +41,10 @@ gap_some n other = elim (eq_tells n 0) [ inl e ↦ absurd (other e.1) | inr e �
 
 -- ---- splitting and taking leave other chunks alone
 
-pub split_keeps : (r : Range) (gs ms hs : List Granule) (at size first next one two : ℕ) → Tiled r gs → FreeStands r gs at size next → first % 8 ≡ 0 → 8 ≤ first → first + 8 ≤ size
-    → ms ≡ stored_cap gs (at + first - r.ram) (plain one) → hs ≡ stored_cap ms (at - r.ram) (plain two) → Keeps r (chunks r gs) gs hs
-split_keeps r gs ms hs at size first next one two h f whole some fits is_one is_two =
+-- what a plain word does that is written inside a free chunk
+pub free_keeps : (r : Range) (gs ms hs : List Granule) (at size next p word : ℕ) → Tiled r gs → FreeStands r gs at size next → at ≤ p → p < at + size → (p - at) % 8 ≡ 0
+    → hs ≡ stored_cap ms (p - r.ram) (plain word) → Keeps r (chunks r gs) ms hs
+free_keeps r gs ms hs at size next p word h f from to eight is =
     let s = f.stands in
     let k = sits r gs at h s in
     let low = k.low in
@@ -52,13 +53,16 @@ split_keeps r gs ms hs at size first next one two h f whole some fits is_one is_
     let high = k.fits in
     let size_is = f.size_is in
     let place = s.place in
-    let unused : (p : ℕ) → at ≤ p → p < at + size → InUse p r.base (chunks r gs) → ⊥ = λ p from to used.
-    free_unused p r.base s.above s.chunk s.below f.is (omega (arith, place, from)) (omega (arith, place, to, size_is)) (subst (InUse p r.base) s.whole used) in
-    let there : Spared r (chunks r gs) (at + first) → ⊥ = loose r (chunks r gs) (at + first) (omega (arith, low)) (omega (arith, high, fits, size_is)) (unused (at + first) (omega arith) (omega (arith, fits))) in
-    let here : Spared r (chunks r gs) at → ⊥ = loose r (chunks r gs) at low (omega (arith, high, fits, size_is, some)) (unused at (omega arith) (omega (arith, fits, some))) in
+    let unused : InUse p r.base (chunks r gs) → ⊥ = λ used. free_unused p r.base s.above s.chunk s.below f.is (omega (arith, place, from)) (omega (arith, place, to, size_is)) (subst (InUse p r.base) s.whole used) in
+    keeps_store r (chunks r gs) ms hs p (plain word) refl (omega (arith, over, from)) (omega (arith, even, over, from, eight))
+    (loose r (chunks r gs) p (omega (arith, low, from)) (omega (arith, high, to, size_is)) unused) is
+
+pub split_keeps : (r : Range) (gs ms hs : List Granule) (at size first next one two : ℕ) → Tiled r gs → FreeStands r gs at size next → first % 8 ≡ 0 → 8 ≤ first → first + 8 ≤ size
+    → ms ≡ stored_cap gs (at + first - r.ram) (plain one) → hs ≡ stored_cap ms (at - r.ram) (plain two) → Keeps r (chunks r gs) gs hs
+split_keeps r gs ms hs at size first next one two h f whole some fits is_one is_two =
     keeps_then r (chunks r gs) (chunks r gs) gs ms hs (λ p spared. spared)
-    (keeps_store r (chunks r gs) gs ms (at + first) (plain one) refl (omega (arith, over)) (omega (arith, even, whole, over)) there is_one)
-    (keeps_store r (chunks r gs) ms hs at (plain two) refl over even here is_two)
+    (free_keeps r gs gs ms at size next (at + first) one h f (omega arith) (omega (arith, fits)) (omega (arith, whole)) is_one)
+    (free_keeps r gs ms hs at size next at two h f (omega arith) (omega (arith, fits, some)) (omega arith) is_two)
 
 -- where the last free chunk is
 record LastAt (r : Range) (cs : List Chunk) (before : ℕ) : Type 0 where
@@ -81,17 +85,11 @@ pub take_keeps : (r : Range) (gs ms hs : List Granule) (at size next before bsiz
     → ms ≡ linked gs r.ram r.base before bsize next → hs ≡ stored_cap ms (at - r.ram) (plain two) → Keeps r (chunks r gs) gs hs
 take_keeps r gs ms hs at size next before bsize two h t is_one is_two =
     let f = t.free_stands in
-    let s = f.stands in
-    let k = sits r gs at h s in
-    let low = k.low in
-    let over = k.over in
-    let even = k.even in
+    let k = sits r gs at h f.stands in
     let high = k.fits in
     let some = k.shape.some in
-    let place = s.place in
+    let size_is = f.size_is in
     let ram_low = h.above in
-    let here : Spared r (chunks r gs) at → ⊥ = loose r (chunks r gs) at low (omega (arith, high, some))
-    (λ used. free_unused at r.base s.above s.chunk s.below f.is (omega (arith, place)) (omega (arith, place, some)) (subst (InUse at r.base) s.whole used)) in
     let first : Keeps r (chunks r gs) gs ms = elim (eq_tells before NO_CHUNK) [
       | inl e ↦ keeps_same r (chunks r gs) gs ms (is_one ∙ rw e.0 refl)
       | inr e ↦
@@ -101,7 +99,8 @@ take_keeps r gs ms hs at size next before bsize two h t is_one is_two =
           (loose r (chunks r gs) (r.base + before) (omega arith) (omega (arith, fits, high, some)) (last_at r gs at size next before bsize h t e.1).unused)
           (is_one ∙ rw e.0 refl)
     ] in
-    keeps_then r (chunks r gs) (chunks r gs) gs ms hs (λ p spared. spared) first (keeps_store r (chunks r gs) ms hs at (plain two) refl over even here is_two)
+    keeps_then r (chunks r gs) (chunks r gs) gs ms hs (λ p spared. spared) first
+    (free_keeps r gs ms hs at size next at two h f (omega arith) (omega (arith, some, size_is)) (omega arith) is_two)
 
 pub linkable : (r : Range) (gs : List Granule) (at size next before bsize : ℕ) → Tiled r gs → FreeLinked r gs at size next before bsize → Linkable r (length gs) before
 linkable r gs at size next before bsize h t =

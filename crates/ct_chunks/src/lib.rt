@@ -13,6 +13,6 @@ mod states;
 pub use carving::carve;
 pub use def_chunks::{Gap, Head, Range};
 pub use finding::find;
-pub use heads::{read_head, write_head};
+pub use heads::{chunk_head, read_head, write_head};
 pub use joining::join;
 pub use states::{paint, set_state};

@@ -7,7 +7,7 @@ ghost use Rattle.def_chunks.specs.Tiles.{chunks, Tiled, Settled};
 ghost use Rattle.def_chunks.specs.Changes.{replaced, in_state, painted_chunk, all_painted, Keeps};
 ghost use Rattle.def_chunks.specs.Gaps.{Stands, UsedStands};
 
-use crate::heads::{read_head, write_head};
+use crate::heads::{chunk_head, write_head};
 use ct_mem::Memory;
 use def_chunks::Range;
 use def_chunks::heads::{PAINTED, QUARANTINED};
@@ -42,7 +42,7 @@ fn paint_chunk<M: Memory>(range: &Range, mem: &mut M, at: u32) -> u32
         (M.granules mem.new) }
 {
     let _size = mem.size();
-    let head = read_head(mem, range.ram, at);
+    let head = chunk_head(range, mem, at);
     if head.state == QUARANTINED {
         set_state(range, mem, at, head.size, head.rest, PAINTED);
     }

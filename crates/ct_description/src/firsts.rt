@@ -129,6 +129,17 @@ impl Firsts {
         self.judge_members(alloc, spot)
     }
 
+    /// F2 to F6 at each of these places, in order.
+    fn judge_all(&mut self, alloc: Global, spots: &[Spot]) -> Result<(), AllocError>
+        ensures { OnOk result
+            (after_kinds self.new [] ≡ after_kinds self.old (map seen spots.now)) }
+    {
+        for spot in spots {
+            self.judge(alloc, spot)?;
+        }
+        Ok(())
+    }
+
     /// The least fault, where no more places follow.
     #[tactic(auto, using(crate::proofs::Places::no_more), unfolding(crate::specs::Judged::after_kinds, crate::specs::Judged::after_members, crate::specs::Judged::after_names, crate::specs::Judged::after_twice, crate::specs::Judged::after_limits))]
     fn least(&self) -> Option<Fault>
@@ -158,8 +169,11 @@ pub fn place_fault(alloc: Global, spots: &[Spot]) -> Result<Option<Fault>, Alloc
     ensures { IfOk result (λ f. f ≡ place_faults (map seen spots.now)) }
 {
     let mut firsts = Firsts::new(alloc);
-    for spot in spots {
-        firsts.judge(alloc, spot)?;
+    let judged = firsts.judge_all(alloc, spots);
+    let least = firsts.least();
+    drop(firsts);
+    match judged {
+        Ok(()) => Ok(least),
+        Err(error) => Err(error),
     }
-    Ok(firsts.least())
 }

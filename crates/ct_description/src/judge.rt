@@ -65,7 +65,9 @@ fn value_fault(alloc: Global, value: &Value) -> Result<Option<Fault>, AllocError
         return Ok(Some(fault));
     }
     let named = Named::of(alloc, value)?;
-    Ok(name_fault(&named, spots.as_slice()))
+    let fault = name_fault(&named, spots.as_slice());
+    drop(named);
+    Ok(fault)
 }
 
 /// The rows of a value that is a well-formed description.

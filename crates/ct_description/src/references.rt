@@ -17,16 +17,15 @@ use def_description::{Form, PartWord, Place};
 use serde_json::Value;
 use std::alloc::{AllocError, Global};
 
-/// The names of the elements of a list.
-fn names_of(alloc: Global, values: &[Value]) -> Result<Names, AllocError>
-    ensures { IfOk result
-        (λ n. n ≡ with_names [] (map (member.text_or (codes "name")) (map view values.now))) }
+/// Adds the names of the elements of a list.
+fn add_names(names: &mut Names, alloc: Global, values: &[Value]) -> Result<(), AllocError>
+    ensures { OnOk result (names.new ≡ with_names names.old
+        (map (member.text_or (codes "name")) (map view values.now))) }
 {
-    let mut names = Names::new(alloc);
     for value in values {
         names.add(alloc, text_or(value, "name"))?;
     }
-    Ok(names)
+    Ok(())
 }
 
 /// `owner.export`.
@@ -56,33 +55,83 @@ fn add_exports(
     Ok(())
 }
 
-/// The exports of all owners of a list, each as `owner.export`.
-fn exports_of(alloc: Global, owners: &[Value]) -> Result<Names, AllocError>
-    ensures { IfOk result
-        (λ n. n ≡ with_names [] (flat_map spec.exports_in (map view owners.now))) }
+/// Adds the exports of all owners of a list, each as `owner.export`.
+fn add_owners(names: &mut Names, alloc: Global, owners: &[Value]) -> Result<(), AllocError>
+    ensures { OnOk result (names.new ≡ with_names names.old
+        (flat_map spec.exports_in (map view owners.now))) }
 {
-    let mut names = Names::new(alloc);
     for owner in owners {
         let exports = list_at(owner, "exports");
-        add_exports(&mut names, alloc, text_or(owner, "name"), exports)?;
+        add_exports(names, alloc, text_or(owner, "name"), exports)?;
     }
-    Ok(names)
+    Ok(())
+}
+
+/// Names by what they name.
+#[derive(Drop)]
+struct Sets {
+    devices: Names,
+    shared: Names,
+    sealed: Names,
+    calls: Names,
+    libraries: Names,
+}
+
+impl Sets {
+    /// No names.
+    fn new(alloc: Global) -> Sets
+        ensures devices { result.devices ≡ [] }
+        ensures shared { result.shared ≡ [] }
+        ensures sealed { result.sealed ≡ [] }
+        ensures calls { result.calls ≡ [] }
+        ensures libraries { result.libraries ≡ [] }
+    {
+        Sets {
+            devices: Names::new(alloc),
+            shared: Names::new(alloc),
+            sealed: Names::new(alloc),
+            calls: Names::new(alloc),
+            libraries: Names::new(alloc),
+        }
+    }
+
+    /// Adds what may be named in a description.
+    fn fill(&mut self, alloc: Global, value: &Value) -> Result<(), AllocError>
+        ensures devices { OnOk result (self.new.devices
+            ≡ with_names self.old.devices (spec.names_at (codes "devices") (view value.now))) }
+        ensures shared { OnOk result (self.new.shared
+            ≡ with_names self.old.shared (spec.names_at (codes "shared") (view value.now))) }
+        ensures sealed { OnOk result (self.new.sealed
+            ≡ with_names self.old.sealed (spec.names_at (codes "sealed") (view value.now))) }
+        ensures calls { OnOk result (self.new.calls
+            ≡ with_names self.old.calls (spec.exports_at (codes "compartments") (view value.now))) }
+        ensures libraries { OnOk result (self.new.libraries
+            ≡ with_names self.old.libraries
+            (spec.exports_at (codes "libraries") (view value.now))) }
+    {
+        add_names(&mut self.devices, alloc, list_at(value, "devices"))?;
+        add_names(&mut self.shared, alloc, list_at(value, "shared"))?;
+        add_names(&mut self.sealed, alloc, list_at(value, "sealed"))?;
+        add_owners(&mut self.calls, alloc, list_at(value, "compartments"))?;
+        add_owners(&mut self.libraries, alloc, list_at(value, "libraries"))
+    }
 }
 
 /// What the imports and threads of a description may name.
 #[derive(Drop)]
 pub struct Named<'a> {
     value: &'a Value,
-    devices: Names,
-    shared: Names,
-    sealed: Names,
-    calls: Names,
-    libraries: Names,
-    ghost of_devices: { devices ≡ with_names [] (spec.names_at (codes "devices") (view value.now)) },
-    ghost of_shared: { shared ≡ with_names [] (spec.names_at (codes "shared") (view value.now)) },
-    ghost of_sealed: { sealed ≡ with_names [] (spec.names_at (codes "sealed") (view value.now)) },
-    ghost of_calls: { calls ≡ with_names [] (spec.exports_at (codes "compartments") (view value.now)) },
-    ghost of_libraries: { libraries ≡ with_names [] (spec.exports_at (codes "libraries") (view value.now)) },
+    sets: Sets,
+    ghost of_devices: { sets.devices
+        ≡ with_names [] (spec.names_at (codes "devices") (view value.now)) },
+    ghost of_shared: { sets.shared
+        ≡ with_names [] (spec.names_at (codes "shared") (view value.now)) },
+    ghost of_sealed: { sets.sealed
+        ≡ with_names [] (spec.names_at (codes "sealed") (view value.now)) },
+    ghost of_calls: { sets.calls
+        ≡ with_names [] (spec.exports_at (codes "compartments") (view value.now)) },
+    ghost of_libraries: { sets.libraries
+        ≡ with_names [] (spec.exports_at (codes "libraries") (view value.now)) },
 }
 
 impl<'a> Named<'a> {
@@ -90,14 +139,14 @@ impl<'a> Named<'a> {
     pub fn of(alloc: Global, value: &'a Value) -> Result<Named<'a>, AllocError>
         ensures { IfOk result (λ n. n.value.now ≡ value.now) }
     {
-        Ok(Named {
-            value,
-            devices: names_of(alloc, list_at(value, "devices"))?,
-            shared: names_of(alloc, list_at(value, "shared"))?,
-            sealed: names_of(alloc, list_at(value, "sealed"))?,
-            calls: exports_of(alloc, list_at(value, "compartments"))?,
-            libraries: exports_of(alloc, list_at(value, "libraries"))?,
-        })
+        let mut sets = Sets::new(alloc);
+        match sets.fill(alloc, value) {
+            Ok(()) => Ok(Named { value, sets }),
+            Err(error) => {
+                drop(sets);
+                Err(error)
+            }
+        }
     }
 
     /// Whether a text names something of the description, by what it is to name.
@@ -106,12 +155,12 @@ impl<'a> Named<'a> {
         ensures { result ≡ spec.resolves (view self.now.value.now) form name.now }
     {
         match form {
-            Form::Device => self.devices.has(name),
-            Form::Shared => self.shared.has(name),
-            Form::Sealed => self.sealed.has(name),
-            Form::Call => self.calls.has(name),
+            Form::Device => self.sets.devices.has(name),
+            Form::Shared => self.sets.shared.has(name),
+            Form::Sealed => self.sets.sealed.has(name),
+            Form::Call => self.sets.calls.has(name),
             Form::Service => true,
-            Form::Library => self.libraries.has(name),
+            Form::Library => self.sets.libraries.has(name),
         }
     }
 

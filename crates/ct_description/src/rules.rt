@@ -60,7 +60,7 @@ fn rights_fit_at(spot: &Spot) -> bool
 fn is_taken(name: &str) -> bool
     ensures { result ≡ spec.is_served Form.Service name.now }
 {
-    match service_of(name) {
+    match service_of(name.as_bytes()) {
         Some(number) => number <= SERVICES_TAKEN,
         None => false,
     }

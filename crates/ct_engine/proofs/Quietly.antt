@@ -44,19 +44,25 @@ word_when gs rows v at is =
     word_same rows.region.ram gs (seen gs rows).granules at (veiled_length (hides rows.region) gs)
     ∙ ap (λ (s : Seen). is_word_of_ram s.region.ram s.granules at) is
 
+-- a register that is lent is the seen thread's
+abbrev pub IsLent : List Granule → Rows → ℕ → ℕ → Cap → Type 0
+IsLent gs rows t n x = x ≡ register (thread (seen gs rows) t) n
+
 -- through register n of thread t
-pub load_when : (gs : List Granule) (rows : Rows) (v : Seen) (a : Access) (t n : ℕ) → seen gs rows ≡ v
-    → is_quiet_load a (register (thread (seen gs rows) t) n) rows.region.ram gs ≡ is_quiet_load a (register (thread v t) n) v.region.ram v.granules
-load_when gs rows v a t n is =
-    load_same a (register (thread (seen gs rows) t) n) rows.region.ram gs (seen gs rows).granules (veiled_length (hides rows.region) gs)
+pub load_when : (gs : List Granule) (rows : Rows) (v : Seen) (a : Access) (t n : ℕ) (x : Cap) → seen gs rows ≡ v → IsLent gs rows t n x
+    → is_quiet_load a x rows.region.ram gs ≡ is_quiet_load a (register (thread v t) n) v.region.ram v.granules
+load_when gs rows v a t n x is x_is =
+    load_same a x rows.region.ram gs (seen gs rows).granules (veiled_length (hides rows.region) gs)
+    ∙ ap (λ (c : Cap). is_quiet_load a c rows.region.ram (seen gs rows).granules) x_is
     ∙ ap (λ (s : Seen). is_quiet_load a (register (thread s t) n) s.region.ram s.granules) is
 
 -- and of its register m
-pub store_when : (gs : List Granule) (rows : Rows) (v : Seen) (a : Access) (t n m : ℕ) → seen gs rows ≡ v
-    → is_quiet_store a (register (thread (seen gs rows) t) n) (register (thread (seen gs rows) t) m) rows.region.ram gs
-    ≡ is_quiet_store a (register (thread v t) n) (register (thread v t) m) v.region.ram v.granules
-store_when gs rows v a t n m is =
-    store_same a (register (thread (seen gs rows) t) n) (register (thread (seen gs rows) t) m) rows.region.ram gs (seen gs rows).granules (veiled_length (hides rows.region) gs)
+pub store_when : (gs : List Granule) (rows : Rows) (v : Seen) (a : Access) (t n m : ℕ) (x y : Cap) → seen gs rows ≡ v → IsLent gs rows t n x → IsLent gs rows t m y
+    → is_quiet_store a x y rows.region.ram gs ≡ is_quiet_store a (register (thread v t) n) (register (thread v t) m) v.region.ram v.granules
+store_when gs rows v a t n m x y is x_is y_is =
+    store_same a x y rows.region.ram gs (seen gs rows).granules (veiled_length (hides rows.region) gs)
+    ∙ ap (λ (c : Cap). is_quiet_store a c y rows.region.ram (seen gs rows).granules) x_is
+    ∙ ap (λ (c : Cap). is_quiet_store a (register (thread (seen gs rows) t) n) c rows.region.ram (seen gs rows).granules) y_is
     ∙ ap (λ (s : Seen). is_quiet_store a (register (thread s t) n) (register (thread s t) m) s.region.ram s.granules) is
 
 -- ---- what an access meets
@@ -93,34 +99,37 @@ given_is gs rows v a x y value is holds open_ quiet i k time of =
     ∙ ap (λ (s : Seen). Ok (record { value = Some value; act = None; granules = s.granules; bank = k })) is
 
 -- through register n of thread t
-pub loaded_is : {A : Type 0} (gs : List Granule) (rows : Rows) (v : Seen) (a : Access) (t n : ℕ) (value : A → Cap) (r : Option A) → seen gs rows ≡ v → Holds gs rows
+pub loaded_is : {A : Type 0} (gs : List Granule) (rows : Rows) (v : Seen) (a : Access) (t n : ℕ) (x : Cap) (value : A → Cap) (r : Option A) → seen gs rows ≡ v → Holds gs rows → IsLent gs rows t n x
     → ((y : Cap) → SeesThrough (hides v.region) v.region.ram a (register (thread v t) n) y)
-    → IfSome r (λ (u : A). (y : Cap) → Quiet a (register (thread (seen gs rows) t) n) y rows.region.ram gs (Some (value u)) gs)
+    → IfSome r (λ (u : A). (y : Cap) → Quiet a x y rows.region.ram gs (Some (value u)) gs)
     → IfSome r (λ (u : A). (y : Cap) → IsGiven a (register (thread v t) n) y v (value u))
-loaded_is gs rows v a t n value None is holds open_ quiet = quiet
-loaded_is gs rows v a t n value (Some u) is holds open_ quiet = λ y.
+loaded_is gs rows v a t n x value None is holds x_is open_ quiet = quiet
+loaded_is gs rows v a t n x value (Some u) is holds x_is open_ quiet = λ y.
     given_is gs rows v a (register (thread v t) n) y (value u) is holds (open_ y)
-    (subst (λ (s : Seen). Quiet a (register (thread s t) n) y rows.region.ram gs (Some (value u)) gs) is (quiet y))
+    (subst (λ (c : Cap). Quiet a c y rows.region.ram gs (Some (value u)) gs) (x_is ∙ ap (λ (s : Seen). register (thread s t) n) is) (quiet y))
 
 -- ---- a store
+
+-- a store of y through x that was done is one of register m of the seen thread through register n
+pub stored_quiet : (gs hs : List Granule) (rows : Rows) (v : Seen) (a : Access) (t n m : ℕ) (x y : Cap) (done : Bool) → seen gs rows ≡ v → IsLent gs rows t n x → IsLent gs rows t m y
+    → (done ≡ true → Quiet a x y rows.region.ram gs None hs) → done ≡ true → Quiet a (register (thread v t) n) (register (thread v t) m) rows.region.ram gs None hs
+stored_quiet gs hs rows v a t n m x y done is x_is y_is moved e =
+    subst (λ (c : Cap). Quiet a c (register (thread v t) m) rows.region.ram gs None hs) (x_is ∙ ap (λ (s : Seen). register (thread s t) n) is)
+    (subst (λ (c : Cap). Quiet a x c rows.region.ram gs None hs) (y_is ∙ ap (λ (s : Seen). register (thread s t) m) is) (moved e))
 
 -- what is known of a store of register m of thread t through register n, of which the real granules are gs before it and hs after it
 pub record Storing (gs hs : List Granule) (rows : Rows) (v : Seen) (a : Access) (t n m : ℕ) (done : Bool) : Type 0 where
   pub is : seen gs rows ≡ v
   pub holds : Holds gs rows
   pub meets : SeesThrough (hides v.region) v.region.ram a (register (thread v t) n) (register (thread v t) m)
-  pub moved : done ≡ true → Quiet a (register (thread (seen gs rows) t) n) (register (thread (seen gs rows) t) m) rows.region.ram gs None hs
+  pub moved : done ≡ true → Quiet a (register (thread v t) n) (register (thread v t) m) rows.region.ram gs None hs
   pub same : done ≡ false → hs ≡ gs
   pub size : length hs ≡ length gs
-
-quiet_by : (gs hs : List Granule) (rows : Rows) (v : Seen) (a : Access) (t n m : ℕ) → Storing gs hs rows v a t n m true
-    → Quiet a (register (thread v t) n) (register (thread v t) m) rows.region.ram gs None hs
-quiet_by gs hs rows v a t n m s = subst (λ (w : Seen). Quiet a (register (thread w t) n) (register (thread w t) m) rows.region.ram gs None hs) s.is (s.moved refl)
 
 moving_by : (gs hs : List Granule) (rows : Rows) (v : Seen) (a : Access) (t n m : ℕ) (s : Storing gs hs rows v a t n m true)
     → Moving gs hs rows v s.meets.0 (register (thread v t) n) (register (thread v t) m) no_bank no_bank 0 (Ok (given None))
 moving_by gs hs rows v a t n m s =
-    moving gs hs rows v a (register (thread v t) n) (register (thread v t) m) None s.meets.0 no_bank 0 s.is s.holds s.meets (quiet_by gs hs rows v a t n m s) s.size s.meets.1
+    moving gs hs rows v a (register (thread v t) n) (register (thread v t) m) None s.meets.0 no_bank 0 s.is s.holds s.meets (s.moved refl) s.size s.meets.1
 
 pub store_holds : (gs hs : List Granule) (rows : Rows) (v : Seen) (a : Access) (t n m : ℕ) (done : Bool) → Storing gs hs rows v a t n m done → Holds hs rows
 store_holds gs hs rows v a t n m true s =
@@ -139,5 +148,5 @@ store_kept gs hs rows v a t n m false s =
 pub store_is : (gs hs : List Granule) (rows : Rows) (v : Seen) (a : Access) (t n m : ℕ) (done : Bool) → Storing gs hs rows v a t n m done → done ≡ true
     → IsStored a (register (thread v t) n) (register (thread v t) m) v (seen hs rows).granules
 store_is gs hs rows v a t n m true s e i k time of =
-    quiet_is gs hs rows v a (register (thread v t) n) (register (thread v t) m) None i k time s.is s.holds s.meets (quiet_by gs hs rows v a t n m s) s.size of
+    quiet_is gs hs rows v a (register (thread v t) n) (register (thread v t) m) None i k time s.is s.holds s.meets (s.moved refl) s.size of
 store_is gs hs rows v a t n m false s e i k time of = absurd (let clash : false ≡ true = e in cc)

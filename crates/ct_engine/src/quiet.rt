@@ -14,7 +14,7 @@ ghost use Rattle.ct_engine.specs.Seen.{hides, thread, advanced, moved_to, with_g
 ghost use Rattle.ct_engine.specs.Steps.{is_word_of_ram, next_in, loads_ram, stores_ram, Loads, SeesLoad, SeesStore, Stores};
 
 use crate::engine::Engine;
-use crate::{accesses, fetching, steps};
+use crate::{fetching, steps};
 use ct_cap::Live;
 use ct_mem::Memory;
 use def_step::Access;
@@ -127,7 +127,8 @@ impl<M: Memory + Drop> Engine<M> {
         ensures when { is_some result ≡ loads_ram self.now t number access.now }
         ensures given { IfSome result (λ n. Loads self.now t number access.now (integer n)) }
     {
-        accesses::load_number(&self.rows, &self.mem, t, number, access)
+        let x = steps::lent(&self.rows, t, number);
+        ct_loadstore::load_number(access, x, &self.mem, self.rows.region.ram)
     }
 
     /// The capability that a load through a register of the running thread gives, where its checks pass and it lies in
@@ -146,7 +147,8 @@ impl<M: Memory + Drop> Engine<M> {
         ensures when { is_some result ≡ loads_ram self.now t number access.now }
         ensures given { IfSome result (λ c. Loads self.now t number access.now c) }
     {
-        accesses::load_capability(&self.rows, &self.mem, t, number, access)
+        let x = steps::lent(&self.rows, t, number);
+        ct_loadstore::load_capability(access, x, &self.mem, self.rows.region.ram)
     }
 
     /// Stores what stands in a register of the running thread through another, where the checks pass and it lies in
@@ -169,6 +171,9 @@ impl<M: Memory + Drop> Engine<M> {
         ensures kept { self.new ≡ with_granules self.old self.new.granules }
         ensures size { length self.new.granules ≡ length self.old.granules }
     {
-        accesses::store_register(&self.rows, &mut self.mem, t, number, stored, access)
+        let ram = self.rows.region.ram;
+        let through = steps::lent(&self.rows, t, number);
+        let value = steps::lent(&self.rows, t, stored);
+        ct_loadstore::store_quietly(access, through, value, &mut self.mem, ram)
     }
 }

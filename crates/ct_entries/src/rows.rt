@@ -1,6 +1,7 @@
 //! Rows of entries.
 
 ghost use Rattle.std.specs.Prelude.{◌≡◌, ◌++◌, IfOk};
+ghost use Rattle.ct_entry.specs.Listed.{row};
 ghost use Rattle.def_boot.specs.Entries as spec;
 ghost use Rattle.def_image.specs.Sound.{Sound};
 
@@ -11,7 +12,7 @@ use std::alloc::{AllocError, Global};
 
 /// A row without a limit.
 pub(crate) fn row(owner: Owner, kind: Kind, base: u32, length: u32, rights: u32, of: u32) -> Entry
-    ensures { result ≡ spec.row owner kind base length rights of }
+    ensures { result ≡ row owner kind base length rights of }
 {
     Entry {
         owner,

@@ -11,4 +11,4 @@ mod rows;
 
 pub use acts::{Act, Deed, End, Happened, Owned, Totals};
 pub use hardware::{Device, DeviceKind};
-pub use rows::{Comp, Entries, Entry, Gate, Kind, Mode, Owner};
+pub use rows::{Comp, Entries, Entry, Gate, Kind, Mode, NO_GATE, Owner};

@@ -68,6 +68,16 @@ pub struct Gate {
     pub capabilities: bool,
 }
 
+/// The gate of an entry that is no export.
+pub const NO_GATE: Gate = Gate {
+    entry: 0,
+    code: 0,
+    stack: 0,
+    args: 0,
+    posture: Mode::Inherit,
+    capabilities: false,
+};
+
 /// The rows in the order of their numbers from 1, and one gate for each export in the same order.
 #[derive(Drop)]
 pub struct Entries {

@@ -6,6 +6,7 @@ use Rattle.def_machine.specs.Image.{Image}
 use Rattle.def_machine.specs.State.{State, register}
 use Rattle.def_machine.specs.State as state
 use Rattle.ct_engine.specs.Seen.{region_of, thread}
+use Rattle.ct_engine.specs.Steps.{HeapLies}
 use Rattle.ct_heaped.specs.Seen.{Seen, hides}
 
 -- Nothing is hidden that a thread may load or store through a register, or fetch. All x are addresses of RAM or past
@@ -21,6 +22,12 @@ pub record IsOpen (s : Seen) (t : ℕ) : Type 0 where
   pub fetches : (x : ℕ) → s.threads.region.ram ≤ x → (thread s.threads t).pcc.tag ≡ true
       → cap_base (thread s.threads t).pcc ≤ x → x < cap_top (thread s.threads t).pcc
       → hides s ((x - s.threads.region.ram) / 8) ≡ false
+
+-- Thread t runs, nothing is hidden that it may reach, and the heap lies from an address to RAM's end.
+pub record MayGo (s : Seen) (t base : ℕ) : Type 0 where
+  pub runs : s.threads.running ≡ Some t
+  pub opened : IsOpen s t
+  pub heap : HeapLies s.threads base
 
 -- Thread t runs in the state, and an engine whose region and heap are the image's holds for it what the state does, and
 -- the same objects.

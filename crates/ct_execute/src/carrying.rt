@@ -8,9 +8,9 @@ ghost use Rattle.def_step.specs.Devices.{Bank};
 ghost use Rattle.def_step.specs.Operands.{class_of};
 ghost use Rattle.ct_engine.specs.Seen.{thread, advanced};
 ghost use Rattle.ct_heaped.specs.Seen.{with_threads};
-ghost use Rattle.ct_engine.specs.Steps.{space_in, HeapLies};
+ghost use Rattle.ct_engine.specs.Steps.{space_in};
 ghost use Rattle.ct_execute.specs.Deciding.{decide_by, decide_instruction, Decided, HasOperands, Stays};
-ghost use Rattle.ct_execute.specs.Opening.{IsOpen};
+ghost use Rattle.ct_execute.specs.Opening.{MayGo};
 
 use crate::ran::Ran;
 use ct_alu::alu;
@@ -87,9 +87,7 @@ fn carry_access<M: Memory + Drop>(
     heap: u32,
     time: u64,
 ) -> Ran
-    requires runs { engine.old.threads.running ≡ Some t }
-    requires opened { IsOpen engine.old t }
-    requires heap { HeapLies engine.old.threads heap }
+    requires may { MayGo engine.old t heap }
     requires has { HasOperands instruction operands }
     requires class { class_of instruction ≡ kinds.Access }
     requires access { is_access instruction ≡ true }
@@ -151,12 +149,8 @@ fn carry_value<M: Memory + Drop>(
     };
     match class {
         Class::Integer => {
-            advance(
-                engine,
-                t,
-                operands.to,
-                Live::integer(alu(instruction, x.address(), y.address())),
-            );
+            let value = alu(instruction, x.address(), y.address());
+            advance(engine, t, operands.to, Live::integer(value));
             went
         }
         Class::Capability => match capstep(instruction, x, y, engine.pcc(t)) {
@@ -193,9 +187,7 @@ pub(crate) fn carry_out<M: Memory + Drop>(
     heap: u32,
     time: u64,
 ) -> Ran
-    requires runs { engine.old.threads.running ≡ Some t }
-    requires opened { IsOpen engine.old t }
-    requires heap { HeapLies engine.old.threads heap }
+    requires may { MayGo engine.old t heap }
     requires ranged { InRange instruction }
     ensures is { Decided
         (decide_instruction entries.now (thread engine.old.threads t)

@@ -1,9 +1,8 @@
 //! One instruction, from its fetch on.
 
-ghost use Rattle.std.specs.Prelude.{◌≡◌, Some};
-ghost use Rattle.ct_engine.specs.Steps.{HeapLies};
+ghost use Rattle.std.specs.Prelude.{◌≡◌};
 ghost use Rattle.ct_execute.specs.Deciding.{decision, Decided, IfUnfinished, RanInRange, Stays};
-ghost use Rattle.ct_execute.specs.Opening.{IsOpen};
+ghost use Rattle.ct_execute.specs.Opening.{MayGo};
 ghost use Rattle.ct_heaped.specs.Seen.{with_threads};
 
 use crate::carrying::carry_out;
@@ -29,9 +28,7 @@ pub fn execute<M: Memory + Drop>(
     heap: u32,
     time: u64,
 ) -> Ran
-    requires runs { engine.old.threads.running ≡ Some t }
-    requires opened { IsOpen engine.old t }
-    requires heap { HeapLies engine.old.threads heap }
+    requires { MayGo engine.old t heap }
     ensures is { Decided (decision entries.now engine.old.threads t bus.old time) t
         engine.old.threads bus.old engine.new.threads bus.new result }
     ensures kept { engine.new ≡ with_threads engine.old engine.new.threads }

@@ -2,7 +2,7 @@
 use Rattle.std.specs.Prelude.{ℕ, zero, suc, ◌+◌, ◌-◌, ◌%◌, ◌&&◌, ◌==◌, ◌≡◌, ◌≤◌, ◌<◌, Bool, true, false, List, length, find, Option, None, unwrap_or, slice_get, slice_index_or}
 use Rattle.std.specs.List.Sorted.{IsNonDecreasingBy}
 use Rattle.ct_entry.specs.Kinds.{is_export}
-use Rattle.ct_entry.specs.Listed.{Listed}
+use Rattle.ct_entry.specs.Listed.{Listed, row}
 use Rattle.ct_entry.specs.declared.rows.Entry.{Entry}
 use Rattle.ct_entry.specs.declared.rows.Gate.{Gate}
 use Rattle.ct_entry.specs.declared.rows.Owner.{Owner}
@@ -15,15 +15,7 @@ use Rattle.ct_exports.specs.declared.exports.Export.{Export}
 -- ---- rows
 
 abbrev pub no_row : Entry
-no_row = record {
-  owner = Trusted;
-  kind = kind.Code;
-  base = 0;
-  length = 0;
-  rights = 0;
-  of = 0;
-  limit = 0;
-}
+no_row = row Trusted kind.Code 0 0 0 0
 
 -- the row at an index, which is the entry numbered one more
 abbrev pub row_at : List Entry → ℕ → Entry

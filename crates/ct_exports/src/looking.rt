@@ -5,7 +5,7 @@ ghost use Rattle.ct_entry.specs.declared.rows.Gate.{Gate};
 ghost use Rattle.def_reach.specs.Roots.{gate_for};
 ghost use Rattle.ct_exports.specs.Exports.{AreSorted, AreTogether, no_row, row_named, is_export_of, table_in};
 
-use ct_entry::{Entry, Gate, Kind, Mode, Owner};
+use ct_entry::{Entry, Gate, Kind, NO_GATE, Owner};
 use def_profile::layout::TABLE_HEAD;
 
 /// How many gates have a lesser number.
@@ -28,14 +28,7 @@ pub(crate) fn gate_of(gates: &[Gate], number: u32) -> Gate
     if place < gates.len() && gates[place].entry == number {
         return gates[place];
     }
-    Gate {
-        entry: 0,
-        code: 0,
-        stack: 0,
-        args: 0,
-        posture: Mode::Inherit,
-        capabilities: false,
-    }
+    NO_GATE
 }
 
 /// The row at an index.

@@ -4,9 +4,10 @@ use Rattle.std.proofs.lemmas.Bool.{cases_eq}
 use Rattle.ct_entry.specs.declared.rows.Owner.{Owner}
 use Rattle.ct_entry.specs.declared.rows.Owner.TheVariants.{Trusted, Compartment, Library, Thread}
 use Rattle.ct_entry.specs.Listed.{Listed}
-use Rattle.def_reach.specs.Sharing.{Edge, Brings, IsLibrary, Joined, Imports, Reaches}
+use Rattle.def_reach.specs.Sharing.{Brings, Joined, Imports, Reaches}
 use Rattle.def_reach.specs.Sharing as reach
 use Rattle.def_graph.specs.Route.{Leads}
+use Rattle.law_reach.proofs.Joins.{no_imports, same_compartment}
 
 -- a list of steps
 pub record Way (e : Listed) (o : Owner) (b : ℕ) : Type 0 where
@@ -37,16 +38,6 @@ imports_on : (e : Listed) (a : Owner) (xs : List Owner) (o p : Owner) → Import
 imports_on e a [] o p h brings = let here : Brings e a p = subst (λ x. Brings e x p) (sym h) brings in (here, refl)
 imports_on e a (x ∷ xs) o p h brings = (h.0, imports_on e x xs o p h.1 brings)
 
--- a list of imports that ends in a compartment is empty
-no_imports : (e : Listed) (a : Owner) (xs : List Owner) (c : ℕ) → Imports e a xs (Compartment c) → a ≡ Compartment c
-no_imports e a [] c h = h
-no_imports e a (x ∷ xs) c h =
-    let last : x ≡ Compartment c = no_imports e x xs c h.1 in
-    let lib : IsLibrary (Compartment c) = subst IsLibrary last h.0.is_library in absurd lib
-
-same_number : (a b : ℕ) → Compartment a ≡ Compartment b → a ≡ b
-same_number a b h = cc
-
 back : (e : Listed) (o : Owner) (xs : List Owner) (b : ℕ) → Leads e o xs (Compartment b) → Reaches e o b
 back e o [] b h = record { by = b; through = []; imports = sym h; joined = record { members = []; leads = refl } }
 back e (Library l) (x ∷ xs) b (inl step, rest) =
@@ -54,7 +45,7 @@ back e (Library l) (x ∷ xs) b (inl step, rest) =
     record { by = later.by; through = later.through ++ Library l ∷ []; imports = imports_on e (Compartment later.by) later.through x (Library l) later.imports step; joined = later.joined }
 back e (Compartment a) (Compartment x ∷ xs) b (inr step, rest) =
     let later : Reaches e (Compartment x) b = back e (Compartment x) xs b rest in
-    let same : later.by ≡ x = same_number later.by x (no_imports e (Compartment later.by) later.through x later.imports) in
+    let same : later.by ≡ x = same_compartment later.by x (no_imports e (Compartment later.by) later.through x later.imports) in
     let joined : Joined e x b = subst (λ n. Joined e n b) same later.joined in
     record { by = a; through = []; imports = refl; joined = record { members = x ∷ joined.members; leads = (step.1, joined.leads) } }
 back e (Compartment a) (x ∷ xs) b (inl step, rest) = absurd step.is_library

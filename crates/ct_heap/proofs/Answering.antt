@@ -18,7 +18,7 @@ use Rattle.law_chunks.proofs.Places.{gap_place, no_gap_place}
 use Rattle.ct_heap.specs.declared.rows.Found.{Found}
 use Rattle.ct_heap.specs.Lookups.{whole_of}
 use Rattle.ct_heap.specs.Effects.{Allocates, NoPlace, Frees}
-use Rattle.ct_heap.specs.Steps.{Placing, Placed, Freeing, Freed, waiting_chunks, UnnamesChunk, Unnames}
+use Rattle.ct_heap.specs.Steps.{Placing, Placed, Freeing, Freed, Tells, waiting_chunks, UnnamesChunk, Unnames}
 use Rattle.ct_heap.proofs.Finds.{FoundTells}
 use Rattle.ct_heap.proofs.Tables.{charged_after}
 use Rattle.ct_heap.proofs.Allocating as placing
@@ -51,15 +51,15 @@ pub allocates : (h n : HeapRow) (gs hs : List Granule) (quota size unit : ℕ) (
     → IsUnit unit (alignment_of (length_for size)) → IsGap h.range gs unit (length_for size) g → Placed h n gs hs quota (length_for size) g.base number base extent live → Allocates h n gs hs quota size number base extent live
 allocates h n gs hs quota size unit g number base extent live l some most within u gap p =
     let charged = l.charged quota in
-    subst (λ b. Allocates h n gs hs quota size number b extent live) (sym p.base_is) (record {
+    subst (λ b. Allocates h n gs hs quota size number b extent live) (sym p.tells.base_is) (record {
       some = some;
       most = most;
       within = omega (arith, within, charged);
       place = place_is h gs size unit g l u gap;
       objects = p.objects;
-      number_is = p.number_is;
-      length_is = p.length_is;
-      live_is = p.live_is;
+      number_is = p.tells.number_is;
+      length_is = p.tells.length_is;
+      live_is = p.tells.live_is;
       next = p.next;
       zero = p.zero;
       stays = p.stays;
@@ -116,10 +116,10 @@ frees h n gs hs quota base top f number object_base extent live t is p =
       object = t.row;
       is = subst (λ q. whole_of q base top (objects_of h gs) ≡ Some t.row) is t.of;
       objects = p.objects ∙ ap (λ m. quarantine m (objects_of h gs)) t.number_is;
-      number_is = p.number_is ∙ t.number_is;
-      base_is = p.base_is ∙ t.base_row;
-      length_is = p.length_is ∙ t.length_is;
-      live_is = p.live_is ∙ ap (λ q. charges q (objects_of n hs)) is;
+      number_is = p.tells.number_is ∙ t.number_is;
+      base_is = p.tells.base_is ∙ t.base_row;
+      length_is = p.tells.length_is ∙ t.length_is;
+      live_is = p.tells.live_is ∙ ap (λ q. charges q (objects_of n hs)) is;
       next = p.next;
       zero = λ k from to. p.zero k (omega (arith, from, base_is)) (omega (arith, to, top_is));
       marks = λ k from to. p.marks k (omega (arith, from, base_is)) (omega (arith, to, top_is));
@@ -166,6 +166,17 @@ loses_name r gs hs names more at head is marked entry = record {
 
 -- ---- the steps' ends
 
+-- the object is told as it is, and its quota is charged with so much from now on
+tells_so : (h n : HeapRow) (hs : List Granule) (quota number base extent charged live : ℕ) → quota < length h.accounts
+    → n.accounts ≡ set h.accounts quota (record { limit = (account h quota).limit; charged = charged }) → (account n quota).charged ≡ charges quota (objects_of n hs) → live ≡ charged
+    → Tells n hs quota number base extent number base extent live
+tells_so h n hs quota number base extent charged live quota_in accounts charges_are live_is = record {
+  number_is = refl;
+  base_is = refl;
+  length_is = refl;
+  live_is = live_is ∙ sym (charged_after h n quota charged quota_in accounts) ∙ charges_are;
+}
+
 pub record PlacedEnds (h n : HeapRow) (gs hs : List Granule) (quota extent : ℕ) (g : Gap) (live : ℕ) : Type 0 where
   pub laid : Laid n hs
   pub placed : Placed h n gs hs quota extent g.base h.next g.base extent live
@@ -174,15 +185,11 @@ pub placed_ends : (h n : HeapRow) (gs ms hs : List Granule) (quota extent : ℕ)
     → live ≡ (account h quota).charged + (extent + 8) → PlacedEnds h n gs hs quota extent g live
 placed_ends h n gs ms hs quota extent g live l quota_in few p left live_is =
     let d = placing.place_done h n gs ms hs quota extent g l quota_in few p left in
-    let now = charged_after h n quota ((account h quota).charged + (extent + 8)) quota_in left.accounts in
     record {
       laid = d.laid;
       placed = record {
         objects = d.objects;
-        number_is = refl;
-        base_is = refl;
-        length_is = refl;
-        live_is = live_is ∙ sym now ∙ d.charged;
+        tells = tells_so h n hs quota h.next g.base extent ((account h quota).charged + (extent + 8)) live quota_in left.accounts d.charged live_is;
         next = left.next;
         zero = d.zero;
         stays = d.stays;
@@ -199,15 +206,11 @@ pub freed_ends : (h n : HeapRow) (gs ms ns hs : List Granule) (number base exten
 freed_ends h n gs ms ns hs number base extent quota live l f left live_is =
     let d = freeing.free_done h n gs ms ns hs number base extent quota l f left in
     let w = freeing.row_of h gs number base extent quota l f in
-    let now = charged_after h n quota ((account h quota).charged - (extent + 8)) w.quota_in left.accounts in
     record {
       laid = d.laid;
       freed = record {
         objects = d.objects;
-        number_is = refl;
-        base_is = refl;
-        length_is = refl;
-        live_is = live_is ∙ sym now ∙ d.charged;
+        tells = tells_so h n hs quota number base extent ((account h quota).charged - (extent + 8)) live w.quota_in left.accounts d.charged live_is;
         next = left.next;
         zero = d.zero;
         marks = d.marks;

@@ -1,9 +1,8 @@
 -- Lengths of objects are whole granules, and their addresses multiples of one unit.
-use Rattle.std.proofs.Common.{ℕ, zero, suc, ◌≡◌, ◌+◌, ◌-◌, ◌*◌, ◌/◌, ◌%◌, ◌^◌, ◌<◌, ◌≤◌, inl, inr, lit<, ap, ◌∙◌, arith}
+use Rattle.std.proofs.Common.{ℕ, zero, suc, ◌≡◌, ◌+◌, ◌-◌, ◌*◌, ◌/◌, ◌%◌, ◌^◌, ◌<◌, ◌≤◌, lit<, ap, ◌∙◌, arith}
 use Rattle.std.proofs.Math.Nat.{pow-le-pow_right}
 use Rattle.std.proofs.lemmas.Nat.{pow-add, mul-mod_second, div-add-mod'}
-use Rattle.def_words.specs.LeastBounds.{alignment_of, align_mask_of, exponent_for, ceil_units, round_length_of}
-use Rattle.law_words.proofs.Leasts.{exponent_is}
+use Rattle.def_words.specs.LeastBounds.{alignment_of, exponent_for, ceil_units, round_length_of}
 use Rattle.def_chunks.specs.Heaps.{IsUnit}
 
 -- the greater powers of two are whole granules
@@ -32,15 +31,6 @@ pub length_whole : (n : ℕ) → n % 8 ≡ 0 → round_length_of n % 8 ≡ 0
 length_whole n even = rounded_whole n (exponent_for 0 n) even
 
 -- ---- units
-
-pub alignment_small : (n : ℕ) → alignment_of n ≤ 2 ^ 24
-alignment_small n = elim (exponent_is 0 n).serves [
-  | inl s ↦ (let small : exponent_for 0 n ≤ 24 = (let le = s.0 in omega (arith, le)) in pow-le-pow_right (lit< tt) small)
-  | inr is ↦ (let small : exponent_for 0 n ≤ 24 = omega (arith, is) in pow-le-pow_right (lit< tt) small)
-]
-
-pub mask_back : (n : ℕ) → 4294967296 - align_mask_of n ≡ alignment_of n
-mask_back n = let small = alignment_small n in omega (arith, small)
 
 low_powers : (e b : ℕ) → 2 ^ e < 8 → b % 8 ≡ 0 → b % 2 ^ e ≡ 0
 low_powers zero b lt even = omega (arith, even)

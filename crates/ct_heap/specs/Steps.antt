@@ -22,6 +22,14 @@ use Rattle.ct_heap.specs.Effects.{Stays, Same}
 abbrev pub as_long : List Granule → List Granule → Type 0
 as_long hs gs = length hs ≡ length gs
 
+-- the object that a step answers has this number, base and length, and its quota is charged with so much after it
+pub record Tells (n : HeapRow) (hs : List Granule)
+    (quota number base length told_number told_base told_length live : ℕ) : Type 0 where
+  pub number_is : told_number ≡ number
+  pub base_is : told_base ≡ base
+  pub length_is : told_length ≡ length
+  pub live_is : live ≡ charges quota (objects_of n hs)
+
 -- ---- an object is placed
 
 -- an object of this length may be put into the gap and charged to the quota
@@ -36,10 +44,7 @@ placed_object h quota length base = live_object h.next quota base length
 pub record Placed (h n : HeapRow) (gs hs : List Granule)
     (quota length base number object_base object_length live : ℕ) : Type 0 where
   pub objects : objects_of n hs ≡ placed_among (placed_object h quota length base) (objects_of h gs)
-  pub number_is : number ≡ h.next
-  pub base_is : object_base ≡ base
-  pub length_is : object_length ≡ length
-  pub live_is : live ≡ charges quota (objects_of n hs)
+  pub tells : Tells n hs quota h.next base length number object_base object_length live
   pub next : n.next ≡ h.next + 1
   pub zero : (k : ℕ) → base ≤ h.range.ram + 8 * k → h.range.ram + 8 * k < base + length
       → (granule_at hs k).cap ≡ plain 0
@@ -58,10 +63,7 @@ pub record Freeing (h : HeapRow) (gs : List Granule) (number base length quota :
 pub record Freed (h n : HeapRow) (gs hs : List Granule)
     (number base length quota new_number new_base new_length live : ℕ) : Type 0 where
   pub objects : objects_of n hs ≡ quarantine number (objects_of h gs)
-  pub number_is : new_number ≡ number
-  pub base_is : new_base ≡ base
-  pub length_is : new_length ≡ length
-  pub live_is : live ≡ charges quota (objects_of n hs)
+  pub tells : Tells n hs quota number base length new_number new_base new_length live
   pub next : n.next ≡ h.next
   pub zero : (k : ℕ) → base ≤ h.range.ram + 8 * k → h.range.ram + 8 * k < base + length
       → (granule_at hs k).cap ≡ plain 0

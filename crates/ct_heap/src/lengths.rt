@@ -22,7 +22,7 @@ pub(crate) fn length_for(size: u32) -> u64
 }
 
 /// What the address of an object of this length is a multiple of: its alignment, and a granule.
-#[tactic(auto, using(crate::proofs::Units::alignment_small, crate::proofs::Units::mask_back, crate::proofs::Units::unit_granule, crate::proofs::Units::unit_alignment))]
+#[tactic(auto, using(law_words::proofs::Leasts::alignment_small, law_words::proofs::Leasts::mask_back, crate::proofs::Units::unit_granule, crate::proofs::Units::unit_alignment))]
 pub(crate) fn unit_for(length: u32) -> u32
     ensures unit { IsUnit result (alignment_of length) }
     ensures some { 0 < result }

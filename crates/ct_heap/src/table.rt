@@ -8,7 +8,7 @@ ghost use Rattle.def_chunks.specs.Heaps.{name_of, is_named, quota_named, is_used
 ghost use Rattle.ct_heap.specs.Table.{owner_at};
 ghost use Rattle.ct_heap.specs.Steps.{waiting_chunks, Unnames, UnnamesChunk};
 
-use ct_chunks::read_head;
+use ct_chunks::chunk_head;
 use ct_mem::Memory;
 use def_chunks::Range;
 use def_chunks::heads::{PAINTED, SLOT};
@@ -91,7 +91,7 @@ fn unname_chunk<M: Memory>(range: &Range, mem: &mut M, names: &mut Vec<u16>, at:
         (head_in (head_at (M.granules mem.old) range.now.ram at)) }
 {
     let _size = mem.size();
-    let head = read_head(mem, range.ram, at);
+    let head = chunk_head(range, mem, at);
     if head.state != PAINTED {
         return (head.size, 0);
     }

@@ -1,11 +1,11 @@
 -- What acceptance answers is a fault, by its stages.
 use Rattle.std.proofs.Common.{ℕ, ◌≡◌, ◌<◌, ◌^◌, inl, inr, ◌&&◌, true, false, nat_le, List, length, take, drop, Some, None, refl, sym, ap, ◌∙◌, subst, arith}
 use Rattle.std.specs.Prelude.{bytes_eq, IfOk, IfErr, Result, Ok, Err}
-use Rattle.std.specs.Int.{w32, from_le_bytes}
+use Rattle.std.specs.Int.{w32, from_le_bytes, is_in_range}
 use Rattle.law_lists.proofs.Tests.{both_right}
 use Rattle.def_image.specs.Raw.{RawImage}
 use Rattle.def_image.specs.Parts.{PartsRow}
-use Rattle.def_image.specs.Profile.{is_within, last_version}
+use Rattle.def_image.specs.Profile.{last_version}
 use Rattle.def_image.specs.Spelling.{magic, spelled, image_bytes}
 use Rattle.def_image.specs.Checks.{first}
 use Rattle.def_image.specs.Limits.{limit_checks}
@@ -31,14 +31,14 @@ unlimited bytes r place begun spells found = inr (begun, inr (inl (refl, (r, spe
 
 -- ---- the parts of fields whose limits hold
 
-version_is : (r : RawImage) (bytes : List ℕ) → is_begun bytes ≡ true → Spells r bytes → is_within 1 last_version r.version ≡ true
+version_is : (r : RawImage) (bytes : List ℕ) → is_begun bytes ≡ true → Spells r bytes → is_in_range 1 last_version r.version ≡ true
 unfolding spelled
 version_is r bytes begun spells =
-    let told : is_within 1 last_version (from_le_bytes w32 (take 4 (drop 4 bytes))) ≡ true =
-    both_right (nat_le 8 (length bytes) && bytes_eq (take 4 bytes) magic) (is_within 1 last_version (from_le_bytes w32 (take 4 (drop 4 bytes)))) begun in
+    let told : is_in_range 1 last_version (from_le_bytes w32 (take 4 (drop 4 bytes))) ≡ true =
+    both_right (nat_le 8 (length bytes) && bytes_eq (take 4 bytes) magic) (is_in_range 1 last_version (from_le_bytes w32 (take 4 (drop 4 bytes)))) begun in
     let there : from_le_bytes w32 (take 4 (drop 4 bytes)) ≡ r.version =
     ap (λ (b : List ℕ). from_le_bytes w32 (take 4 (drop 4 b))) spells.1 ∙ number_back r.version spells.0.version in
-    sym (ap (is_within 1 last_version) there) ∙ told
+    sym (ap (is_in_range 1 last_version) there) ∙ told
 
 version_kept : (r : RawImage) → (parts_of r).version ≡ r.version
 unfolding parts_of
@@ -51,7 +51,7 @@ standing r bytes short begun spells none =
     let size : length (image_bytes (parts_of r)) ≡ length bytes = ap (λ q. length (spelled q)) back.fields ∙ ap (λ (b : List ℕ). length b) (sym spells.1) in
     record {
       spellable = back.spellable;
-      version = ap (is_within 1 last_version) (version_kept r) ∙ version_is r bytes begun spells;
+      version = ap (is_in_range 1 last_version) (version_kept r) ∙ version_is r bytes begun spells;
       limits = ap (λ q. first (limit_checks q)) back.fields ∙ none;
       small = omega (arith, size, short);
     }

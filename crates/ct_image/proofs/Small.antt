@@ -3,6 +3,7 @@ use Rattle.std.proofs.Common.{ℕ, zero, suc, ◌≡◌, ◌+◌, ◌<◌, ◌�
 use Rattle.std.specs.Prelude.{slice_index_or}
 use Rattle.std.specs.List.{AllByRecursion}
 use Rattle.std.proofs.lemmas.List.Elements.{All-from_recursion}
+use Rattle.law_lists.proofs.Alls.{all_unmapped}
 use Rattle.def_image.specs.declared.RawEntry.{RawEntry}
 use Rattle.def_image.specs.declared.format.TheConstants.{ENTRY, ROW, COMPARTMENT_HEAD, LIBRARY_HEAD}
 use Rattle.def_image.specs.Raw.{RawCode, RawCompartment}
@@ -48,11 +49,6 @@ room_is p s = let e = end_is p s.spellable in omega (arith, e, s.small)
 
 -- ---- rights are six bits
 
--- of members that fields were made of
-unmapped : {A B : Type 0} (f : A → B) (P : B → Type 0) (xs : List A) → AllByRecursion P (map f xs) → AllByRecursion (λ x. P (f x)) xs
-unmapped f P [] h = tt
-unmapped f P (x ∷ xs) h = (h.0, unmapped f P xs h.1)
-
 abbrev IsPacked : RawEntry → Type 0
 IsPacked e = byte_at e.row 1 < 64
 
@@ -80,7 +76,7 @@ abbrev RowPacked : SlotRow → Type 0
 RowPacked s = s.row.rights < 64
 
 slots_packed : (ss : List SlotRow) → AllByRecursion IsPacked (map raw_slot ss) → ArePacked ss
-slots_packed ss h = All-from_recursion RowPacked ss (unmapped raw_slot IsPacked ss h)
+slots_packed ss h = All-from_recursion RowPacked ss (all_unmapped IsPacked raw_slot ss h)
 
 pub owners_packed : (p : PartsRow) → Stand p → OwnersPacked p.compartments
 unfolding raw_of
@@ -88,7 +84,7 @@ owners_packed p s =
     let h = (limited (raw_of p) s.limits).compartments in
     let each = every compartment_limits compartment_size (λ (c : RawCompartment). AllByRecursion IsPacked c.code.slots) (λ at earlier k f. compartment_packed _ at _ k f)
     (compartments_at (raw_of p)) [] (map raw_compartment p.compartments) h in
-    All-from_recursion (λ (c : CompartmentRow). ArePacked c.code.slots) p.compartments (each_own p.compartments (unmapped raw_compartment (λ (c : RawCompartment). AllByRecursion IsPacked c.code.slots) p.compartments each))
+    All-from_recursion (λ (c : CompartmentRow). ArePacked c.code.slots) p.compartments (each_own p.compartments (all_unmapped (λ (c : RawCompartment). AllByRecursion IsPacked c.code.slots) raw_compartment p.compartments each))
   where
     each_own : (cs : List CompartmentRow) → AllByRecursion (λ (c : CompartmentRow). AllByRecursion IsPacked (map raw_slot c.code.slots)) cs → AllByRecursion (λ (c : CompartmentRow). ArePacked c.code.slots) cs
     each_own [] h = tt
@@ -100,7 +96,7 @@ libraries_packed p s =
     let h = (limited (raw_of p) s.limits).libraries in
     let each = every (library_limits (raw_of p)) library_size (λ (c : RawCode). AllByRecursion IsPacked c.slots) (λ at earlier k f. library_packed _ at _ k f)
     (libraries_at (raw_of p)) [] (map raw_code p.libraries) h in
-    All-from_recursion (λ (c : CodeRow). ArePacked c.slots) p.libraries (each_one p.libraries (unmapped raw_code (λ (c : RawCode). AllByRecursion IsPacked c.slots) p.libraries each))
+    All-from_recursion (λ (c : CodeRow). ArePacked c.slots) p.libraries (each_one p.libraries (all_unmapped (λ (c : RawCode). AllByRecursion IsPacked c.slots) raw_code p.libraries each))
   where
     each_one : (cs : List CodeRow) → AllByRecursion (λ (c : CodeRow). AllByRecursion IsPacked (map raw_slot c.slots)) cs → AllByRecursion (λ (c : CodeRow). ArePacked c.slots) cs
     each_one [] h = tt

@@ -1,7 +1,8 @@
 -- Why an image is refused. Want of memory has no cause.
 use Rattle.std.specs.Prelude.{ℕ, ◌≡◌, ◌<◌, ◌^◌, ◌⊎◌, List, length, Some, None, true}
+use Rattle.std.specs.Int.{is_in_range}
 use Rattle.def_image.specs.Parts.{PartsRow}
-use Rattle.def_image.specs.Profile.{is_within, last_version}
+use Rattle.def_image.specs.Profile.{last_version}
 use Rattle.def_image.specs.Spelling.{raw_of, image_bytes}
 use Rattle.def_image.specs.Shapes.{IsSpellable}
 use Rattle.def_image.specs.Checks.{first}
@@ -20,7 +21,7 @@ Refuses bytes NoMemory = Unit {0}
 -- parts whose limits and forms hold, of a known version, with places of 32 bits
 pub record Stand (p : PartsRow) : Type 0 where
   pub spellable : IsSpellable p
-  pub version : is_within 1 last_version p.version ≡ true
+  pub version : is_in_range 1 last_version p.version ≡ true
   pub limits : first (limit_checks (raw_of p)) ≡ None
   pub small : length (image_bytes p) < 2 ^ 32
 

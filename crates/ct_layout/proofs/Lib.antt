@@ -1,2 +1,1 @@
-pub mod Alignments
 pub mod Walking

@@ -32,7 +32,7 @@ pub fn region_length(size: u32) -> u64
 }
 
 /// What the base of a size's region is a multiple of.
-#[tactic(auto, using(crate::proofs::Alignments::mask_back, crate::proofs::Alignments::alignment_small))]
+#[tactic(auto, using(law_words::proofs::Leasts::mask_back, law_words::proofs::Leasts::alignment_small))]
 fn region_alignment(size: u32) -> u64
     requires { size ≤ MOST_REGION }
     ensures value { result ≡ spec.region_alignment size }

@@ -3,78 +3,30 @@
 ghost use Rattle.std.specs.Prelude.{◌≡◌};
 ghost use Rattle.def_image.specs.Checks as checks;
 ghost use Rattle.def_image.specs.Limits as spec;
-ghost use Rattle.def_image.specs.Profile as profile;
-ghost use Rattle.def_image.specs.Sizes as sizes;
-ghost use Rattle.def_profile.specs.Versions as versions;
 
 use crate::checks::{check, earlier_of, first, name_checks, outside};
 use ct_raw::RawImage;
 use def_image::Check;
-use def_image::format::NUMBER;
-use def_image::taken::THREADS_TAKEN;
+use def_image::versions::{is_sweep_rate, most_ram, most_threads, rate_size};
 use def_profile::layout::REGION_UNIT;
 use def_profile::limits::{
-    LEAST_RAM, LEAST_SWEEP_RATE, MOST_COMPARTMENTS, MOST_DEVICES, MOST_LIBRARIES, MOST_OBJECTS,
-    MOST_QUANTUM, MOST_RAM, MOST_RAM_2, MOST_SWEEP_RATE, MOST_THREADS, MOST_THREADS_2, RAM_END,
-    SWEEP_RATE,
+    LEAST_RAM, MOST_COMPARTMENTS, MOST_DEVICES, MOST_LIBRARIES, MOST_OBJECTS, MOST_QUANTUM, RAM_END,
 };
-
-/// Threads, at most.
-fn most_threads(version: u32) -> u32
-    ensures { result ≡ profile.most_threads version }
-{
-    let most = if version == 1 {
-        MOST_THREADS
-    } else {
-        MOST_THREADS_2
-    };
-    if THREADS_TAKEN <= most {
-        THREADS_TAKEN
-    } else {
-        most
-    }
-}
-
-/// Bytes of RAM, at most.
-fn most_ram(version: u32) -> u32
-    ensures { result ≡ versions.most_ram version }
-{
-    if version == 1 { MOST_RAM } else { MOST_RAM_2 }
-}
-
-/// How many bytes the sweep rate has.
-pub fn rate_size(version: u32) -> u32
-    ensures { result ≡ sizes.rate_size version }
-{
-    if version == 1 { 0 } else { NUMBER }
-}
 
 /// Whether RAM of this base and size is too small, too large, no multiple of 16, or ends too high.
 fn is_missized(version: u32, ram: u32, size: u32) -> bool
     ensures { result ≡ spec.missized version ram size }
 {
-    outside(LEAST_RAM, most_ram(version), size)
+    outside(LEAST_RAM, most_ram(version as u64), size)
         || size % REGION_UNIT != 0
         || (RAM_END as u64) < ram as u64 + size as u64
-}
-
-/// Whether a sweep rate isn't one of this version.
-fn is_misrated(version: u32, sweep: u32) -> bool
-    ensures { result
-        ≡ profile.outside (versions.least_sweep version) (versions.most_sweep version) sweep }
-{
-    if version == 1 {
-        outside(SWEEP_RATE, SWEEP_RATE, sweep)
-    } else {
-        outside(LEAST_SWEEP_RATE, MOST_SWEEP_RATE, sweep)
-    }
 }
 
 /// What is asked of the counts.
 fn count_checks(raw: &RawImage) -> [Check; 6]
     ensures { result ≡ spec.count_limits raw.now }
 {
-    let threads = most_threads(raw.version) as usize;
+    let threads = most_threads(raw.version as u64) as usize;
     [
         check(8, (MOST_DEVICES as usize) < raw.devices.len()),
         check(12, (MOST_OBJECTS as usize) < raw.shared.len()),
@@ -92,12 +44,12 @@ fn number_checks(raw: &RawImage) -> [Check; 6]
 {
     let version = raw.version;
     let ram = raw.ram;
-    let [name, padding] = name_checks(52 + rate_size(version), false, false, &raw.name);
+    let [name, padding] = name_checks(52 + rate_size(version as u64), false, false, &raw.name);
     [
         check(32, outside(1, MOST_QUANTUM, raw.quantum)),
         check(36, ram % REGION_UNIT != 0),
         check(40, is_missized(version, ram, raw.size)),
-        check(52, is_misrated(version, raw.sweep)),
+        check(52, !is_sweep_rate(version as u64, raw.sweep as u64)),
         name,
         padding,
     ]

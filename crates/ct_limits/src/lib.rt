@@ -23,13 +23,14 @@ ghost use Rattle.def_image.specs.Sizes.{compartments_at};
 ghost use Rattle.ct_limits.specs.Whole.{bytes_of, first_of_owners, first_of_parts};
 
 use crate::checks::earlier_of;
-use crate::header::{header_limit, rate_size};
+use crate::header::header_limit;
 use crate::objects::{devices_limit, sealed_end, sealed_objects_limit, shared_objects_limit};
 use crate::owners::{
     compartments_end, compartments_limit, libraries_end, libraries_limit, threads_limit,
 };
 use ct_raw::RawImage;
 use def_image::format::{DEVICE, HEADER, SHARED};
+use def_image::versions::rate_size;
 /// The first place at which compartments, libraries or threads fail.
 fn owners_fault(raw: &RawImage, at: u32) -> Option<u32>
     requires at { at ≡ compartments_at raw.now }
@@ -58,7 +59,7 @@ fn parts_fault(raw: &RawImage) -> Option<u32>
     let devices = raw.devices.as_slice();
     let shared = raw.shared.as_slice();
     let sealed = raw.sealed.as_slice();
-    let devices_at = HEADER + rate_size(raw.version);
+    let devices_at = HEADER + rate_size(raw.version as u64);
     let shared_at = devices_at + DEVICE * devices.len() as u32;
     let sealed_at = shared_at + SHARED * shared.len() as u32;
     earlier_of(

@@ -1,5 +1,6 @@
 -- What a label of the code stands for.
-use Rattle.std.specs.Prelude.{ℕ, List, ◌∷◌, ◌++◌, map}
+use Rattle.std.specs.Prelude.{ℕ, List, map}
+use Rattle.def_description.specs.References.{export_name}
 use Rattle.def_lines.specs.Labels.{Label as LabelRow}
 use Rattle.def_lines.specs.Lines.{Line as LineRow}
 use Rattle.ct_lines.specs.declared.labels.Label.{Label}
@@ -7,10 +8,10 @@ use Rattle.ct_lines.specs.declared.labels.Of.{Of}
 use Rattle.ct_lines.specs.declared.labels.Of.TheVariants.{Named, Export}
 use Rattle.ct_lines.specs.declared.lines.Line.{Line}
 
--- an export has the name of its owner, a point, and its own
+-- an export is `owner.export`
 abbrev pub of_name : Of → List ℕ
 of_name (Named name) = name.now
-of_name (Export owner name) = owner.now ++ 46 ∷ name.now
+of_name (Export owner name) = export_name owner.now name.now
 
 abbrev pub label_of : Label → LabelRow
 label_of l = record {

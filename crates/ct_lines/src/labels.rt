@@ -113,7 +113,7 @@ fn lent<'a>(parts: &'a Parts, import: ImportRow) -> Of<'a>
 }
 
 fn export_of<'a>(code: &'a Code, index: u32) -> Of<'a>
-    ensures { of_name result ≡ spec.export_name code.now index }
+    ensures { of_name result ≡ spec.exported_name code.now index }
 {
     Of::Export(
         code.name.as_str(),

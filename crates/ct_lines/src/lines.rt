@@ -1,8 +1,9 @@
 //! Entries as JSON values.
 
-ghost use Rattle.std.specs.Prelude.{◌≡◌, ◌+◌, ◌++◌, ◌∷◌, map, IfOk, OnOk, codes, string_bytes};
+ghost use Rattle.std.specs.Prelude.{◌≡◌, ◌+◌, map, IfOk, OnOk, codes, string_bytes};
 ghost use Rattle.serde_json.specs.Data.{put, string};
 ghost use Rattle.serde_json.specs.View.{members_view, view};
+ghost use Rattle.def_description.specs.References.{export_name};
 ghost use Rattle.def_lines.specs.Lines as spec;
 ghost use Rattle.def_lines.specs.Rights.{rights_text};
 ghost use Rattle.ct_lines.specs.Members.{export_members, named_members, slot_members, with_call, with_place, with_plain};
@@ -23,7 +24,7 @@ struct Line<'a> {
 }
 
 /// The members with a text.
-fn add_text(
+pub(crate) fn add_text(
     members: &mut Map<String, Value>,
     alloc: Global,
     key: &str,
@@ -37,7 +38,7 @@ fn add_text(
 }
 
 /// The members with a number.
-fn add_number(
+pub(crate) fn add_number(
     members: &mut Map<String, Value>,
     alloc: Global,
     key: &str,
@@ -122,8 +123,9 @@ fn quota_value(alloc: Global, line: &Line) -> Result<Value, AllocError>
     Ok(Value::Object(members))
 }
 
+/// `owner.export`.
 fn export_name(alloc: Global, owner: &str, name: &str) -> Result<String, AllocError>
-    ensures { IfOk result (λ s. string_bytes s ≡ owner.now ++ 46 ∷ name.now) }
+    ensures { IfOk result (λ s. string_bytes s ≡ export_name owner.now name.now) }
 {
     let mut text = String::from_str(alloc, owner)?;
     add_after(&mut text, ".", name)?;
@@ -181,7 +183,7 @@ fn passes_text(capabilities: bool) -> &'static str
     if capabilities { "capabilities" } else { "data" }
 }
 
-/// The members of an export of a library.
+/// The members that each export has, of a compartment or of a library.
 fn export_members(alloc: Global, line: &Line) -> Result<Map<String, Value>, AllocError>
     ensures { IfOk result (λ m. members_view m.entries ≡ export_members (line_of line.now)) }
 {

@@ -1,20 +1,22 @@
 //! The report as one JSON value, and its line.
 
-ghost use Rattle.std.specs.Prelude.{ℕ, ◌≡◌, ◌-◌, ◌+◌, ◌≤◌, ◌++◌, [], ◌∷◌, length, map, IfOk, string_bytes};
-ghost use Rattle.serde_json.specs.View.{view};
+ghost use Rattle.std.specs.Prelude.{ℕ, ◌≡◌, ◌-◌, ◌+◌, ◌≤◌, ◌++◌, [], ◌∷◌, length, map, IfOk, OnOk, string_bytes};
+ghost use Rattle.serde_json.specs.Data.{put};
+ghost use Rattle.serde_json.specs.View.{members_view, view};
 ghost use Rattle.serde_json.specs.Written.{compact_text};
 ghost use Rattle.def_image.specs.Sound.{Sound, ThreadFits};
 ghost use Rattle.std.specs.List.{AllByRecursion};
 ghost use Rattle.def_lines.specs.Report as spec;
+ghost use Rattle.ct_lines.specs.Members.{with_access, with_firmware, with_owners, with_threads};
 
 use crate::edges::edge_values;
 use crate::labels::labels_of;
-use crate::lines::entry_values;
+use crate::lines::{add_number, add_text, entry_values};
 use ct_entries::export_number;
 use ct_entry::{Device, DeviceKind, Entries};
 use ct_graph::Graph;
 use ct_parts::{Code, Compartment, Parts, Thread};
-use serde_json::{Value, json};
+use serde_json::{Map, Value, json};
 use std::alloc::{AllocError, Global};
 
 fn kind_text(kind: DeviceKind) -> &'static str
@@ -113,44 +115,87 @@ fn heap_value(alloc: Global, parts: &Parts) -> Result<Value, AllocError>
     json!(in alloc; {"base": parts.heap, "length": length})
 }
 
-fn entries_value(alloc: Global, parts: &Parts, entries: &Entries) -> Result<Value, AllocError>
-    ensures { IfOk result (λ v. view v ≡ spec.entries_data parts.now entries.now) }
+/// The members with a list of values.
+fn add_list(
+    members: &mut Map<String, Value>,
+    alloc: Global,
+    key: &str,
+    values: Vec<Value>,
+) -> Result<(), AllocError>
+    ensures { OnOk result (members_view members.new.entries
+        ≡ put key.now (spec.list (map view values.items)) (members_view members.old.entries)) }
 {
-    let labels = labels_of(alloc, parts)?;
-    let values = entry_values(alloc, entries.rows.as_slice(), labels.as_slice())?;
-    Ok(Value::Array(values))
+    serde_json::put(members, alloc, key, Value::Array(values))
 }
 
-/// The members of the report from their values.
-fn object_of(
+/// The members with the names of the compartments and of the libraries.
+fn add_owners(
+    members: &mut Map<String, Value>,
     alloc: Global,
     parts: &Parts,
-    compartments: Value,
-    devices: Value,
-    edges: Value,
-    entries: Value,
-    heap: Value,
-    libraries: Value,
-    threads: Value,
-) -> Result<Value, AllocError>
-    ensures { IfOk result
-        (λ v. view v ≡ spec.object_of parts.now (view compartments) (view devices) (view edges)
-        (view entries) (view heap) (view libraries) (view threads)) }
+) -> Result<(), AllocError>
+    ensures { OnOk result (members_view members.new.entries
+        ≡ with_owners parts.now (members_view members.old.entries)) }
 {
-    json!(in alloc; {
-        "compartments": compartments,
-        "devices": devices,
-        "edges": edges,
-        "entries": entries,
-        "firmware": &parts.name,
-        "heap": heap,
-        "libraries": libraries,
-        "quantum": parts.quantum,
-        "threads": threads
-    })
+    let compartments = compartment_values(alloc, parts.compartments.as_slice())?;
+    add_list(members, alloc, "compartments", compartments)?;
+    let libraries = library_values(alloc, parts.libraries.as_slice())?;
+    add_list(members, alloc, "libraries", libraries)
 }
 
-#[tactic(auto, using(crate::proofs::Entering::threads_fit), unfolding(def_lines::specs::Report::data_over))]
+/// The members with the firmware's name, its devices, its heap and its quantum.
+fn add_firmware(
+    members: &mut Map<String, Value>,
+    alloc: Global,
+    parts: &Parts,
+) -> Result<(), AllocError>
+    ensures { OnOk result (members_view members.new.entries
+        ≡ with_firmware parts.now (members_view members.old.entries)) }
+{
+    add_text(members, alloc, "firmware", parts.name.as_str())?;
+    let devices = device_values(alloc, parts.devices.as_slice())?;
+    add_list(members, alloc, "devices", devices)?;
+    let heap = heap_value(alloc, parts)?;
+    serde_json::put(members, alloc, "heap", heap)?;
+    add_number(members, alloc, "quantum", u64::from(parts.quantum))
+}
+
+/// The members with the entries and the edges.
+fn add_access(
+    members: &mut Map<String, Value>,
+    alloc: Global,
+    parts: &Parts,
+    entries: &Entries,
+    graph: &Graph,
+) -> Result<(), AllocError>
+    requires sound { Sound parts.now }
+    requires graph { graph.now ≡ entries.now }
+    ensures { OnOk result (members_view members.new.entries
+        ≡ with_access parts.now entries.now (members_view members.old.entries)) }
+{
+    let edges = edge_values(alloc, graph, parts.compartments.len() as u32)?;
+    add_list(members, alloc, "edges", edges)?;
+    let labels = labels_of(alloc, parts)?;
+    let rows = entry_values(alloc, entries.rows.as_slice(), labels.as_slice())?;
+    add_list(members, alloc, "entries", rows)
+}
+
+/// The members with the threads.
+#[tactic(auto, using(crate::proofs::Entering::threads_fit))]
+fn add_threads(
+    members: &mut Map<String, Value>,
+    alloc: Global,
+    parts: &Parts,
+) -> Result<(), AllocError>
+    requires { Sound parts.now }
+    ensures { OnOk result (members_view members.new.entries
+        ≡ with_threads parts.now (members_view members.old.entries)) }
+{
+    let threads = thread_values(alloc, parts, parts.threads.as_slice())?;
+    add_list(members, alloc, "threads", threads)
+}
+
+#[tactic(auto, unfolding(def_lines::specs::Report::data_over))]
 fn report_value(
     alloc: Global,
     parts: &Parts,
@@ -161,18 +206,12 @@ fn report_value(
     requires graph { graph.now ≡ entries.now }
     ensures { IfOk result (λ v. view v ≡ spec.data_over parts.now entries.now) }
 {
-    let compartments = parts.compartments.as_slice();
-    let names = Value::Array(compartment_values(alloc, compartments)?);
-    let devices = Value::Array(device_values(alloc, parts.devices.as_slice())?);
-    let edges = Value::Array(edge_values(alloc, graph, compartments.len() as u32)?);
-    let rows = entries_value(alloc, parts, entries)?;
-    let heap = heap_value(alloc, parts)?;
-    let libraries = Value::Array(library_values(alloc, parts.libraries.as_slice())?);
-    let threads = Value::Array(thread_values(alloc, parts, parts.threads.as_slice())?);
-    let value = object_of(
-        alloc, parts, names, devices, edges, rows, heap, libraries, threads,
-    )?;
-    Ok(value)
+    let mut members = Map::new(alloc);
+    add_owners(&mut members, alloc, parts)?;
+    add_firmware(&mut members, alloc, parts)?;
+    add_access(&mut members, alloc, parts, entries, graph)?;
+    add_threads(&mut members, alloc, parts)?;
+    Ok(Value::Object(members))
 }
 
 /// The report line, its line feed included.

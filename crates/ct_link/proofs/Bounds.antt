@@ -1,7 +1,8 @@
 -- The sizes and counts of a lawful description's rows, within what placement and tables take.
-use Rattle.std.proofs.Common.{ℕ, zero, suc, ◌≡◌, ◌+◌, ◌*◌, ◌<◌, ◌≤◌, ◌^◌, max, List, [], ◌∷◌, ◌++◌, length, map, refl, sym, ap, ◌∙◌, subst, arith}
+use Rattle.std.proofs.Common.{ℕ, ◌≡◌, ◌+◌, ◌*◌, ◌<◌, ◌≤◌, ◌^◌, List, [], ◌∷◌, ◌++◌, length, map, refl, sym, ap, subst, arith}
 use Rattle.std.specs.List.{AllByRecursion}
 use Rattle.std.proofs.lemmas.List.{length-append, length-map}
+use Rattle.law_lists.proofs.Alls.{all_joined, all_mapped, all_so}
 use Rattle.def_profile.specs.declared.limits.TheConstants.{MOST_FRAMES, MOST_THREADS_2}
 use Rattle.def_layout.specs.Placement.{needed}
 use Rattle.def_image.specs.Sizes.{sum_of}
@@ -9,13 +10,11 @@ use Rattle.def_description.specs.Lawful.{IsLawful, IsLawfulCompartment, IsLawful
 use Rattle.def_description.specs.Rows.{ExportRow, SharedRow, SealedRow, ThreadRow, CompartmentRow, LibraryRow, DescRow}
 use Rattle.def_link.specs.declared.LinkFault.TheVariants as fault
 use Rattle.def_link.specs.Linked.{compartment_sizes, library_code_size, area_size}
-use Rattle.law_link.proofs.Walks.{all_joined, all_mapped, all_so}
 use Rattle.law_link_regions.proofs.Lying.{threads_most, shared_sizes, sealed_sizes, stack_sizes, trusted_size}
 use Rattle.law_link_regions.proofs.Placings.{few_areas}
 use Rattle.ct_asm.specs.Labels.{Assembled}
-use Rattle.ct_objects.specs.Objects.{built_of, Refuses}
-use Rattle.ct_layout.specs.declared.fault.LayoutFault.{LayoutFault}
-use Rattle.ct_layout.specs.Rows.{SizesRow, PlacesRow, IsPlaceable, HasRoom, Refuses as RefusesPlaces}
+use Rattle.ct_objects.specs.Objects.{Refuses}
+use Rattle.ct_layout.specs.Rows.{SizesRow, PlacesRow, IsPlaceable, HasRoom}
 use Rattle.ct_link_slots.specs.Exporters.{IsExporter, IsLibraryExporter, AreCounted}
 use Rattle.ct_link.specs.Laid.{sizes_with, laid_of, IsPlaced, AreObjects}
 use Rattle.ct_link.specs.Rows.{IsSized, IsSmallOwner, IsSmallLibrary, AreOwn, AreLent, own_built, lent_built}

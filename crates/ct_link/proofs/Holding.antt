@@ -1,15 +1,14 @@
 -- The objects of a description's code are what was built, and each is within its limits.
-use Rattle.std.proofs.Common.{ℕ, zero, suc, ◌≡◌, ◌+◌, ◌≤◌, List, [], ◌∷◌, ◌++◌, length, map, take, drop, refl, sym, ap, ap₂, ◌∙◌, subst, arith}
+use Rattle.std.proofs.Common.{ℕ, zero, suc, ◌≡◌, ◌+◌, ◌≤◌, List, [], ◌∷◌, length, map, take, drop, refl, sym, ap, ap₂, ◌∙◌, subst, arith}
 use Rattle.std.specs.Prelude.{Result, Ok, Err}
 use Rattle.std.specs.List.{AllByRecursion}
 use Rattle.std.proofs.Math.Path.{fun_ext}
+use Rattle.law_lists.proofs.Alls.{all_joined}
 use Rattle.def_profile.specs.declared.limits.TheConstants.{MOST_BYTES}
-use Rattle.def_object.specs.declared.Label.{Label}
 use Rattle.def_description.specs.Lawful.{IsLawfulCode, IsLawfulCompartment, IsLawfulLibrary}
 use Rattle.def_description.specs.Rows.{CompartmentRow, LibraryRow, DescRow}
 use Rattle.def_link.specs.declared.LinkFault.{LinkFault}
 use Rattle.def_link.specs.Owners.{Unit as OwnerUnit, Built, units_of, compartment_unit, library_unit, numbered, unit_built, with_front, source_for, rest_of, all_built}
-use Rattle.law_link.proofs.Walks.{all_joined}
 use Rattle.law_link_regions.proofs.Texts.{IsText}
 use Rattle.law_link_regions.proofs.Builts.{unit_sound}
 use Rattle.ct_asm.specs.Labels.{Assembled, label_named}

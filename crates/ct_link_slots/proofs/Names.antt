@@ -1,5 +1,5 @@
 -- Where names stand: the first of a list, and the first export of a text `owner.export`.
-use Rattle.std.proofs.Common.{ℕ, suc, ◌≡◌, ◌+◌, ◌<◌, ◌≤◌, ◌&&◌, Bool, true, false, cond, List, [], ◌∷◌, ◌++◌, length, map, take, drop, get_or, Some, None, refl, sym, ap, ap₂, ◌∙◌, subst, arith, inl, inr}
+use Rattle.std.proofs.Common.{ℕ, suc, ◌≡◌, ◌+◌, ◌<◌, ◌≤◌, ◌&&◌, Bool, true, false, not, cond, List, [], ◌∷◌, ◌++◌, length, map, take, drop, get_or, Some, None, refl, sym, ap, ap₂, ◌∙◌, subst, arith, inl, inr}
 use Rattle.std.specs.Prelude.{bytes_eq}
 use Rattle.std.proofs.lemmas.List.{length-map, at_drop_more, take-append-drop}
 use Rattle.std.proofs.Math.ListN.{drop_of_length-le}
@@ -17,12 +17,12 @@ use Rattle.ct_link_slots.specs.Exporters.{exporter, library_exporter, after_poin
 pub index_met : {A : Type 0} (f : A → List ℕ) (name : List ℕ) (xs : List A) (k : ℕ) (d : A) → k < length xs → bytes_eq name (f (get_or xs k d)) ≡ true
     → index_of name (map f (drop k xs)) ≡ 0
 index_met f name xs k d low met =
-    at_drop_more (λ l. index_of name (map f l)) xs k d low ∙ ap (λ b. cond b 0 (index_of name (map f (drop (k + 1) xs)) + 1)) met
+    at_drop_more (λ l. index_of name (map f l)) xs k d low ∙ ap (λ b. cond (not b) (1 + index_of name (map f (drop (k + 1) xs))) 0) met
 
 pub index_passed : {A : Type 0} (f : A → List ℕ) (name : List ℕ) (xs : List A) (k : ℕ) (d : A) → k < length xs → bytes_eq name (f (get_or xs k d)) ≡ false
-    → index_of name (map f (drop k xs)) ≡ index_of name (map f (drop (k + 1) xs)) + 1
+    → index_of name (map f (drop k xs)) ≡ 1 + index_of name (map f (drop (k + 1) xs))
 index_passed f name xs k d low missed =
-    at_drop_more (λ l. index_of name (map f l)) xs k d low ∙ ap (λ b. cond b 0 (index_of name (map f (drop (k + 1) xs)) + 1)) missed
+    at_drop_more (λ l. index_of name (map f l)) xs k d low ∙ ap (λ b. cond (not b) (1 + index_of name (map f (drop (k + 1) xs))) 0) missed
 
 -- how far a loop over names has come: at its k-th, where `whole` is the index in all of them
 pub index_here : {A : Type 0} (f : A → List ℕ) (name : List ℕ) (xs : List A) (k index whole : ℕ) (d x : A) → (index ≡ k) × (index_of name (map f (drop k xs)) + index ≡ whole)
@@ -157,7 +157,7 @@ other_owner f text owner [] none = refl
 other_owner f text owner (x ∷ xs) none = by (bytes_eq text (export_name owner (f x))) refl (other_owner f text owner xs none)
   where
     by : (b : Bool) → bytes_eq text (export_name owner (f x)) ≡ b → index_of text (map (export_name owner) (map f xs)) ≡ length xs
-        → cond b 0 (index_of text (map (export_name owner) (map f xs)) + 1) ≡ suc (length xs)
+        → cond (not b) (1 + index_of text (map (export_name owner) (map f xs))) 0 ≡ suc (length xs)
     by true is rest =
         let same = (bytes_eq-Decides text (export_name owner (f x))).0 is in
         absurd (let no : None ≡ Some (f x) = sym none ∙ ap (λ t. after_owner t owner) same ∙ follows owner (f x) in cc)
@@ -167,7 +167,7 @@ own_all : (owner name : List ℕ) (text : List ℕ) (names : List (List ℕ)) �
 own_all owner name text [] is = refl
 own_all owner name text (n ∷ ns) is =
     let same : bytes_eq text (export_name owner n) ≡ bytes_eq name n = ap (λ t. bytes_eq t (export_name owner n)) is ∙ same_rest owner (46 ∷ name) (46 ∷ n) ∙ ap (λ t. t && bytes_eq name n) (eq-eqb 46 46 refl) in
-    ap₂ (λ b i. cond b 0 (i + 1)) same (own_all owner name text ns is)
+    ap₂ (λ b i. cond (not b) (1 + i) 0) same (own_all owner name text ns is)
 
 -- one that does has the index of what follows
 pub own_export : (text owner name : List ℕ) (names : List (List ℕ)) → after_owner text owner ≡ Some name → index_of text (map (export_name owner) names) ≡ index_of name names

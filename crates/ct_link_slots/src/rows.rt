@@ -96,7 +96,7 @@ pub(crate) fn form_row(desc: &Desc, rights: u8, form: Form, name: &str) -> Impor
         Form::Service => listed_row(
             SlotKind::Service,
             packed(SERVICE_RIGHTS),
-            service_of(name).unwrap_or(0),
+            service_of(name.as_bytes()).unwrap_or(0),
         ),
         Form::Library => library_row(desc, name),
     }

@@ -45,11 +45,13 @@ use Rattle.ct_execute.specs.declared.ran.Ran.TheVariants.{Went}
 use Rattle.ct_heaped.specs.Seen.{Seen, with_threads, limit_at}
 use Rattle.ct_heaped.specs.Grants.{with_object, quarantined, freed}
 use Rattle.ct_services.specs.Granted as granted
-use Rattle.ct_machine.specs.Parts.{state_by, IsKept}
+use Rattle.ct_machine.specs.declared.engine.Engine.TheInside.{Inside}
+use Rattle.ct_machine.specs.Parts.{state_by, IsCounted, IsKept}
 use Rattle.ct_machine.specs.Going.{CameTo, IsDone, MayGoOn, deed_by}
 use Rattle.ct_machine.proofs.Statuses.{thread_with, set_with}
 use Rattle.ct_machine.proofs.Taking.{ram_is}
-use Rattle.ct_machine.proofs.Keeping.{machine_by, stays_kept}
+use Rattle.ct_machine.proofs.Keeping.{came_by, machine_by, stays_kept}
+use Rattle.ct_machine.proofs.Sizes.{same_by}
 use Rattle.ct_machine.proofs.Resting.{by_trap, checked_once, answers_are, register_alike}
 
 -- what passed the load filter of the memory that the machine has
@@ -234,3 +236,35 @@ module _ (i : Image) (e : Seen) (r : SchedRow) (k : Bank) (pending : Bool) (time
       ap (λ q. limit_at e q - charges q e.objects) quota_alike ∙ ap (λ n. n - charges (quotas.quota_in here t) e.objects) (sym (kept.heap.limits (quotas.quota_in here t))) in
       subst (λ (q : Seen × Ran). Serves e.next q (quotas.remaining i here t)) (sym (is ∙ ap (λ n. granted.by_quota e t (granted.tells e t (integer n))) same))
       (serves_quota e.next (granted.tells e t (integer left)) (routine.tells here t (integer left)) (omega arith) (serves_told e.next (integer left) (omega arith)))
+
+-- ---- of an engine that is open, and keeps what a machine keeps
+
+module _ {M : Type 0} (i : Inside M) (t : ℕ) (held : IsKept i.plan i.threads i.sched × IsCounted i.counts i.time i.threads.next) where
+  -- the machine that it makes
+  abbrev pub whole : MachineRow
+  whole = machine_by i.plan i.threads i.sched i.bus i.pending i.time i.counts
+
+  abbrev pub ServesIn : ℕ → Seen × Ran → routine.Ran → Type 0
+  ServesIn most p x = Serves i.plan i.threads i.sched i.bus i.pending i.time i.counts t held.0 most p x
+
+  pub named_in : (m : MachineRow) → whole ≡ m → MayGoOn m → granted.NamesQuota i.threads t
+  named_in m is may = names_quota_in i.plan i.threads i.sched i.bus i.pending i.time i.counts t held.0 m is may
+
+  pub allocated_in : (p : Seen × Ran) → p ≡ granted.by_quota i.threads t (granted.allocated i.threads t (allocation i.plan whole.state (granted.quota_in i.threads t) (cap_address (register (engine.thread i.threads.threads t) 11))))
+      → ServesIn (i.threads.next + 1) p (quotas.allocate i.plan whole.state t)
+  allocated_in p is = serves_allocate i.plan i.threads i.sched i.bus i.pending i.time i.counts t held.0 p is
+
+  pub freed_in : (p : Seen × Ran) → p ≡ granted.by_quota i.threads t (granted.freed_as i.threads t (granted.object_in i.threads t)) → ServesIn i.threads.next p (quotas.free i.plan whole.state t)
+  freed_in p is = serves_free i.plan i.threads i.sched i.bus i.pending i.time i.counts t held.0 p is
+
+  pub remaining_in : (p : Seen × Ran) → p ≡ granted.by_quota i.threads t (granted.tells i.threads t (integer (granted.left_in i.threads t))) → ServesIn i.threads.next p (quotas.remaining i.plan whole.state t)
+  remaining_in p is = serves_remaining i.plan i.threads i.sched i.bus i.pending i.time i.counts t held.0 p is
+
+  -- a routine came to the same in the machine that this is
+  pub came_in : (w : Image → State → ℕ → routine.Ran) (most : ℕ) (p : Seen × Ran) (m : MachineRow) → whole ≡ m → ServesIn most p (w i.plan whole.state t)
+      → CameTo m (machine_by i.plan p.0 i.sched i.bus i.pending i.time i.counts) t p.1 (ran m.board m.state t (w m.board.image m.state t))
+  came_in w most p m is h = came_by (λ (x : MachineRow). ran x.board x.state t (w x.board.image x.state t)) is refl h.came
+
+  -- where it made no object the engine keeps what it kept
+  pub keeps_in : (p : Seen × Ran) (x : routine.Ran) → ServesIn i.threads.next p x → IsKept i.plan p.0 i.sched × IsCounted i.counts i.time p.0.next
+  keeps_in p x h = (h.stays, same_by i.counts i.time i.threads.next p.0.next held.1 h.made)

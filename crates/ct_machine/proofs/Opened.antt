@@ -19,7 +19,7 @@ use Rattle.ct_machine.specs.Parts.{state_by, IsKept}
 use Rattle.ct_machine.proofs.Statuses.{like_with}
 use Rattle.ct_machine.proofs.Taking.{frames_with}
 
-pub some_within : (ts : List Thread) (t : ℕ) → 0 < length (get_or ts t nobody).frames → t < length ts
+some_within : (ts : List Thread) (t : ℕ) → 0 < length (get_or ts t nobody).frames → t < length ts
 some_within [] t some = absurd (omega (arith, some))
 some_within (x ∷ ts) zero some = omega arith
 some_within (x ∷ ts) (suc t) some = let rest = some_within ts t some in omega (arith, rest)

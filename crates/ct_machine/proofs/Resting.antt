@@ -1,5 +1,5 @@
 -- What the code leaves of a service of the scheduler is what the written routine leaves.
-use Rattle.std.proofs.Common.{ℕ, zero, suc, ◌-◌, ◌==◌, ◌≡◌, ◌<◌, Bool, true, false, List, [], ◌∷◌, length, Option, Some, None, inl, inr, refl, sym, ap, ◌∙◌, subst, arith}
+use Rattle.std.proofs.Common.{ℕ, zero, suc, ◌-◌, ◌==◌, ◌≡◌, Bool, true, false, List, [], ◌∷◌, length, Option, Some, None, inl, inr, refl, sym, ap, ◌∙◌, subst, arith}
 use Rattle.std.proofs.Math.ListN.{set}
 use Rattle.std.proofs.lemmas.List.{length-set, get_or_past}
 use Rattle.std.proofs.lemmas.List.FromFn.{get_or-map-range_with_len, length-map-range_with_len}
@@ -13,7 +13,7 @@ use Rattle.def_sched.specs.declared.Status.{Status}
 use Rattle.def_sched.specs.declared.Status.TheVariants.{Ready, Waiting, Ended}
 use Rattle.def_sched.specs.Statuses.{status_of, asleep, awaiting, woken, woken_count, after_wake, wakes as woke}
 use Rattle.def_machine.specs.Image.{Image}
-use Rattle.def_machine.specs.State.{State, Thread, Frame, Counts, thread, register}
+use Rattle.def_machine.specs.State.{State, Thread, Counts, thread, register}
 use Rattle.def_machine.specs.Registers as registers
 use Rattle.def_machine.specs.Threads as threads
 use Rattle.def_machine.specs.Threads.{with_statuses}
@@ -21,19 +21,18 @@ use Rattle.def_step.specs.Devices.{Bank}
 use Rattle.def_step.specs.Checks.{Check, first_failed}
 use Rattle.def_step.specs.Switch.{return_checks}
 use Rattle.def_step.specs.Routines as routine
-use Rattle.def_step.specs.Routines.{Traps, Leaves, checked, answered, answers, code, stops, waits, wakes, word_checks, yield, sleep, wait, wake}
+use Rattle.def_step.specs.Routines.{Traps, Leaves, checked, answered, answers, code, stops, waits, wakes, word_checks, sleep, wait, wake}
 use Rattle.def_step.specs.Instructions.{Board, ran}
 use Rattle.def_step.specs.Events.{MachineRow}
 use Rattle.ct_sched.specs.Sched as sched
 use Rattle.ct_sched.specs.Sched.{SchedRow}
 use Rattle.ct_engine.specs.Seen as engine
 use Rattle.ct_heaped.specs.Seen.{Seen, with_threads}
-use Rattle.ct_services.specs.Served.{answered_in, rested, waited, with_status, either, unless, unless_row}
+use Rattle.ct_execute.specs.declared.ran.Ran.{Ran}
+use Rattle.ct_services.specs.Served.{answered_in, rested, waited, with_status, either, unless_in, unless_row}
 use Rattle.ct_machine.specs.Parts.{state_by, IsKept}
-use Rattle.ct_machine.specs.Going.{ran_by_service, CameTo, Runs}
+use Rattle.ct_machine.specs.Going.{ran_by_service, rests_for, CameTo}
 use Rattle.ct_machine.proofs.Keeping.{machine_by, RunsReady, kept_so, none_runs}
-use Rattle.ct_machine.proofs.Opened.{some_within}
-use Rattle.ct_machine.proofs.Taking.{frames_with}
 use Rattle.ct_machine.proofs.Statuses.{thread_with, like_with, set_with, set_both, set_over, statuses_with}
 
 -- ---- checks
@@ -57,12 +56,12 @@ either_so None b x = refl
 pub checked_twice : (cs ds : List Check) (x : routine.Ran) → checked cs (checked ds x) ≡ by_trap (either (first_failed cs) (first_failed ds)) x
 checked_twice cs ds x = checked_once cs (checked ds x) ∙ ap (by_trap (first_failed cs)) (checked_once ds x) ∙ either_so (first_failed cs) (first_failed ds) x
 
--- ---- a status that is there already
+-- ---- a thread that is ready already
 
-set_same : (ss : List Status) (t : ℕ) (s : Status) → status_of ss t ≡ s → t < length ss → set ss t s ≡ ss
-set_same [] t s is there = absurd (omega (arith, there))
-set_same (x ∷ ss) zero s is there = ap (λ (y : Status). y ∷ ss) (sym is)
-set_same (x ∷ ss) (suc t) s is there = ap (λ (ys : List Status). x ∷ ys) (set_same ss t s is (omega (arith, there)))
+set_ready : (ss : List Status) (t : ℕ) → status_of ss t ≡ Ready → set ss t Ready ≡ ss
+set_ready [] t is = refl
+set_ready (x ∷ ss) zero is = ap (λ (y : Status). y ∷ ss) (sym is)
+set_ready (x ∷ ss) (suc t) is = ap (λ (ys : List Status). x ∷ ys) (set_ready ss t is)
 
 -- ---- whom a wake leaves ready
 
@@ -90,7 +89,7 @@ module _ (i : Image) (e : Seen) (r : SchedRow) (k : Bank) (pending : Bool) (time
 
   -- where no check fails the threads become this
   abbrev left_as : Option Trap → engine.Seen → Seen
-  left_as o after = with_threads e (unless o e.threads after)
+  left_as o after = unless_in o e after
 
   pub register_alike : (n : ℕ) → register (engine.thread e.threads t) n ≡ register (thread here t) n
   register_alike n = ap (λ (u : Thread). register u n) (sym (like_with e.threads.threads r.statuses t Ended))
@@ -122,48 +121,49 @@ module _ (i : Image) (e : Seen) (r : SchedRow) (k : Bank) (pending : Bool) (time
 
   -- ---- yield and sleep
 
-  pub came_rest : (status : Status) (o : Option Trap) (e' : Seen) (r' : SchedRow) → o ≡ first_failed (return_checks (register (engine.thread e.threads t) 1))
-      → e' ≡ left_as o (rested e.threads t) → r' ≡ unless_row o r (with_status r t status)
-      → CameTo (machine e r) (machine e' r') t (ran_by_service o) (ran board here t (checked (return_checks (register (thread here t) 1)) (stops here t status)))
-  came_rest status o e' r' trap now turn =
-      came_service o e' (rested e.threads t) r' (with_status r t status) (checked (return_checks (register (thread here t) 1)) (stops here t status))
-      (record (registers.with_thread here t (threads.with_status (answered (thread here t) (integer 0)) status)) { running = None })
-      (checked_once (return_checks (register (thread here t) 1)) (stops here t status)
-      ∙ ap (λ (x : Cap). by_trap (first_failed (return_checks x)) (stops here t status)) (sym (register_alike 1))
-      ∙ ap (λ (p : Option Trap). by_trap p (stops here t status)) (sym trap))
-      now turn (rests status)
+  pub came_rest : (ticks : ℕ) (o : Option Trap) (e' : Seen) (r' : SchedRow) → o ≡ first_failed (return_checks (register (engine.thread e.threads t) 1))
+      → e' ≡ left_as o (rested e.threads t) → r' ≡ unless_row o r (with_status r t (asleep ticks))
+      → CameTo (machine e r) (machine e' r') t (ran_by_service o) (ran board here t (rests_for here t ticks))
+  came_rest ticks o e' r' trap now turn =
+      came_service o e' (rested e.threads t) r' (with_status r t (asleep ticks)) (rests_for here t ticks)
+      (record (registers.with_thread here t (threads.with_status (answered (thread here t) (integer 0)) (asleep ticks))) { running = None })
+      (checked_once (return_checks (register (thread here t) 1)) (stops here t (asleep ticks))
+      ∙ ap (λ (x : Cap). by_trap (first_failed (return_checks x)) (stops here t (asleep ticks))) (sym (register_alike 1))
+      ∙ ap (λ (p : Option Trap). by_trap p (stops here t (asleep ticks))) (sym trap))
+      now turn (rests (asleep ticks))
 
-  pub came_sleep : (o : Option Trap) (e' : Seen) (r' : SchedRow) → o ≡ first_failed (return_checks (register (engine.thread e.threads t) 1))
-      → e' ≡ left_as o (rested e.threads t) → r' ≡ unless_row o r (with_status r t (asleep (cap_address (register (engine.thread e.threads t) 10))))
-      → CameTo (machine e r) (machine e' r') t (ran_by_service o) (ran board here t (sleep here t))
-  came_sleep o e' r' trap now turn =
-      came_rest (asleep (cap_address (register (thread here t) 10))) o e' r' trap now
-      (turn ∙ ap (λ (x : Cap). unless_row o r (with_status r t (asleep (cap_address x)))) (register_alike 10))
+  -- so many ticks as a register's address says, in the machine that this is
+  pub came_sleep : (m n : MachineRow) (ticks : ℕ) (q : Ran) → machine e r ≡ m → ticks ≡ cap_address (register (engine.thread e.threads t) 10)
+      → CameTo m n t q (ran m.board m.state t (rests_for m.state t ticks)) → CameTo m n t q (ran m.board m.state t (sleep m.state t))
+  came_sleep m n ticks q is ticks_is came =
+      let asked : ticks ≡ cap_address (register (thread m.state t) 10) =
+      ticks_is ∙ ap cap_address (register_alike 10) ∙ ap (λ (x : MachineRow). cap_address (register (thread x.state t) 10)) is in
+      subst (λ (d : ℕ). CameTo m n t q (ran m.board m.state t (rests_for m.state t d))) asked came
 
   -- ---- wait
 
-  waited_so : (b : Bool) (address held wanted : ℕ) → (held == wanted) ≡ b → status_of r.statuses t ≡ Ready → t < length r.statuses
+  waited_so : (b : Bool) (address held wanted : ℕ) → (held == wanted) ≡ b → status_of r.statuses t ≡ Ready
       → waits here t address held wanted ≡ Leaves (state_by (with_threads e (waited e.threads t held wanted)) (with_status r t (awaiting address held wanted)) pending k.states time c) None
-  waited_so true address held wanted same ready there =
+  waited_so true address held wanted same ready =
       let first : waits here t address held wanted
       ≡ Leaves (record (registers.with_thread here t (threads.with_status (answered (thread here t) (integer 0)) (awaiting address held wanted))) { running = None }) None = rw same refl in
       let seen : state_by (with_threads e (waited e.threads t held wanted)) (with_status r t (awaiting address held wanted)) pending k.states time c
       ≡ state_by (with_threads e (rested e.threads t)) (with_status r t (awaiting address held wanted)) pending k.states time c = rw same refl in
       first ∙ ap (λ (s : State). Leaves s None) (sym (seen ∙ rests (awaiting address held wanted)))
-  waited_so false address held wanted other ready there =
+  waited_so false address held wanted other ready =
       let first : waits here t address held wanted ≡ Leaves (answers here t (code 21)) None = rw other refl in
       let seen : state_by (with_threads e (waited e.threads t held wanted)) (with_status r t (awaiting address held wanted)) pending k.states time c
       ≡ state_by (with_threads e (answered_in e.threads t (code 21))) (sched.with_statuses r (set r.statuses t Ready)) pending k.states time c = rw other refl in
-      let row = ap (λ (ss : List Status). state_by (with_threads e (answered_in e.threads t (code 21))) (sched.with_statuses r ss) pending k.states time c) (set_same r.statuses t Ready ready there) in
+      let row = ap (λ (ss : List Status). state_by (with_threads e (answered_in e.threads t (code 21))) (sched.with_statuses r ss) pending k.states time c) (set_ready r.statuses t ready) in
       first ∙ ap (λ (s : State). Leaves s None) (sym (seen ∙ row ∙ answers_are (code 21)))
 
-  pub came_wait : (ram : ℕ) (o : Option Trap) (e' : Seen) (r' : SchedRow) → ram ≡ i.ram → status_of r.statuses t ≡ Ready → t < length r.statuses
+  pub came_wait : (ram : ℕ) (o : Option Trap) (e' : Seen) (r' : SchedRow) → ram ≡ i.ram → status_of r.statuses t ≡ Ready
       → o ≡ either (first_failed (return_checks (register (engine.thread e.threads t) 1))) (first_failed (word_checks i here (register (engine.thread e.threads t) 10)))
       → e' ≡ left_as o (waited e.threads t (loaded e.threads.granules (cap_address (register (engine.thread e.threads t) 10) - ram) 4) (cap_address (register (engine.thread e.threads t) 11)))
       → r' ≡ unless_row o r
       (with_status r t (awaiting (cap_address (register (engine.thread e.threads t) 10)) (loaded e.threads.granules (cap_address (register (engine.thread e.threads t) 10) - ram) 4) (cap_address (register (engine.thread e.threads t) 11))))
       → CameTo (machine e r) (machine e' r') t (ran_by_service o) (ran board here t (wait i here t))
-  came_wait ram o e' r' place ready there trap now turn =
+  came_wait ram o e' r' place ready trap now turn =
       let ten = register_alike 10 in
       let eleven = register_alike 11 in
       let address : ℕ = cap_address (register (thread here t) 10) in
@@ -175,7 +175,7 @@ module _ (i : Image) (e : Seen) (r : SchedRow) (k : Bank) (pending : Bool) (time
       ∙ ap (λ (x : Cap). by_trap (either (first_failed (return_checks x)) (first_failed (word_checks i here (register (thread here t) 10)))) (waits here t address held wanted)) (sym (register_alike 1))
       ∙ ap (λ (x : Cap). by_trap (either (first_failed (return_checks (register (engine.thread e.threads t) 1))) (first_failed (word_checks i here x))) (waits here t address held wanted)) (sym ten)
       ∙ ap (λ (p : Option Trap). by_trap p (waits here t address held wanted)) (sym trap)
-      ∙ ap (by_trap o) (waited_so (held == wanted) address held wanted refl ready there))
+      ∙ ap (by_trap o) (waited_so (held == wanted) address held wanted refl ready))
       (now
       ∙ ap (λ (x : Cap). left_as o (waited e.threads t (loaded e.threads.granules (cap_address x - ram) 4) (cap_address (register (engine.thread e.threads t) 11)))) ten
       ∙ ap (λ n. left_as o (waited e.threads t (loaded e.threads.granules (address - n) 4) (cap_address (register (engine.thread e.threads t) 11)))) place
@@ -236,14 +236,14 @@ module _ (i : Image) (e : Seen) (r : SchedRow) (k : Bank) (pending : Bool) (time
   pub kept_rest : (status : Status) (o : Option Trap) (e' : Seen) (r' : SchedRow) → e' ≡ left_as o (rested e.threads t) → r' ≡ unless_row o r (with_status r t status) → IsKept i e' r'
   kept_rest status o e' r' now turn = unless_kept e' (set r.statuses t status) o (rested e.threads t) r' now turn (rested_kept (set r.statuses t status) (length-set r.statuses t status))
 
-  waited_kept : (b : Bool) (address held wanted : ℕ) → (held == wanted) ≡ b → status_of r.statuses t ≡ Ready → t < length r.statuses → IsKept i (with_threads e (waited e.threads t held wanted)) (with_status r t (awaiting address held wanted))
-  waited_kept true address held wanted same ready there = rw same (rested_kept (set r.statuses t (Waiting address)) (length-set r.statuses t (Waiting address)))
-  waited_kept false address held wanted other ready there = rw (other, set_same r.statuses t Ready ready there) (answered_kept (code 21) r.statuses refl kept.ready)
+  waited_kept : (b : Bool) (address held wanted : ℕ) → (held == wanted) ≡ b → status_of r.statuses t ≡ Ready → IsKept i (with_threads e (waited e.threads t held wanted)) (with_status r t (awaiting address held wanted))
+  waited_kept true address held wanted same ready = rw same (rested_kept (set r.statuses t (Waiting address)) (length-set r.statuses t (Waiting address)))
+  waited_kept false address held wanted other ready = rw (other, set_ready r.statuses t ready) (answered_kept (code 21) r.statuses refl kept.ready)
 
-  pub kept_wait : (address held wanted : ℕ) (o : Option Trap) (e' : Seen) (r' : SchedRow) → status_of r.statuses t ≡ Ready → t < length r.statuses
+  pub kept_wait : (address held wanted : ℕ) (o : Option Trap) (e' : Seen) (r' : SchedRow) → status_of r.statuses t ≡ Ready
       → e' ≡ left_as o (waited e.threads t held wanted) → r' ≡ unless_row o r (with_status r t (awaiting address held wanted)) → IsKept i e' r'
-  kept_wait address held wanted o e' r' ready there now turn =
-      unless_kept e' (set r.statuses t (awaiting address held wanted)) o (waited e.threads t held wanted) r' now turn (waited_kept (held == wanted) address held wanted refl ready there)
+  kept_wait address held wanted o e' r' ready now turn =
+      unless_kept e' (set r.statuses t (awaiting address held wanted)) o (waited e.threads t held wanted) r' now turn (waited_kept (held == wanted) address held wanted refl ready)
 
   pub kept_wake : (v : Cap) (address most : ℕ) (o : Option Trap) (e' : Seen) (r' : SchedRow) → e' ≡ left_as o (answered_in e.threads t v) → r' ≡ unless_row o r (sched.with_statuses r (woken address most r.statuses)) → IsKept i e' r'
   kept_wake v address most o e' r' now turn =
@@ -254,14 +254,3 @@ module _ (i : Image) (e : Seen) (r : SchedRow) (k : Bank) (pending : Bool) (time
 
   pub runs_ready : e.threads.running ≡ Some t → status_of r.statuses t ≡ Ready
   runs_ready runs = kept.ready t runs
-
-  runs_there : 0 < length (thread here t).frames → t < length r.statuses
-  runs_there some =
-      let frames : (thread here t).frames ≡ (engine.thread e.threads t).frames = frames_with e.threads.threads r.statuses t in
-      let within = some_within e.threads.threads t (subst (λ (fs : List Frame). 0 < length fs) frames some) in
-      let many = kept.statuses in
-      omega (arith, within, many)
-
-  -- it has a status, in the machine that this is
-  pub runs_there_in : (m : MachineRow) → machine e r ≡ m → Runs m t → t < length r.statuses
-  runs_there_in m is runs = let here_runs = subst (λ (n : MachineRow). Runs n t) (sym is) runs in runs_there here_runs.some

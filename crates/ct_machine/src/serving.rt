@@ -6,7 +6,7 @@ ghost use Rattle.def_step.specs.Native.{native};
 ghost use Rattle.def_step.specs.Quotas as quotas;
 ghost use Rattle.def_step.specs.Routines as routine;
 ghost use Rattle.ct_engine.specs.Steps.{IsRoutine};
-ghost use Rattle.ct_machine.specs.Going.{MayGoOn, Runs, CameTo, IsDone, ran_by_service, ran_by_call};
+ghost use Rattle.ct_machine.specs.Going.{MayGoOn, Runs, CameTo, IsDone, ran_by_service, ran_by_call, rests_for};
 
 use crate::engine::Engine;
 use ct_entry::Act;
@@ -61,6 +61,16 @@ impl<M: Memory + Drop> Engine<M> {
         ran_by_call(switch(&mut self.threads, t, self.plan.entries()))
     }
 
+    /// The running thread stops, to be ready after so many ticks, where its check of c1 passes.
+    fn rest_for(&mut self, t: u32, ticks: u32) -> Ran
+        requires runs { Runs self.old t }
+        ensures came { CameTo self.old self.new t result
+            (ran self.old.board self.old.state t (rests_for self.old.state t ticks)) }
+        ensures done { IsDone result }
+    {
+        ran_by_service(rest(&mut self.threads, &mut self.sched, t, ticks))
+    }
+
     /// Yield.
     fn pause(&mut self, t: u32) -> Ran
         requires runs { Runs self.old t }
@@ -68,7 +78,7 @@ impl<M: Memory + Drop> Engine<M> {
             (ran self.old.board self.old.state t (routine.yield self.old.state t)) }
         ensures done { IsDone result }
     {
-        ran_by_service(rest(&mut self.threads, &mut self.sched, t, 0))
+        self.rest_for(t, 0)
     }
 
     /// Sleep, for as many ticks as c10's address says.
@@ -79,7 +89,7 @@ impl<M: Memory + Drop> Engine<M> {
         ensures done { IsDone result }
     {
         let ticks = self.threads.address_in(t, 10);
-        ran_by_service(rest(&mut self.threads, &mut self.sched, t, ticks))
+        self.rest_for(t, ticks)
     }
 
     /// Wait.

@@ -69,6 +69,54 @@ fn limits(alloc: Global, entries: &Entries) -> Result<Vec<u32>, NoMemory>
     Ok(all)
 }
 
+/// The threads of an image and its heap, over memory that is booted.
+fn booted<M: Memory + Drop>(
+    alloc: Global,
+    image: &Image,
+    plan: &Plan,
+    mem: M,
+) -> Result<Threads<M>, NoMemory>
+    requires sound { Sound image.now }
+    requires empty { M.granules mem ≡ empty_granules image.now }
+    requires plan { plan.now ≡ image_of image.now }
+    ensures launched { IfOk result
+        (λ t. t ≡ launched image.now (limits_of (entries_of image.now))) }
+    ensures placed { IfOk result
+        (λ t.
+        ArePlaced (image_of image.now) (8 * length t.threads.granules) t.threads.areas) }
+{
+    match limits(alloc, plan.entries()) {
+        Ok(limits) => {
+            let threads = launch(alloc, image, mem, limits.as_slice());
+            drop(limits);
+            threads
+        }
+        Err(none) => {
+            drop(mem);
+            Err(none)
+        }
+    }
+}
+
+/// The devices of an image at rest, the turns of its threads, and no word that is kept decoded.
+fn rest(alloc: Global, parts: &Parts) -> Result<(Bus, Sched, Decoded), NoMemory>
+    requires { Sound parts.now }
+    ensures bus { IfOk result (λ r. r.0 ≡ bank_of parts.now) }
+    ensures sched { IfOk result (λ r. r.1 ≡ rows_of parts.now) }
+{
+    let bus = Bus::new(alloc, &parts.devices)?;
+    let Ok(sched) = turns(alloc, parts) else {
+        drop(bus);
+        return Err(NoMemory);
+    };
+    let Ok(decoded) = Decoded::new(alloc) else {
+        drop(bus);
+        drop(sched);
+        return Err(NoMemory);
+    };
+    Ok((bus, sched, decoded))
+}
+
 /// An engine of its parts, before its first event.
 fn put_together<M: Memory + Drop>(
     parts: &Parts,
@@ -118,13 +166,20 @@ impl<M: Memory + Drop> Engine<M> {
         ensures guarded { IfOk result (λ m. Guarded m) }
         ensures blank { IfOk result (λ m. Blank m.board.image m.state) }
     {
-        let plan = Plan::of(alloc, image)?;
+        let Ok(plan) = Plan::of(alloc, image) else {
+            drop(mem);
+            return Err(NoMemory);
+        };
         let parts = image.parts();
-        let bus = Bus::new(alloc, &parts.devices)?;
-        let sched = turns(alloc, parts)?;
-        let limits = limits(alloc, plan.entries())?;
-        let threads = launch(alloc, image, mem, limits.as_slice())?;
-        let decoded = Decoded::new(alloc)?;
+        let Ok(threads) = booted(alloc, image, &plan, mem) else {
+            drop(plan);
+            return Err(NoMemory);
+        };
+        let Ok((bus, sched, decoded)) = rest(alloc, parts) else {
+            drop(plan);
+            drop(threads);
+            return Err(NoMemory);
+        };
         Ok(put_together(parts, plan, threads, bus, sched, decoded))
     }
 }

@@ -17,7 +17,7 @@ fn is_lower(byte: u8) -> bool
 fn is_name_byte(byte: u8) -> bool
     ensures { result ≡ spec.is_name_byte byte }
 {
-    is_lower(byte) || (b'0' <= byte && byte <= b'9') || byte == b'_'
+    is_lower(byte) || byte.is_ascii_digit() || byte == b'_'
 }
 
 fn are_name_bytes(bytes: &[u8]) -> bool

@@ -1,5 +1,5 @@
 -- Names that stand once are the slots that they are taken for.
-use Rattle.std.proofs.Common.{ℕ, zero, suc, ◌≡◌, ◌+◌, ◌<◌, Bool, true, false, cond, List, [], ◌∷◌, ◌++◌, length, Some, None, slice_get, refl, sym, ap, ◌∙◌, subst, arith, append_assoc, append-nil}
+use Rattle.std.proofs.Common.{ℕ, zero, suc, ◌≡◌, ◌+◌, Bool, true, false, cond, List, [], ◌∷◌, ◌++◌, length, Some, None, slice_get, refl, sym, ap, ◌∙◌, subst, arith, append_assoc, append-nil}
 use Rattle.std.specs.Prelude.{bytes_eq, is_none, Option}
 use Rattle.std.proofs.lemmas.Slice.Eq.{bytes_eq-Decides}
 use Rattle.std.proofs.lemmas.Option.{slice_get_within}
@@ -56,9 +56,9 @@ two_stretches seen [] b = refl
 two_stretches seen (n ∷ ns) b = two_stretches (with_slot seen n) ns b
 
 -- one name, then three stretches
-pub slots_taken : (n : List ℕ) (a b c : List (List ℕ)) (first second third all : List (List ℕ)) → first ≡ with_slot [] n → second ≡ with_slots first a → third ≡ with_slots second b
-    → all ≡ with_slots third c → AreNames (n ∷ a ++ b ++ c) → all ≡ n ∷ a ++ b ++ c
-slots_taken n a b c first second third all e f g h names =
-    let joined : with_slots (with_slot [] n) (a ++ b ++ c) ≡ with_slots (with_slots (with_slots (with_slot [] n) a) b) c =
-    two_stretches (with_slot [] n) (a ++ b) c ∙ ap (λ l. with_slots l c) (two_stretches (with_slot [] n) a b) in
-    h ∙ ap (λ l. with_slots l c) (g ∙ ap (λ l. with_slots l b) (f ∙ ap (λ l. with_slots l a) e)) ∙ sym joined ∙ once_taken (n ∷ a ++ b ++ c) names
+pub slots_taken : (n : List ℕ) (a b c : List (List ℕ)) (names first second third all : List (List ℕ)) → first ≡ with_slot names n → second ≡ with_slots first a → third ≡ with_slots second b
+    → all ≡ with_slots third c → all ≡ with_slots names (n ∷ a ++ b ++ c)
+slots_taken n a b c names first second third all e f g h =
+    let joined : with_slots (with_slot names n) (a ++ b ++ c) ≡ with_slots (with_slots (with_slots (with_slot names n) a) b) c =
+    two_stretches (with_slot names n) (a ++ b) c ∙ ap (λ l. with_slots l c) (two_stretches (with_slot names n) a b) in
+    h ∙ ap (λ l. with_slots l c) (g ∙ ap (λ l. with_slots l b) (f ∙ ap (λ l. with_slots l a) e)) ∙ sym joined

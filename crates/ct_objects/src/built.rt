@@ -35,9 +35,14 @@ fn compartment_object(
     let Ok(slots) = names_of(alloc, compartment) else {
         return Err(LinkFault::NoMemory);
     };
-    let object = code_object(alloc, owner, &slots, &compartment.code, source)?;
+    let made = code_object(alloc, owner, &slots, &compartment.code, source);
+    drop(slots);
+    let object = made?;
     match first_lost(&object, compartment.exports.as_slice()) {
-        Some(item) => Err(LinkFault::Export { owner, item }),
+        Some(item) => {
+            drop(object);
+            Err(LinkFault::Export { owner, item })
+        }
         None => Ok(object),
     }
 }
@@ -69,11 +74,17 @@ fn library_object(
     let Ok(slots) = library_names_of(alloc, library) else {
         return Err(LinkFault::NoMemory);
     };
-    let object = code_object(alloc, owner, &slots, &library.code, source)?;
+    let made = code_object(alloc, owner, &slots, &library.code, source);
+    drop(slots);
+    let object = made?;
     match first_lost(&object, library.exports.as_slice()) {
-        Some(item) => Err(LinkFault::Export { owner, item }),
+        Some(item) => {
+            drop(object);
+            Err(LinkFault::Export { owner, item })
+        }
         None => {
             if has_initial(&object) {
+                drop(object);
                 Err(LinkFault::Initial { owner })
             } else {
                 Ok(object)
@@ -105,7 +116,7 @@ fn source_for<'a>(code: &Code, sources: &'a Sources, next: usize) -> &'a [u8]
 }
 
 /// Adds the objects of compartments, and says how many texts these took.
-#[tactic(auto, using(crate::proofs::Progress::none_done, crate::proofs::Steps::at_each, crate::proofs::Steps::one_step, crate::proofs::Steps::fault_step, crate::proofs::Steps::room_step, crate::proofs::Steps::all_done, crate::proofs::Steps::all_taken))]
+#[tactic(auto, using(crate::proofs::Steps::at_each, crate::proofs::Steps::all_done, crate::proofs::Steps::all_taken))]
 fn add_compartments(
     all: &mut Vec<Object>,
     alloc: Global,
@@ -142,7 +153,7 @@ fn add_compartments(
 }
 
 /// Adds the objects of libraries, whose texts stand from the next on.
-#[tactic(auto, using(crate::proofs::Progress::none_done, crate::proofs::Steps::at_each, crate::proofs::Steps::one_step, crate::proofs::Steps::fault_step, crate::proofs::Steps::room_step, crate::proofs::Steps::all_done, crate::proofs::Steps::all_taken))]
+#[tactic(auto, using(crate::proofs::Steps::at_each, crate::proofs::Steps::all_done, crate::proofs::Steps::all_taken))]
 fn add_libraries(
     all: &mut Vec<Object>,
     alloc: Global,

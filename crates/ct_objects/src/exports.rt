@@ -38,8 +38,8 @@ pub fn begin_of(object: &Object, at: &At) -> Option<u64>
     }
 }
 
-/// An export, of a compartment or of a library.
-pub(crate) trait Exported {
+/// An export that begins at a place, of a compartment or of a library.
+pub(crate) trait Placed {
     /// Where it begins.
     ghost at_of: { Self → AtRow };
 
@@ -47,7 +47,7 @@ pub(crate) trait Exported {
         ensures { result.now ≡ at_of self.now };
 }
 
-impl Exported for Export {
+impl Placed for Export {
     ghost at_of = { λ x. x.at };
 
     fn at(&self) -> &At {
@@ -55,7 +55,7 @@ impl Exported for Export {
     }
 }
 
-impl Exported for LibraryExport {
+impl Placed for LibraryExport {
     ghost at_of = { λ x. x.at };
 
     fn at(&self) -> &At {
@@ -64,7 +64,7 @@ impl Exported for LibraryExport {
 }
 
 /// The first export that begins nowhere.
-pub(crate) fn first_lost<T: Exported>(object: &Object, exports: &[T]) -> Option<u32>
+pub(crate) fn first_lost<T: Placed>(object: &Object, exports: &[T]) -> Option<u32>
     requires { length exports.now < 2 ^ 32 }
     ensures { result ≡ owner.first_lost (built_of object.now) 0 (map T.at_of exports.now) }
 {

@@ -49,18 +49,30 @@ fn add_keys(names: &mut Names, alloc: Global, keys: &[u64]) -> Result<(), AllocE
     Ok(())
 }
 
-/// The names of a compartment's slots: `switch`, the imports, the quotas, the keys.
-#[tactic(auto, using(crate::proofs::Slots::slots_taken))]
+/// Adds the names of a compartment's slots: `switch`, the imports, the quotas, the keys.
+fn add_slots(names: &mut Names, alloc: Global, compartment: &Compartment) -> Result<(), AllocError>
+    ensures { OnOk result (names.new ≡ with_slots names.old (slot_names compartment.now)) }
+{
+    add(names, alloc, "switch")?;
+    add_imports(names, alloc, compartment.imports.as_slice())?;
+    add_quotas(names, alloc, compartment.quotas.as_slice())?;
+    add_keys(names, alloc, compartment.keys.as_slice())?;
+    Ok(())
+}
+
+/// The names of a compartment's slots.
 pub(crate) fn names_of(alloc: Global, compartment: &Compartment) -> Result<Names, AllocError>
     requires { AreNames (slot_names compartment.now) }
     ensures { IfOk result (λ names. names ≡ slot_names compartment.now) }
 {
     let mut names = Names::new(alloc);
-    add(&mut names, alloc, "switch")?;
-    add_imports(&mut names, alloc, compartment.imports.as_slice())?;
-    add_quotas(&mut names, alloc, compartment.quotas.as_slice())?;
-    add_keys(&mut names, alloc, compartment.keys.as_slice())?;
-    Ok(names)
+    match add_slots(&mut names, alloc, compartment) {
+        Ok(()) => Ok(names),
+        Err(error) => {
+            drop(names);
+            Err(error)
+        }
+    }
 }
 
 fn add_library_imports(

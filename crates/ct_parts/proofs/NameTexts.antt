@@ -4,7 +4,7 @@ use Rattle.std.specs.List.{list_all, AllByRecursion}
 use Rattle.std.specs.Char.{encode_utf8}
 use Rattle.std.proofs.lemmas.List.{length-append}
 use Rattle.law_lists.proofs.Tests.{lt_tells, le_tells, eq_tells, both_left, both_right}
-use Rattle.def_names.specs.Names.{is_name, is_name_byte, is_lower, is_digit, among}
+use Rattle.def_names.specs.Names.{is_name, is_name_byte, is_lower, among}
 use Rattle.def_image.specs.declared.Check.{Check}
 use Rattle.def_image.specs.Spelling.{zeros, name_field}
 use Rattle.def_image.specs.Shapes.{IsField, Clean}

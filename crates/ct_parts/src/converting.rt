@@ -225,13 +225,6 @@ impl Made<RawThread> for Thread {
 pub fn parts_of(alloc: Global, raw: &RawImage) -> Result<Parts, AllocError>
     ensures { IfOk result (λ p. p ≡ spec.parts_of raw.now) }
 {
-    let name = text_of(alloc, &raw.name)?;
-    let devices = all_of(alloc, raw.devices.as_slice())?;
-    let shared = all_of(alloc, raw.shared.as_slice())?;
-    let sealed = all_of(alloc, raw.sealed.as_slice())?;
-    let compartments = all_of(alloc, raw.compartments.as_slice())?;
-    let libraries = all_of(alloc, raw.libraries.as_slice())?;
-    let threads = all_of(alloc, raw.threads.as_slice())?;
     Ok(Parts {
         version: raw.version,
         sweep: raw.sweep,
@@ -240,12 +233,12 @@ pub fn parts_of(alloc: Global, raw: &RawImage) -> Result<Parts, AllocError>
         size: raw.size,
         trusted: raw.trusted,
         heap: raw.heap,
-        name,
-        devices,
-        shared,
-        sealed,
-        compartments,
-        libraries,
-        threads,
+        name: text_of(alloc, &raw.name)?,
+        devices: all_of(alloc, raw.devices.as_slice())?,
+        shared: all_of(alloc, raw.shared.as_slice())?,
+        sealed: all_of(alloc, raw.sealed.as_slice())?,
+        compartments: all_of(alloc, raw.compartments.as_slice())?,
+        libraries: all_of(alloc, raw.libraries.as_slice())?,
+        threads: all_of(alloc, raw.threads.as_slice())?,
     })
 }

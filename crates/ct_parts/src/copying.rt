@@ -118,13 +118,6 @@ impl Doubled for Thread {
 pub fn copied(alloc: Global, parts: &Parts) -> Result<Parts, AllocError>
     ensures { IfOk result (λ p. p ≡ parts.now) }
 {
-    let name = String::from_str(alloc, parts.name.as_str())?;
-    let devices = all_copied(alloc, parts.devices.as_slice())?;
-    let shared = all_copied(alloc, parts.shared.as_slice())?;
-    let sealed = all_copied(alloc, parts.sealed.as_slice())?;
-    let compartments = all_copied(alloc, parts.compartments.as_slice())?;
-    let libraries = all_copied(alloc, parts.libraries.as_slice())?;
-    let threads = all_copied(alloc, parts.threads.as_slice())?;
     Ok(Parts {
         version: parts.version,
         sweep: parts.sweep,
@@ -133,12 +126,12 @@ pub fn copied(alloc: Global, parts: &Parts) -> Result<Parts, AllocError>
         size: parts.size,
         trusted: parts.trusted,
         heap: parts.heap,
-        name,
-        devices,
-        shared,
-        sealed,
-        compartments,
-        libraries,
-        threads,
+        name: String::from_str(alloc, parts.name.as_str())?,
+        devices: all_copied(alloc, parts.devices.as_slice())?,
+        shared: all_copied(alloc, parts.shared.as_slice())?,
+        sealed: all_copied(alloc, parts.sealed.as_slice())?,
+        compartments: all_copied(alloc, parts.compartments.as_slice())?,
+        libraries: all_copied(alloc, parts.libraries.as_slice())?,
+        threads: all_copied(alloc, parts.threads.as_slice())?,
     })
 }

@@ -95,7 +95,10 @@ impl Flags for Perms {
 
     ghost exact = { ⊤ };
 
-    ghost table = { (codes "GL", bits.GL) ∷ (codes "LG", bits.LG) ∷ (codes "SD", bits.SD) ∷ (codes "LM", bits.LM) ∷ (codes "SL", bits.SL) ∷ (codes "LD", bits.LD) ∷ (codes "MC", bits.MC) ∷ (codes "SR", bits.SR) ∷ (codes "EX", bits.EX) ∷ (codes "US", bits.US) ∷ (codes "SE", bits.SE) ∷ (codes "U0", bits.U0) ∷ [] };
+    ghost table = { (codes "GL", bits.GL) ∷ (codes "LG", bits.LG) ∷ (codes "SD", bits.SD)
+        ∷ (codes "LM", bits.LM) ∷ (codes "SL", bits.SL) ∷ (codes "LD", bits.LD)
+        ∷ (codes "MC", bits.MC) ∷ (codes "SR", bits.SR) ∷ (codes "EX", bits.EX)
+        ∷ (codes "US", bits.US) ∷ (codes "SE", bits.SE) ∷ (codes "U0", bits.U0) ∷ [] };
 
     ghost set_of = { λ p. p.0 };
 

@@ -20,7 +20,7 @@ first_of : (gs : List Gate) (k : ℕ) (n : ℕ) → k < length gs → gate_for (
 unfolding gate_for
 first_of gs k n inside = rw (drop-cons gs k no_gate) refl
 
-pub put_in : (gs : List Gate) (n k : ℕ) (all : List Gate) → k < length gs → 1 ≤ (get_or gs k no_gate).entry → (get_or gs k no_gate).entry ≤ n
+put_in : (gs : List Gate) (n k : ℕ) (all : List Gate) → k < length gs → 1 ≤ (get_or gs k no_gate).entry → (get_or gs k no_gate).entry ≤ n
     → AreGates (drop (suc k) gs) n all → AreGates (drop k gs) n (slice_set all ((get_or gs k no_gate).entry - 1) (get_or gs k no_gate))
 put_in gs n k all inside some within are =
     let g : Gate = get_or gs k no_gate in
@@ -37,7 +37,7 @@ put_in gs n k all inside some within are =
       ];
     }
 
-pub left_out : (gs : List Gate) (n k : ℕ) (all : List Gate) → k < length gs → ((1 ≤ (get_or gs k no_gate).entry) → (get_or gs k no_gate).entry ≤ n → ⊥)
+left_out : (gs : List Gate) (n k : ℕ) (all : List Gate) → k < length gs → ((1 ≤ (get_or gs k no_gate).entry) → (get_or gs k no_gate).entry ≤ n → ⊥)
     → AreGates (drop (suc k) gs) n all → AreGates (drop k gs) n all
 left_out gs n k all inside none are =
     let g : Gate = get_or gs k no_gate in

@@ -1,6 +1,5 @@
 pub mod Firsts
 pub mod Lines
-pub mod Numbers
 pub mod Sides
 pub mod Told
 pub mod Untrusted
@@ -9,3 +8,4 @@ pub mod Members
 pub mod Gates
 pub mod Judged
 pub mod Denying
+pub mod Owned

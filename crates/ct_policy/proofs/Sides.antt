@@ -6,7 +6,8 @@ use Rattle.std.proofs.lemmas.Bool.{both_ways}
 use Rattle.law_lists.proofs.Tests.{bool_tells, both_left, both_right, eq_tells, lt_tells}
 use Rattle.law_script.proofs.Runs.{same_run, no_end}
 use Rattle.ct_script.proofs.Parts.{IsRun, run_is, run_whole}
-use Rattle.def_policy.specs.Rules.{IsSide, dotted, is_no_point}
+use Rattle.def_description.specs.References.{export_name}
+use Rattle.def_policy.specs.Rules.{IsSide, is_no_point}
 use Rattle.ct_policy.specs.Forms.{SidesRow, has_point, sides, sides_in}
 
 abbrev side_of : List ℕ → ℕ
@@ -38,25 +39,25 @@ some_tells text some = elim (lt_tells 0 (length text)) [ inl e ↦ e.0 | inr e �
 
 -- ---- a word with one point
 
-point_inside : (c e : List ℕ) → side_of (dotted c e) < length (dotted c e)
+point_inside : (c e : List ℕ) → side_of (export_name c e) < length (export_name c e)
 point_inside c e =
-    elim (lt_tells (side_of (dotted c e)) (length (dotted c e))) [
+    elim (lt_tells (side_of (export_name c e)) (length (export_name c e))) [
       | inl lt ↦ lt.1
-      | inr long ↦ absurd (both_ways (list_all is_no_point (dotted c e)) (no_end is_no_point c 46 e refl) (run_whole is_no_point (dotted c e) long.1))
+      | inr long ↦ absurd (both_ways (list_all is_no_point (export_name c e)) (no_end is_no_point c 46 e refl) (run_whole is_no_point (export_name c e) long.1))
     ]
 
-pub sides_back : (c e : List ℕ) → IsSide c → IsSide e → sides_in (dotted c e) ≡ Some (record { compartment = c; export = e })
+pub sides_back : (c e : List ℕ) → IsSide c → IsSide e → sides_in (export_name c e) ≡ Some (record { compartment = c; export = e })
 sides_back c e left right =
-    let run : IsRun is_no_point (dotted c e) (side_of (dotted c e)) = run_is is_no_point (dotted c e) (point_inside c e) in
-    let same = same_run is_no_point (take (side_of (dotted c e)) (dotted c e)) c (get_or (dotted c e) (side_of (dotted c e)) 0) 46 (drop (suc (side_of (dotted c e))) (dotted c e)) e
+    let run : IsRun is_no_point (export_name c e) (side_of (export_name c e)) = run_is is_no_point (export_name c e) (point_inside c e) in
+    let same = same_run is_no_point (take (side_of (export_name c e)) (export_name c e)) c (get_or (export_name c e) (side_of (export_name c e)) 0) 46 (drop (suc (side_of (export_name c e))) (export_name c e)) e
     run.passes left.plain run.fails refl (sym run.whole) in
-    let inside : nat_lt (side_of (dotted c e)) (length (dotted c e)) ≡ true = elim (lt_tells (side_of (dotted c e)) (length (dotted c e))) [ inl lt ↦ lt.0 | inr long ↦ absurd (omega (arith, long.1, point_inside c e)) ] in
-    let next : side_of (dotted c e) + 1 ≡ suc (side_of (dotted c e)) = omega arith in
-    let second : drop (side_of (dotted c e) + 1) (dotted c e) ≡ e = ap (λ n. drop n (dotted c e)) next ∙ same.2 in
-    if_inside inside ∙ ap (λ x. sides x (drop (side_of (dotted c e) + 1) (dotted c e))) same.0 ∙ ap (λ x. sides c x) second
+    let inside : nat_lt (side_of (export_name c e)) (length (export_name c e)) ≡ true = elim (lt_tells (side_of (export_name c e)) (length (export_name c e))) [ inl lt ↦ lt.0 | inr long ↦ absurd (omega (arith, long.1, point_inside c e)) ] in
+    let next : side_of (export_name c e) + 1 ≡ suc (side_of (export_name c e)) = omega arith in
+    let second : drop (side_of (export_name c e) + 1) (export_name c e) ≡ e = ap (λ n. drop n (export_name c e)) next ∙ same.2 in
+    if_inside inside ∙ ap (λ x. sides x (drop (side_of (export_name c e) + 1) (export_name c e))) same.0 ∙ ap (λ x. sides c x) second
     ∙ rw (some_tells c left.some, some_tells e right.some, none_there e right.plain) refl
   where
-    if_inside : nat_lt (side_of (dotted c e)) (length (dotted c e)) ≡ true → sides_in (dotted c e) ≡ sides (take (side_of (dotted c e)) (dotted c e)) (drop (side_of (dotted c e) + 1) (dotted c e))
+    if_inside : nat_lt (side_of (export_name c e)) (length (export_name c e)) ≡ true → sides_in (export_name c e) ≡ sides (take (side_of (export_name c e)) (export_name c e)) (drop (side_of (export_name c e) + 1) (export_name c e))
     if_inside inside = rw inside refl
 
 -- ---- what was found
@@ -64,7 +65,7 @@ sides_back c e left right =
 pub record IsDotted (text : List ℕ) (s : SidesRow) : Type 0 where
   pub left : IsSide s.compartment
   pub right : IsSide s.export
-  pub is : dotted s.compartment s.export ≡ text
+  pub is : export_name s.compartment s.export ≡ text
 
 -- no side is empty and the second has no point
 record AreSides (c e : List ℕ) (s : SidesRow) : Type 0 where
@@ -104,7 +105,7 @@ sides_found text s found =
             left = record { some = rw first told.left; plain = rw first run.passes };
             right = record { some = rw second told.right; plain = rw second (all_plain (drop (side_of text + 1) text) told.plain) };
             is =
-                ap (λ x. dotted x s.export) first ∙ ap (λ x. dotted (take (side_of text) text) x) second
+                ap (λ x. export_name x s.export) first ∙ ap (λ x. export_name (take (side_of text) text) x) second
                 ∙ ap (λ n. take (side_of text) text ++ 46 ∷ drop n text) next
                 ∙ ap (λ c. take (side_of text) text ++ c ∷ drop (suc (side_of text)) text) (sym (point_is (get_or text (side_of text) 0) run.fails))
                 ∙ sym run.whole;

@@ -5,8 +5,9 @@ use Rattle.std.proofs.lemmas.Slice.Eq.{bytes_eq-Decides}
 use Rattle.law_lists.proofs.Tests.{bool_tells, both_left, both_right, lt_tells}
 use Rattle.def_policy.specs.declared.TheConstants.{MOST_TOTAL}
 use Rattle.def_policy.specs.Rules.{Rule, Device, Shared, Service, Call, Disabled, Data, Total, Quota, Apart, IsFormed, total, words_of}
-use Rattle.ct_policy.specs.Forms.{OnlyRow, SidesRow, apart_in, call_by, call_in, data_in, device_in, disabled_in, form_by, form_of, number_in, only_in, owners_in, quota_by, quota_in, service_in, shared_in, sides_in}
-use Rattle.ct_policy.proofs.Numbers.{number_back, number_told}
+use Rattle.ct_policy.specs.Forms.{OnlyRow, SidesRow, apart_in, call_by, call_in, data_in, device_in, disabled_in, form_by, form_of, only_in, owners_in, quota_by, quota_in, service_in, shared_in, sides_in}
+use Rattle.ct_digits.proofs.Numbers.{number_back, number_told}
+use Rattle.def_digits.specs.Digits.{number_within}
 use Rattle.ct_policy.proofs.Sides.{IsDotted, sides_back, sides_found, some_tells}
 
 -- ---- from a rule to its words and back
@@ -30,8 +31,8 @@ form_back (Call compartment export owners) formed =
     rw (only_back _ owners formed.2, sides_back compartment export formed.0 formed.1) refl
 form_back (Disabled owners) some = rw (owners_back owners some) refl
 form_back (Data compartment export) formed = rw (sides_back compartment export formed.0 formed.1) refl
-form_back (Total n) small = rw (number_back n small) refl
-form_back (Quota owner n) formed = rw (number_back n formed.1, other_owner owner formed.0) refl
+form_back (Total n) small = rw (number_back MOST_TOTAL n small (omega (arith, small))) refl
+form_back (Quota owner n) formed = rw (number_back MOST_TOTAL n formed.1 (omega (arith, formed.1)), other_owner owner formed.0) refl
 form_back (Apart owner compartment) formed = refl
 
 -- ---- from words to a rule
@@ -154,8 +155,8 @@ quota_told [] r found = absurd (let bad : None ≡ Some r = found in cc)
 quota_told (x ∷ []) r found = absurd (let bad : None ≡ Some r = found in cc)
 quota_told (x ∷ y ∷ z ∷ zs) r found = absurd (let bad : None ≡ Some r = found in cc)
 quota_told (owner ∷ text ∷ []) r found =
-    let from = mapped (quota_by owner) (number_in text) r found in
-    let told = number_told text from.0 from.1 in
+    let from = mapped (quota_by owner) (number_within MOST_TOTAL text) r found in
+    let told = number_told MOST_TOTAL text from.0 from.1 in
     subst (λ x. IsAfter (codes "quota") (owner ∷ text ∷ []) x) from.2 (quota_row owner text from.0 told.small told.is)
 
 apart_told : (words : List (List ℕ)) (r : Rule) → apart_in words ≡ Some r → IsAfter (codes "apart") words r

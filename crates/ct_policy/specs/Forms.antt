@@ -1,7 +1,7 @@
 -- The rule of a list of words, as the code finds it: by its first word.
-use Rattle.std.specs.Prelude.{ℕ, ◌+◌, ◌==◌, ◌&&◌, ◌||◌, nat_le, nat_lt, not, Bool, List, [], ◌∷◌, length, take, drop, Option, Some, None, option_map, option_and_then, bytes_eq, codes, decimal, if◌then◌else◌}
+use Rattle.std.specs.Prelude.{ℕ, ◌+◌, ◌==◌, ◌&&◌, ◌||◌, nat_lt, not, Bool, List, [], ◌∷◌, length, take, drop, Option, Some, None, option_map, option_and_then, bytes_eq, codes, if◌then◌else◌}
 use Rattle.std.specs.List.{list_any, prefix_len}
-use Rattle.std.specs.Str.Parse.{digits_value}
+use Rattle.def_digits.specs.Digits.{number_within}
 use Rattle.def_policy.specs.declared.TheConstants.{MOST_TOTAL}
 use Rattle.def_policy.specs.Rules.{Rule, Device, Shared, Service, Call, Disabled, Data, Total, Quota, Apart, is_no_point, total}
 use Rattle.ct_policy.specs.declared.forms.Rule.{Rule as Said}
@@ -11,11 +11,6 @@ use Rattle.ct_policy.specs.declared.parts.Sides.{Sides}
 use Rattle.ct_policy.specs.Words.{texts}
 
 -- ---- parts
-
-abbrev pub number_in : List ℕ → Option ℕ
-number_in text =
-    if nat_le (digits_value 10 text) MOST_TOTAL && bytes_eq (decimal (digits_value 10 text)) text
-    then Some (digits_value 10 text) else None
 
 abbrev pub has_point : List ℕ → Bool
 has_point text = list_any (λ c. c == 46) text
@@ -97,7 +92,7 @@ abbrev pub quota_by : List ℕ → ℕ → Rule
 quota_by owner n = if bytes_eq owner total then Total n else Quota owner n
 
 abbrev pub quota_in : List (List ℕ) → Option Rule
-quota_in (owner ∷ n ∷ []) = option_map (quota_by owner) (number_in n)
+quota_in (owner ∷ n ∷ []) = option_map (quota_by owner) (number_within MOST_TOTAL n)
 quota_in _ = None
 
 abbrev pub apart_in : List (List ℕ) → Option Rule

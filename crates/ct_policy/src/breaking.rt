@@ -7,7 +7,7 @@ ghost use Rattle.ct_policy.specs.Gates.{AreGates};
 
 use crate::kinds::{is_call, is_device, is_export, is_listed, is_quota, is_service, is_shared};
 use crate::rulings::Ruling;
-use ct_entry::{Entries, Entry, Gate, Mode};
+use ct_entry::{Entries, Entry, Gate, Mode, NO_GATE};
 use ct_graph::same;
 use def_policy::Subject;
 use std::alloc::{AllocError, Global};
@@ -80,19 +80,8 @@ pub(crate) fn breaks(ruling: &Ruling, number: u32, sum: u64, entry: Entry, gate:
     }
 }
 
-/// No export's.
-const NO_GATE: Gate = Gate {
-    entry: 0,
-    code: 0,
-    stack: 0,
-    args: 0,
-    posture: Mode::Inherit,
-    capabilities: false,
-};
-
 /// The gate of each entry, in the order of their numbers from 1; that of no export where an entry has
 /// none.
-#[tactic(auto, using(crate::proofs::Gates::starts_bare, crate::proofs::Gates::put_in, crate::proofs::Gates::left_out))]
 pub(crate) fn gates_of(alloc: Global, entries: &Entries) -> Result<Vec<Gate>, AllocError>
     ensures { IfOk result
         (λ v. AreGates entries.now.gates (length entries.now.rows) v.items) }

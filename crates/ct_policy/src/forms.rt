@@ -5,7 +5,9 @@ ghost use Rattle.ct_policy.specs.Forms as spec;
 ghost use Rattle.ct_policy.specs.Forms.{only_row, rule_row};
 ghost use Rattle.ct_policy.specs.Words.{texts};
 
-use crate::parts::{limit_of, sides_of};
+use crate::parts::sides_of;
+use ct_digits::number_of;
+use def_policy::MOST_TOTAL;
 
 /// A rule, by names.
 #[derive(Clone, Copy)]
@@ -139,7 +141,7 @@ fn quota_of<'a>(words: &'a [&'a [u8]]) -> Option<Rule<'a>>
     ensures { option_map rule_row result ≡ spec.quota_in (texts words.now) }
 {
     match words {
-        [owner, number] => match limit_of(*number) {
+        [owner, number] => match number_of(*number, MOST_TOTAL) {
             Some(limit) => {
                 if is(*owner, "total") {
                     Some(Rule::Total(limit))

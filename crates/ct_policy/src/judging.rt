@@ -1,17 +1,15 @@
 //! The lines that deny a policy.
 
-ghost use Rattle.std.specs.Prelude.{ℕ, ◌≡◌, ◌≢◌, codes, ◌+◌, ◌<◌, ◌≤◌, ◌^◌, ◌++◌, [], ◌∷◌, IfOk, OnOk, length, map, string_bytes, decimal};
+ghost use Rattle.std.specs.Prelude.{ℕ, ◌≡◌, ◌≢◌, codes, ◌+◌, ◌<◌, ◌≤◌, ◌^◌, ◌++◌, [], ◌∷◌, IfOk, OnOk, length, string_bytes, decimal};
 ghost use Rattle.ct_entry.specs.declared.rows.Owner.TheVariants.{Trusted};
 ghost use Rattle.def_boot.specs.Gates.{entries_of};
 ghost use Rattle.def_policy.specs.Breaking.{breaking};
 ghost use Rattle.def_policy.specs.Denials.{Denies, Reaching, entry_line, entry_lines, path_line};
-ghost use Rattle.def_policy.specs.Names as name;
-ghost use Rattle.def_policy.specs.Rules.{ended};
 ghost use Rattle.ct_policy.specs.Gates.{AreGates};
 ghost use Rattle.ct_policy.specs.Kept.{Adds, IsUntrusted};
 
 use crate::breaking::{breaks, counted};
-use crate::names::name_of;
+use crate::names::add_names;
 use crate::rulings::Ruling;
 use ct_entry::{Comp, Entries, Gate, Owner};
 use ct_graph::Graph;
@@ -68,19 +66,6 @@ fn add_entries(
         }
     }
     Ok(())
-}
-
-/// The names of owners, each after a space, and the end of the line.
-fn add_names(text: &mut String, parts: &Parts, owners: &[Owner]) -> Result<(), AllocError>
-    ensures { OnOk result
-        (string_bytes text.new ≡ string_bytes text.old
-        ++ ended (map (name.name_of parts.now) owners.now)) }
-{
-    for owner in owners {
-        text.push(' ')?;
-        text.push_str(name_of(parts, *owner))?;
-    }
-    text.push('\n')
 }
 
 /// The line of a path.

@@ -2,8 +2,8 @@
 //! definitions in def_policy).
 //!
 //! `read` takes a text apart once, line by line, and looks each name up; `broken` goes through the
-//! entries once for each rule. Both take time that grows as the text does. Owners are looked up by
-//! their names, and back.
+//! entries once for each rule. Both take time that grows as the text does. `owner_named` and
+//! `compartment_named` find what a name stands for, `add_names` writes the names of owners.
 #![tactic(auto)]
 
 mod breaking;
@@ -18,5 +18,5 @@ mod rulings;
 mod words;
 
 pub use def_policy::PolicyFault;
-pub use names::{compartment_named, name_of, owner_named};
+pub use names::{add_names, compartment_named, owner_named};
 pub use policy::{Rules, broken, read};

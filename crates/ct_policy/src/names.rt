@@ -1,16 +1,16 @@
 //! What names stand for in an image.
 
-ghost use Rattle.std.specs.Prelude.{ℕ, ◌≡◌, ◌<◌, ◌^◌, IfOk, List, length, map, option_map};
-ghost use Rattle.def_description.specs.Tables.{service_of};
+ghost use Rattle.std.specs.Prelude.{ℕ, ◌≡◌, ◌≢◌, ◌<◌, ◌^◌, ◌++◌, IfOk, IfSome, List, OnOk, bytes_eq, length, map, option_map, position, string_bytes};
+ghost use Rattle.ct_entry.specs.declared.rows.Owner.TheVariants.{Trusted};
 ghost use Rattle.def_image.specs.Members.{compartment};
-ghost use Rattle.def_image.specs.Sound.{Sound};
+ghost use Rattle.def_image.specs.Sound.{AreFew, Sound};
 ghost use Rattle.def_policy.specs.Names as spec;
+ghost use Rattle.def_policy.specs.Rules.{ended};
 ghost use Rattle.ct_policy.specs.Words.{texts};
 
 use ct_entries::export_number;
 use ct_entry::{Device, Owner};
 use ct_parts::{Code, Compartment, Export, Parts, Shared};
-use def_description::tables::SERVICES;
 use std::alloc::{AllocError, Global};
 
 /// What has a name.
@@ -65,7 +65,7 @@ impl Named for Export {
 /// The index of the first of these that has this name.
 fn index_of<T: Named>(all: &[T], name: &[u8]) -> Option<u32>
     requires { length all.now < 2 ^ 32 }
-    ensures { result ≡ spec.index_from 0 name.now (map T.name_of all.now) }
+    ensures { result ≡ position (λ x. bytes_eq name.now (T.name_of x)) all.now }
 {
     for index in 0..all.len() {
         let one = &all[index];
@@ -78,57 +78,45 @@ fn index_of<T: Named>(all: &[T], name: &[u8]) -> Option<u32>
 
 /// The first compartment of this name, by its index.
 ///
-/// Condition: the parts are those of an image.
+/// Condition: no list of the parts is longer than an image's.
 pub fn compartment_named(parts: &Parts, name: &[u8]) -> Option<u32>
-    requires { Sound parts.now }
+    requires { AreFew parts.now }
     ensures { result ≡ spec.compartment_named parts.now name.now }
 {
     index_of(parts.compartments.as_slice(), name)
 }
 
-/// The library of this name, by its index.
+/// The first library of this name, by its index.
 fn library_named(parts: &Parts, name: &[u8]) -> Option<u32>
-    requires { Sound parts.now }
+    requires { AreFew parts.now }
     ensures { result ≡ spec.library_named parts.now name.now }
 {
     index_of(parts.libraries.as_slice(), name)
 }
 
-/// The device of this name, by its index.
+/// The first device of this name, by its index.
 pub(crate) fn device_named(parts: &Parts, name: &[u8]) -> Option<u32>
-    requires { Sound parts.now }
+    requires { AreFew parts.now }
     ensures { result ≡ spec.device_named parts.now name.now }
 {
     index_of(parts.devices.as_slice(), name)
 }
 
-/// The shared object of this name, by its index.
+/// The first shared object of this name, by its index.
 pub(crate) fn shared_named(parts: &Parts, name: &[u8]) -> Option<u32>
-    requires { Sound parts.now }
+    requires { AreFew parts.now }
     ensures { result ≡ spec.shared_named parts.now name.now }
 {
     index_of(parts.shared.as_slice(), name)
 }
 
-/// The service of this name, by the number of its native routine.
-#[tactic(auto, unfolding(def_description::specs::Tables::service_of))]
-pub(crate) fn service_named(name: &[u8]) -> Option<u32>
-    ensures { result ≡ service_of name.now }
-{
-    for (known, number) in &SERVICES {
-        if name == known.as_bytes() {
-            return Some(*number);
-        }
-    }
-    None
-}
-
 /// The first compartment of this name, or else the first library.
 ///
-/// Condition: the parts are those of an image.
+/// Condition: no list of the parts is longer than an image's.
 pub fn owner_named(parts: &Parts, name: &[u8]) -> Option<Owner>
-    requires { Sound parts.now }
-    ensures { result ≡ spec.owner_named parts.now name.now }
+    requires { AreFew parts.now }
+    ensures named { result ≡ spec.owner_named parts.now name.now }
+    ensures untrusted { IfSome result (λ o. o ≢ Trusted) }
 {
     match compartment_named(parts, name) {
         Some(index) => Some(Owner::Compartment(index)),
@@ -139,8 +127,9 @@ pub fn owner_named(parts: &Parts, name: &[u8]) -> Option<Owner>
     }
 }
 
-/// An owner's name; nothing for one that the image doesn't have.
-pub fn name_of(parts: &Parts, owner: Owner) -> &str
+/// The name of a compartment or library; nothing for one that the image doesn't have, and for every
+/// other owner.
+pub(crate) fn name_of(parts: &Parts, owner: Owner) -> &str
     ensures { result.now ≡ spec.name_of parts.now owner }
 {
     match owner {
@@ -156,13 +145,26 @@ pub fn name_of(parts: &Parts, owner: Owner) -> &str
     }
 }
 
+/// Adds the names of owners, each after a space, and the end of the line.
+pub fn add_names(text: &mut String, parts: &Parts, owners: &[Owner]) -> Result<(), AllocError>
+    ensures { OnOk result
+        (string_bytes text.new ≡ string_bytes text.old
+        ++ ended (map (spec.name_of parts.now) owners.now)) }
+{
+    for owner in owners {
+        text.push(' ')?;
+        text.push_str(name_of(parts, *owner))?;
+    }
+    text.push('\n')
+}
+
 /// The owners of these names; none where one of them stands for nothing.
 pub(crate) fn owners_named(
     alloc: Global,
     parts: &Parts,
     names: &[&[u8]],
 ) -> Result<Option<Vec<Owner>>, AllocError>
-    requires { Sound parts.now }
+    requires { AreFew parts.now }
     ensures { IfOk result
         (λ found. option_map (λ v. v.items) found ≡ spec.owners_named parts.now (texts names.now)) }
 {
@@ -186,8 +188,8 @@ fn exports_of(parts: &Parts, index: u32) -> &[Export]
     }
 }
 
-/// The export of this name in a compartment, by the number of its entry.
-#[tactic(auto, using(crate::proofs::Members::few_exports, crate::proofs::Members::is_there, crate::proofs::Members::found_is, crate::proofs::Members::none_is))]
+/// The first export of this name in a compartment, by the number of its entry.
+#[tactic(auto, using(crate::proofs::Members::few_exports, crate::proofs::Members::found_is, crate::proofs::Members::none_is))]
 fn export_in(parts: &Parts, name: &[u8], compartment: u32) -> Option<u32>
     requires { Sound parts.now }
     ensures { result ≡ spec.export_in parts.now name.now compartment }

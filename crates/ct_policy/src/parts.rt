@@ -1,30 +1,10 @@
-//! The parts of a word: a number, and the sides of a point.
+//! The sides of a word's point.
 
 ghost use Rattle.std.specs.Prelude.{◌≡◌, ◌≤◌, length, option_map};
 ghost use Rattle.std.specs.List.{prefix_len};
 ghost use Rattle.def_policy.specs.Rules.{is_no_point};
 ghost use Rattle.ct_policy.specs.Forms as spec;
 ghost use Rattle.ct_policy.specs.Forms.{sides_row};
-
-use ct_script::number_of;
-use def_policy::MOST_TOTAL;
-
-/// A number of bytes, at most 2,199,023,255,551.
-#[tactic(auto, using(crate::proofs::Numbers::no_number, crate::proofs::Numbers::number_is, crate::proofs::Numbers::too_many))]
-pub(crate) fn limit_of(digits: &[u8]) -> Option<u64>
-    ensures { result ≡ spec.number_in digits.now }
-{
-    match number_of(digits) {
-        Some(number) => {
-            if number <= MOST_TOTAL {
-                Some(number)
-            } else {
-                None
-            }
-        }
-        None => None,
-    }
-}
 
 /// What stands before a point, and what after it.
 #[derive(Clone, Copy)]
@@ -44,12 +24,7 @@ fn side_length(text: &[u8]) -> usize
     ensures is { result ≡ prefix_len is_no_point text.now }
     ensures within { result ≤ length text.now }
 {
-    for (place, byte) in text.iter().enumerate() {
-        if *byte == b'.' {
-            return place;
-        }
-    }
-    text.len()
+    text.iter().take_while(|byte| **byte != b'.').count()
 }
 
 /// The sides of a word's one point, where something stands on both.

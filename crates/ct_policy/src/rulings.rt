@@ -9,11 +9,11 @@ ghost use Rattle.ct_policy.specs.Words.{texts};
 
 use crate::forms::Rule;
 use crate::names::{
-    compartment_named, device_named, export_named, owner_named, owners_named, service_named,
-    shared_named,
+    compartment_named, device_named, export_named, owner_named, owners_named, shared_named,
 };
 use ct_entry::Owner;
 use ct_parts::Parts;
+use ct_value::tables::service_of;
 use def_policy::Subject;
 use std::alloc::{AllocError, Global};
 use std::marker::Model;
@@ -162,7 +162,7 @@ pub(crate) fn ruling_of(
             )
         }
         Rule::Service(name, owners) => {
-            only(alloc, parts, about_service(service_named(name)), owners)
+            only(alloc, parts, about_service(service_of(name)), owners)
         }
         Rule::Call(compartment, export, owners) => {
             let entry = export_named(parts, compartment, export);

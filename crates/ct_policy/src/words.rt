@@ -34,12 +34,7 @@ fn run_length(text: &[u8]) -> usize
     ensures is { result ≡ prefix_len is_inner text.now }
     ensures within { result ≤ length text.now }
 {
-    for (place, byte) in text.iter().enumerate() {
-        if !is_inner(*byte) {
-            return place;
-        }
-    }
-    text.len()
+    text.iter().take_while(|byte| is_inner(**byte)).count()
 }
 
 /// The word at the front of a text, before a space or a line feed.

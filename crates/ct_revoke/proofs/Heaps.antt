@@ -1,7 +1,8 @@
 -- A slice granule by granule is *Heap*'s slice.
-use Rattle.std.proofs.Common.{ℕ, zero, suc, ◌≡◌, ◌+◌, ◌*◌, ◌≤◌, ◌<◌, ◌⊎◌, inl, inr, true, false, ◌&&◌, nat_le, nat_lt, List, [], ◌∷◌, length, refl, sym, ap, ◌∙◌, arith, subst}
+use Rattle.std.proofs.Common.{ℕ, zero, suc, ◌≡◌, ◌+◌, ◌*◌, ◌≤◌, ◌<◌, ◌⊎◌, inl, inr, List, [], ◌∷◌, length, refl, sym, ap, ◌∙◌, arith, subst}
 use Rattle.std.proofs.lemmas.List.{ext_get_or}
-use Rattle.law_lists.proofs.Tests.{lt_tells, le_tells}
+use Rattle.law_lists.proofs.Tests.{chosen_in}
+use Rattle.def_words.specs.declared.Cap.{Cap}
 use Rattle.def_memory.specs.declared.Granule.{Granule}
 use Rattle.def_memory.specs.Granules.{nothing, granule_at}
 use Rattle.def_machine.specs.Image.{Image}
@@ -21,14 +22,7 @@ sliced_at : (i : Image) (s : State) (low high place : ℕ) (gs : List Granule) (
     → P (granule_at (sliced_granules i s low high place gs) k)
 sliced_at i s low high place [] k P lt in_it out_of = absurd (omega (arith, lt))
 sliced_at i s low high place (g ∷ gs) zero P lt in_it out_of =
-    let none : place + 8 * zero ≡ place = omega arith in
-    elim (le_tells low place) [
-      | inl e ↦ elim (lt_tells place high) [
-        | inl f ↦ let test : (nat_le low place && nat_lt place high) ≡ true = rw (e.0, f.0) refl in rw test (in_it (omega (arith, e.1)) (omega (arith, f.1)))
-        | inr f ↦ let test : (nat_le low place && nat_lt place high) ≡ false = rw (e.0, f.0) refl in rw test (out_of (inr (omega (arith, f.1))))
-      ]
-      | inr e ↦ let test : (nat_le low place && nat_lt place high) ≡ false = rw e.0 refl in rw test (out_of (inl (omega (arith, e.1))))
-    ]
+    chosen_in (λ (c : Cap). P (record g { cap = c })) low high place (filtered i s g.cap) g.cap (λ a b. in_it (omega (arith, a)) (omega (arith, b))) (λ o. out_of (elim o [ inl a ↦ inl (omega (arith, a)) | inr b ↦ inr (omega (arith, b)) ]))
 sliced_at i s low high place (g ∷ gs) (suc k) P lt in_it out_of =
     sliced_at i s low high (place + 8) gs k P (omega (arith, lt)) (λ a b. in_it (omega (arith, a)) (omega (arith, b))) (λ o. out_of (elim o [ inl a ↦ inl (omega (arith, a)) | inr b ↦ inr (omega (arith, b)) ]))
 

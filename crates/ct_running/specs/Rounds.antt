@@ -12,6 +12,13 @@ use Rattle.def_trace.specs.Trace.{trace_line}
 use Rattle.def_script.specs.declared.Given.{Given}
 use Rattle.def_script.specs.Script.{Due}
 use Rattle.def_program.specs.Runs.{input_of, last_line, run_lines}
+use Rattle.law_counts.specs.Kinds.{IsUncounted}
+
+-- no event has come yet, a quantum is a step at least, and no more steps are asked for than may be made
+pub record MayRun (m : MachineRow) (each most : ℕ) : Type 0 where
+  pub booted : IsUncounted m.state.counts
+  pub quantum : 1 ≤ each
+  pub limit : most ≤ MOST_STEPS
 
 -- a tick, a slice of a sweep and a step may come
 pub record HasRoom (c : Counts) : Type 0 where

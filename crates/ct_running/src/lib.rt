@@ -6,12 +6,11 @@ mod events;
 mod lines;
 mod rounds;
 
-ghost use Rattle.std.specs.Prelude.{◌≤◌, ◌++◌};
-ghost use Rattle.def_profile.specs.declared.limits.TheConstants.{MOST_STEPS};
+ghost use Rattle.std.specs.Prelude.{◌++◌};
 ghost use Rattle.def_port.specs.Writes.{WriteAnswers};
 ghost use Rattle.def_program.specs.Runs.{run_lines, summary_after};
 ghost use Rattle.def_program.specs.Scripts.{IsPlayable};
-ghost use Rattle.law_counts.specs.Kinds.{IsUncounted};
+ghost use Rattle.ct_running.specs.Rounds.{MayRun};
 
 use ct_machine::Machine;
 use ct_mem::Memory;
@@ -35,10 +34,8 @@ pub fn write_run<M: Memory + Drop, S: Sink>(
     limit: u32,
     sink: &mut S,
 ) -> Result<(), WriteFailed>
-    requires booted { IsUncounted machine.old.state.counts }
+    requires may { MayRun machine.old quantum limit }
     requires script { IsPlayable script.now machine.old.state }
-    requires quantum { 1 ≤ quantum }
-    requires limit { limit ≤ MOST_STEPS }
     ensures { WriteAnswers (S.bytes sink.old) (S.bytes sink.new) (S.faults sink.old)
         (S.faults sink.new) (report.now ++ run_lines machine.old script.now quantum limit) result }
 {
@@ -62,9 +59,7 @@ pub fn write_summary<M: Memory + Drop, S: Sink>(
     limit: u32,
     sink: &mut S,
 ) -> Result<(), WriteFailed>
-    requires booted { IsUncounted machine.old.state.counts }
-    requires quantum { 1 ≤ quantum }
-    requires limit { limit ≤ MOST_STEPS }
+    requires { MayRun machine.old quantum limit }
     ensures { WriteAnswers (S.bytes sink.old) (S.bytes sink.new) (S.faults sink.old)
         (S.faults sink.new) (summary_after machine.old quantum limit) result }
 {

@@ -1,12 +1,10 @@
 //! The rounds of a run, one after another.
 
 ghost use Rattle.std.specs.Prelude.{[], ◌≡◌, ◌-◌, ◌==◌, ◌≤◌, MatchResult, if◌then◌else◌};
-ghost use Rattle.def_profile.specs.declared.limits.TheConstants.{MOST_STEPS};
 ghost use Rattle.def_port.specs.Writes.{WriteFails};
 ghost use Rattle.def_program.specs.Runs.{events_until, run_lines};
 ghost use Rattle.def_program.specs.Scripts.{IsPlayable};
-ghost use Rattle.law_counts.specs.Kinds.{IsUncounted};
-ghost use Rattle.ct_running.specs.Rounds.{IsOver, Passed};
+ghost use Rattle.ct_running.specs.Rounds.{IsOver, MayRun, Passed};
 
 use crate::events::{make_round, write_round};
 use ct_machine::Machine;
@@ -30,10 +28,8 @@ pub(crate) fn write_rounds<M: Memory + Drop, S: Sink>(
     limit: u32,
     sink: &mut S,
 ) -> Result<(), WriteFailed>
-    requires booted { IsUncounted machine.old.state.counts }
+    requires may { MayRun machine.old quantum limit }
     requires script { IsPlayable script.now machine.old.state }
-    requires quantum { 1 ≤ quantum }
-    requires limit { limit ≤ MOST_STEPS }
     ensures { MatchResult result
         (λ _.
         IsOver machine.old machine.new script.now quantum limit (S.bytes sink.old)
@@ -58,9 +54,7 @@ pub(crate) fn write_rounds<M: Memory + Drop, S: Sink>(
 
 /// All rounds without a script, up to an end of the machine or the limit, of which nothing is written.
 pub(crate) fn make_rounds<M: Memory + Drop>(machine: &mut Machine<M>, quantum: u32, limit: u32)
-    requires booted { IsUncounted machine.old.state.counts }
-    requires quantum { 1 ≤ quantum }
-    requires limit { limit ≤ MOST_STEPS }
+    requires { MayRun machine.old quantum limit }
     ensures { Passed machine.old machine.new (events_until machine.old [] quantum limit) }
 {
     let mut to_tick = quantum;

@@ -28,9 +28,17 @@ impl Model for Sched {
 
     ghost Value = { SchedRow };
 
-    ghost view = { λ s. record { priorities = s.priorities.items; statuses = s.statuses.items; order = s.order.items } };
+    ghost view = { λ s. record {
+      priorities = s.priorities.items;
+      statuses = s.statuses.items;
+      order = s.order.items;
+    } };
 
-    ghost invariant = { λ s. IsKept (record { priorities = s.priorities.items; statuses = s.statuses.items; order = s.order.items }) s.going };
+    ghost invariant = { λ s. IsKept (record {
+      priorities = s.priorities.items;
+      statuses = s.statuses.items;
+      order = s.order.items;
+    }) s.going };
 }
 
 impl Sched {
@@ -80,9 +88,9 @@ impl Sched {
     }
 
     /// A ready thread sleeps for so many ticks. With none it stays ready.
+    #[tactic(auto, using(crate::proofs::Ready::ready_there))]
     pub fn sleep(&mut self, t: u32, ticks: u32)
-        requires thread { t < length self.old.statuses }
-        requires ready { status_of self.old.statuses t ≡ Ready }
+        requires { status_of self.old.statuses t ≡ Ready }
         ensures { self.new ≡ with_statuses self.old (slice_set self.old.statuses t (asleep ticks)) }
     {
         self.statuses[t as usize] = asleep(ticks);
@@ -90,9 +98,9 @@ impl Sched {
 
     /// A ready thread waits for the word at an address, which holds `held`, where that is `wanted`.
     /// False comes exactly where they differ; then nothing changes.
+    #[tactic(auto, using(crate::proofs::Ready::ready_there))]
     pub fn wait(&mut self, t: u32, address: u32, held: u32, wanted: u32) -> bool
-        requires thread { t < length self.old.statuses }
-        requires ready { status_of self.old.statuses t ≡ Ready }
+        requires { status_of self.old.statuses t ≡ Ready }
         ensures waits { IsTrue result ↔ (held ≡ wanted) }
         ensures row { self.new
             ≡ with_statuses self.old

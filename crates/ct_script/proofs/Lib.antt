@@ -1,4 +1,3 @@
 pub mod Accounts
 pub mod Parts
 pub mod Windows
-mod Digits

@@ -1,12 +1,13 @@
 -- A run of inner bytes at the front of a text, and what a line's parts make of it.
-use Rattle.std.proofs.Common.{◌≡◌, ℕ, suc, ◌+◌, ◌-◌, ◌<◌, ◌≤◌, ◌^◌, ◌++◌, List, [], ◌∷◌, Bool, true, false, inl, inr, refl, ap, sym, ◌∙◌, subst, arith, length, take, drop, decimal}
+use Rattle.std.proofs.Common.{◌≡◌, ℕ, suc, ◌+◌, ◌-◌, ◌<◌, ◌≤◌, ◌^◌, ◌++◌, List, [], ◌∷◌, Bool, true, false, Some, None, inl, inr, refl, ap, sym, ◌∙◌, subst, arith, length, take, drop, decimal}
 use Rattle.std.proofs.Math.ListN.{get_or}
 use Rattle.std.specs.List.{list_all, prefix_len}
 use Rattle.std.proofs.Math.Seq.{take-length}
 use Rattle.std.proofs.lemmas.List.{length-take-le, length-drop}
 use Rattle.std.proofs.lemmas.Bool.{both_ways}
-use Rattle.std.proofs.lemmas.Fmt.{decimal_injective}
 use Rattle.law_lists.proofs.Tests.{bool_tells, both_left}
+use Rattle.def_digits.specs.Digits.{number_within}
+use Rattle.ct_digits.proofs.Numbers.{number_back, number_told}
 use Rattle.def_profile.specs.declared.limits.TheConstants.{MOST_STEPS}
 use Rattle.def_script.specs.Script.{Row, IsRow, Begins, NoLine, is_inner}
 use Rattle.law_script.proofs.Runs.{same_run, same_number, no_end, number_inner}
@@ -56,11 +57,14 @@ place_of text = prefix_len is_inner text
 number_small : (n : ℕ) → n < 2 ^ 32 → n < 2 ^ 64
 number_small n small = omega (arith, small)
 
--- a number that isn't small is no small one
-pub not_small : (digits : List ℕ) (m : ℕ) → m < 2 ^ 64 → decimal m ≡ digits → 2 ^ 32 ≤ m → (n : ℕ) → n < 2 ^ 32 → decimal n ≡ digits → ⊥
-not_small digits m most is large n small same =
-    let both : m ≡ n = decimal_injective m n most (number_small n small) (is ∙ sym same) in
-    omega (arith, both, large, small)
+pub no_small : (digits : List ℕ) → None ≡ number_within 4294967295 digits → (n : ℕ) → n < 2 ^ 32 → decimal n ≡ digits → ⊥
+no_small digits none n small is =
+    let found : number_within 4294967295 digits ≡ Some n = ap (number_within 4294967295) (sym is) ∙ number_back 4294967295 n (omega (arith, small)) (number_small n small) in
+    let bad : None ≡ Some n = none ∙ found in
+    absurd (cc)
+
+pub small_is : (digits : List ℕ) (n : ℕ) → Some n ≡ number_within 4294967295 digits → decimal n ≡ digits
+small_is digits n some = (number_told 4294967295 digits n (sym some)).is
 
 pub endless : (text : List ℕ) (end : ℕ) → is_inner end ≡ false → length text ≤ place_of text → NoNumber text end
 endless text end ends long n rest is =

@@ -5,8 +5,8 @@ ghost use Rattle.std.specs.List.{list_all, prefix_len};
 ghost use Rattle.def_script.specs.Script.{is_inner, NoLine, Begins};
 ghost use Rattle.ct_script.specs.Fields.{IsNumber, NoNumber, IsName, NoName, row_of};
 
+use ct_digits::number_of;
 use def_profile::limits::MOST_STEPS;
-use itoa::Buffer;
 
 /// A number, and what follows its end.
 #[derive(Clone, Copy)]
@@ -43,49 +43,17 @@ fn run_length(text: &[u8]) -> usize
     ensures is { result ≡ prefix_len is_inner text.now }
     ensures within { result ≤ length text.now }
 {
-    for (place, byte) in text.iter().enumerate() {
-        if !is_inner(*byte) {
-            return place;
-        }
-    }
-    text.len()
-}
-
-/// The number whose decimal digits these are, with no sign and no leading zero; None where there is
-/// none below 2 to the 64.
-pub fn number_of(digits: &[u8]) -> Option<u64>
-    ensures { MatchOption result ((n : ℕ) → n < 2 ^ 64 → decimal n ≡ digits.now → ⊥)
-        (λ n. decimal n ≡ digits.now) }
-{
-    let number: u64 = match std::str::from_utf8(digits) {
-        Ok(text) => match text.parse() {
-            Ok(number) => number,
-            Err(_) => return None,
-        },
-        Err(_) => return None,
-    };
-    let mut buffer = Buffer::new();
-    if buffer.format(number).as_bytes() == digits {
-        Some(number)
-    } else {
-        None
-    }
+    text.iter().take_while(|byte| is_inner(**byte)).count()
 }
 
 /// The number below 2 to the 32 whose decimal digits these are.
-#[tactic(auto, using(crate::proofs::Parts::not_small))]
+#[tactic(auto, using(crate::proofs::Parts::no_small, crate::proofs::Parts::small_is))]
 fn small_number_of(digits: &[u8]) -> Option<u32>
     ensures { MatchOption result ((n : ℕ) → n < 2 ^ 32 → decimal n ≡ digits.now → ⊥)
         (λ n. decimal n ≡ digits.now) }
 {
-    match number_of(digits) {
-        Some(number) => {
-            if number < 1 << 32 {
-                Some(number as u32)
-            } else {
-                None
-            }
-        }
+    match number_of(digits, u32::MAX as u64) {
+        Some(number) => Some(number as u32),
         None => None,
     }
 }

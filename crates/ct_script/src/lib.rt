@@ -11,5 +11,4 @@ mod reading;
 mod script;
 
 pub use def_script::{Given, ScriptFault};
-pub use fields::number_of;
 pub use script::{Script, read};

@@ -1,21 +1,18 @@
 //! Yield, sleep, wait and wake.
 
-ghost use Rattle.std.specs.Prelude.{ℕ, ◌≡◌, ◌*◌, ◌-◌, ◌%◌, ◌<◌, Some, length};
-ghost use Rattle.def_memory.specs.Accesses.{loaded};
-ghost use Rattle.def_words.specs.Authority.{cap_address};
+ghost use Rattle.std.specs.Prelude.{◌≡◌, ◌*◌, ◌%◌, Some, length};
 ghost use Rattle.def_words.specs.Capability.{integer};
-ghost use Rattle.def_machine.specs.Image.{Image};
-ghost use Rattle.def_machine.specs.State.{State, register};
+ghost use Rattle.def_machine.specs.State.{register};
 ghost use Rattle.def_sched.specs.declared.Status.TheVariants.{Ready};
 ghost use Rattle.def_sched.specs.Statuses.{status_of, asleep, awaiting, woken, woken_count};
 ghost use Rattle.def_step.specs.Checks.{first_failed};
 ghost use Rattle.def_step.specs.Switch.{return_checks};
-ghost use Rattle.def_step.specs.Routines.{word_checks};
 ghost use Rattle.ct_engine.specs.Seen.{thread};
 ghost use Rattle.ct_execute.specs.Opening.{IsOpen};
 ghost use Rattle.ct_heaped.specs.Seen.{with_threads};
 ghost use Rattle.ct_sched.specs.Sched.{with_statuses};
-ghost use Rattle.ct_services.specs.Served.{answered_in, rested, waited, with_status, either, unless, unless_row, IfPasses, IsWord};
+ghost use Rattle.ct_services.specs.Served.{address_in, answered_in, rested, waited, with_status, word_held, unless_in, unless_row};
+ghost use Rattle.ct_services.specs.Served.{IfPasses, IsWord, IsWordTrap};
 
 use crate::answering::{answer, code};
 use crate::words::word_trap;
@@ -29,7 +26,6 @@ use def_profile::answers::DIFFERS;
 /// The running thread stops, to be ready after so many ticks.
 fn stop_for<M: Memory + Drop>(engine: &mut Engine<M>, sched: &mut Sched, t: u32, ticks: u32)
     requires runs { engine.old.threads.running ≡ Some t }
-    requires there { t < length sched.old.statuses }
     requires ready { status_of sched.old.statuses t ≡ Ready }
     ensures engine { engine.new ≡ with_threads engine.old (rested engine.old.threads t) }
     ensures sched { sched.new ≡ with_status sched.old t (asleep ticks) }
@@ -48,13 +44,10 @@ pub fn rest<M: Memory + Drop>(
     ticks: u32,
 ) -> Option<Trap>
     requires runs { engine.old.threads.running ≡ Some t }
-    requires there { t < length sched.old.statuses }
     requires ready { status_of sched.old.statuses t ≡ Ready }
     ensures trap { result
         ≡ first_failed (return_checks (register (thread engine.old.threads t) 1)) }
-    ensures engine { engine.new
-        ≡ with_threads engine.old
-        (unless result engine.old.threads (rested engine.old.threads t)) }
+    ensures engine { engine.new ≡ unless_in result engine.old (rested engine.old.threads t) }
     ensures sched { sched.new
         ≡ unless_row result sched.old (with_status sched.old t (asleep ticks)) }
 {
@@ -69,9 +62,7 @@ pub fn rest<M: Memory + Drop>(
 /// The first check that fails of c1, then of c10 as a word of RAM.
 fn first_trap<M: Memory + Drop>(engine: &Engine<M>, t: u32, ram: u32) -> Option<Trap>
     requires runs { engine.now.threads.running ≡ Some t }
-    ensures is { (i : Image) (s : State) → i.ram ≡ ram → s.granules ≡ engine.now.threads.granules
-        → result ≡ either (first_failed (return_checks (register (thread engine.now.threads t) 1)))
-        (first_failed (word_checks i s (register (thread engine.now.threads t) 10))) }
+    ensures is { IsWordTrap ram engine.now.threads t result }
     ensures passes { IfPasses result
         (IsWord ram (8 * length engine.now.threads.granules)
         (register (thread engine.now.threads t) 10)) }
@@ -92,9 +83,7 @@ fn held<M: Memory + Drop>(engine: &Engine<M>, t: u32, ram: u32) -> u32
     requires even { ram % 16 ≡ 0 }
     requires word { IsWord ram (8 * length engine.now.threads.granules)
         (register (thread engine.now.threads t) 10) }
-    ensures { result
-        ≡ loaded engine.now.threads.granules
-        (cap_address (register (thread engine.now.threads t) 10) - ram) 4 }
+    ensures { result ≡ word_held ram engine.now.threads t }
 {
     let address = engine.register(t, 10).address();
     engine.load(address - ram, 4)
@@ -110,7 +99,6 @@ fn wait_for<M: Memory + Drop>(
     wanted: u32,
 )
     requires runs { engine.old.threads.running ≡ Some t }
-    requires there { t < length sched.old.statuses }
     requires ready { status_of sched.old.statuses t ≡ Ready }
     ensures engine { engine.new
         ≡ with_threads engine.old (waited engine.old.threads t held wanted) }
@@ -136,28 +124,20 @@ pub fn wait<M: Memory + Drop>(
     ram: u32,
 ) -> Option<Trap>
     requires runs { engine.old.threads.running ≡ Some t }
-    requires there { t < length sched.old.statuses }
     requires ready { status_of sched.old.statuses t ≡ Ready }
     requires opens { IsOpen engine.old t }
     requires ram { ram ≡ engine.old.threads.region.ram }
     requires even { ram % 16 ≡ 0 }
-    ensures trap { (i : Image) (s : State) → i.ram ≡ ram → s.granules ≡ engine.old.threads.granules
-        → result ≡ either (first_failed (return_checks (register (thread engine.old.threads t) 1)))
-        (first_failed (word_checks i s (register (thread engine.old.threads t) 10))) }
+    ensures trap { IsWordTrap ram engine.old.threads t result }
     ensures engine { engine.new
-        ≡ with_threads engine.old
-        (unless result engine.old.threads
-        (waited engine.old.threads t
-        (loaded engine.old.threads.granules
-        (cap_address (register (thread engine.old.threads t) 10) - ram) 4)
-        (cap_address (register (thread engine.old.threads t) 11)))) }
+        ≡ unless_in result engine.old
+        (waited engine.old.threads t (word_held ram engine.old.threads t)
+        (address_in engine.old.threads t 11)) }
     ensures sched { sched.new
         ≡ unless_row result sched.old
         (with_status sched.old t
-        (awaiting (cap_address (register (thread engine.old.threads t) 10))
-        (loaded engine.old.threads.granules
-        (cap_address (register (thread engine.old.threads t) 10) - ram) 4)
-        (cap_address (register (thread engine.old.threads t) 11)))) }
+        (awaiting (address_in engine.old.threads t 10) (word_held ram engine.old.threads t)
+        (address_in engine.old.threads t 11))) }
 {
     if let Some(trap) = first_trap(engine, t, ram) {
         return Some(trap);
@@ -179,21 +159,18 @@ pub fn wake<M: Memory + Drop>(
     ram: u32,
 ) -> Option<Trap>
     requires runs { engine.old.threads.running ≡ Some t }
-    ensures trap { (i : Image) (s : State) → i.ram ≡ ram → s.granules ≡ engine.old.threads.granules
-        → result ≡ either (first_failed (return_checks (register (thread engine.old.threads t) 1)))
-        (first_failed (word_checks i s (register (thread engine.old.threads t) 10))) }
+    ensures trap { IsWordTrap ram engine.old.threads t result }
     ensures engine { engine.new
-        ≡ with_threads engine.old
-        (unless result engine.old.threads
+        ≡ unless_in result engine.old
         (answered_in engine.old.threads t
         (integer
-        (woken_count (cap_address (register (thread engine.old.threads t) 10))
-        (cap_address (register (thread engine.old.threads t) 11)) sched.old.statuses)))) }
+        (woken_count (address_in engine.old.threads t 10)
+        (address_in engine.old.threads t 11) sched.old.statuses))) }
     ensures sched { sched.new
         ≡ unless_row result sched.old
         (with_statuses sched.old
-        (woken (cap_address (register (thread engine.old.threads t) 10))
-        (cap_address (register (thread engine.old.threads t) 11)) sched.old.statuses)) }
+        (woken (address_in engine.old.threads t 10) (address_in engine.old.threads t 11)
+        sched.old.statuses)) }
 {
     if let Some(trap) = first_trap(engine, t, ram) {
         return Some(trap);

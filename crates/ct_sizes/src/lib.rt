@@ -4,14 +4,15 @@
 
 ghost use Rattle.std.specs.Prelude.{◌≡◌, ◌<◌, ◌+◌, ◌^◌};
 ghost use Rattle.def_image.specs.Spelling as spelling;
-ghost use Rattle.def_image.specs.Sizes.{sum_of, rate_size as spec_rate_size};
+ghost use Rattle.def_image.specs.Sizes.{sum_of};
 ghost use Rattle.ct_sizes.specs.Places as spec;
 ghost use Rattle.ct_sizes.specs.Places.{AreAt};
 
 use ct_parts::{Code, Compartment, Parts, Sealed};
 use def_image::format::{
-    COMPARTMENT_HEAD, DEVICE, ENTRY, HEADER, LIBRARY_HEAD, NUMBER, SEALED_HEAD, SHARED,
+    COMPARTMENT_HEAD, DEVICE, ENTRY, HEADER, LIBRARY_HEAD, SEALED_HEAD, SHARED,
 };
+use def_image::versions::rate_size;
 
 /// Where each list begins, as an offset in the bytes.
 #[derive(Clone, Copy, Drop)]
@@ -104,19 +105,12 @@ fn libraries_end(at: u32, libraries: &[Code]) -> u32
     place
 }
 
-/// How many bytes the sweep rate has, which stands there from version 2 on.
-fn rate_size(version: u32) -> u32
-    ensures { result ≡ spec_rate_size version }
-{
-    if version == 1 { 0 } else { NUMBER }
-}
-
 /// Where each list begins.
 pub fn places_of(parts: &Parts) -> Places
     requires { spec.end_place parts.now < 2 ^ 32 }
     ensures { AreAt parts.now result }
 {
-    let devices = HEADER + rate_size(parts.version);
+    let devices = HEADER + rate_size(parts.version as u64);
     let shared = devices + DEVICE * parts.devices.len() as u32;
     let sealed = shared + SHARED * parts.shared.len() as u32;
     let compartments = sealed_end(sealed, parts.sealed.as_slice());

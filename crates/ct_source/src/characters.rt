@@ -1,6 +1,7 @@
 //! Which bytes make names, numbers and blanks.
 
 ghost use Rattle.std.specs.Prelude.{◌≡◌};
+ghost use Rattle.std.specs.Char.{is_ascii_digit};
 ghost use Rattle.std.specs.List.{list_all};
 ghost use Rattle.def_source.specs.Source as source;
 
@@ -25,12 +26,6 @@ pub(crate) fn is_inner(c: u8) -> bool
     !is_blank(c) && !is_mark(c)
 }
 
-pub(crate) fn is_digit(c: u8) -> bool
-    ensures { result ≡ source.is_digit c }
-{
-    b'0' <= c && c <= b'9'
-}
-
 /// A letter, or the underscore.
 pub(crate) fn is_letter(c: u8) -> bool
     ensures { result ≡ source.is_letter c }
@@ -41,14 +36,14 @@ pub(crate) fn is_letter(c: u8) -> bool
 fn is_name_byte(c: u8) -> bool
     ensures { result ≡ source.is_name_byte c }
 {
-    is_letter(c) || is_digit(c)
+    is_letter(c) || c.is_ascii_digit()
 }
 
 /// A hexadecimal digit of either case.
 pub(crate) fn is_hexadecimal(c: u8) -> bool
     ensures { result ≡ source.is_hexadecimal c }
 {
-    is_digit(c) || b'A' <= c && c <= b'F' || b'a' <= c && c <= b'f'
+    c.is_ascii_digit() || b'A' <= c && c <= b'F' || b'a' <= c && c <= b'f'
 }
 
 /// What a digit of base 10 or 16 is worth.
@@ -81,9 +76,9 @@ fn are_name_bytes(text: &[u8]) -> bool
 }
 
 pub(crate) fn are_digits(text: &[u8]) -> bool
-    ensures { result ≡ list_all source.is_digit text.now }
+    ensures { result ≡ list_all is_ascii_digit text.now }
 {
-    text.iter().all(|c| is_digit(*c))
+    text.iter().all(|c| c.is_ascii_digit())
 }
 
 pub(crate) fn are_hexadecimal(text: &[u8]) -> bool

@@ -1,6 +1,7 @@
 //! Numbers as they are written.
 
 ghost use Rattle.std.specs.Prelude.{◌≡◌, ◌≤◌, ◌+◌, ◌*◌, ◌-◌, ◌^◌, nat_le, nat_lt, if◌then◌else◌, Some, None};
+ghost use Rattle.std.specs.Char.{is_ascii_digit};
 ghost use Rattle.def_source.specs.Source as source;
 
 use crate::characters::{are_digits, are_hexadecimal, digit};
@@ -39,7 +40,7 @@ fn value(base: u8, digits: &[u8]) -> Option<u128>
 
 /// Decimal digits, at least one, whose value is at most so large.
 fn decimal(digits: &[u8], most: u128) -> Option<u128>
-    ensures { result ≡ source.digits_of source.is_digit 10 most digits.now }
+    ensures { result ≡ source.digits_of is_ascii_digit 10 most digits.now }
 {
     if digits.is_empty() || !are_digits(digits) {
         return None;

@@ -248,5 +248,6 @@ restored_row t f kept first second = record t {
 
 abbrev pub row_left : List Granule → row.Thread → (Frame → Cap) → (Frame → Cap) → row.Thread
 row_left gs t first second = cond (t.depth == 1) (ended_row t)
-    (restored_row (shallower gs t) (inner_frame gs t) (filtered_frame gs t.area.ram (inner_frame gs t)) (first (inner_frame gs t))
+    (restored_row (shallower gs t) (inner_frame gs t)
+    (filtered_frame gs t.area.ram (inner_frame gs t)) (first (inner_frame gs t))
     (second (inner_frame gs t)))

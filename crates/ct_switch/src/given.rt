@@ -34,7 +34,12 @@ impl Model for Start {
 
     ghost Value = { Given };
 
-    ghost view = { λ s. record { pcc = s.pcc; back = s.back; stack = s.stack; globals = s.globals } };
+    ghost view = { λ s. record {
+      pcc = s.pcc;
+      back = s.back;
+      stack = s.stack;
+      globals = s.globals;
+    } };
 }
 
 /// The return sentry: the return's native entry, of type 5, with the trusted part's number.

@@ -175,7 +175,12 @@ fn of_number<F: Folder, S: Sink>(
         Ok(texts) => texts,
         Err(_) => return Status::NoMemory,
     };
-    of_sources(alloc, task, &desc, &Sources { texts }, folder, sink)
+    let sources = Sources { texts };
+    let status = of_sources(alloc, task, &desc, &sources, folder, sink);
+    drop(sources);
+    drop(desc);
+    drop(made);
+    status
 }
 
 /// Does what a form says.
@@ -219,5 +224,9 @@ fn of_files<F: Folder, S: Sink>(alloc: Global, form: &Form, folder: &mut F, sink
         Ok(texts) => texts,
         Err(stop) => return refuse_file(stop, sink),
     };
-    of_sources(alloc, form.task, &desc, &Sources { texts }, folder, sink)
+    let sources = Sources { texts };
+    let status = of_sources(alloc, form.task, &desc, &sources, folder, sink);
+    drop(sources);
+    drop(desc);
+    status
 }

@@ -119,6 +119,31 @@ fn play_file<F: Folder, S: Sink>(
     }
 }
 
+/// Runs a machine that stands as booted by the script of this name, where there is one, and writes the report line
+/// and the lines of the run.
+fn run_booted<F: Folder, S: Sink>(
+    alloc: Global,
+    image: &Image,
+    report: &str,
+    machine: &mut Machine<Planes>,
+    script: Option<&str>,
+    limit: u32,
+    folder: &mut F,
+    sink: &mut S,
+) -> Status
+    requires report { report.now ≡ report_line image.now }
+    requires machine { machine.old ≡ booted_machine image.now }
+    requires limit { limit ≤ MOST_STEPS }
+    ensures { EndsBy (OfRun image.now limit (script_named script.entry))
+        (ends F.file F.calls F.faults S.bytes S.faults [] folder.old folder.new sink.old sink.new)
+        result }
+{
+    match script {
+        Some(name) => play_file(alloc, image, report, machine, name, limit, folder, sink),
+        None => play(image, report, machine, &Script::empty(alloc), limit, sink),
+    }
+}
+
 /// Runs an image by the script of this name, where there is one, and writes its report line and the lines
 /// of the run. The machine is made before the script is read.
 pub(crate) fn run<F: Folder, S: Sink>(
@@ -143,17 +168,18 @@ pub(crate) fn run<F: Folder, S: Sink>(
         Err(_) => return Status::NoMemory,
     };
     let line = report.as_str();
-    match script {
-        Some(name) => play_file(alloc, image, line, &mut machine, name, limit, folder, sink),
-        None => play(
-            image,
-            line,
-            &mut machine,
-            &Script::empty(alloc),
-            limit,
-            sink,
-        ),
-    }
+    let status = run_booted(
+        alloc,
+        image,
+        line,
+        &mut machine,
+        script,
+        limit,
+        folder,
+        sink,
+    );
+    drop(machine);
+    status
 }
 
 /// Writes the summary of a machine that stands as booted, after the steps of a demonstration.
@@ -175,7 +201,11 @@ pub(crate) fn demonstrate<S: Sink>(alloc: Global, image: &Image, sink: &mut S) -
         (S.faults sink.new) (demo_text image.now) result }
 {
     match ready(alloc, image) {
-        Ok(mut machine) => summarise(image, &mut machine, sink),
+        Ok(mut machine) => {
+            let status = summarise(image, &mut machine, sink);
+            drop(machine);
+            status
+        }
         Err(_) => Status::NoMemory,
     }
 }

@@ -3,35 +3,32 @@
 ghost use Rattle.std.specs.Prelude.{◌≡◌, Bool, codes, count_by, map, not};
 ghost use Rattle.def_description.specs.Members as members;
 ghost use Rattle.std.specs.List.{list_all};
+ghost use Rattle.std.specs.Int.{is_in_range};
 ghost use Rattle.serde_json.specs.View.{view};
 ghost use Rattle.def_description.specs.Limits as spec;
 ghost use Rattle.def_description.specs.Tables as table;
-ghost use Rattle.def_image.specs.Profile.{most_threads as spec_most_threads};
-ghost use Rattle.def_profile.specs.Versions as versions;
 ghost use Rattle.ct_value.specs.Seen.{seen};
 
 use crate::members::{list_at, list_in, number_in, number_or, text_at, text_of};
 use crate::tables::{Member, members_of};
 use crate::walk::Spot;
 use def_description::{PartWord, Shape};
-use def_image::taken::{THREADS_TAKEN, VERSIONS_TAKEN};
+use def_image::taken::VERSIONS_TAKEN;
+use def_image::versions::{is_sweep_rate, most_ram, most_threads};
 use def_profile::layout::REGION_UNIT;
-use def_profile::limits::{
-    LEAST_SWEEP_RATE, MOST_BYTES, MOST_FILE_NAME, MOST_RAM, MOST_RAM_2, MOST_SWEEP_RATE,
-    MOST_THREADS, MOST_THREADS_2, RAM_END, SWEEP_RATE,
-};
+use def_profile::limits::{MOST_BYTES, MOST_FILE_NAME, RAM_END, SWEEP_RATE};
 use def_profile::seals::{FIRST_KEY_TYPE, LAST_KEY_TYPE};
 use serde_json::Value;
 
-fn is_within(low: u32, high: u32, n: u64) -> bool
-    ensures { result ≡ spec.is_within low high n }
+fn is_in_range(low: u32, high: u32, n: u64) -> bool
+    ensures { result ≡ is_in_range low high n }
 {
     low as u64 <= n && n <= high as u64
 }
 
 /// How many characters a text has: its bytes that don't go on with a character.
 fn characters(text: &[u8]) -> usize
-    ensures { result ≡ count_by (λ b. not (spec.is_within 128 191 b)) text.now }
+    ensures { result ≡ count_by (λ b. not (is_in_range 128 191 b)) text.now }
 {
     let mut count = 0;
     for b in text {
@@ -46,7 +43,7 @@ fn keeps_file(value: &Value) -> bool
     ensures { result ≡ spec.keeps_file (members.text_at (codes "file") (view value.now)) }
 {
     match text_at(value, "file") {
-        Some(name) => is_within(1, MOST_FILE_NAME, characters(name.as_bytes()) as u64),
+        Some(name) => is_in_range(1, MOST_FILE_NAME, characters(name.as_bytes()) as u64),
         None => true,
     }
 }
@@ -61,13 +58,13 @@ fn keeps(shape: Shape, value: &Value) -> bool
     ensures { result ≡ spec.keeps shape (view value.now) }
 {
     match shape {
-        Shape::Number { low, high } => is_within(low, high, number_in(value)),
+        Shape::Number { low, high } => is_in_range(low, high, number_in(value)),
         Shape::Multiple { low, high } => {
             let n = number_in(value);
-            is_within(low, high, n) && n % REGION_UNIT as u64 == 0
+            is_in_range(low, high, n) && n % REGION_UNIT as u64 == 0
         }
         Shape::List { most } => list_in(value).len() as u64 <= most as u64,
-        Shape::Bytes { least, most } => is_within(least, most, text_of(value).len() as u64 / 2),
+        Shape::Bytes { least, most } => is_in_range(least, most, text_of(value).len() as u64 / 2),
         Shape::Code => keeps_code(value),
         Shape::Text => true,
         Shape::Among { .. } => true,
@@ -99,43 +96,11 @@ fn keeps_each(value: &Value, members: &[Member]) -> bool
     true
 }
 
-fn most_ram(version: u64) -> u32
-    ensures { result ≡ versions.most_ram version }
-{
-    if version == 1 { MOST_RAM } else { MOST_RAM_2 }
-}
-
-fn most_threads(version: u64) -> u32
-    ensures { result ≡ spec_most_threads version }
-{
-    let most = if version == 1 {
-        MOST_THREADS
-    } else {
-        MOST_THREADS_2
-    };
-    if THREADS_TAKEN <= most {
-        THREADS_TAKEN
-    } else {
-        most
-    }
-}
-
-fn keeps_sweep(version: u64, sweep: u64) -> bool
-    ensures { result
-        ≡ spec.is_within (versions.least_sweep version) (versions.most_sweep version) sweep }
-{
-    if version == 1 {
-        is_within(SWEEP_RATE, SWEEP_RATE, sweep)
-    } else {
-        is_within(LEAST_SWEEP_RATE, MOST_SWEEP_RATE, sweep)
-    }
-}
-
 fn keeps_version(version: u64, value: &Value) -> bool
     ensures { result ≡ spec.keeps_version version (view value.now) }
 {
     version <= VERSIONS_TAKEN as u64
-        && keeps_sweep(version, number_or(value, "sweep", SWEEP_RATE as u64))
+        && is_sweep_rate(version, number_or(value, "sweep", SWEEP_RATE as u64))
         && list_at(value, "threads").len() as u64 <= most_threads(version) as u64
 }
 
@@ -159,7 +124,7 @@ fn keeps_more(part: PartWord, spot: &Spot) -> bool
     match part {
         PartWord::Firmware => keeps_version(version_in(spot.value), spot.value),
         PartWord::Ram => keeps_ram(version_in(spot.owner), spot.value),
-        PartWord::Key => is_within(FIRST_KEY_TYPE, LAST_KEY_TYPE, number_in(spot.value)),
+        PartWord::Key => is_in_range(FIRST_KEY_TYPE, LAST_KEY_TYPE, number_in(spot.value)),
         _ => true,
     }
 }

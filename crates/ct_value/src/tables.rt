@@ -13,11 +13,11 @@ use def_description::tables::{
 use def_description::{PartWord, Passes, Shape};
 
 /// What the first row of that name says.
-fn find<T: Copy>(table: &[(&'static str, T)], name: &str) -> Option<T>
+fn find<T: Copy>(table: &[(&'static str, T)], name: &[u8]) -> Option<T>
     ensures { result ≡ says (λ r. r.0.now) (λ r. r.1) name.now table.now }
 {
     for (known, value) in table {
-        if name == *known {
+        if name == known.as_bytes() {
             return Some(*value);
         }
     }
@@ -29,7 +29,7 @@ fn find<T: Copy>(table: &[(&'static str, T)], name: &str) -> Option<T>
 pub fn kind_of(text: &str) -> Option<DeviceKind>
     ensures { result ≡ spec.kind_of text.now }
 {
-    find(&KINDS, text)
+    find(&KINDS, text.as_bytes())
 }
 
 /// The posture of a compartment's export.
@@ -37,7 +37,7 @@ pub fn kind_of(text: &str) -> Option<DeviceKind>
 pub fn posture_of(text: &str) -> Option<Mode>
     ensures { result ≡ spec.posture_of text.now }
 {
-    find(&POSTURES, text)
+    find(&POSTURES, text.as_bytes())
 }
 
 /// The posture of a library's export.
@@ -45,7 +45,7 @@ pub fn posture_of(text: &str) -> Option<Mode>
 pub fn library_posture_of(text: &str) -> Option<Mode>
     ensures { result ≡ spec.library_posture_of text.now }
 {
-    find(&LIBRARY_POSTURES, text)
+    find(&LIBRARY_POSTURES, text.as_bytes())
 }
 
 /// What an export passes.
@@ -53,12 +53,12 @@ pub fn library_posture_of(text: &str) -> Option<Mode>
 pub fn passes_of(text: &str) -> Option<Passes>
     ensures { result ≡ spec.passes_of text.now }
 {
-    find(&PASSES, text)
+    find(&PASSES, text.as_bytes())
 }
 
 /// The number of a service's native routine.
 #[tactic(auto, unfolding(def_description::specs::Tables::service_of))]
-pub fn service_of(text: &str) -> Option<u32>
+pub fn service_of(text: &[u8]) -> Option<u32>
     ensures { result ≡ spec.service_of text.now }
 {
     find(&SERVICES, text)

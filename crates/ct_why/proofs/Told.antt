@@ -1,25 +1,15 @@
 -- The line that is found, of the image's own parts.
-use Rattle.std.proofs.Common.{◌≡◌, ◌≢◌, ℕ, List, Option, Some, None, refl, subst}
+use Rattle.std.proofs.Common.{◌≡◌, ℕ, List, Option, Some, refl, subst}
 use Rattle.ct_entry.specs.declared.rows.Owner.{Owner}
-use Rattle.ct_entry.specs.declared.rows.Owner.TheVariants.{Trusted}
 use Rattle.def_image.specs.Accepted.{IsFaultless}
 use Rattle.def_image.specs.Parts.{PartsRow}
-use Rattle.def_image.specs.Sound.{Sound}
-use Rattle.def_program.specs.Paths.{IsWhyLine, compartment_named, library_named, or_library, owner_named}
+use Rattle.def_image.specs.Sound.{AreFew}
+use Rattle.def_program.specs.Paths.{IsWhyLine, compartment_named, owner_named}
 use Rattle.law_image.proofs.Sounds.{sound}
 use Rattle.ct_why.specs.Found.{IsFound}
 
-pub is_sound : (p q : PartsRow) → q ≡ p → IsFaultless p → Sound q
-is_sound p q same f = rw same (sound p f)
-
-or_untrusted : (c l : Option ℕ) (o : Owner) → Some o ≡ or_library c l → o ≢ Trusted
-or_untrusted (Some c) l o is = λ e. absurd (cc)
-or_untrusted None (Some l) o is = λ e. absurd (cc)
-or_untrusted None None o is = absurd (cc)
-
--- no name stands for the trusted part
-pub untrusted : (p : PartsRow) (name : List ℕ) (o : Owner) → Some o ≡ owner_named p name → o ≢ Trusted
-untrusted p name o is = or_untrusted (compartment_named p name) (library_named p name) o is
+pub are_few : (p q : PartsRow) → q ≡ p → IsFaultless p → AreFew q
+are_few p q same f = rw same (sound p f).few
 
 found_by : (p : PartsRow) (o : Option Owner) (c : Option ℕ) (from : Owner) (to : ℕ) (text : List ℕ) → Some from ≡ o → Some to ≡ c → IsWhyLine p from to text → IsFound p o c (Some text)
 found_by p o c from to text is there line =

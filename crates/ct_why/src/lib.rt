@@ -1,5 +1,6 @@
 //! What `why` writes: how an owner reaches a compartment, by the names of both (docs/use/report.md;
-//! definitions in def_program's Paths).
+//! definitions in def_program's Paths; what names stand for, in def_policy's Names). ct_policy looks
+//! names up, and puts those of a path into the line.
 #![tactic(auto)]
 
 mod texts;

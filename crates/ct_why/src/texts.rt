@@ -8,7 +8,7 @@ ghost use Rattle.def_program.specs.Paths.{IsWhyLine, none_line, path_line};
 use ct_entry::{Comp, Owner};
 use ct_graph::Graph;
 use ct_image::Parts;
-use ct_policy::name_of;
+use ct_policy::add_names;
 use def_refusals::NoMemory;
 use std::alloc::{AllocError, Global};
 
@@ -42,10 +42,6 @@ fn path_text(alloc: Global, parts: &Parts, owners: &[Owner]) -> Result<String, A
     ensures { IfOk result (λ s. string_bytes s ≡ path_line parts.now owners.now) }
 {
     let mut text = String::from_str(alloc, "path")?;
-    for owner in owners {
-        text.push(' ')?;
-        text.push_str(name_of(parts, *owner))?;
-    }
-    text.push('\n')?;
+    add_names(&mut text, parts, owners)?;
     Ok(text)
 }

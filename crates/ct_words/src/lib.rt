@@ -1,12 +1,12 @@
 //! The words of the command line (docs/use/run.md).
 #![tactic(auto)]
 
-ghost use Rattle.std.specs.Prelude.{◌≡◌, ◌≤◌, map, nat_le, option_map, string_bytes, ℕ, List, IfSome, Some, None, if◌then◌else◌};
-ghost use Rattle.std.specs.List.{list_all};
+ghost use Rattle.std.specs.Prelude.{◌≡◌, ◌≤◌, map, option_map, string_bytes, ℕ, List, IfSome};
 ghost use Rattle.def_profile.specs.declared.limits.TheConstants.{MOST_STEPS};
 ghost use Rattle.def_program.specs.Commands as spec;
 ghost use Rattle.ct_words.specs.Forms.{command_for, command_of, script_named, IsShort};
 
+use ct_digits::number_of;
 use def_profile::limits::MOST_STEPS;
 use def_program::MOST_NUMBER;
 
@@ -74,59 +74,30 @@ pub struct Form<'a> {
     pub task: Task<'a>,
 }
 
-fn are_digits(text: &[u8]) -> bool
-    ensures { result ≡ list_all spec.is_digit text.now }
-{
-    text.iter().all(|c| b'0' <= *c && *c <= b'9')
-}
-
-/// The number that digits spell, where it is at most `most`.
-fn value_of(digits: &[u8], most: u32) -> Option<u32>
-    ensures small { IfSome result (λ n. n ≤ most) }
-    ensures value { result
-        ≡ (if nat_le (spec.value_of digits.now) most then Some (spec.value_of digits.now)
-        else None) }
-{
-    let mut value: u64 = 0;
-    for c in digits {
-        value = 10 * value + c.saturating_sub(b'0') as u64;
-        if value > most as u64 {
-            return None;
-        }
-    }
-    Some(value as u32)
-}
-
 /// A limit: decimal digits without sign or leading zero, of 1 to 4,000,000,000.
 fn limit_of(text: &[u8]) -> Option<u32>
     ensures small { IfSome result (λ n. n ≤ MOST_STEPS) }
     ensures value { result ≡ spec.limit_of text.now }
 {
-    match text {
-        [] => None,
-        [first, ..] => {
-            if are_digits(text) && *first != b'0' {
-                value_of(text, MOST_STEPS)
-            } else {
+    match number_of(text, MOST_STEPS as u64) {
+        Some(number) => {
+            if number == 0 {
                 None
+            } else {
+                Some(number as u32)
             }
         }
+        None => None,
     }
 }
 
-/// A number: decimal digits without sign or leading zero, of 0 to 4,294,967,295.
-fn number_of(text: &[u8]) -> Option<u32>
+/// The number of a generated firmware: decimal digits without sign or leading zero, of 0 to 4,294,967,295.
+fn firmware_number(text: &[u8]) -> Option<u32>
     ensures { result ≡ spec.number_of text.now }
 {
-    match text {
-        [] => None,
-        [first, ..] => {
-            if are_digits(text) && (*first != b'0' || text.len() == 1) {
-                value_of(text, MOST_NUMBER)
-            } else {
-                None
-            }
-        }
+    match number_of(text, MOST_NUMBER as u64) {
+        Some(number) => Some(number as u32),
+        None => None,
     }
 }
 
@@ -154,7 +125,7 @@ fn demo_of<'a>(name: &'a str) -> Option<Form<'a>>
     ensures command { option_map command_of result
         ≡ option_map spec.Demo (spec.number_of name.now) }
 {
-    match number_of(name.as_bytes()) {
+    match firmware_number(name.as_bytes()) {
         Some(number) => Some(Form {
             name,
             task: Task::Demo { number },

@@ -4,8 +4,8 @@ use Rattle.std.specs.Prelude.{ℕ, ◌+◌, ◌*◌, List, [], ◌∷◌, ◌++�
 use Rattle.ct_entry.specs.declared.rows.Entry.{Entry}
 use Rattle.ct_entry.specs.declared.rows.Owner.{Owner}
 use Rattle.ct_entry.specs.declared.rows.Owner.TheVariants.{Compartment, Library, Thread}
-use Rattle.ct_entry.specs.declared.rows.Kind.{Kind}
 use Rattle.ct_entry.specs.declared.rows.Kind.TheVariants as kind
+use Rattle.ct_entry.specs.Listed.{row}
 use Rattle.def_profile.specs.declared.rights.TheConstants.{CODE_RIGHTS, GLOBALS_RIGHTS, EXPORT_RIGHTS, STACK_RIGHTS}
 use Rattle.def_profile.specs.declared.native.TheConstants.{NATIVE_BASE, NATIVE_UNIT, NATIVE_LENGTH}
 use Rattle.def_profile.specs.declared.layout.TheConstants.{DEVICE_SIZE, SLOT_SIZE, TABLE_HEAD, TABLE_ROW}
@@ -15,19 +15,6 @@ use Rattle.def_image.specs.declared.SlotKind.TheVariants as slot
 use Rattle.def_image.specs.Parts.{SlotRow, GateRow, CodeRow, CompartmentRow, ThreadRow, PartsRow}
 use Rattle.def_image.specs.Rights.{rights_of}
 use Rattle.def_image.specs.Members.{compartment, library, shared, sealed, device_base, gate_address, gate_number, library_gate_number}
-
--- `of` is the index of the device, object or service, or the number of the named export, else 0
-abbrev pub row : Owner → Kind → ℕ → ℕ → ℕ → ℕ → Entry
-row owner kind base length rights of =
-    record {
-      owner = owner;
-      kind = kind;
-      base = base;
-      length = length;
-      rights = rights;
-      of = of;
-      limit = 0;
-    }
 
 -- ---- slots
 

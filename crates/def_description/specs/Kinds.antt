@@ -1,9 +1,10 @@
 -- F2 and F3: which members a part has, and of which kind each is.
 use Rattle.std.specs.Prelude.{ℕ, ◌%◌, List, length, count_by, Bool, true, false, not, ◌&&◌, ◌||◌, ◌==◌, Option, Some, None, option_and_then, is_some, nat_le, bytes_eq, if◌then◌else◌, codes}
+use Rattle.std.specs.Char.{is_ascii_digit}
 use Rattle.std.specs.List.{list_all, list_any}
 use Rattle.serde_json.specs.Data.{Data}
 use Rattle.serde_json.specs.Find.{get, as_str, as_array, as_object}
-use Rattle.def_names.specs.Names.{among, is_digit}
+use Rattle.def_names.specs.Names.{among}
 use Rattle.def_description.specs.declared.faults.PartWord.{PartWord}
 use Rattle.def_description.specs.declared.faults.PartWord.TheVariants as part
 use Rattle.def_description.specs.declared.tables.Shape.{Shape}
@@ -18,7 +19,7 @@ use Rattle.def_description.specs.Walk.{Spot}
 
 -- a lower-case hexadecimal digit
 abbrev pub is_hexadecimal : ℕ → Bool
-is_hexadecimal b = is_digit b || (nat_le 97 b && nat_le b 102)
+is_hexadecimal b = is_ascii_digit b || (nat_le 97 b && nat_le b 102)
 
 -- a word of code is eight of them
 abbrev pub is_word : List ℕ → Bool

@@ -1,10 +1,10 @@
 -- *Image*: which bytes are an accepted image, of which parts, and what is wrong with others: the least number, at its
 -- first place.
 use Rattle.std.specs.Prelude.{ℕ, ◌≡◌, ◌⊎◌, ◌&&◌, Bool, true, false, List, length, take, drop, Some, None, nat_le, bytes_eq}
-use Rattle.std.specs.Int.{w32, from_le_bytes}
+use Rattle.std.specs.Int.{w32, from_le_bytes, is_in_range}
 use Rattle.def_image.specs.Raw.{RawImage}
 use Rattle.def_image.specs.Parts.{PartsRow}
-use Rattle.def_image.specs.Profile.{is_within, last_version}
+use Rattle.def_image.specs.Profile.{last_version}
 use Rattle.def_image.specs.Spelling.{magic, spelled, raw_of, image_bytes}
 use Rattle.def_image.specs.Shapes.{IsShaped, IsSpellable}
 use Rattle.def_image.specs.Checks.{first}
@@ -18,7 +18,7 @@ abbrev pub is_begun : List ℕ → Bool
 is_begun bytes =
     nat_le 8 (length bytes)
     && bytes_eq (take 4 bytes) magic
-    && is_within 1 last_version (from_le_bytes w32 (take 4 (drop 4 bytes)))
+    && is_in_range 1 last_version (from_le_bytes w32 (take 4 (drop 4 bytes)))
 
 -- these fields spell the bytes
 abbrev pub Spells : RawImage → List ℕ → Type 0
@@ -27,7 +27,7 @@ Spells r bytes = IsShaped r × (bytes ≡ spelled r)
 -- nothing is wrong with the parts
 pub record IsFaultless (p : PartsRow) : Type 0 where
   pub spellable : IsSpellable p
-  pub version : is_within 1 last_version p.version ≡ true
+  pub version : is_in_range 1 last_version p.version ≡ true
   pub limits : first (limit_checks (raw_of p)) ≡ None
   pub regions : first (region_checks p) ≡ None
   pub indexes : first (index_checks p) ≡ None

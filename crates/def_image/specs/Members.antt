@@ -1,5 +1,5 @@
 -- What stands at an index of an image's lists, or nothing; and the numbers of its entries.
-use Rattle.std.specs.Prelude.{ℕ, zero, suc, ◌+◌, ◌*◌, List, [], ◌∷◌, length, option_map, unwrap_or, slice_get, codes, bytes_eq, if◌then◌else◌}
+use Rattle.std.specs.Prelude.{ℕ, zero, suc, ◌+◌, ◌*◌, Bool, List, [], ◌∷◌, length, option_map, unwrap_or, slice_get, position, codes, bytes_eq}
 use Rattle.ct_entry.specs.Listed.{DeviceRow}
 use Rattle.def_profile.specs.declared.layout.TheConstants.{SLOT_SIZE, TABLE_HEAD, TABLE_ROW}
 use Rattle.def_image.specs.Parts.{GateRow, SharedRow, SealedRow, CodeRow, CompartmentRow, ThreadRow, PartsRow}
@@ -87,11 +87,10 @@ library_gate_number p l j = library_number p l + 1 + length (library p l).slots 
 abbrev pub handler_name : List ℕ
 handler_name = codes "handler"
 
--- the number of the export of this name, where the first has number n; 0 where there is none
-abbrev pub handler_in : ℕ → List GateRow → ℕ
-handler_in n [] = 0
-handler_in n (x ∷ xs) = if bytes_eq x.name handler_name then n else handler_in (n + 1) xs
+abbrev pub is_handler : GateRow → Bool
+is_handler x = bytes_eq x.name handler_name
 
--- of a compartment's error handler
+-- of a compartment's error handler, its first export of this name; 0 where there is none
 abbrev pub handler_number : PartsRow → ℕ → ℕ
-handler_number p b = handler_in (gate_number p b 0) (compartment p b).code.exports
+handler_number p b =
+    unwrap_or (option_map (gate_number p b) (position is_handler (compartment p b).code.exports)) 0

@@ -1,14 +1,12 @@
 -- What an image may hold. How much of the format is taken stands in the module `taken`; the other limits of each version
 -- are the profile's.
-use Rattle.std.specs.Prelude.{ℕ, ◌&&◌, Bool, nat_le, not, if◌then◌else◌}
+use Rattle.std.specs.Prelude.{ℕ, Bool, nat_le, not, if◌then◌else◌}
+use Rattle.std.specs.Int.{is_in_range}
 use Rattle.def_profile.specs.Versions as version
 use Rattle.def_image.specs.declared.taken.TheConstants.{VERSIONS_TAKEN, SERVICES_TAKEN, THREADS_TAKEN}
 
-abbrev pub is_within : ℕ → ℕ → ℕ → Bool
-is_within low high n = nat_le low n && nat_le n high
-
 abbrev pub outside : ℕ → ℕ → ℕ → Bool
-outside low high n = not (is_within low high n)
+outside low high n = not (is_in_range low high n)
 
 -- versions begin at 1
 abbrev pub last_version : ℕ

@@ -5,6 +5,7 @@ use Rattle.ct_entry.specs.declared.rows.Mode.TheVariants.{Inherit}
 use Rattle.ct_entry.specs.Listed.{DeviceRow}
 use Rattle.def_profile.specs.declared.native.TheConstants.{SWITCH}
 use Rattle.def_description.specs.declared.tables.TheConstants.{SERVICES}
+use Rattle.def_description.specs.References.{export_name}
 use Rattle.def_image.specs.declared.ImportRow.{ImportRow}
 use Rattle.def_image.specs.declared.ExportRow.{ExportRow}
 use Rattle.def_image.specs.declared.SlotKind.{SlotKind}
@@ -51,9 +52,9 @@ device_name p n = unwrap_or (option_map (λ (d : DeviceRow). d.name) (slice_get 
 abbrev pub gate_name : List GateRow → ℕ → List ℕ
 gate_name xs j = unwrap_or (option_map (λ (x : GateRow). x.name) (slice_get xs j)) []
 
--- an export by the name of its owner, a point, and its own
-abbrev pub export_name : CodeRow → ℕ → List ℕ
-export_name c j = c.name ++ 46 ∷ gate_name c.exports j
+-- export j of this code, as `owner.export`
+abbrev pub exported_name : CodeRow → ℕ → List ℕ
+exported_name c j = export_name c.name (gate_name c.exports j)
 
 -- what a slot is of, by its kind
 abbrev pub of_name : PartsRow → ImportRow → SlotKind → List ℕ
@@ -61,8 +62,8 @@ of_name p r Service = service_name r.first
 of_name p r Device = device_name p r.first
 of_name p r Shared = (shared p r.first).name
 of_name p r Sealed = (sealed p r.first).name
-of_name p r Call = export_name (compartment p r.first).code r.second
-of_name p r Library = export_name (library p r.first) r.second
+of_name p r Call = exported_name (compartment p r.first).code r.second
+of_name p r Library = exported_name (library p r.first) r.second
 of_name p r Quota = []
 of_name p r Key = []
 

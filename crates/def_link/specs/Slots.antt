@@ -1,6 +1,7 @@
 -- The rows of import and export tables that a description stands for. What is named is given by its
 -- index; a well-formed description names nothing that isn't there.
 use Rattle.std.specs.Prelude.{ℕ, ◌+◌, List, [], ◌∷◌, ◌++◌, map, length, Bool, true, false, nat_lt, Option, Some, None, unwrap_or, bytes_eq, if◌then◌else◌, codes}
+use Rattle.std.specs.List.{position_or_len}
 use Rattle.def_profile.specs.declared.native.TheConstants.{SWITCH}
 use Rattle.def_profile.specs.declared.rights.TheConstants.{GL, SD, LG, LM, LD, MC, SERVICE_RIGHTS, SEALED_RIGHTS, EXPORT_RIGHTS, CODE_RIGHTS, QUOTA_RIGHTS, KEY_RIGHTS}
 use Rattle.def_words.specs.Permissions.{packed}
@@ -26,8 +27,7 @@ use Rattle.def_link.specs.Owners.{Built, begin_of, numbered}
 
 -- the index of the first element of that name, or their number
 abbrev pub index_of : List ℕ → List (List ℕ) → ℕ
-index_of name [] = 0
-index_of name (n ∷ ns) = if bytes_eq name n then 0 else index_of name ns + 1
+index_of name names = position_or_len (bytes_eq name) names
 
 -- an export by its owner's index and its own
 pub record Exported : Type 0 where

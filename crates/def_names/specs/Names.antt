@@ -1,5 +1,6 @@
 -- Names, as lists of bytes, and what it is for one to stand twice.
 use Rattle.std.specs.Prelude.{ℕ, List, [], ◌∷◌, ◌++◌, length, Bool, false, ◌&&◌, ◌||◌, ◌==◌, nat_le, nat_lt, bytes_eq, if◌then◌else◌}
+use Rattle.std.specs.Char.{is_ascii_digit}
 use Rattle.std.specs.List.{list_all, list_any}
 use Rattle.def_profile.specs.declared.limits.TheConstants.{MOST_NAME}
 
@@ -8,12 +9,9 @@ use Rattle.def_profile.specs.declared.limits.TheConstants.{MOST_NAME}
 abbrev pub is_lower : ℕ → Bool
 is_lower b = nat_le 97 b && nat_le b 122
 
-abbrev pub is_digit : ℕ → Bool
-is_digit b = nat_le 48 b && nat_le b 57
-
 -- a lower-case letter, a digit or a low line
 abbrev pub is_name_byte : ℕ → Bool
-is_name_byte b = is_lower b || is_digit b || b == 95
+is_name_byte b = is_lower b || is_ascii_digit b || b == 95
 
 -- a lower-case letter, then such bytes, no more in all than a name may have
 abbrev pub is_name : List ℕ → Bool

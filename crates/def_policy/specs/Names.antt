@@ -1,24 +1,19 @@
 -- What a name stands for in an image: the first of its kind that has the name.
-use Rattle.std.specs.Prelude.{ℕ, ◌+◌, List, [], ◌∷◌, Option, Some, None, map, option_map, option_and_then, bytes_eq, if◌then◌else◌}
+use Rattle.std.specs.Prelude.{ℕ, List, [], ◌∷◌, Option, Some, None, option_map, option_and_then, position, bytes_eq}
 use Rattle.ct_entry.specs.Listed.{DeviceRow}
 use Rattle.ct_entry.specs.declared.rows.Owner.{Owner}
 use Rattle.ct_entry.specs.declared.rows.Owner.TheVariants.{Compartment, Library}
 use Rattle.def_image.specs.Parts.{CodeRow, CompartmentRow, GateRow, SharedRow, PartsRow}
 use Rattle.def_image.specs.Members.{compartment, library, gate_number}
 
--- the index, counted from n, of the first of these names that is the one asked for
-abbrev pub index_from : ℕ → List ℕ → List (List ℕ) → Option ℕ
-index_from n name [] = None
-index_from n name (x ∷ xs) = if bytes_eq name x then Some n else index_from (n + 1) name xs
-
 -- ---- owners
 
 abbrev pub compartment_named : PartsRow → List ℕ → Option ℕ
 compartment_named p name =
-    index_from 0 name (map (λ (c : CompartmentRow). c.code.name) p.compartments)
+    position (λ (c : CompartmentRow). bytes_eq name c.code.name) p.compartments
 
 abbrev pub library_named : PartsRow → List ℕ → Option ℕ
-library_named p name = index_from 0 name (map (λ (l : CodeRow). l.name) p.libraries)
+library_named p name = position (λ (l : CodeRow). bytes_eq name l.name) p.libraries
 
 -- a compartment, or else a library
 abbrev pub or_library : Option ℕ → Option ℕ → Option Owner
@@ -40,17 +35,17 @@ owners_named p (name ∷ names) = also (owner_named p name) (owners_named p name
 -- ---- devices, shared objects
 
 abbrev pub device_named : PartsRow → List ℕ → Option ℕ
-device_named p name = index_from 0 name (map (λ (d : DeviceRow). d.name) p.devices)
+device_named p name = position (λ (d : DeviceRow). bytes_eq name d.name) p.devices
 
 abbrev pub shared_named : PartsRow → List ℕ → Option ℕ
-shared_named p name = index_from 0 name (map (λ (s : SharedRow). s.name) p.shared)
+shared_named p name = position (λ (s : SharedRow). bytes_eq name s.name) p.shared
 
 -- ---- exports
 
 abbrev pub export_in : PartsRow → List ℕ → ℕ → Option ℕ
 export_in p name b =
     option_map (gate_number p b)
-    (index_from 0 name (map (λ (x : GateRow). x.name) (compartment p b).code.exports))
+    (position (λ (x : GateRow). bytes_eq name x.name) (compartment p b).code.exports)
 
 -- an export of a compartment, by the number of its entry
 abbrev pub export_named : PartsRow → List ℕ → List ℕ → Option ℕ

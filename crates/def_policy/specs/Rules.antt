@@ -2,6 +2,7 @@
 -- says, so no text is taken apart here.
 use Rattle.std.specs.Prelude.{ℕ, ◌≡◌, ◌≢◌, ◌<◌, ◌≤◌, ◌==◌, ◌&&◌, nat_lt, not, Bool, true, List, [], ◌∷◌, ◌++◌, length, codes, decimal}
 use Rattle.std.specs.List.{AllByRecursion, list_all}
+use Rattle.def_description.specs.References.{export_name}
 use Rattle.def_policy.specs.declared.TheConstants.{MOST_TOTAL}
 
 -- what a line demands, by names
@@ -34,9 +35,6 @@ pub record IsSide (w : List ℕ) : Type 0 where
   pub some : 0 < length w
   pub plain : list_all is_no_point w ≡ true
 
-abbrev pub dotted : List ℕ → List ℕ → List ℕ
-dotted compartment export = compartment ++ 46 ∷ export
-
 abbrev pub total : List ℕ
 total = codes "total"
 
@@ -47,9 +45,9 @@ words_of (Device name owners) = codes "device" ∷ name ∷ codes "only" ∷ own
 words_of (Shared name owners) = codes "shared" ∷ name ∷ codes "only" ∷ owners
 words_of (Service name owners) = codes "service" ∷ name ∷ codes "only" ∷ owners
 words_of (Call compartment export owners) =
-    codes "call" ∷ dotted compartment export ∷ codes "only" ∷ owners
+    codes "call" ∷ export_name compartment export ∷ codes "only" ∷ owners
 words_of (Disabled owners) = codes "disabled" ∷ codes "only" ∷ owners
-words_of (Data compartment export) = codes "data" ∷ dotted compartment export ∷ []
+words_of (Data compartment export) = codes "data" ∷ export_name compartment export ∷ []
 words_of (Total n) = codes "quota" ∷ total ∷ decimal n ∷ []
 words_of (Quota owner n) = codes "quota" ∷ owner ∷ decimal n ∷ []
 words_of (Apart owner compartment) = codes "apart" ∷ owner ∷ compartment ∷ []

@@ -1,8 +1,7 @@
 -- The words of the command line.
-use Rattle.std.specs.Prelude.{ℕ, ◌+◌, ◌-◌, ◌*◌, ◌^◌, ◌==◌, List, [], ◌∷◌, length, Bool, true, false, not, ◌&&◌, ◌||◌, nat_le, Option, Some, None, option_map, bytes_eq, codes, if◌then◌else◌}
-use Rattle.std.specs.List.{list_all}
+use Rattle.std.specs.Prelude.{ℕ, ◌==◌, List, [], ◌∷◌, Bool, true, false, Option, Some, None, option_map, bytes_eq, codes, if◌then◌else◌}
+use Rattle.def_digits.specs.Digits.{number_within}
 use Rattle.def_profile.specs.declared.limits.TheConstants.{MOST_STEPS}
-pub use Rattle.def_names.specs.Names.{is_digit}
 use Rattle.def_program.specs.declared.TheConstants.{MOST_NUMBER}
 
 -- the names of files and owners, the limit of a run in steps, and its script where it has one; the
@@ -17,31 +16,20 @@ pub data Command : Type 0 where
   Check : List ℕ → List ℕ → Command
   Demo : ℕ → Command
 
--- ---- a limit: decimal digits without sign or leading zero, of 1 to 4,000,000,000
+-- ---- numbers: decimal digits without sign or leading zero
 
--- the number that decimal digits spell
-abbrev pub value_of : List ℕ → ℕ
-value_of [] = 0
-value_of (c ∷ cs) = (c - 48) * 10 ^ length cs + value_of cs
-
-abbrev pub is_limit : ℕ → List ℕ → Bool
-is_limit c cs = list_all is_digit (c ∷ cs) && not (c == 48) && nat_le (value_of (c ∷ cs)) MOST_STEPS
-
-abbrev pub limit_of : List ℕ → Option ℕ
-limit_of [] = None
-limit_of (c ∷ cs) = if is_limit c cs then Some (value_of (c ∷ cs)) else None
-
--- ---- a number: decimal digits without sign or leading zero, of 0 to 4,294,967,295
-
--- 0 alone begins with 0
-abbrev pub is_number : ℕ → List ℕ → Bool
-is_number c cs =
-    list_all is_digit (c ∷ cs) && (not (c == 48) || length (c ∷ cs) == 1)
-    && nat_le (value_of (c ∷ cs)) MOST_NUMBER
-
+-- a number of 0 to 4,294,967,295
 abbrev pub number_of : List ℕ → Option ℕ
-number_of [] = None
-number_of (c ∷ cs) = if is_number c cs then Some (value_of (c ∷ cs)) else None
+number_of digits = number_within MOST_NUMBER digits
+
+-- none where it is 0
+abbrev pub positive : Option ℕ → Option ℕ
+positive None = None
+positive (Some n) = if n == 0 then None else Some n
+
+-- a limit of 1 to 4,000,000,000
+abbrev pub limit_of : List ℕ → Option ℕ
+limit_of digits = positive (number_within MOST_STEPS digits)
 
 -- ---- forms
 

@@ -5,7 +5,7 @@ use Rattle.def_graph.specs.Reach.{Reached}
 use Rattle.def_graph.specs.Route.{IsPath}
 use Rattle.def_image.specs.Parts.{PartsRow}
 use Rattle.def_boot.specs.Gates.{entries_of}
-pub use Rattle.def_policy.specs.Names.{index_from, compartment_named, library_named, or_library, owner_named, name_of}
+pub use Rattle.def_policy.specs.Names.{compartment_named, library_named, or_library, owner_named, name_of}
 use Rattle.def_program.specs.Lines.{ended}
 
 -- ---- lines

@@ -166,7 +166,8 @@ OfFirst false c bytes files turn = OfDescription c bytes files turn
 -- of a generated firmware: what its description and sources are linked to tells
 abbrev pub OfNumber : Command → ℕ → List (List ℕ) → Turn → Type 0
 OfNumber c number files turn =
-    OfLinked c (rows_of (firmware number)) (linked (rows_of (firmware number)) (generated.sources number)) files turn
+    OfLinked c (rows_of (firmware number))
+    (linked (rows_of (firmware number)) (generated.sources number)) files turn
 
 -- of files: first the command's own is due
 abbrev pub OfFiles : Command → List (List ℕ) → Turn → Type 0

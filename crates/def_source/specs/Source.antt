@@ -2,6 +2,7 @@
 -- A text is a list of lines, a line a row of tokens before its comment, and each statement has one
 -- of the written forms. The answer is the first line's fault, and on it the least number.
 use Rattle.std.specs.Prelude.{◌≡◌, ℕ, ◌+◌, ◌*◌, ◌-◌, ◌%◌, ◌^◌, Bool, true, false, ◌==◌, ◌&&◌, ◌||◌, not, nat_lt, nat_le, if◌then◌else◌, List, [], ◌∷◌, ◌++◌, length, option_and_then, option_map, Option, Some, None, Result, Ok, Err, IsTrue}
+use Rattle.std.specs.Char.{is_ascii_digit}
 use Rattle.std.specs.List.{list_all}
 use Rattle.std.specs.Str.{bytes_eq}
 use Rattle.def_profile.specs.declared.limits.TheConstants.{MOST_BYTES}
@@ -44,17 +45,14 @@ is_mark c = c == 44 || c == 58 || c == 40 || c == 41
 abbrev pub is_inner : ℕ → Bool
 is_inner c = not (is_blank c) && not (is_mark c)
 
-abbrev pub is_digit : ℕ → Bool
-is_digit c = nat_le 48 c && nat_le c 57
-
 abbrev pub is_letter : ℕ → Bool
 is_letter c = (nat_le 65 c && nat_le c 90) || (nat_le 97 c && nat_le c 122) || c == 95
 
 abbrev pub is_name_byte : ℕ → Bool
-is_name_byte c = is_letter c || is_digit c
+is_name_byte c = is_letter c || is_ascii_digit c
 
 abbrev pub is_hexadecimal : ℕ → Bool
-is_hexadecimal c = is_digit c || (nat_le 65 c && nat_le c 70) || (nat_le 97 c && nat_le c 102)
+is_hexadecimal c = is_ascii_digit c || (nat_le 65 c && nat_le c 70) || (nat_le 97 c && nat_le c 102)
 
 abbrev pub digit : ℕ → ℕ
 digit c = if nat_le c 57 then c - 48 else if nat_le c 70 then c - 55 else c - 87
@@ -104,15 +102,15 @@ negative n = record { negative = true; magnitude = n }
 abbrev pub number_of : List ℕ → Option Number
 number_of [] = None
 number_of (c ∷ cs) =
-    if c == 45 then option_map negative (digits_of is_digit 10 (2 ^ 127) cs)
+    if c == 45 then option_map negative (digits_of is_ascii_digit 10 (2 ^ 127) cs)
     else hexadecimal_or_decimal c cs
   where
     hexadecimal_or_decimal : ℕ → List ℕ → Option Number
-    hexadecimal_or_decimal c [] = option_map positive (digits_of is_digit 10 (2 ^ 128 - 1) (c ∷ []))
+    hexadecimal_or_decimal c [] = option_map positive (digits_of is_ascii_digit 10 (2 ^ 128 - 1) (c ∷ []))
     hexadecimal_or_decimal c (d ∷ ds) =
         if c == 48 && d == 120
         then option_map positive (digits_of is_hexadecimal 16 (2 ^ 128 - 1) ds)
-        else option_map positive (digits_of is_digit 10 (2 ^ 128 - 1) (c ∷ d ∷ ds))
+        else option_map positive (digits_of is_ascii_digit 10 (2 ^ 128 - 1) (c ∷ d ∷ ds))
 
 -- the token that a piece is: a mark, a directive word, a name or a number
 abbrev pub token_of : List ℕ → Option (Token Name)

@@ -1,6 +1,7 @@
 -- *Threads and frames*: the switch. Its checks, the room that it gives a callee, and what it comes to.
 use Rattle.std.specs.Prelude.{ℕ, ◌+◌, ◌-◌, ◌*◌, ◌/◌, ◌^◌, ◌==◌, ◌&&◌, ◌++◌, Bool, nat_le, nat_lt, find, length, List, [], ◌∷◌, Option, Some, None, unwrap_or, if◌then◌else◌}
 use Rattle.std.specs.List.{range_with_len}
+use Rattle.std.specs.Int.{is_in_range}
 use Rattle.def_profile.specs.declared.bounds.TheConstants.{LAST_EXPONENT, MOST_UNITS}
 use Rattle.def_profile.specs.declared.seals.TheConstants.{RETURN_DISABLE, RETURN_ENABLE, EXPORT_TYPE}
 use Rattle.ct_entry.specs.Listed.{Listed}
@@ -8,7 +9,7 @@ use Rattle.def_words.specs.declared.Cap.{Cap}
 use Rattle.def_words.specs.declared.Trap.{Trap}
 use Rattle.def_words.specs.Authority.{cap_address, cap_base}
 use Rattle.def_words.specs.Permissions.{has, store_local}
-use Rattle.def_words.specs.Seals.{cap_seal, is_unsealed, is_between}
+use Rattle.def_words.specs.Seals.{cap_seal, is_unsealed}
 use Rattle.def_reach.specs.Roots.{root_of, gate_for}
 use Rattle.def_machine.specs.State.{Thread, Frame, register}
 use Rattle.def_step.specs.Checks.{Check, first_failed}
@@ -21,7 +22,7 @@ use Rattle.def_profile.specs.declared.traps.TheConstants.{TAG_CODE, SEAL_CODE, S
 abbrev pub return_checks : Cap → List Check
 return_checks c =
     (c.tag, capability_trap TAG_CODE 1)
-    ∷ (is_between RETURN_DISABLE RETURN_ENABLE (cap_seal c), capability_trap SEAL_CODE 1)
+    ∷ (is_in_range RETURN_DISABLE RETURN_ENABLE (cap_seal c), capability_trap SEAL_CODE 1)
     ∷ []
 
 -- c6: a call import
@@ -37,7 +38,7 @@ stack_checks base top c =
     (c.tag, capability_trap TAG_CODE 2)
     ∷ (is_unsealed c, capability_trap SEAL_CODE 2)
     ∷ (has c store_local, capability_trap STORE_CODE 2)
-    ∷ ((cap_base c == base) && is_between base top (cap_address c), capability_trap BOUNDS_CODE 2)
+    ∷ ((cap_base c == base) && is_in_range base top (cap_address c), capability_trap BOUNDS_CODE 2)
     ∷ []
 
 abbrev pub switch_checks : ℕ → ℕ → Thread → List Check

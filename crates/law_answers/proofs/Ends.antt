@@ -1,12 +1,12 @@
 -- The smallest image's bytes, cut short or with a byte more.
 use Rattle.std.proofs.Common.{ℕ, suc, ◌≡◌, ◌-◌, ◌<◌, ◌≤◌, ◌&&◌, Bool, true, false, nat_le, List, [], ◌∷◌, ◌++◌, length, take, drop, refl, sym, ap, ◌∙◌, subst, arith, inl, inr}
 use Rattle.std.specs.Prelude.{bytes_eq}
-use Rattle.std.specs.Int.{w32, from_le_bytes}
+use Rattle.std.specs.Int.{w32, from_le_bytes, is_in_range}
 use Rattle.std.proofs.lemmas.List.{take-append-drop, length-take, length-drop}
 use Rattle.std.proofs.lemmas.Slice.Eq.{bytes_eq-Decides}
 use Rattle.law_lists.proofs.Tests.{le_tells, bool_tells}
 use Rattle.def_image.specs.Raw.{RawImage}
-use Rattle.def_image.specs.Profile.{is_within, last_version}
+use Rattle.def_image.specs.Profile.{last_version}
 use Rattle.def_image.specs.Spelling.{magic, raw_of, spelled, image_bytes}
 use Rattle.def_image.specs.Shapes.{IsShaped}
 use Rattle.def_image.specs.Accepted.{is_begun, Spells, FaultAt}
@@ -31,7 +31,7 @@ short n lt =
     let bytes = take n bytes_of_tiny in
     let few = length-take n bytes_of_tiny in
     let less : nat_le 8 (length bytes) ≡ false = elim (le_tells 8 (length bytes)) [ inl h ↦ absurd (let long = h.1 in omega (arith, long, few, lt)) | inr h ↦ h.0 ] in
-    inl (refl, not_long (nat_le 8 (length bytes)) less (bytes_eq (take 4 bytes) magic) (is_within 1 last_version (from_le_bytes w32 (take 4 (drop 4 bytes)))), refl)
+    inl (refl, not_long (nat_le 8 (length bytes)) less (bytes_eq (take 4 bytes) magic) (is_in_range 1 last_version (from_le_bytes w32 (take 4 (drop 4 bytes)))), refl)
 
 -- no fields spell what another spelling goes on from
 cut_apart : (r : RawImage) (bytes more : List ℕ) → Spells r bytes → bytes ++ more ≡ bytes_of_tiny → 0 < length more → ⊥
@@ -51,7 +51,7 @@ begun_after : (k : ℕ) → is_begun (take (suc (suc (suc (suc (suc (suc (suc (s
 unfolding image_bytes raw_of spelled
 begun_after k =
     let bytes = take (suc (suc (suc (suc (suc (suc (suc (suc k)))))))) bytes_of_tiny in
-    all_three (nat_le 8 (length bytes)) (bytes_eq (take 4 bytes) magic) (is_within 1 last_version (from_le_bytes w32 (take 4 (drop 4 bytes)))) (eight (length (drop 8 bytes))) refl refl
+    all_three (nat_le 8 (length bytes)) (bytes_eq (take 4 bytes) magic) (is_in_range 1 last_version (from_le_bytes w32 (take 4 (drop 4 bytes)))) (eight (length (drop 8 bytes))) refl refl
 
 begun_at : (n : ℕ) → 8 ≤ n → is_begun (take n bytes_of_tiny) ≡ true
 begun_at n low =
@@ -97,7 +97,7 @@ other_begin b other =
     let bytes = altered 0 (b ∷ []) in
     inl (
       refl,
-      front_not (nat_le 8 (length bytes)) (bytes_eq (take 4 bytes) magic) (is_within 1 last_version (from_le_bytes w32 (take 4 (drop 4 bytes))))
+      front_not (nat_le 8 (length bytes)) (bytes_eq (take 4 bytes) magic) (is_in_range 1 last_version (from_le_bytes w32 (take 4 (drop 4 bytes))))
           (other_front b (take 3 (drop 1 bytes_of_tiny)) other),
       refl,
     )

@@ -1,13 +1,14 @@
 -- Register jumps: through an unsealed capability anywhere, through a sentry to its own address.
 use Rattle.std.proofs.Common.{ℕ, ◌≡◌, ◌==◌, ◌&&◌, ◌||◌, ◌⊎◌, ◌≤◌, ◌<◌, ◌+◌, ◌*◌, ◌/◌, ◌%◌, ◌^◌, true, false, nat_le, nat_lt, if◌then◌else◌, inl, inr, List, Some, refl, sym, ap, ◌∙◌, subst, arith}
 use Rattle.std.proofs.lemmas.Bool.{eqb-true, eqb-false, leb-true, and_parts}
+use Rattle.std.specs.Int.{is_in_range}
 use Rattle.law_lists.proofs.Tests.{bool_tells, chosen}
 use Rattle.def_words.specs.declared.Cap.{Cap}
 use Rattle.def_words.specs.declared.Shadow.{Shadow}
 use Rattle.def_words.specs.declared.Posture.{Posture}
 use Rattle.def_words.specs.Authority.{cap_address}
 use Rattle.def_words.specs.Permissions.{bit, has, execute}
-use Rattle.def_words.specs.Seals.{cap_seal, posture_through, is_jump_taken, is_unsealed, is_between}
+use Rattle.def_words.specs.Seals.{cap_seal, posture_through, is_jump_taken, is_unsealed}
 use Rattle.def_words.specs.Capability.{with_address}
 use Rattle.def_words.specs.Jumped.{opened, linked}
 use Rattle.def_words.specs.Narrows.{IsOpened}
@@ -107,7 +108,7 @@ goes_there b objects t fs x n parts wired m still = elim (bool_tells (is_native 
 abbrev IsSentryType : ℕ → Type 0
 IsSentryType k = IsReturnType k ⊎ IsForwardType k
 
-return_is : (k : ℕ) → is_between RETURN_DISABLE RETURN_ENABLE k ≡ true → IsReturnType k
+return_is : (k : ℕ) → is_in_range RETURN_DISABLE RETURN_ENABLE k ≡ true → IsReturnType k
 return_is k h =
     let ends = and_parts (nat_le RETURN_DISABLE k) (nat_le k RETURN_ENABLE) h in
     two_ways k (leb-true RETURN_DISABLE k ends.0) (leb-true k RETURN_ENABLE ends.1)
@@ -118,7 +119,7 @@ return_is k h =
       | inr not ↦ inr (omega (arith, low, high, eqb-false k 4 not))
     ]
 
-forward_is : (k : ℕ) → is_between SENTRY_INHERIT SENTRY_ENABLE k ≡ true → IsForwardType k
+forward_is : (k : ℕ) → is_in_range SENTRY_INHERIT SENTRY_ENABLE k ≡ true → IsForwardType k
 forward_is k h =
     let ends = and_parts (nat_le SENTRY_INHERIT k) (nat_le k SENTRY_ENABLE) h in
     three_ways k (leb-true SENTRY_INHERIT k ends.0) (leb-true k SENTRY_ENABLE ends.1)
@@ -132,17 +133,17 @@ forward_is k h =
       ]
     ]
 
-sentry_is : (to at k : ℕ) → (if (to == 0) && (at == 1) then is_between RETURN_DISABLE RETURN_ENABLE k else if to == 1 then is_between SENTRY_INHERIT SENTRY_ENABLE k else (k == SENTRY_INHERIT)) ≡ true → IsSentryType k
-sentry_is to at k = chosen (λ b. b ≡ true → IsSentryType k) ((to == 0) && (at == 1)) (is_between RETURN_DISABLE RETURN_ENABLE k) (if to == 1 then is_between SENTRY_INHERIT SENTRY_ENABLE k else (k == SENTRY_INHERIT))
+sentry_is : (to at k : ℕ) → (if (to == 0) && (at == 1) then is_in_range RETURN_DISABLE RETURN_ENABLE k else if to == 1 then is_in_range SENTRY_INHERIT SENTRY_ENABLE k else (k == SENTRY_INHERIT)) ≡ true → IsSentryType k
+sentry_is to at k = chosen (λ b. b ≡ true → IsSentryType k) ((to == 0) && (at == 1)) (is_in_range RETURN_DISABLE RETURN_ENABLE k) (if to == 1 then is_in_range SENTRY_INHERIT SENTRY_ENABLE k else (k == SENTRY_INHERIT))
     (λ back h. inl (return_is k h))
-    (λ other. chosen (λ b. b ≡ true → IsSentryType k) (to == 1) (is_between SENTRY_INHERIT SENTRY_ENABLE k) (k == SENTRY_INHERIT)
+    (λ other. chosen (λ b. b ≡ true → IsSentryType k) (to == 1) (is_in_range SENTRY_INHERIT SENTRY_ENABLE k) (k == SENTRY_INHERIT)
     (λ call h. inr (forward_is k h))
     (λ neither h. inr (inl (eqb-true k SENTRY_INHERIT h))))
 
 taken_is : (to at k : ℕ) → is_jump_taken to at k ≡ true → (k ≡ 0) ⊎ IsSentryType k
 taken_is to at k h = elim (bool_tells (k == 0)) [
   | inl zero_is ↦ inl (eqb-true k 0 zero_is)
-  | inr not_zero ↦ inr (sentry_is to at k (ap (λ b. b || (if (to == 0) && (at == 1) then is_between RETURN_DISABLE RETURN_ENABLE k else if to == 1 then is_between SENTRY_INHERIT SENTRY_ENABLE k else (k == SENTRY_INHERIT))) (sym not_zero) ∙ h))
+  | inr not_zero ↦ inr (sentry_is to at k (ap (λ b. b || (if (to == 0) && (at == 1) then is_in_range RETURN_DISABLE RETURN_ENABLE k else if to == 1 then is_in_range SENTRY_INHERIT SENTRY_ENABLE k else (k == SENTRY_INHERIT))) (sym not_zero) ∙ h))
 ]
 
 -- ---- the posture after it

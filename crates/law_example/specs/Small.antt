@@ -10,14 +10,11 @@ use Rattle.def_words.specs.declared.Cap.{Cap}
 use Rattle.def_words.specs.Derive.{derive, memory_root, executable_root, sealing_root}
 use Rattle.def_memory.specs.declared.Granule.{Granule}
 use Rattle.def_memory.specs.Granules.{plain}
-use Rattle.ct_entry.specs.declared.rows.Owner.{Owner}
 use Rattle.ct_entry.specs.declared.rows.Owner.TheVariants.{Compartment, Library, Thread}
-use Rattle.ct_entry.specs.declared.rows.Kind.{Kind}
 use Rattle.ct_entry.specs.declared.rows.Kind.TheVariants as kinds
 use Rattle.ct_entry.specs.declared.rows.Mode.TheVariants.{Disabled, Enabled}
-use Rattle.ct_entry.specs.declared.rows.Entry.{Entry}
 use Rattle.ct_entry.specs.declared.rows.Gate.{Gate}
-use Rattle.ct_entry.specs.Listed.{Listed}
+use Rattle.ct_entry.specs.Listed.{Listed, row}
 use Rattle.def_machine.specs.Image.{Image, Fixed, Globals, Shared, HeapRam, Stack, Bare}
 
 -- what imports with each letter may do: one of a device, one of a shared object
@@ -26,17 +23,6 @@ device_rights = GL + SD + LD
 
 abbrev pub shared_rights : ℕ
 shared_rights = GL + LG + SD + LM + LD + MC
-
-abbrev pub row : Owner → Kind → ℕ → ℕ → ℕ → ℕ → ℕ → Entry
-row owner kind base length rights of limit = record {
-  owner = owner;
-  kind = kind;
-  base = base;
-  length = length;
-  rights = rights;
-  of = of;
-  limit = limit;
-}
 
 abbrev pub gate : ℕ → ℕ → Gate
 gate entry code = record {
@@ -51,24 +37,24 @@ gate entry code = record {
 -- the library's export disables interrupts; the second compartment's passes capabilities
 abbrev pub entries : Listed
 entries = record {
-  rows = row (Compartment 0) kinds.Code 0x80000000 64 CODE_RIGHTS 0 0
-      ∷ row (Compartment 0) kinds.Globals 0x80000060 16 GLOBALS_RIGHTS 0 0
-      ∷ row (Compartment 0) kinds.Service NATIVE_BASE NATIVE_LENGTH SERVICE_RIGHTS 0 0
-      ∷ row (Compartment 0) kinds.Device 0x10000000 DEVICE_SIZE device_rights 0 0
-      ∷ row (Compartment 0) kinds.Shared 0x800000D0 16 shared_rights 0 0
-      ∷ row (Compartment 0) kinds.Call 0x800000A0 16 EXPORT_RIGHTS 15 0
-      ∷ row (Compartment 0) kinds.Library 0x800000C0 16 CODE_RIGHTS 17 0
-      ∷ row (Compartment 0) kinds.Quota 0x80000028 8 QUOTA_RIGHTS 0 48
-      ∷ row (Compartment 0) kinds.Key FIRST_KEY_TYPE 1 KEY_RIGHTS 0 0
-      ∷ row (Compartment 0) kinds.Export 0x80000050 16 EXPORT_RIGHTS 0 0
-      ∷ row (Compartment 1) kinds.Code 0x80000070 32 CODE_RIGHTS 0 0
-      ∷ row (Compartment 1) kinds.Globals 0x800000B0 16 GLOBALS_RIGHTS 0 0
-      ∷ row (Compartment 1) kinds.Service NATIVE_BASE NATIVE_LENGTH SERVICE_RIGHTS 0 0
-      ∷ row (Compartment 1) kinds.Shared 0x800000D0 16 shared_rights 0 0
-      ∷ row (Compartment 1) kinds.Export 0x800000A0 16 EXPORT_RIGHTS 0 0
-      ∷ row (Library 0) kinds.Code 0x800000C0 16 CODE_RIGHTS 0 0
-      ∷ row (Library 0) kinds.Export 0x800000C0 16 CODE_RIGHTS 0 0
-      ∷ row (Thread 0) kinds.Stack 0x800000E0 32 STACK_RIGHTS 0 0 ∷ [];
+  rows = row (Compartment 0) kinds.Code 0x80000000 64 CODE_RIGHTS 0
+      ∷ row (Compartment 0) kinds.Globals 0x80000060 16 GLOBALS_RIGHTS 0
+      ∷ row (Compartment 0) kinds.Service NATIVE_BASE NATIVE_LENGTH SERVICE_RIGHTS 0
+      ∷ row (Compartment 0) kinds.Device 0x10000000 DEVICE_SIZE device_rights 0
+      ∷ row (Compartment 0) kinds.Shared 0x800000D0 16 shared_rights 0
+      ∷ row (Compartment 0) kinds.Call 0x800000A0 16 EXPORT_RIGHTS 15
+      ∷ row (Compartment 0) kinds.Library 0x800000C0 16 CODE_RIGHTS 17
+      ∷ record (row (Compartment 0) kinds.Quota 0x80000028 8 QUOTA_RIGHTS 0) { limit = 48 }
+      ∷ row (Compartment 0) kinds.Key FIRST_KEY_TYPE 1 KEY_RIGHTS 0
+      ∷ row (Compartment 0) kinds.Export 0x80000050 16 EXPORT_RIGHTS 0
+      ∷ row (Compartment 1) kinds.Code 0x80000070 32 CODE_RIGHTS 0
+      ∷ row (Compartment 1) kinds.Globals 0x800000B0 16 GLOBALS_RIGHTS 0
+      ∷ row (Compartment 1) kinds.Service NATIVE_BASE NATIVE_LENGTH SERVICE_RIGHTS 0
+      ∷ row (Compartment 1) kinds.Shared 0x800000D0 16 shared_rights 0
+      ∷ row (Compartment 1) kinds.Export 0x800000A0 16 EXPORT_RIGHTS 0
+      ∷ row (Library 0) kinds.Code 0x800000C0 16 CODE_RIGHTS 0
+      ∷ row (Library 0) kinds.Export 0x800000C0 16 CODE_RIGHTS 0
+      ∷ row (Thread 0) kinds.Stack 0x800000E0 32 STACK_RIGHTS 0 ∷ [];
   gates =
       gate 10 0x80000038 ∷ record (gate 15 0x80000080) { capabilities = true }
       ∷ record (gate 17 0x800000C0) { posture = Disabled; capabilities = true } ∷ [];

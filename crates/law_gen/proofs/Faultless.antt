@@ -4,6 +4,7 @@ use Rattle.std.specs.Prelude.{nat_le}
 use Rattle.std.specs.List.{list_all, range_with_len}
 use Rattle.std.proofs.lemmas.Bool.{and_from, le-leb, eqb-false}
 use Rattle.std.proofs.lemmas.List.FromFn.{length-map-range_with_len}
+use Rattle.std.specs.Int.{is_in_range}
 use Rattle.serde_json.specs.Data.{Data}
 use Rattle.serde_json.specs.View.{items_of}
 use Rattle.def_profile.specs.declared.limits.TheConstants.{MOST_BYTES}
@@ -14,7 +15,7 @@ use Rattle.def_description.specs.Tables.{members_of, outer_lists, inner_lists, k
 use Rattle.def_description.specs.Walk.{Spot, spot, place, each_from, spots_of}
 use Rattle.def_description.specs.Kinds.{has_kinds, has_only}
 use Rattle.def_description.specs.Names.{is_well_named, no_names, first_twice}
-use Rattle.def_description.specs.Limits.{keeps_limits, is_within}
+use Rattle.def_description.specs.Limits.{keeps_limits}
 use Rattle.def_description.specs.References.{refers_at, rights_fit_at, is_served_at}
 use Rattle.def_description.specs.Addresses.{address_fault}
 use Rattle.def_description.specs.WellFormed.{first_failing, first_fault, fault_of}
@@ -76,7 +77,7 @@ head_limits : (count : ℕ) (cs : List Data) → nat_le (length (list_of (items_
 unfolding members_of
 head_limits count cs h = rw h refl
 
-thread_limits : (count : ℕ) (d : Data) → is_within 1 96 (count + 1) ≡ true → list_all keeps_limits (thread_spots d count) ≡ true
+thread_limits : (count : ℕ) (d : Data) → is_in_range 1 96 (count + 1) ≡ true → list_all keeps_limits (thread_spots d count) ≡ true
 unfolding members_of
 thread_limits count d h = rw h refl
 
@@ -85,7 +86,7 @@ thread_limits count d h = rw h refl
 record Fits (count : ℕ) (globals : ℕ → ℕ) : Type 0 where
   least : 2 ≤ count
   most : count ≤ 64
-  small : (i : ℕ) → is_within 0 MOST_BYTES (globals i) ≡ true
+  small : (i : ℕ) → is_in_range 0 MOST_BYTES (globals i) ≡ true
 
 abbrev over : ℕ → (ℕ → Bool) → (ℕ → ℕ) → Data
 over count passes globals = firmware_over count (list (map (one (is_last count) passes globals) (range_with_len 0 count)))
@@ -123,7 +124,7 @@ limits count passes globals fits =
     ap (λ (l : List Data). nat_le (length l) 64) (list_items cs)
     ∙ ap (λ n. nat_le n 64) (length-map-range_with_len (one (is_last count) passes globals) 0 count)
     ∙ le-leb count 64 most in
-    let frames : is_within 1 96 (count + 1) ≡ true = and_from (nat_le 1 (count + 1)) (nat_le (count + 1) 96) (le-leb 1 (count + 1) (omega arith)) (le-leb (count + 1) 96 (omega arith)) in
+    let frames : is_in_range 1 96 (count + 1) ≡ true = and_from (nat_le 1 (count + 1)) (nat_le (count + 1) 96) (le-leb 1 (count + 1) (omega arith)) (le-leb (count + 1) 96 (omega arith)) in
     spread keeps_limits count cs (head_limits count cs few)
     (all_own keeps_limits (firmware_over count (list cs)) (one (is_last count) passes globals) count (λ i lt. own_limits (firmware_over count (list cs)) (is_last count i) (passes i) (globals i) i (files_fit i (omega arith)) (fits.small i)) 0 count (omega arith))
     (thread_limits count (firmware_over count (list cs)) frames)
@@ -181,7 +182,7 @@ faultless_over count passes globals fits =
     (limits count passes globals fits) (refer count passes globals fits) (rights count passes globals) (served count passes globals)
     (addresses count (list (map (one (is_last count) passes globals) (range_with_len 0 count))))
 
-globals_small : (y : ℕ) → is_within 0 MOST_BYTES (globals_of y) ≡ true
+globals_small : (y : ℕ) → is_in_range 0 MOST_BYTES (globals_of y) ≡ true
 globals_small y =
     let rest : y % 64 < 64 = omega arith in
     and_from (nat_le 0 (globals_of y)) (nat_le (globals_of y) MOST_BYTES) (le-leb 0 (globals_of y) (omega arith)) (le-leb (globals_of y) MOST_BYTES (omega arith))

@@ -5,6 +5,7 @@ use Rattle.std.specs.Str.{bytes_eq}
 use Rattle.std.specs.List.{list_all, flat_map, range_with_len}
 use Rattle.std.proofs.lemmas.Bool.{and_from, or_left, or_right, cases_eq}
 use Rattle.std.proofs.lemmas.Slice.Eq.{bytes_eq-Decides}
+use Rattle.std.specs.Int.{is_in_range}
 use Rattle.serde_json.specs.Data.{Data}
 use Rattle.def_names.specs.Names.{is_name, among}
 use Rattle.def_profile.specs.declared.limits.TheConstants.{MOST_BYTES}
@@ -13,7 +14,7 @@ use Rattle.def_description.specs.Tables.{members_of, inner_lists, kind_of, postu
 use Rattle.def_description.specs.Walk.{spot, place, inside}
 use Rattle.def_description.specs.Kinds.{has_kinds, has_only}
 use Rattle.def_description.specs.Names.{is_well_named}
-use Rattle.def_description.specs.Limits.{keeps_limits, keeps_file, is_within}
+use Rattle.def_description.specs.Limits.{keeps_limits, keeps_file}
 use Rattle.def_description.specs.References.{refers_at, rights_fit_at, is_served_at, exports_in, exports_at}
 use Rattle.def_gen.specs.Description.{compartment_with, compartment_name, file_name, entry_name, firmware_over, list}
 use Rattle.law_gen.proofs.Lists.{front, own_spots, list_items}
@@ -39,7 +40,7 @@ own_named d true false globals i h = and_from (is_name (compartment_name i)) tru
 own_named d false true globals i h = and_from (is_name (compartment_name i)) true h refl
 own_named d false false globals i h = and_from (is_name (compartment_name i)) true h refl
 
-limits_kept : (d : Data) (last passes : Bool) (globals i : ℕ) → keeps_file (Some (file_name i)) ≡ true → is_within 0 MOST_BYTES globals ≡ true → keeps_limits (spot (place part.Compartment i 0) d (compartment_with last passes globals i)) ≡ true
+limits_kept : (d : Data) (last passes : Bool) (globals i : ℕ) → keeps_file (Some (file_name i)) ≡ true → is_in_range 0 MOST_BYTES globals ≡ true → keeps_limits (spot (place part.Compartment i 0) d (compartment_with last passes globals i)) ≡ true
 unfolding members_of
 limits_kept d true true globals i hf hg = rw (hf, hg) refl
 limits_kept d true false globals i hf hg = rw (hf, hg) refl
@@ -53,7 +54,7 @@ inside_kept true false globals i = refl
 inside_kept false true globals i = refl
 inside_kept false false globals i = refl
 
-pub own_limits : (d : Data) (last passes : Bool) (globals i : ℕ) → keeps_file (Some (file_name i)) ≡ true → is_within 0 MOST_BYTES globals ≡ true → list_all keeps_limits (own_spots d i (compartment_with last passes globals i)) ≡ true
+pub own_limits : (d : Data) (last passes : Bool) (globals i : ℕ) → keeps_file (Some (file_name i)) ≡ true → is_in_range 0 MOST_BYTES globals ≡ true → list_all keeps_limits (own_spots d i (compartment_with last passes globals i)) ≡ true
 own_limits d last passes globals i hf hg =
     front keeps_limits (spot (place part.Compartment i 0) d (compartment_with last passes globals i)) (inside (compartment_with last passes globals i) i (inner_lists part.Compartment))
     (limits_kept d last passes globals i hf hg) (inside_kept last passes globals i)

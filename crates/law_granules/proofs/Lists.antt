@@ -1,10 +1,10 @@
 -- Accesses to a list of granules.
-use Rattle.std.proofs.Common.{ℕ, zero, suc, ◌≡◌, ◌+◌, ◌*◌, ◌/◌, ◌%◌, ◌^◌, ◌<◌, ◌≤◌, ◌⊎◌, inl, inr, Bool, true, false, ◌&&◌, nat_le, nat_lt, List, [], ◌∷◌, length, refl, sym, ap, ◌∙◌, arith, subst}
+use Rattle.std.proofs.Common.{ℕ, zero, suc, ◌≡◌, ◌+◌, ◌*◌, ◌/◌, ◌%◌, ◌^◌, ◌<◌, ◌≤◌, ◌⊎◌, inl, inr, Bool, true, false, List, [], ◌∷◌, length, refl, sym, ap, ◌∙◌, arith, subst}
 use Rattle.std.proofs.Math.ListN.{set}
 use Rattle.std.proofs.lemmas.Bool.{cases_eq}
 use Rattle.std.proofs.lemmas.List.{get_or-set_same, get_or-set_other, set_comm, ext_get_or}
 use Rattle.law_lists.proofs.Sets.{after_set_at}
-use Rattle.law_lists.proofs.Tests.{lt_tells, le_tells}
+use Rattle.law_lists.proofs.Tests.{lt_tells, chosen_in}
 use Rattle.def_words.specs.declared.Cap.{Cap}
 use Rattle.def_memory.specs.declared.Granule.{Granule}
 use Rattle.def_memory.specs.Granules.{plain, nothing, granule_at, blank}
@@ -116,14 +116,7 @@ zeroed_at from to place [] k P in_it out_of = elim (lt_tells (place + 8 * k) fro
   | inr e ↦ elim (lt_tells (place + 8 * k) to) [ inl f ↦ in_it e.1 f.1 | inr f ↦ out_of (inr f.1) ]
 ]
 zeroed_at from to place (g ∷ gs) zero P in_it out_of =
-    let none : place + 8 * zero ≡ place = omega arith in
-    elim (le_tells from place) [
-      | inl e ↦ elim (lt_tells place to) [
-        | inl f ↦ let test : (nat_le from place && nat_lt place to) ≡ true = rw (e.0, f.0) refl in rw test (in_it (omega (arith, e.1)) (omega (arith, f.1)))
-        | inr f ↦ let test : (nat_le from place && nat_lt place to) ≡ false = rw (e.0, f.0) refl in rw test (out_of (inr (omega (arith, f.1))))
-      ]
-      | inr e ↦ let test : (nat_le from place && nat_lt place to) ≡ false = rw e.0 refl in rw test (out_of (inl (omega (arith, e.1))))
-    ]
+    chosen_in P from to place (blank g) g (λ a b. in_it (omega (arith, a)) (omega (arith, b))) (λ o. out_of (elim o [ inl a ↦ inl (omega (arith, a)) | inr b ↦ inr (omega (arith, b)) ]))
 zeroed_at from to place (g ∷ gs) (suc k) P in_it out_of =
     zeroed_at from to (place + 8) gs k P (λ a b. in_it (omega (arith, a)) (omega (arith, b))) (λ o. out_of (elim o [ inl a ↦ inl (omega (arith, a)) | inr b ↦ inr (omega (arith, b)) ]))
 
@@ -148,14 +141,7 @@ pub marked_at : (from to : ℕ) (on : Bool) (place : ℕ) (gs : List Granule) (k
     → P (granule_at (marked_from from to on place gs) k)
 marked_at from to on place [] k P lt in_it out_of = absurd (omega (arith, lt))
 marked_at from to on place (g ∷ gs) zero P lt in_it out_of =
-    let none : place + 8 * zero ≡ place = omega arith in
-    elim (le_tells from place) [
-      | inl e ↦ elim (lt_tells place to) [
-        | inl f ↦ let test : (nat_le from place && nat_lt place to) ≡ true = rw (e.0, f.0) refl in rw test (in_it (omega (arith, e.1)) (omega (arith, f.1)))
-        | inr f ↦ let test : (nat_le from place && nat_lt place to) ≡ false = rw (e.0, f.0) refl in rw test (out_of (inr (omega (arith, f.1))))
-      ]
-      | inr e ↦ let test : (nat_le from place && nat_lt place to) ≡ false = rw e.0 refl in rw test (out_of (inl (omega (arith, e.1))))
-    ]
+    chosen_in P from to place (record g { mark = on }) g (λ a b. in_it (omega (arith, a)) (omega (arith, b))) (λ o. out_of (elim o [ inl a ↦ inl (omega (arith, a)) | inr b ↦ inr (omega (arith, b)) ]))
 marked_at from to on place (g ∷ gs) (suc k) P lt in_it out_of =
     marked_at from to on (place + 8) gs k P (omega (arith, lt)) (λ a b. in_it (omega (arith, a)) (omega (arith, b))) (λ o. out_of (elim o [ inl a ↦ inl (omega (arith, a)) | inr b ↦ inr (omega (arith, b)) ]))
 

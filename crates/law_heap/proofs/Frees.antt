@@ -2,7 +2,7 @@
 use Rattle.std.proofs.Common.{ℕ, zero, suc, ◌≡◌, ◌+◌, ◌-◌, ◌*◌, ◌≤◌, ◌<◌, ◌⊎◌, inl, inr, ◌&&◌, true, false, nat_le, nat_lt, List, [], ◌∷◌, map, Some, refl, sym, ap, ◌∙◌, subst, arith}
 use Rattle.std.proofs.Math.ListN.{get_or}
 use Rattle.law_lists.proofs.Sets.{after_set_at, after_set_split}
-use Rattle.law_lists.proofs.Tests.{chosen, lt_tells, le_tells}
+use Rattle.law_lists.proofs.Tests.{chosen, chosen_in}
 use Rattle.law_granules.proofs.Lists.{zeroed_at, zeroed_length, marked_at, marked_length}
 use Rattle.def_words.specs.declared.Cap.{Cap}
 use Rattle.def_memory.specs.declared.Granule.{Granule}
@@ -33,13 +33,9 @@ marked_cap from to place (g ∷ gs) (suc k) = marked_cap from to (place + 8) gs 
 -- what is marked lies in the range, or was
 marked_mark : (from to place : ℕ) (gs : List Granule) (k : ℕ) → (granule_at (marked_from from to true place gs) k).mark ≡ true → ((from ≤ place + 8 * k) × (place + 8 * k < to)) ⊎ ((granule_at gs k).mark ≡ true)
 marked_mark from to place [] k h = inr h
-marked_mark from to place (g ∷ gs) zero h = elim (le_tells from place) [
-  | inl a ↦ elim (lt_tells place to) [
-    | inl b ↦ inl (omega (arith, a.1), omega (arith, b.1))
-    | inr b ↦ inr (let none : (nat_le from place && nat_lt place to) ≡ false = rw (a.0, b.0) refl in rw none at h)
-  ]
-  | inr a ↦ inr (let none : (nat_le from place && nat_lt place to) ≡ false = rw a.0 refl in rw none at h)
-]
+marked_mark from to place (g ∷ gs) zero h =
+    chosen_in (λ (z : Granule). z.mark ≡ true → ((from ≤ place + 8 * zero) × (place + 8 * zero < to)) ⊎ (g.mark ≡ true)) from to place (record g { mark = true }) g
+    (λ a b marked. inl (omega (arith, a), omega (arith, b))) (λ o marked. inr marked) h
 marked_mark from to place (g ∷ gs) (suc k) h = elim (marked_mark from to (place + 8) gs k h) [ inl a ↦ inl (omega (arith, a.0), omega (arith, a.1)) | inr b ↦ inr b ]
 
 -- and stays marked

@@ -1,10 +1,10 @@
 -- Bytes have one answer: an image, or one fault at one place.
 use Rattle.std.proofs.Common.{ℕ, suc, ◌≡◌, ◌<◌, ◌^◌, ◌⊎◌, inl, inr, Bool, true, false, nat_le, List, length, take, drop, Option, Some, None, refl, sym, ap, ◌∙◌, subst, arith}
 use Rattle.std.specs.Prelude.{bytes_eq, ◌&&◌}
-use Rattle.std.specs.Int.{w32, from_le_bytes}
+use Rattle.std.specs.Int.{w32, from_le_bytes, is_in_range}
 use Rattle.def_image.specs.Raw.{RawImage}
 use Rattle.def_image.specs.Parts.{PartsRow}
-use Rattle.def_image.specs.Profile.{is_within, last_version}
+use Rattle.def_image.specs.Profile.{last_version}
 use Rattle.def_image.specs.Spelling.{magic, number, spelled, raw_of, image_bytes}
 use Rattle.def_image.specs.Checks.{first}
 use Rattle.def_image.specs.Limits.{limit_checks}
@@ -26,13 +26,13 @@ eight n = elim (le_tells 8 (suc (suc (suc (suc (suc (suc (suc (suc n))))))))) [ 
 pub all_three : (a b c : Bool) → a ≡ true → b ≡ true → c ≡ true → (a && b && c) ≡ true
 all_three a b c e f g = rw (e, f, g) refl
 
-begun : (r : RawImage) → r.version < 2 ^ 32 → is_within 1 last_version r.version ≡ true → is_begun (spelled r) ≡ true
+begun : (r : RawImage) → r.version < 2 ^ 32 → is_in_range 1 last_version r.version ≡ true → is_begun (spelled r) ≡ true
 unfolding spelled
 begun r small within =
     let bytes = spelled r in
     let version : from_le_bytes w32 (take 4 (drop 4 bytes)) ≡ r.version = number_back r.version small in
     let long : nat_le 8 (length bytes) ≡ true = eight (length (drop 8 bytes)) in
-    all_three (nat_le 8 (length bytes)) (bytes_eq (take 4 bytes) magic) (is_within 1 last_version (from_le_bytes w32 (take 4 (drop 4 bytes)))) long refl (ap (is_within 1 last_version) version ∙ within)
+    all_three (nat_le 8 (length bytes)) (bytes_eq (take 4 bytes) magic) (is_in_range 1 last_version (from_le_bytes w32 (take 4 (drop 4 bytes)))) long refl (ap (is_in_range 1 last_version) version ∙ within)
 
 -- ---- what each answer says of the fields and parts
 

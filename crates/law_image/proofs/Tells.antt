@@ -1,8 +1,9 @@
 -- From tests to facts.
 use Rattle.std.proofs.Common.{ℕ, zero, suc, ◌≡◌, ◌<◌, ◌≤◌, ◌||◌, not, Bool, true, false, nat_le, nat_lt, nat_eq, List, [], ◌∷◌, take, Some, slice_get, sym, ◌∙◌, subst, arith, inl, inr}
 use Rattle.std.specs.List.{list_any}
+use Rattle.std.specs.Int.{is_in_range}
 use Rattle.law_lists.proofs.Tests.{le_tells, lt_tells, eq_tells, both_left, both_right}
-use Rattle.def_image.specs.Profile.{is_within, outside}
+use Rattle.def_image.specs.Profile.{outside}
 use Rattle.def_image.specs.Sound.{IsWithin}
 
 pub le_is : (a b : ℕ) → nat_le a b ≡ true → a ≤ b
@@ -47,7 +48,7 @@ or_right false b e = e
 
 pub within_is : (low high n : ℕ) → outside low high n ≡ false → IsWithin low high n
 within_is low high n e =
-    let both : is_within low high n ≡ true = not_false (is_within low high n) e in
+    let both : is_in_range low high n ≡ true = not_false (is_in_range low high n) e in
     (le_is low n (both_left (nat_le low n) (nat_le n high) both), le_is n high (both_right (nat_le low n) (nat_le n high) both))
 
 pub any_not : {A : Type 0} (f : A → Bool) (xs : List A) (i : ℕ) (x : A) → list_any f xs ≡ false → slice_get xs i ≡ Some x → f x ≡ false

@@ -3,17 +3,10 @@ use Rattle.std.proofs.Common.{ℕ, zero, suc, ◌≡◌, ◌+◌, ◌-◌, ◌<�
 use Rattle.std.specs.List.{AllByRecursion, Contains, flat_map, range_with_len}
 use Rattle.std.proofs.lemmas.Bool.{both_ways, cases_eq}
 use Rattle.std.proofs.lemmas.List.Elements.{Contains-append_left, Contains-append_right}
+use Rattle.law_lists.proofs.Alls.{all_joined, all_so}
 use Rattle.ct_entry.specs.Listed.{Listed}
 use Rattle.def_lines.specs.Edges.{are_joined, edge_of, edges_from, edges}
 use Rattle.law_lines.specs.Listing.{Precedes, IsAscending}
-
-all_append : {A : Type 0} (P : A → Type 0) (xs ys : List A) → AllByRecursion P xs → AllByRecursion P ys → AllByRecursion P (xs ++ ys)
-all_append P [] ys a b = b
-all_append P (x ∷ xs) ys a b = (a.0, all_append P xs ys a.1 b)
-
-all_map : {A : Type 0} (P Q : A → Type 0) (xs : List A) → ((x : A) → P x → Q x) → AllByRecursion P xs → AllByRecursion Q xs
-all_map P Q [] f h = tt
-all_map P Q (x ∷ xs) f h = (f x h.0, all_map P Q xs f h.1)
 
 takes : {A : Type 0} (P : A → Type 0) (xs : List A) (x : A) (k : ℕ) → k < length xs → slice_index_or xs k x ≡ x → AllByRecursion P xs → P x
 takes P [] x k lt is h = absurd (omega (arith, lt))
@@ -22,7 +15,7 @@ takes P (y ∷ ys) x (suc k) lt is h = takes P ys x k (omega (arith, lt)) is h.1
 
 asc_append : (xs ys : List (ℕ × ℕ)) → IsAscending xs → IsAscending ys → AllByRecursion (λ x. AllByRecursion (Precedes x) ys) xs → IsAscending (xs ++ ys)
 asc_append [] ys a b h = b
-asc_append (x ∷ xs) ys a b h = (all_append (Precedes x) xs ys a.0 h.0, asc_append xs ys a.1 b h.1)
+asc_append (x ∷ xs) ys a b h = (all_joined (Precedes x) xs ys a.0 h.0, asc_append xs ys a.1 b h.1)
 
 -- ---- the edges from one compartment, to those of a range
 
@@ -36,14 +29,14 @@ one_in e a b k false h = tt
 row_in : (e : Listed) (a b k : ℕ) → AllByRecursion (InRow e a b k) (flat_map (edge_of e a) (range_with_len b k))
 row_in e a b zero = tt
 row_in e a b (suc k) =
-    all_append (InRow e a b (suc k)) (edge_of e a b) (flat_map (edge_of e a) (range_with_len (b + 1) k))
+    all_joined (InRow e a b (suc k)) (edge_of e a b) (flat_map (edge_of e a) (range_with_len (b + 1) k))
     (one_in e a b (suc k) (are_joined e a b) (λ t. (refl, omega arith, omega arith, t)))
-    (all_map (InRow e a (b + 1) k) (InRow e a b (suc k)) (flat_map (edge_of e a) (range_with_len (b + 1) k)) (λ x h. let low = h.1 in let high = h.2 in (h.0, omega (arith, low), omega (arith, high), h.3)) (row_in e a (b + 1) k))
+    (all_so (InRow e a (b + 1) k) (InRow e a b (suc k)) (flat_map (edge_of e a) (range_with_len (b + 1) k)) (λ x h. let low = h.1 in let high = h.2 in (h.0, omega (arith, low), omega (arith, high), h.3)) (row_in e a (b + 1) k))
 
 one_first : (e : Listed) (a b k : ℕ) (t : Bool) (rest : List (ℕ × ℕ)) → AllByRecursion (InRow e a (b + 1) k) rest → IsAscending rest → IsAscending (cond t ((a, b) ∷ []) [] ++ rest)
 one_first e a b k false rest in_row asc = asc
 one_first e a b k true rest in_row asc =
-    (all_map (InRow e a (b + 1) k) (Precedes (a, b)) rest (λ x h. let low = h.1 in inr (sym h.0, omega (arith, low))) in_row, asc)
+    (all_so (InRow e a (b + 1) k) (Precedes (a, b)) rest (λ x h. let low = h.1 in inr (sym h.0, omega (arith, low))) in_row, asc)
 
 row_asc : (e : Listed) (a b k : ℕ) → IsAscending (flat_map (edge_of e a) (range_with_len b k))
 row_asc e a b zero = tt
@@ -78,17 +71,17 @@ from_row e n a k x h =
 all_in : (e : Listed) (n a k : ℕ) → AllByRecursion (InAll e n a k) (flat_map (edges_from e n) (range_with_len a k))
 all_in e n a zero = tt
 all_in e n a (suc k) =
-    all_append (InAll e n a (suc k)) (edges_from e n a) (flat_map (edges_from e n) (range_with_len (a + 1) k))
-    (all_map (InRow e a (a + 1) (n - (a + 1))) (InAll e n a (suc k)) (edges_from e n a) (from_row e n a k) (row_in e a (a + 1) (n - (a + 1))))
-    (all_map (InAll e n (a + 1) k) (InAll e n a (suc k)) (flat_map (edges_from e n) (range_with_len (a + 1) k)) (λ x h. let low = h.0 in let high = h.1 in (omega (arith, low), omega (arith, high), h.2, h.3, h.4)) (all_in e n (a + 1) k))
+    all_joined (InAll e n a (suc k)) (edges_from e n a) (flat_map (edges_from e n) (range_with_len (a + 1) k))
+    (all_so (InRow e a (a + 1) (n - (a + 1))) (InAll e n a (suc k)) (edges_from e n a) (from_row e n a k) (row_in e a (a + 1) (n - (a + 1))))
+    (all_so (InAll e n (a + 1) k) (InAll e n a (suc k)) (flat_map (edges_from e n) (range_with_len (a + 1) k)) (λ x h. let low = h.0 in let high = h.1 in (omega (arith, low), omega (arith, high), h.2, h.3, h.4)) (all_in e n (a + 1) k))
 
 all_asc : (e : Listed) (n a k : ℕ) → IsAscending (flat_map (edges_from e n) (range_with_len a k))
 all_asc e n a zero = tt
 all_asc e n a (suc k) =
     let rest : List (ℕ × ℕ) = flat_map (edges_from e n) (range_with_len (a + 1) k) in
     asc_append (edges_from e n a) rest (row_asc e a (a + 1) (n - (a + 1))) (all_asc e n (a + 1) k)
-    (all_map (InRow e a (a + 1) (n - (a + 1))) (λ x. AllByRecursion (Precedes x) rest) (edges_from e n a)
-    (λ x h. let same = h.0 in all_map (InAll e n (a + 1) k) (Precedes x) rest (λ y g. let low = g.0 in inl (omega (arith, same, low))) (all_in e n (a + 1) k))
+    (all_so (InRow e a (a + 1) (n - (a + 1))) (λ x. AllByRecursion (Precedes x) rest) (edges_from e n a)
+    (λ x h. let same = h.0 in all_so (InAll e n (a + 1) k) (Precedes x) rest (λ y g. let low = g.0 in inl (omega (arith, same, low))) (all_in e n (a + 1) k))
     (row_in e a (a + 1) (n - (a + 1))))
 
 all_has : (e : Listed) (n i j a k : ℕ) → a ≤ i → i < a + k → i < j → j < n → are_joined e i j ≡ true → Contains (flat_map (edges_from e n) (range_with_len a k)) (i, j)

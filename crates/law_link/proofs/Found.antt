@@ -1,5 +1,5 @@
 -- Where names stand: an index below the list's length, and an export of an owner.
-use Rattle.std.proofs.Common.{ℕ, zero, suc, ◌≡◌, ◌+◌, ◌<◌, Bool, true, false, cond, nat_lt, List, [], ◌∷◌, length, map, Some, None, slice_get, refl, sym, ap, ◌∙◌, subst, arith, inl, inr}
+use Rattle.std.proofs.Common.{ℕ, zero, suc, ◌≡◌, ◌+◌, ◌<◌, Bool, true, false, not, cond, nat_lt, List, [], ◌∷◌, length, map, Some, None, slice_get, refl, sym, ap, ◌∙◌, subst, arith, inl, inr}
 use Rattle.std.specs.Prelude.{bytes_eq, option_map}
 use Rattle.std.proofs.lemmas.Option.{slice_get-map}
 use Rattle.std.proofs.lemmas.List.{length-map}
@@ -20,11 +20,11 @@ index_from name [] i is = absurd (let no : None ≡ Some name = is in cc)
 index_from name (n ∷ ns) zero is =
     let same : n ≡ name = cc in
     let yes : bytes_eq name n ≡ true = (bytes_eq-Decides name n).1 (sym same) in
-    let none : index_of name (n ∷ ns) ≡ 0 = ap (λ b. cond b 0 (index_of name ns + 1)) yes in
+    let none : index_of name (n ∷ ns) ≡ 0 = ap (λ b. cond (not b) (1 + index_of name ns) 0) yes in
     rw none (omega arith)
 index_from name (n ∷ ns) (suc i) is = by (bytes_eq name n) (index_from name ns i is)
   where
-    by : (b : Bool) → index_of name ns < length ns → cond b 0 (index_of name ns + 1) < suc (length ns)
+    by : (b : Bool) → index_of name ns < length ns → cond (not b) (1 + index_of name ns) 0 < suc (length ns)
     by true lt = omega arith
     by false lt = omega (arith, lt)
 

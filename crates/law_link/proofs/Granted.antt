@@ -3,6 +3,7 @@ use Rattle.std.proofs.Common.{ℕ, ◌≡◌, ◌+◌, ◌*◌, ◌&&◌, ◌||�
 use Rattle.std.specs.Prelude.{bytes_eq, unwrap_or}
 use Rattle.std.specs.List.{AllByRecursion}
 use Rattle.std.proofs.lemmas.Slice.Eq.{bytes_eq-Decides}
+use Rattle.law_lists.proofs.Alls.{all_joined, all_mapped, all_so}
 use Rattle.def_names.specs.Names.{among}
 use Rattle.def_layout.specs.Placement.{placed, last_end}
 use Rattle.def_image.specs.declared.SlotKind.TheVariants as kind
@@ -24,7 +25,7 @@ use Rattle.def_description.specs.Lawful.{IsLawfulImport, IsLawfulCompartment}
 use Rattle.def_link.specs.Slots.{granted, claimed, slot, target_row, form_row, import_slot, quota_slot, key_slot, compartment_slots, library_slots}
 use Rattle.def_link.specs.Linked.{sizes_of, compartment_parts, compartment_entries, library_parts, parts_of}
 use Rattle.law_link.specs.Links.{Links}
-use Rattle.law_link.proofs.Walks.{joined_none, one_none, walk_all, all_joined, all_mapped, all_so}
+use Rattle.law_link.proofs.Walks.{joined_none, one_none, walk_all}
 use Rattle.law_link.proofs.Linkeds.{parts, GoodCompartment, GoodLibrary, compartments_good, libraries_good, compartments_all, libraries_all}
 
 -- a slot has rights of its kind

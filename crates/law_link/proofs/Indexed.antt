@@ -4,6 +4,7 @@ use Rattle.std.specs.Prelude.{codes, unwrap_or}
 use Rattle.std.specs.List.{AllByRecursion, list_any}
 use Rattle.std.proofs.lemmas.List.{length-map}
 use Rattle.std.proofs.lemmas.Bool.{lt-ltb, le-ltb, ne_eqb}
+use Rattle.law_lists.proofs.Alls.{all_joined, all_mapped, all_so}
 use Rattle.def_layout.specs.declared.Region.{Region}
 use Rattle.def_layout.specs.Placement.{placed, last_end}
 use Rattle.def_image.specs.declared.ImportRow.{ImportRow as SlotImport}
@@ -24,7 +25,7 @@ use Rattle.def_link.specs.Owners.{numbered}
 use Rattle.def_link.specs.Slots.{index_of, slot, switch_row, claimed, target_row, form_row, import_slot, quota_slot, key_slot, compartment_slots, library_slots, Exporter, called, lent, export_gate, lexport_gate}
 use Rattle.def_link.specs.Linked.{sizes_of, BuiltCompartment, BuiltLibrary, compartment_parts, compartment_entries, library_parts, library_entries, shared_parts, sealed_parts, thread_parts, parts_of}
 use Rattle.law_link.specs.Links.{Links}
-use Rattle.law_link.proofs.Walks.{joined_none, next_none, one_none, walk_all, walk_holding, walk_joined, all_joined, all_mapped, all_so}
+use Rattle.law_link.proofs.Walks.{joined_none, next_none, one_none, walk_all, walk_holding, walk_joined}
 use Rattle.law_link.proofs.Linkeds.{Parts, parts, GoodCompartment, GoodLibrary, compartments_good, libraries_good, compartments_all, libraries_all}
 use Rattle.law_link.proofs.Found.{exporter_of, library_exporter_of, index_less, call_found, lent_found}
 

@@ -2,6 +2,7 @@
 use Rattle.std.proofs.Common.{ℕ, ◌≡◌, ◌+◌, ◌≤◌, true, false, cond, nat_lt, List, [], ◌∷◌, ◌++◌, length, map, take, drop, refl, sym, ap, ◌∙◌, subst, inl, inr}
 use Rattle.std.specs.Prelude.{⊤, Result, Ok, Err}
 use Rattle.std.specs.List.{AllByRecursion}
+use Rattle.law_lists.proofs.Alls.{all_unmapped}
 use Rattle.law_lists.proofs.Tests.{lt_tells}
 use Rattle.def_layout.specs.declared.Region.{Region}
 use Rattle.def_layout.specs.Placement.{placed, last_end, needed}
@@ -12,7 +13,6 @@ use Rattle.def_link.specs.declared.LinkFault.{LinkFault}
 use Rattle.def_link.specs.declared.LinkFault.TheVariants as fault
 use Rattle.def_link.specs.Owners.{Unit as OwnerUnit, Built, compartment_unit, library_unit, numbered, units_of, unit_built, with_front, source_for, rest_of, all_built}
 use Rattle.def_link.specs.Linked.{BuiltCompartment, BuiltLibrary, compartments_with, libraries_with, sizes_of, compartment_part, compartment_parts, compartment_entries, library_part, library_parts, library_entries, parts_of, laid_with, linked_with, linked}
-use Rattle.law_link.proofs.Walks.{all_unmapped}
 
 -- ---- owners one after another
 

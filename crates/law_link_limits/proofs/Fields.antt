@@ -2,19 +2,21 @@
 use Rattle.std.proofs.Common.{ℕ, zero, suc, ◌≡◌, ◌+◌, ◌-◌, ◌<◌, ◌≤◌, ◌&&◌, ◌||◌, not, Bool, true, false, cond, nat_le, nat_lt, nat_eq, List, [], ◌∷◌, ◌++◌, length, drop, Some, None, slice_get, refl, sym, ap, ◌∙◌, subst, append_assoc, append-nil, arith, inl, inr}
 use Rattle.std.proofs.lemmas.List.{length-append}
 use Rattle.std.specs.Prelude.{⊤, bytes_eq}
+use Rattle.std.specs.Char.{is_ascii_digit}
 use Rattle.std.specs.List.{AllByRecursion, list_all}
 use Rattle.std.proofs.lemmas.Slice.Eq.{bytes_eq-Decides}
 use Rattle.std.proofs.lemmas.Bool.{le-leb, leb-true, ltb-true, eqb-true}
 use Rattle.std.proofs.Math.Seq.{drop_at}
+use Rattle.law_lists.proofs.Alls.{all_joined}
 use Rattle.law_lists.proofs.Tests.{eq_tells, both_left, both_right}
-use Rattle.def_names.specs.Names.{is_name, is_name_byte, is_lower, is_digit, among}
+use Rattle.def_names.specs.Names.{is_name, is_name_byte, is_lower, among}
 use Rattle.def_image.specs.Spelling.{zeros, name_field, padding_after}
 use Rattle.def_image.specs.Shapes.{IsField}
 use Rattle.def_image.specs.Profile.{outside}
 use Rattle.def_image.specs.Sound.{IsWithin}
 use Rattle.def_image.specs.Checks.{first, check}
 use Rattle.def_image.specs.Limits.{name_of, are_zeros, name_checks}
-use Rattle.law_link.proofs.Walks.{next_none, one_none, all_joined, still_there}
+use Rattle.law_link.proofs.Walks.{next_none, one_none, still_there}
 
 -- ---- tests
 
@@ -24,12 +26,12 @@ inside low high n w = rw (le-leb low n w.0, le-leb n high w.1) refl
 -- ---- bytes of a name
 
 byte_small : (b : ℕ) → is_name_byte b ≡ true → (0 < b) × (b < 256)
-byte_small b e = by (is_lower b) (is_digit b) refl refl e
+byte_small b e = by (is_lower b) (is_ascii_digit b) refl refl e
   where
     in_range : (low high : ℕ) → (nat_le low b && nat_le b high) ≡ true → (low ≤ b) × (b ≤ high)
     in_range low high h = (leb-true low b (both_left (nat_le low b) (nat_le b high) h), leb-true b high (both_right (nat_le low b) (nat_le b high) h))
 
-    by : (x y : Bool) → is_lower b ≡ x → is_digit b ≡ y → (x || y || nat_eq b 95) ≡ true → (0 < b) × (b < 256)
+    by : (x y : Bool) → is_lower b ≡ x → is_ascii_digit b ≡ y → (x || y || nat_eq b 95) ≡ true → (0 < b) × (b < 256)
     by true y lower digit h = let r = in_range 97 122 lower in let low = r.0 in let high = r.1 in (omega (arith, low), omega (arith, high))
     by false true lower digit h = let r = in_range 48 57 digit in let low = r.0 in let high = r.1 in (omega (arith, low), omega (arith, high))
     by false false lower digit h = let is = eqb-true b 95 h in (omega (arith, is), omega (arith, is))

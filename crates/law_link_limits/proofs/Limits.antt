@@ -3,6 +3,7 @@ use Rattle.std.proofs.Common.{ℕ, suc, ◌≡◌, ◌+◌, ◌*◌, ◌%◌, �
 use Rattle.std.specs.List.{AllByRecursion}
 use Rattle.std.proofs.lemmas.List.{length-map}
 use Rattle.std.proofs.lemmas.Bool.{le-ltb, eq-eqb}
+use Rattle.law_lists.proofs.Alls.{all_left, all_right, all_unmapped}
 use Rattle.def_profile.specs.declared.limits.TheConstants.{RAM_END}
 use Rattle.ct_entry.specs.Listed.{DeviceRow}
 use Rattle.def_profile.specs.Versions as version
@@ -24,7 +25,7 @@ use Rattle.def_description.specs.Named as rows
 use Rattle.def_description.specs.Lawful.{IsLawful}
 use Rattle.def_link.specs.Linked.{BuiltCompartment, BuiltLibrary, library_code_size, sizes_of, compartment_parts, compartment_entries, library_parts, library_entries, shared_parts, sealed_parts, thread_parts, parts_of}
 use Rattle.law_link.specs.Links.{Links}
-use Rattle.law_link.proofs.Walks.{joined_none, next_none, all_unmapped}
+use Rattle.law_link.proofs.Walks.{joined_none, next_none}
 use Rattle.law_link.proofs.Linkeds.{parts, GoodCompartment, GoodLibrary, compartments_good, libraries_good}
 use Rattle.law_link.proofs.Indexed.{shared_length, sealed_length}
 use Rattle.law_link_regions.proofs.Lying.{Ends, ends, shared_sizes, sealed_sizes, stack_sizes, trusted_size}
@@ -208,14 +209,6 @@ record Named (d : DescRow) : Type 0 where
   pub c_new : New [] (map (λ (c : CompartmentRow). c.name) d.compartments)
   pub l_new : New (map (λ (c : CompartmentRow). c.name) d.compartments) (map (λ (l : LibraryRow). l.name) d.libraries)
   pub t_new : New (map (λ (c : CompartmentRow). c.name) d.compartments ++ map (λ (l : LibraryRow). l.name) d.libraries) (map (λ (t : ThreadRow). t.name) d.threads)
-
-all_left : {A : Type 0} (P : A → Type 0) (xs ys : List A) → AllByRecursion P (xs ++ ys) → AllByRecursion P xs
-all_left P [] ys h = tt
-all_left P (x ∷ xs) ys h = (h.0, all_left P xs ys h.1)
-
-all_right : {A : Type 0} (P : A → Type 0) (xs ys : List A) → AllByRecursion P (xs ++ ys) → AllByRecursion P ys
-all_right P [] ys h = h
-all_right P (x ∷ xs) ys h = all_right P xs ys h.1
 
 named_rows : (d : DescRow) → IsLawful d → Named d
 named_rows d law =

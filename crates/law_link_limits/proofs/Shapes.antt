@@ -1,6 +1,7 @@
 -- What is linked has a spelling: its fields are as long as the format has them, its numbers of 32 bits.
 use Rattle.std.proofs.Common.{ℕ, ◌≡◌, ◌^◌, ◌<◌, ◌≤◌, Bool, true, false, List, [], ◌∷◌, ◌++◌, map, refl, arith}
 use Rattle.std.specs.List.{AllByRecursion}
+use Rattle.law_lists.proofs.Alls.{all_joined}
 use Rattle.ct_entry.specs.Listed.{DeviceRow}
 use Rattle.ct_entry.specs.declared.hardware.DeviceKind.{DeviceKind}
 use Rattle.ct_entry.specs.declared.hardware.DeviceKind.TheVariants.{Uart, Timer, Gpio}
@@ -15,7 +16,6 @@ use Rattle.def_image.specs.Spelling.{number, kind_byte, posture_byte, passes_byt
 use Rattle.def_image.specs.Shapes.{IsEntry, IsDevice, SpellableSlot, SpellableGate}
 use Rattle.law_link_limits.proofs.Fields.{name_is, name_is_field}
 use Rattle.law_link_limits.proofs.Rows.{SlotGood, GateGood}
-use Rattle.law_link.proofs.Walks.{all_joined}
 
 -- the bytes of a number
 number_bytes : (n : ℕ) → AllByRecursion (λ b. b < 256) (number n)

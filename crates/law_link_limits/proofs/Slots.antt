@@ -7,6 +7,7 @@ use Rattle.std.proofs.lemmas.List.{length-append, length-map, map-append}
 use Rattle.std.proofs.lemmas.Option.{slice_get_within}
 use Rattle.std.proofs.lemmas.Slice.Eq.{bytes_eq-Decides}
 use Rattle.std.proofs.lemmas.Bool.{le-ltb}
+use Rattle.law_lists.proofs.Alls.{all_joined, all_mapped, all_so}
 use Rattle.law_lists.proofs.Tests.{le_tells}
 use Rattle.ct_entry.specs.Listed.{DeviceRow}
 use Rattle.def_words.specs.Permissions.{bit, set_where, form_of, packed}
@@ -27,7 +28,6 @@ use Rattle.def_description.specs.Lawful.{IsCall, IsLent, Resolves, IsLawful, IsL
 use Rattle.def_link.specs.Slots.{Exporter, granted, claimed, slot, switch_row, target_row, form_row, import_slot, quota_slot, key_slot, compartment_slots, library_slots, compartment_exporters, library_exporters, called, lent}
 use Rattle.law_link.proofs.Granted.{one_of}
 use Rattle.law_link.proofs.Found.{exporter_of, library_exporter_of, index_less, call_found, lent_found}
-use Rattle.law_link.proofs.Walks.{all_joined, all_mapped, all_so}
 use Rattle.law_link_limits.proofs.Fields.{inside, New, all_new}
 use Rattle.law_link_limits.proofs.Rows.{SlotSized, SlotGood}
 

@@ -3,6 +3,8 @@ use Rattle.std.proofs.Common.{ℕ, ◌≡◌, ◌+◌, ◌*◌, ◌^◌, ◌<◌
 use Rattle.std.specs.List.{AllByRecursion}
 use Rattle.std.proofs.lemmas.List.{length-map}
 use Rattle.std.proofs.lemmas.Bool.{le-leb}
+use Rattle.std.specs.Int.{is_in_range}
+use Rattle.law_lists.proofs.Alls.{all_so}
 use Rattle.law_lists.proofs.Tests.{eq_tells}
 use Rattle.ct_entry.specs.Listed.{DeviceRow}
 use Rattle.def_names.specs.Names.{is_name}
@@ -17,7 +19,7 @@ use Rattle.def_image.specs.Sizes.{sum_of, compartments_at, libraries_at, shared_
 use Rattle.def_image.specs.declared.format.TheConstants.{SHARED, THREAD}
 use Rattle.def_image.specs.Shapes.{IsEntry, IsShared, IsSealed, IsCode, IsCompartment, IsThread, IsShaped, Clean, SpellableCode, IsSpellable}
 use Rattle.def_image.specs.Regions.{RegionRow, shared_regions, sealed_regions, compartment_regions, library_regions, stack_regions}
-use Rattle.def_image.specs.Profile.{is_within, last_version}
+use Rattle.def_image.specs.Profile.{last_version}
 use Rattle.def_image.specs.Checks.{first}
 use Rattle.def_image.specs.Limits as lim
 use Rattle.def_image.specs.Limits.{compartment_bounds, library_bounds}
@@ -28,7 +30,6 @@ use Rattle.def_description.specs.Rows.{ThreadRow, DescRow}
 use Rattle.def_description.specs.Lawful.{IsLawful, IsLawfulDevice, IsLawfulThread}
 use Rattle.def_link.specs.Linked.{sizes_of, thread_parts, parts_of}
 use Rattle.law_link.specs.Links.{Links}
-use Rattle.law_link.proofs.Walks.{all_so}
 use Rattle.law_link.proofs.Linkeds.{Parts, parts, compartments_good, libraries_good}
 use Rattle.law_link.proofs.Granted.{rights_pass}
 use Rattle.law_link.proofs.Indexed.{indexes_pass}
@@ -294,12 +295,12 @@ spellable_parts d sources p h =
     let q = parts_of d s.cs s.ls (placed d.ram.base (sizes_of d s.cs s.ls)) (last_end d.ram.base (sizes_of d s.cs s.ls)) in
     subst IsSpellable (sym s.parts) (spellable q (parts_good d s.cs s.ls law s.rows s.library_rows cs ls e) (stretches d s.cs s.ls law cs ls e) (bounded d p law s))
 
-version_taken : (d : DescRow) (sources : List (List ℕ)) (p : PartsRow) → Links d sources p → is_within 1 last_version p.version ≡ true
+version_taken : (d : DescRow) (sources : List (List ℕ)) (p : PartsRow) → Links d sources p → is_in_range 1 last_version p.version ≡ true
 unfolding parts_of
 version_taken d sources p h =
     let s = parts d sources p h.linked in
     let v = h.lawful.version in
-    subst (λ (q : PartsRow). is_within 1 last_version q.version ≡ true) (sym s.parts) (ap₂ (λ a b. a && b) (le-leb 1 d.version v.0) (le-leb d.version last_version v.1))
+    subst (λ (q : PartsRow). is_in_range 1 last_version q.version ≡ true) (sym s.parts) (ap₂ (λ a b. a && b) (le-leb 1 d.version v.0) (le-leb d.version last_version v.1))
 
 pub faultless : (d : DescRow) (sources : List (List ℕ)) (p : PartsRow) → Links d sources p → IsFaultless p
 faultless d sources p h = record {

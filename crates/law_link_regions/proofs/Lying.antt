@@ -4,6 +4,7 @@ use Rattle.std.specs.List.{AllByRecursion, list_any}
 use Rattle.std.proofs.lemmas.List.{length-append, length-map}
 use Rattle.std.proofs.lemmas.Bool.{le-leb, le-ltb, eq-eqb}
 use Rattle.ct_entry.specs.Listed.{DeviceRow}
+use Rattle.law_lists.proofs.Alls.{all_joined, all_so}
 use Rattle.law_lists.proofs.Tests.{lt_tells}
 use Rattle.def_layout.specs.Placement.{region, region_length, region_base, placed, last_end}
 use Rattle.def_image.specs.declared.format.TheConstants.{DEVICE}
@@ -24,7 +25,7 @@ use Rattle.def_link.specs.Owners.{compartment_unit, library_unit}
 use Rattle.def_link.specs.Linked.{BuiltCompartment, BuiltLibrary, library_code_size, compartment_sizes, area_size, sizes_of, base_at, compartment_parts, compartment_entries, library_parts, shared_parts, sealed_parts, thread_parts, parts_of}
 use Rattle.law_image.proofs.Members.{all_at}
 use Rattle.law_link.specs.Links.{Links}
-use Rattle.law_link.proofs.Walks.{joined_none, next_none, one_none, walk_each, walk_joined, all_joined, all_so}
+use Rattle.law_link.proofs.Walks.{joined_none, next_none, one_none, walk_each, walk_joined}
 use Rattle.law_link.proofs.Linkeds.{Parts, parts, GoodCompartment, GoodLibrary, compartments_good, libraries_good}
 use Rattle.law_link_regions.proofs.Builts.{unit_sound}
 use Rattle.law_link_regions.proofs.Orders.{third_false, fourth_false, last_joined, left_after, last_base, Stands, stands, Between, grows, all_from, all_to, clear_after, clear_before, clear_joined, laid_so, stretch_passes}

@@ -2,6 +2,7 @@
 use Rattle.std.proofs.Common.{ℕ, ◌≡◌, ◌+◌, ◌%◌, ◌≤◌, ◌&&◌, ◌||◌, not, Bool, true, false, nat_lt, List, [], ◌∷◌, ◌++◌, length, drop, get_or, refl, sym, ap, ap₂, subst, arith, ◌⊎◌, inl, inr, None}
 use Rattle.std.specs.List.{AllByRecursion, list_any}
 use Rattle.std.proofs.lemmas.Bool.{le-leb, le-ltb, eq-eqb}
+use Rattle.law_lists.proofs.Alls.{all_joined}
 use Rattle.def_words.specs.LeastBounds.{rounded_of}
 use Rattle.def_layout.specs.declared.Region.{Region}
 use Rattle.def_layout.specs.Placement.{region_length, region_base, placed, last_end}
@@ -11,7 +12,7 @@ use Rattle.def_image.specs.Parts.{PartsRow}
 use Rattle.def_image.specs.Regions.{Holder, RegionRow, region, trusted_region}
 use Rattle.def_image.specs.Checks.{first, walked}
 use Rattle.def_image.specs.Lying.{meets_region, is_laid, is_laid_below, region_asked}
-use Rattle.law_link.proofs.Walks.{joined_none, one_none, all_joined}
+use Rattle.law_link.proofs.Walks.{joined_none, one_none}
 
 -- ---- tests
 

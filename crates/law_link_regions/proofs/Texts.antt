@@ -4,6 +4,7 @@ use Rattle.std.proofs.lemmas.List.{length-append, length-replicate}
 use Rattle.std.specs.Prelude.{Ok, replicate}
 use Rattle.std.specs.List.{AllByRecursion, flat_map}
 use Rattle.def_profile.specs.declared.limits.TheConstants.{MOST_BYTES}
+use Rattle.law_lists.proofs.Alls.{all_joined}
 use Rattle.law_lists.proofs.Tests.{lt_tells, both_left, both_right}
 use Rattle.def_instr.specs.declared.Instr.{Instr}
 use Rattle.def_instr.specs.declared.Instr.TheVariants as instr
@@ -17,7 +18,6 @@ use Rattle.def_source.specs.Source.{Name, Statements, in_section, numbers_fit, r
 use Rattle.def_object.specs.declared.Place.{Place}
 use Rattle.def_object.specs.declared.Fault.{Fault}
 use Rattle.def_object.specs.Object.{Labels, size_at, offset, advanced, start, label_in, size_fault, reference_fault, statement_fault, on_line, lesser, is_least, fault_from, fault_in, number_word, is_short, upper_part, rest_part, padding, same_section, instructions_at, word_bytes, instruction_bytes, bytes_at, section_bytes, bytes_from, text_of, initial_of}
-use Rattle.law_link.proofs.Walks.{all_joined}
 
 Bytes : List ℕ → Type 0
 Bytes bs = AllByRecursion (λ b. b < 256) bs

@@ -24,3 +24,13 @@ both_right x y h = (and_parts x y h).1
 pub chosen : {A : Type 0} (P : A → Type 0) (b : Bool) (x y : A) → (b ≡ true → P x) → (b ≡ false → P y) → P (cond b x y)
 chosen P true x y yes_case no_case = yes_case refl
 chosen P false x y yes_case no_case = no_case refl
+
+-- the same of a choice that goes by a range: from the one number on, below the other
+pub chosen_in : {A : Type 0} (P : A → Type 0) (from to n : ℕ) (x y : A) → (from ≤ n → n < to → P x) → ((n < from) ⊎ (to ≤ n) → P y) → P (cond (nat_le from n && nat_lt n to) x y)
+chosen_in P from to n x y inside outside = elim (le_tells from n) [
+  | inl e ↦ elim (lt_tells n to) [
+    | inl f ↦ let test : (nat_le from n && nat_lt n to) ≡ true = rw (e.0, f.0) refl in rw test (inside e.1 f.1)
+    | inr f ↦ let test : (nat_le from n && nat_lt n to) ≡ false = rw (e.0, f.0) refl in rw test (outside (inr f.1))
+  ]
+  | inr e ↦ let test : (nat_le from n && nat_lt n to) ≡ false = rw e.0 refl in rw test (outside (inl e.1))
+]

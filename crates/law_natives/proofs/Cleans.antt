@@ -4,33 +4,27 @@ use Rattle.std.proofs.lemmas.List.{get_or_past, get_or-set_same}
 use Rattle.def_profile.specs.declared.answers.TheConstants.{UNWOUND}
 use Rattle.law_lists.proofs.Tests.{lt_tells}
 use Rattle.ct_entry.specs.declared.acts.Act.TheVariants.{Call}
-use Rattle.ct_entry.specs.declared.rows.Owner.TheVariants.{Compartment}
-use Rattle.ct_entry.specs.declared.rows.Kind.TheVariants as kind
 use Rattle.def_words.specs.declared.Cap.{Cap}
 use Rattle.def_words.specs.Authority.{cap_address}
 use Rattle.def_words.specs.Capability.{with_address}
 use Rattle.def_words.specs.Jumped.{opened}
 use Rattle.def_memory.specs.Granules.{plain}
-use Rattle.def_reach.specs.Roots.{Listing, compartment_of, gate_for}
+use Rattle.def_reach.specs.Roots.{gate_for}
 use Rattle.def_machine.specs.Image.{Image, root, made_cap, code_entry, globals_entry, stack_top}
 use Rattle.def_machine.specs.State.{State, Thread, Frame, thread, register, nobody}
 use Rattle.def_machine.specs.Memory.{filtered}
 use Rattle.def_words.specs.Seals.{cap_seal, posture_through}
 use Rattle.def_machine.specs.Frames.{switched, entered, answer, left_by, returned, unwound, posture_of_call}
-use Rattle.def_confined.specs.Capabilities.{Rooted}
-use Rattle.def_confined.specs.Confined.{FramesHold}
 use Rattle.def_confined.specs.Keeps.{Keeps}
 use Rattle.def_confined.specs.Partitioned.{Partitioned}
-use Rattle.def_step.specs.Switch.{called, frame_top}
+use Rattle.def_step.specs.Switch.{called}
 use Rattle.def_step.specs.Routines.{Leaves, switch}
-use Rattle.law_jumps.proofs.Moves.{in_rooted}
-use Rattle.law_memory.proofs.Authorities.{headed}
 use Rattle.law_calls.proofs.Cleans.{entry_plain, left_plain, answer_plain, stack_zero}
 use Rattle.law_calls.specs.Cleans.{IsGiven, IsSaved}
 use Rattle.def_facts.specs.Facts.{Facts}
 use Rattle.law_natives.proofs.Calling.{code_tagged, globals_tagged, sentry_tagged, stack_tagged}
 use Rattle.law_natives.specs.Clean.{CleanEntry, CleanReturn, StackZero, high_of, given_to}
-use Rattle.law_natives.proofs.Switching.{callee_of, entered_state, switch_told, checks_say}
+use Rattle.law_natives.proofs.Switching.{callee_of, entered_state, switch_told, checks_say, caller_of}
 
 -- ---- a thread that changed
 
@@ -60,19 +54,11 @@ pub enters_clean : (i : Image) (s after : State) (t entry export : ℕ) → Part
 enters_clean i s after t entry export parts facts k runs e plain_one =
     let told = switch_told i s after t entry export e in
     let says = checks_say i s t told.passes in
-    let h = k.confined in
-    let head = headed i s.objects t (thread s t).frames (register (thread s t) 1) (k.confined.registers t 1) says.return_tagged in
-    let frames : (thread s t).frames ≡ head.0 ∷ head.1.0 = head.1.1 in
-    let holds : FramesHold i s.objects t (head.0 ∷ head.1.0) = subst (λ (fs : List Frame). FramesHold i s.objects t fs) frames (k.confined.frames t) in
-    let gate : Rooted i (register (thread s t) 6) = in_rooted i s.objects t (thread s t).frames (register (thread s t) 6) (k.confined.registers t 6) says.gate_tagged in
-    let call_is : (root i (register (thread s t) 6).shadow.root).origin ≡ Listing kind.Call = gate.calls says.gate_sealed in
-    let owner = (facts.called (register (thread s t) 6).shadow.root call_is).owner_is in
-    let owner_is : (root i (root i (register (thread s t) 6).shadow.root).of).owner ≡ Compartment owner.0 = owner.1 in
-    let callee : owner.0 ≡ callee_of i (called i.entries (thread s t)) = ap compartment_of (sym owner_is) in
-    let below : cap_address (register (thread s t) 2) ≤ stack_top i t = (let top : frame_top (thread s t).frames ≡ head.0.top = ap frame_top frames in let high = holds.0.high in let under = says.stack_high in omega (arith, top, high, under)) in
-    let code_there : (given_to i s t (called i.entries (thread s t))).pcc.tag ≡ true = subst (λ b. (with_address (made_cap i (code_entry i b)) (gate_for i.entries.gates (called i.entries (thread s t))).code).tag ≡ true) callee (code_tagged i (register (thread s t) 6).shadow.root owner.0 facts call_is owner_is) in
-    let globals_there : (given_to i s t (called i.entries (thread s t))).globals.tag ≡ true = subst (λ b. (made_cap i (globals_entry i b)).tag ≡ true) callee (globals_tagged i (root i (register (thread s t) 6).shadow.root).of owner.0 parts facts owner_is) in
-    let stack_there : (given_to i s t (called i.entries (thread s t))).stack.tag ≡ true = stack_tagged i t (cap_address (register (thread s t) 2)) (register (thread s t) 2).shadow parts facts holds.0.stack says.stack_low below in
+    let caller = caller_of i s t facts k.confined says in
+    let below : cap_address (register (thread s t) 2) ≤ stack_top i t = (let top = caller.top in let high = caller.holds.0.high in let under = says.stack_high in omega (arith, top, high, under)) in
+    let code_there : (given_to i s t (called i.entries (thread s t))).pcc.tag ≡ true = subst (λ b. (with_address (made_cap i (code_entry i b)) (gate_for i.entries.gates (called i.entries (thread s t))).code).tag ≡ true) caller.callee_is (code_tagged i (register (thread s t) 6).shadow.root caller.callee facts caller.call_is caller.owner_is) in
+    let globals_there : (given_to i s t (called i.entries (thread s t))).globals.tag ≡ true = subst (λ b. (made_cap i (globals_entry i b)).tag ≡ true) caller.callee_is (globals_tagged i (root i (register (thread s t) 6).shadow.root).of caller.callee parts facts caller.owner_is) in
+    let stack_there : (given_to i s t (called i.entries (thread s t))).stack.tag ≡ true = stack_tagged i t (cap_address (register (thread s t) 2)) (register (thread s t) 2).shadow parts facts caller.holds.0.stack says.stack_low below in
     let same : called i.entries (thread s t) ≡ export = sym told.export_is in
     let fresh : Enters i s t export after (entered i (thread s t) (callee_of i export) export (high_of i s t) (given_to i s t export)) = (
       (subst (λ x. (given_to i s t x).pcc.tag ≡ true) same code_there, refl),
@@ -81,7 +67,7 @@ enters_clean i s after t entry export parts facts k runs e plain_one =
       refl,
     ) in
     let there : thread (entered_state i s t export) t ≡ entered i (thread s t) (callee_of i export) export (high_of i s t) (given_to i s t export) =
-    switched_thread i s t (high_of i s t) (entered i (thread s t) (callee_of i export) export (high_of i s t) (given_to i s t export)) s.running head.0 head.1.0 frames in
+    switched_thread i s t (high_of i s t) (entered i (thread s t) (callee_of i export) export (high_of i s t) (given_to i s t export)) s.running caller.frame caller.below caller.frames in
     subst (CleanEntry i s t export) (sym told.after_is) (clean_of (entered_state i s t export) (subst (Enters i s t export after) (sym there) fresh)
     (λ j low high. stack_zero i s t (high_of i s t) (entered i (thread s t) (callee_of i export) export (high_of i s t) (given_to i s t export)) s.running j low high))
   where

@@ -7,20 +7,17 @@ use Rattle.std.proofs.lemmas.Nat.{pow-add}
 use Rattle.std.proofs.lemmas.Bool.{eqb-false}
 use Rattle.law_lists.proofs.Tests.{chosen}
 use Rattle.ct_entry.specs.declared.rows.Owner.TheVariants.{Compartment}
-use Rattle.ct_entry.specs.declared.rows.Kind.TheVariants as kind
 use Rattle.def_words.specs.declared.Trap.{Trap}
 use Rattle.def_words.specs.Authority.{cap_address}
 use Rattle.def_words.specs.Capability.{integer}
 use Rattle.def_words.specs.Seals.{cap_seal}
-use Rattle.def_reach.specs.Roots.{Listing, compartment_of, gate_for}
+use Rattle.def_reach.specs.Roots.{gate_for}
 use Rattle.def_sched.specs.declared.Status.{Status}
 use Rattle.def_sched.specs.declared.Status.TheVariants.{Ready, Sleeping, Ended}
 use Rattle.def_sched.specs.Statuses.{asleep}
 use Rattle.def_machine.specs.Image.{Image, root, stack_entry, stack_base, frames_most}
 use Rattle.def_machine.specs.State.{State, Thread, Frame, thread, register}
 use Rattle.def_machine.specs.Frames.{given}
-use Rattle.def_confined.specs.Capabilities.{Rooted}
-use Rattle.def_confined.specs.Confined.{FramesHold}
 use Rattle.def_confined.specs.Keeps.{Keeps}
 use Rattle.def_confined.specs.Partitioned.{Partitioned}
 use Rattle.def_facts.specs.Facts.{Facts}
@@ -34,13 +31,11 @@ use Rattle.def_step.specs.Checks.{first_failed}
 use Rattle.def_step.specs.Switch.{Switched, TooDeep, NoStack, Enters, return_checks, switch_checks, room_exponent, room_of, called, with_room, past_checks, frame_top}
 use Rattle.def_step.specs.Routines.{tells, code, switched_to, switch, stops, yield, sleep}
 use Rattle.law_registers.proofs.Moves.{untagged_puts}
-use Rattle.law_jumps.proofs.Moves.{in_rooted}
-use Rattle.law_memory.proofs.Authorities.{headed}
 use Rattle.law_made.proofs.Entering.{given_enters}
 use Rattle.law_moves.proofs.Threads.{push_keeps}
 use Rattle.law_natives.specs.Clean.{high_of}
 use Rattle.law_natives.specs.Stands.{Stands}
-use Rattle.law_natives.proofs.Switching.{callee_of, checks_say}
+use Rattle.law_natives.proofs.Switching.{callee_of, checks_say, caller_of}
 use Rattle.law_natives.proofs.Answering.{Returning, return_says, return_tells, failed_tells, checked_stands, answers_keeps, stops_keeps}
 
 -- ---- the room of a callee's stack
@@ -109,26 +104,19 @@ switch_stands i s t parts facts k runs = by_failed (first_failed (switch_checks 
     entering : first_failed (switch_checks (stack_base i t) (frame_top (thread s t).frames) (thread s t)) ≡ None → (length (thread s t).frames ≡ frames_most i t → ⊥) → Stands i s t (switched_to i s t (Enters (called i.entries (thread s t)) (high_of i s t)))
     entering none room =
         let says = checks_say i s t none in
-        let head = headed i s.objects t (thread s t).frames (register (thread s t) 1) (k.confined.registers t 1) says.return_tagged in
-        let frames : (thread s t).frames ≡ head.0 ∷ head.1.0 = head.1.1 in
-        let holds : FramesHold i s.objects t (head.0 ∷ head.1.0) = subst (λ (fs : List Frame). FramesHold i s.objects t fs) frames (k.confined.frames t) in
-        let gate : Rooted i (register (thread s t) 6) = in_rooted i s.objects t (thread s t).frames (register (thread s t) 6) (k.confined.registers t 6) says.gate_tagged in
-        let call_is : (root i (register (thread s t) 6).shadow.root).origin ≡ Listing kind.Call = gate.calls says.gate_sealed in
-        let owner = (facts.called (register (thread s t) 6).shadow.root call_is).owner_is in
-        let owner_is : (root i (called i.entries (thread s t))).owner ≡ Compartment owner.0 = owner.1 in
-        let callee : (root i (called i.entries (thread s t))).owner ≡ Compartment (callee_of i (called i.entries (thread s t))) = owner_is ∙ ap (λ b. Compartment b) (ap compartment_of (sym owner_is)) in
-        let even : high_of i s t % 16 ≡ 0 = (let base = (facts.stacks (stack_entry i t) holds.0.stack).even in let more = room_even (cap_address (register (thread s t) 2) - stack_base i t) in omega (arith, base, more)) in
+        let caller = caller_of i s t facts k.confined says in
+        let callee : (root i (called i.entries (thread s t))).owner ≡ Compartment (callee_of i (called i.entries (thread s t))) = caller.owner_is ∙ ap (λ b. Compartment b) caller.callee_is in
+        let even : high_of i s t % 16 ≡ 0 = (let base = (facts.stacks (stack_entry i t) caller.holds.0.stack).even in let more = room_even (cap_address (register (thread s t) 2) - stack_base i t) in omega (arith, base, more)) in
         let within = room_within (cap_address (register (thread s t) 2) - stack_base i t) in
-        let top : frame_top (thread s t).frames ≡ head.0.top = ap frame_top frames in
-        let under : high_of i s t ≤ head.0.top = (let low = says.stack_low in let high = says.stack_high in omega (arith, within, top, low, high)) in (
-          push_keeps i s t head.0 head.1.0 (callee_of i (called i.entries (thread s t))) (called i.entries (thread s t)) (high_of i s t)
+        let under : high_of i s t ≤ caller.frame.top = (let top = caller.top in let low = says.stack_low in let high = says.stack_high in omega (arith, within, top, low, high)) in (
+          push_keeps i s t caller.frame caller.below (callee_of i (called i.entries (thread s t))) (called i.entries (thread s t)) (high_of i s t)
               (given i (thread s t) t (callee_of i (called i.entries (thread s t))) (called i.entries (thread s t)) (high_of i s t)) parts k
               (record {
-                enters = given_enters i s t head.0 head.1.0 (callee_of i (called i.entries (thread s t))) (called i.entries (thread s t)) (high_of i s t) parts k.confined
+                enters = given_enters i s t caller.frame caller.below (callee_of i (called i.entries (thread s t))) (called i.entries (thread s t)) (high_of i s t) parts k.confined
                     (record {
                       call = record {
                         running = runs;
-                        caller = frames;
+                        caller = caller.frames;
                         return_tagged = says.return_tagged;
                         return_sealed = says.return_sealed;
                         gate_tagged = says.gate_tagged;
@@ -144,7 +132,7 @@ switch_stands i s t parts facts k runs = by_failed (first_failed (switch_checks 
                     });
                 room = (let deep = k.beside.bounded.deep t in omega (arith, deep, room));
               }),
-          licensed head.0 head.1.0 frames says.gate_tagged says.gate_sealed,
+          licensed caller.frame caller.below caller.frames says.gate_tagged says.gate_sealed,
         )
 
     by_failed : (o : Option Trap) → first_failed (switch_checks (stack_base i t) (frame_top (thread s t).frames) (thread s t)) ≡ o → Stands i s t (switched_to i s t (past_checks i.entries (stack_base i t) (frames_most i t) (thread s t) o))

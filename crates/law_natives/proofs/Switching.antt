@@ -1,23 +1,30 @@
 -- What the switch comes to where it tells a call: its checks passed, and it entered the export.
-use Rattle.std.proofs.Common.{ℕ, ◌≡◌, ◌-◌, ◌==◌, ◌≤◌, true, inl, inr, nat_le, nat_lt, length, Option, Some, None, refl, sym, ap, ◌∙◌, subst, arith}
+use Rattle.std.proofs.Common.{ℕ, ◌≡◌, ◌-◌, ◌==◌, ◌≤◌, true, inl, inr, nat_le, nat_lt, List, ◌∷◌, length, Option, Some, None, refl, sym, ap, ◌∙◌, subst, arith}
 use Rattle.std.proofs.lemmas.Bool.{eqb-true, eqb-false, leb-true, and_parts, cases_eq}
+use Rattle.std.specs.Int.{is_in_range}
 use Rattle.law_lists.proofs.Tests.{chosen}
 use Rattle.ct_entry.specs.declared.acts.Act.{Act}
 use Rattle.ct_entry.specs.declared.acts.Act.TheVariants.{Call}
+use Rattle.ct_entry.specs.declared.rows.Owner.TheVariants.{Compartment}
+use Rattle.ct_entry.specs.declared.rows.Kind.TheVariants as kind
 use Rattle.def_words.specs.declared.Cap.{Cap}
 use Rattle.def_words.specs.declared.Trap.{Trap}
 use Rattle.def_words.specs.Authority.{cap_address, cap_base}
 use Rattle.def_words.specs.Permissions.{has, store_local}
-use Rattle.def_words.specs.Seals.{cap_seal, is_between}
-use Rattle.def_reach.specs.Roots.{compartment_of, gate_for}
+use Rattle.def_words.specs.Seals.{cap_seal}
+use Rattle.def_reach.specs.Roots.{Listing, compartment_of, gate_for}
 use Rattle.def_machine.specs.Image.{Image, root, stack_base, frames_most}
-use Rattle.def_machine.specs.State.{State, thread, register}
+use Rattle.def_machine.specs.State.{State, Frame, thread, register}
 use Rattle.def_machine.specs.Frames.{switched, given, entered}
-use Rattle.def_confined.specs.Capabilities.{IsReturnType}
+use Rattle.def_confined.specs.Capabilities.{IsReturnType, Rooted}
+use Rattle.def_confined.specs.Confined.{Confined, FramesHold}
+use Rattle.def_facts.specs.Facts.{Facts}
 use Rattle.def_step.specs.Checks.{first_failed}
 use Rattle.def_step.specs.Switch.{Switched, TooDeep, NoStack, Enters, switch_checks, called, with_room, past_checks, frame_top}
 use Rattle.def_step.specs.Routines.{Ran, Traps, Leaves, tells, code, enters, switched_to, switch}
 use Rattle.law_licensed.proofs.Checks.{AllPass, all_pass}
+use Rattle.law_jumps.proofs.Moves.{in_rooted}
+use Rattle.law_memory.proofs.Authorities.{headed}
 use Rattle.law_natives.specs.Clean.{high_of}
 
 abbrev pub callee_of : Image → ℕ → ℕ
@@ -107,14 +114,14 @@ pub record Passed (i : Image) (s : State) (t : ℕ) : Type 0 where
 four_from : (k : ℕ) → 4 ≤ k → k ≤ 5 → IsReturnType k
 four_from k low high = elim (cases_eq k 4) [ inl e ↦ inl e | inr n ↦ inr (omega (arith, low, high, n)) ]
 
-pub four_or_five : (k : ℕ) → is_between 4 5 k ≡ true → IsReturnType k
+pub four_or_five : (k : ℕ) → is_in_range 4 5 k ≡ true → IsReturnType k
 four_or_five k h = let ends = and_parts (nat_le 4 k) (nat_le k 5) h in four_from k (leb-true 4 k ends.0) (leb-true k 5 ends.1)
 
 pub checks_say : (i : Image) (s : State) (t : ℕ) → first_failed (switch_checks (stack_base i t) (frame_top (thread s t).frames) (thread s t)) ≡ None → Passed i s t
 checks_say i s t none =
     let all : AllPass (switch_checks (stack_base i t) (frame_top (thread s t).frames) (thread s t)) = all_pass (switch_checks (stack_base i t) (frame_top (thread s t).frames) (thread s t)) none in
     let stack = all.1.1.1.1 in
-    let range = and_parts (cap_base (register (thread s t) 2) == stack_base i t) (is_between (stack_base i t) (frame_top (thread s t).frames) (cap_address (register (thread s t) 2))) stack.1.1.1.0 in
+    let range = and_parts (cap_base (register (thread s t) 2) == stack_base i t) (is_in_range (stack_base i t) (frame_top (thread s t).frames) (cap_address (register (thread s t) 2))) stack.1.1.1.0 in
     let ends = and_parts (nat_le (stack_base i t) (cap_address (register (thread s t) 2))) (nat_le (cap_address (register (thread s t) 2)) (frame_top (thread s t).frames)) range.1 in
     record {
       return_tagged = all.0;
@@ -125,4 +132,37 @@ checks_say i s t none =
       stack_local = stack.1.1.0;
       stack_low = leb-true (stack_base i t) (cap_address (register (thread s t) 2)) ends.0;
       stack_high = leb-true (cap_address (register (thread s t) 2)) (frame_top (thread s t).frames) ends.1;
+    }
+
+-- ---- who calls, and what
+
+-- the caller's frame, and the compartment of the export that the gate is of
+pub record Caller (i : Image) (s : State) (t : ℕ) : Type 0 where
+  pub frame : Frame
+  pub below : List Frame
+  pub frames : (thread s t).frames ≡ frame ∷ below
+  pub holds : FramesHold i s.objects t (frame ∷ below)
+  pub top : frame_top (thread s t).frames ≡ frame.top
+  pub call_is : (root i (register (thread s t) 6).shadow.root).origin ≡ Listing kind.Call
+  pub callee : ℕ
+  pub owner_is : (root i (called i.entries (thread s t))).owner ≡ Compartment callee
+  pub callee_is : callee ≡ callee_of i (called i.entries (thread s t))
+
+pub caller_of : (i : Image) (s : State) (t : ℕ) → Facts i → Confined i s → Passed i s t → Caller i s t
+caller_of i s t facts h says =
+    let head = headed i s.objects t (thread s t).frames (register (thread s t) 1) (h.registers t 1) says.return_tagged in
+    let frames : (thread s t).frames ≡ head.0 ∷ head.1.0 = head.1.1 in
+    let gate : Rooted i (register (thread s t) 6) = in_rooted i s.objects t (thread s t).frames (register (thread s t) 6) (h.registers t 6) says.gate_tagged in
+    let call_is : (root i (register (thread s t) 6).shadow.root).origin ≡ Listing kind.Call = gate.calls says.gate_sealed in
+    let owner = (facts.called (register (thread s t) 6).shadow.root call_is).owner_is in
+    record {
+      frame = head.0;
+      below = head.1.0;
+      frames = frames;
+      holds = subst (λ (fs : List Frame). FramesHold i s.objects t fs) frames (h.frames t);
+      top = ap frame_top frames;
+      call_is = call_is;
+      callee = owner.0;
+      owner_is = owner.1;
+      callee_is = ap compartment_of (sym owner.1);
     }

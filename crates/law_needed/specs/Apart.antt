@@ -9,21 +9,21 @@ use Rattle.def_words.specs.Derive.{memory_root, executable_root}
 use Rattle.def_memory.specs.Granules.{plain, nothing}
 use Rattle.ct_entry.specs.declared.rows.Owner.TheVariants.{Compartment, Thread}
 use Rattle.ct_entry.specs.declared.rows.Kind.TheVariants as kinds
-use Rattle.ct_entry.specs.Listed.{Listed}
+use Rattle.ct_entry.specs.Listed.{Listed, row}
 use Rattle.def_machine.specs.Image.{Image, Fixed, Globals, Stack}
 use Rattle.def_machine.specs.State.{State, Frame, interrupts_on}
 use Rattle.def_sched.specs.declared.Status.TheVariants.{Ready}
 use Rattle.def_machine.specs.State as state
-use Rattle.law_example.specs.Small.{row, gate, made}
+use Rattle.law_example.specs.Small.{gate, made}
 
 abbrev pub apart_entries : Listed
 apart_entries = record {
-  rows = row (Compartment 0) kinds.Code 0x80000000 16 CODE_RIGHTS 0 0
-      ∷ row (Compartment 0) kinds.Globals 0x80000010 16 GLOBALS_RIGHTS 0 0
-      ∷ row (Compartment 1) kinds.Code 0x80000020 16 CODE_RIGHTS 0 0
-      ∷ row (Compartment 1) kinds.Globals 0x80000030 16 GLOBALS_RIGHTS 0 0
-      ∷ row (Compartment 1) kinds.Export 0x80000020 16 EXPORT_RIGHTS 0 0
-      ∷ row (Thread 0) kinds.Stack 0x80000040 64 STACK_RIGHTS 0 0
+  rows = row (Compartment 0) kinds.Code 0x80000000 16 CODE_RIGHTS 0
+      ∷ row (Compartment 0) kinds.Globals 0x80000010 16 GLOBALS_RIGHTS 0
+      ∷ row (Compartment 1) kinds.Code 0x80000020 16 CODE_RIGHTS 0
+      ∷ row (Compartment 1) kinds.Globals 0x80000030 16 GLOBALS_RIGHTS 0
+      ∷ row (Compartment 1) kinds.Export 0x80000020 16 EXPORT_RIGHTS 0
+      ∷ row (Thread 0) kinds.Stack 0x80000040 64 STACK_RIGHTS 0
       ∷ [];
   gates = record (gate 5 0x80000020) { capabilities = true } ∷ [];
 }

@@ -34,18 +34,19 @@ leads_back e a (x ∷ xs) b h = joined_trans e b x a (leads_back e x xs b h.1) (
 pub joined_sym : (e : Listed) (a b : ℕ) → Joined e a b → Joined e b a
 joined_sym e a b h = leads_back e a h.members b h.leads
 
-no_imports : (e : Listed) (a : Owner) (xs : List Owner) (c : ℕ) → Imports e a xs (Compartment c) → a ≡ Compartment c
+-- a list of imports that ends in a compartment is empty
+pub no_imports : (e : Listed) (a : Owner) (xs : List Owner) (c : ℕ) → Imports e a xs (Compartment c) → a ≡ Compartment c
 no_imports e a [] c h = h
 no_imports e a (x ∷ xs) c h =
     let last : x ≡ Compartment c = no_imports e x xs c h.1 in
     let lib : IsLibrary (Compartment c) = subst IsLibrary last h.0.is_library in absurd lib
 
-same_number : (a b : ℕ) → Compartment a ≡ Compartment b → a ≡ b
-same_number a b h = cc
+pub same_compartment : (a b : ℕ) → Compartment a ≡ Compartment b → a ≡ b
+same_compartment a b h = cc
 
 -- a compartment reaches what it is joined to, and nothing else
 pub own_joined : (e : Listed) (a b : ℕ) → Reaches e (Compartment a) b → Joined e a b
-own_joined e a b h = subst (λ n. Joined e n b) (same_number h.by a (no_imports e (Compartment h.by) h.through a h.imports)) h.joined
+own_joined e a b h = subst (λ n. Joined e n b) (same_compartment h.by a (no_imports e (Compartment h.by) h.through a h.imports)) h.joined
 
 pub reaches_own : (e : Listed) (a b : ℕ) → Joined e a b → Reaches e (Compartment a) b
 reaches_own e a b h = record { by = a; through = []; imports = refl; joined = h }

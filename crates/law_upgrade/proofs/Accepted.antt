@@ -2,7 +2,7 @@
 use Rattle.std.proofs.Common.{ℕ, zero, suc, ◌≡◌, ◌<◌, ◌≤◌, ◌^◌, ◌⊎◌, inl, inr, Bool, true, false, nat_le, Some, None, refl, sym, ap, ◌∙◌, subst, arith}
 use Rattle.law_lists.proofs.Tests.{both_left, both_right}
 use Rattle.def_image.specs.Parts.{PartsRow, upgraded}
-use Rattle.def_image.specs.Profile.{is_within, last_version}
+use Rattle.def_image.specs.Profile.{last_version}
 use Rattle.def_image.specs.Spelling.{raw_of}
 use Rattle.def_image.specs.Shapes.{IsShaped, IsSpellable}
 use Rattle.def_image.specs.Checks.{first}

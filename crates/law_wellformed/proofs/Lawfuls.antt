@@ -2,6 +2,7 @@
 use Rattle.std.proofs.Common.{ℕ, ◌≡◌, ◌≤◌, List, [], ◌∷◌, map, true, false, None, sym, subst, arith}
 use Rattle.std.specs.Prelude.{codes}
 use Rattle.std.specs.List.{AllByRecursion}
+use Rattle.law_lists.proofs.Alls.{all_both, all_so, all_mapped}
 use Rattle.def_profile.specs.declared.limits.TheConstants.{MOST_BYTES}
 use Rattle.serde_json.specs.Data.{Data}
 use Rattle.serde_json.specs.Find.{get}
@@ -16,7 +17,6 @@ use Rattle.def_description.specs.Reading.{device_of, shared_of, sealed_of, compa
 use Rattle.def_description.specs.Rows.{QuotaRow, LimportRow, DescRow}
 use Rattle.def_description.specs.WellFormed.{WellFormed, fault_of}
 use Rattle.def_description.specs.Lawful.{IsLawful, IsLawfulDevice, IsLawfulShared, IsLawfulSealed, IsLawfulCompartment, IsLawfulExport, IsLawfulImport, IsLawfulLibrary, IsLawfulThread, IsLent}
-use Rattle.law_wellformed.proofs.Lists.{all_both, all_so, all_mapped}
 use Rattle.law_wellformed.proofs.Members.{few_rows, given_or}
 use Rattle.law_wellformed.proofs.Walked.{Good, faultless, At, In, walked, in_compartment, in_library}
 use Rattle.law_wellformed.proofs.Spaces.{Segment, all_segments}

@@ -4,6 +4,7 @@ use Rattle.std.specs.Prelude.{option_and_then, unwrap_or, is_some}
 use Rattle.std.specs.List.{AllByRecursion}
 use Rattle.std.proofs.lemmas.List.{length-map}
 use Rattle.std.proofs.lemmas.Bool.{leb-true, eqb-true}
+use Rattle.std.specs.Int.{is_in_range}
 use Rattle.serde_json.specs.Data.{Data}
 use Rattle.serde_json.specs.Find.{as_array}
 use Rattle.law_lists.proofs.Tests.{le_tells, lt_tells, both_left, both_right}
@@ -12,12 +13,12 @@ use Rattle.def_description.specs.declared.tables.Shape.TheVariants as shape
 use Rattle.def_description.specs.Members.{number_of, list_in}
 use Rattle.def_description.specs.Tables.{row}
 use Rattle.def_description.specs.Kinds.{is_kind_there}
-use Rattle.def_description.specs.Limits.{is_within, keeps_there}
+use Rattle.def_description.specs.Limits.{keeps_there}
 use Rattle.def_description.specs.Reading.{cut, digit_of, word_of, bytes_of}
 
 -- ---- tests
 
-pub within_is : (low high n : ℕ) → is_within low high n ≡ true → IsWithin low high n
+pub within_is : (low high n : ℕ) → is_in_range low high n ≡ true → IsWithin low high n
 within_is low high n e = (leb-true low n (both_left (nat_le low n) (nat_le n high) e), leb-true n high (both_right (nat_le low n) (nat_le n high) e))
 
 -- ---- numbers
@@ -38,7 +39,7 @@ cut_below n = elim (lt_tells n (2 ^ 32)) [
 abbrev pub read_or : ℕ → Option Data → ℕ
 read_or default o = cut (unwrap_or (option_and_then number_of o) default)
 
-number_kept : (low high default : ℕ) (n : Option ℕ) → high < 2 ^ 32 → is_some n ≡ true → is_within low high (unwrap_or n 0) ≡ true → IsWithin low high (cut (unwrap_or n default))
+number_kept : (low high default : ℕ) (n : Option ℕ) → high < 2 ^ 32 → is_some n ≡ true → is_in_range low high (unwrap_or n 0) ≡ true → IsWithin low high (cut (unwrap_or n default))
 number_kept low high default None small there kept = absurd (let no : false ≡ true = there in cc)
 number_kept low high default (Some k) small there kept =
     let w = within_is low high k kept in
@@ -63,12 +64,12 @@ given_or name low high default (Some v) small within there kept = number_kept lo
 
 -- a multiple of 16 within limits
 multiple_kept : (low high : ℕ) (n : Option ℕ) → high < 2 ^ 32 → is_some n ≡ true
-    → (is_within low high (unwrap_or n 0) && (unwrap_or n 0 % 16 == 0)) ≡ true
+    → (is_in_range low high (unwrap_or n 0) && (unwrap_or n 0 % 16 == 0)) ≡ true
     → IsWithin low high (cut (unwrap_or n 0)) × (cut (unwrap_or n 0) % 16 ≡ 0)
 multiple_kept low high None small there kept = absurd (let no : false ≡ true = there in cc)
 multiple_kept low high (Some k) small there kept =
-    let w = within_is low high k (both_left (is_within low high k) (nat_eq (k % 16) 0) kept) in
-    let even = eqb-true (k % 16) 0 (both_right (is_within low high k) (nat_eq (k % 16) 0) kept) in
+    let w = within_is low high k (both_left (is_in_range low high k) (nat_eq (k % 16) 0) kept) in
+    let even = eqb-true (k % 16) 0 (both_right (is_in_range low high k) (nat_eq (k % 16) 0) kept) in
     let top = w.1 in
     let same : cut k ≡ k = cut_small k (omega (arith, top, small)) in
     rw same (w, even)

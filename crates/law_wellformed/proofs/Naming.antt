@@ -5,6 +5,7 @@ use Rattle.std.specs.List.{AllByRecursion}
 use Rattle.std.specs.Fmt.{digits}
 use Rattle.serde_json.specs.Data.{Data}
 use Rattle.ct_entry.specs.Listed.{DeviceRow}
+use Rattle.law_lists.proofs.Alls.{all_joined, all_mapped, all_so}
 use Rattle.law_lists.proofs.Tests.{le_tells}
 use Rattle.def_names.specs.Names.{is_name}
 use Rattle.def_image.specs.Sound.{IsWithin}
@@ -20,7 +21,7 @@ use Rattle.def_description.specs.Reading.{device_of, shared_of, sealed_of, compa
 use Rattle.def_description.specs.Rows.{SharedRow, SealedRow, ImportRow, QuotaRow, ExportRow, CompartmentRow, LimportRow, LexportRow, LibraryRow, ThreadRow}
 use Rattle.def_description.specs.Named.{device_names, shared_names, sealed_names, owner_names, slot_names, export_names, library_slot_names, library_export_names}
 use Rattle.def_description.specs.Lawful.{AreNames}
-use Rattle.law_wellformed.proofs.Lists.{Fresh, fresh_once, map_twice, all_joined, all_mapped, all_so}
+use Rattle.law_wellformed.proofs.Lists.{Fresh, fresh_once, map_twice}
 use Rattle.law_wellformed.proofs.Walked.{Good, At, In, Walked, InCompartment, InLibrary}
 use Rattle.law_wellformed.proofs.Spaces.{Kept, IsSpace, AreOthers, Segment, fresh_in, taken_by, inside_taken, whole_taken}
 

@@ -4,9 +4,11 @@ use Rattle.std.specs.Prelude.{codes, option_and_then, unwrap_or, is_some}
 use Rattle.std.specs.List.{AllByRecursion, list_all}
 use Rattle.std.proofs.lemmas.List.{length-map}
 use Rattle.std.proofs.lemmas.Bool.{leb-true}
+use Rattle.std.specs.Int.{is_in_range}
 use Rattle.def_profile.specs.declared.limits.TheConstants.{RAM_END, MOST_BYTES}
 use Rattle.serde_json.specs.Data.{Data, null}
 use Rattle.serde_json.specs.Find.{get, as_str}
+use Rattle.law_lists.proofs.Alls.{all_mapped}
 use Rattle.law_lists.proofs.Tests.{both_left, both_right}
 use Rattle.def_profile.specs.Versions.{most_ram, least_sweep, most_sweep}
 use Rattle.def_image.specs.Profile.{last_version, most_threads}
@@ -19,12 +21,11 @@ use Rattle.def_description.specs.Members.{number_of, list_at, member_at, text_at
 use Rattle.def_description.specs.Tables.{Member, row, members_of, form_names}
 use Rattle.def_description.specs.Walk.{place, spot, ram_spots}
 use Rattle.def_description.specs.Kinds.{has_member, has_more, is_kind_there, has_one_form, has_its_rights}
-use Rattle.def_description.specs.Limits.{is_within, keeps_member, keeps_there, keeps_file, keeps_version, keeps_ram, version_of, number_in, characters}
+use Rattle.def_description.specs.Limits.{keeps_member, keeps_there, keeps_file, keeps_version, keeps_ram, version_of, number_in, characters}
 use Rattle.def_description.specs.References.{target_of, import_of, rights_fit, target_fits, target_resolves, target_is_served, resolves, is_served}
 use Rattle.def_description.specs.Reading.{cut, code_of, word_of, ram_of, device_of, shared_of, sealed_of, quota_of, export_of, limport_of, thread_of, compartment_of, library_of, rows_of}
 use Rattle.def_description.specs.Rows.{Target}
 use Rattle.def_description.specs.Lawful.{IsLawfulCode, IsLawfulShared, IsLawfulSealed, IsLawfulExport, IsLawfulImport, IsLawfulThread, IsLent}
-use Rattle.law_wellformed.proofs.Lists.{all_mapped}
 use Rattle.law_wellformed.proofs.Members.{within_is, read_or, needed, given_or, needed_multiple, cut_small, cut_below, few_rows, word_small, bytes_small, bytes_half}
 use Rattle.law_wellformed.proofs.Referring.{posture_set, resolved, lent_there, call_there, counted}
 use Rattle.law_wellformed.proofs.Walked.{Good}
@@ -180,7 +181,7 @@ uncut : (low high default : ℕ) (o : Option Data) (needed : Bool) (name : List 
 uncut low high default None needed name small le there kept = cut_small default (omega (arith, le, small))
 uncut low high default (Some v) needed name small le there kept = by (number_of v) there kept
   where
-    by : (n : Option ℕ) → is_some n ≡ true → is_within low high (unwrap_or n 0) ≡ true → cut (unwrap_or n default) ≡ unwrap_or n default
+    by : (n : Option ℕ) → is_some n ≡ true → is_in_range low high (unwrap_or n 0) ≡ true → cut (unwrap_or n default) ≡ unwrap_or n default
     by None t k = absurd (let no : false ≡ true = t in cc)
     by (Some n) t k = let w = (within_is low high n k).1 in cut_small n (omega (arith, w, small))
 
@@ -193,7 +194,7 @@ firmware_good d g =
     let same : (rows_of d).version ≡ version_of d = uncut 1 2 1 (get (codes "version") d) false (codes "version") (omega arith) (omega arith) m.1.0.there m.1.0.kept in
     let rate : (rows_of d).sweep ≡ number_or 64 (codes "sweep") d = uncut 1 65536 64 (get (codes "sweep") d) false (codes "sweep") (omega arith) (omega arith) m.1.1.0.there m.1.1.0.kept in
     let a = nat_le (version_of d) last_version in
-    let b = is_within (least_sweep (version_of d)) (most_sweep (version_of d)) (number_or 64 (codes "sweep") d) in
+    let b = is_in_range (least_sweep (version_of d)) (most_sweep (version_of d)) (number_or 64 (codes "sweep") d) in
     let c = nat_le (length (list_at (codes "threads") d)) (most_threads (version_of d)) in
     let ab = both_left (a && b) c p.more_kept in
     let threads = leb-true (length (list_at (codes "threads") d)) (most_threads (version_of d)) (both_right (a && b) c p.more_kept) in
@@ -244,9 +245,9 @@ ram_by d x g =
     uncut_multiple high None name low small there kept = absurd (let no : false ≡ true = there in cc)
     uncut_multiple high (Some v) name low small there kept = by (number_of v) there kept
       where
-        by : (n : Option ℕ) → is_some n ≡ true → (is_within low high (unwrap_or n 0) && (unwrap_or n 0 % 16 == 0)) ≡ true → cut (unwrap_or n 0) ≡ unwrap_or n 0
+        by : (n : Option ℕ) → is_some n ≡ true → (is_in_range low high (unwrap_or n 0) && (unwrap_or n 0 % 16 == 0)) ≡ true → cut (unwrap_or n 0) ≡ unwrap_or n 0
         by None t k = absurd (let no : false ≡ true = t in cc)
-        by (Some n) t k = let w = (within_is low high n (both_left (is_within low high n) (nat_eq (n % 16) 0) k)).1 in cut_small n (omega (arith, w, small))
+        by (Some n) t k = let w = (within_is low high n (both_left (is_in_range low high n) (nat_eq (n % 16) 0) k)).1 in cut_small n (omega (arith, w, small))
 
 pub ram_good : (d : Data) → Good d (spot (place part.Firmware 0 0) d d) → AllByRecursion (Good d) (ram_spots d (get (codes "ram") d))
     → RamGood (version_of d) (rows_of d).ram

@@ -18,7 +18,7 @@ use Rattle.def_description.specs.References.{refers_at, rights_fit_at, is_served
 use Rattle.def_description.specs.Addresses.{address_fault}
 use Rattle.def_description.specs.Reading.{rows_of}
 use Rattle.def_description.specs.WellFormed.{place_of, first_failing, fault, fault_or, first_fault, fault_of}
-use Rattle.law_wellformed.proofs.Lists.{all_left, all_right}
+use Rattle.law_lists.proofs.Alls.{all_left, all_right}
 
 -- ---- no fault
 

@@ -1,10 +1,10 @@
 -- The least exponent: that the search finds it, that it is one, and what its rounding keeps.
-use Rattle.std.proofs.Common.{ℕ, zero, suc, ◌+◌, ◌-◌, ◌*◌, ◌/◌, ◌%◌, ◌^◌, ◌<◌, ◌≤◌, ◌≡◌, ◌⊎◌, refl, ap, sym, ◌∙◌, inl, inr, arith}
+use Rattle.std.proofs.Common.{ℕ, zero, suc, ◌+◌, ◌-◌, ◌*◌, ◌/◌, ◌%◌, ◌^◌, ◌<◌, ◌≤◌, ◌≡◌, ◌⊎◌, refl, ap, sym, ◌∙◌, inl, inr, lit<, arith}
 use Rattle.std.proofs.lemmas.Nat.{pow_pos, pow-add, le-div, div_below, mul-le, div-add-mod', mod_below}
-use Rattle.std.proofs.Math.Nat.{div-mul-le_self}
+use Rattle.std.proofs.Math.Nat.{div-mul-le_self, pow-le-pow_right}
 use Rattle.def_profile.specs.declared.bounds.TheConstants.{LAST_EXPONENT, WIDEST_EXPONENT, MOST_UNITS}
 use Rattle.law_lists.proofs.Tests.{le_tells}
-use Rattle.def_words.specs.LeastBounds.{floor_units, ceil_units, units, first_from, exponent_for, IsLeastExponent}
+use Rattle.def_words.specs.LeastBounds.{floor_units, ceil_units, units, first_from, exponent_for, IsLeastExponent, alignment_of, align_mask_of}
 
 pub record FirstFrom (base top e n r : ℕ) : Type 0 where
   pub serves : ((e ≤ r) × (r < e + n) × (units base top r ≤ MOST_UNITS)) ⊎ (r ≡ WIDEST_EXPONENT)
@@ -119,3 +119,14 @@ good_at base top e h order le = elim h.serves [
 
 pub good : (base top : ℕ) → base ≤ top → top ≤ 2 ^ 32 → Good base top (exponent_for base top)
 good base top order le = good_at base top (exponent_for base top) (exponent_is base top) order le
+
+-- ---- the alignment of a length, and its mask
+
+pub alignment_small : (n : ℕ) → alignment_of n ≤ 2 ^ 24
+alignment_small n = elim (exponent_is 0 n).serves [
+  | inl s ↦ (let small : exponent_for 0 n ≤ 24 = (let le = s.0 in omega (arith, le)) in pow-le-pow_right (lit< tt) small)
+  | inr is ↦ (let small : exponent_for 0 n ≤ 24 = omega (arith, is) in pow-le-pow_right (lit< tt) small)
+]
+
+pub mask_back : (n : ℕ) → 4294967296 - align_mask_of n ≡ alignment_of n
+mask_back n = let small = alignment_small n in omega (arith, small)

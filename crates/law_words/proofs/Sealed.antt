@@ -1,11 +1,12 @@
 -- Seals, loads and jumps: what a tagged result keeps of its first operand.
 use Rattle.std.proofs.Common.{ℕ, ◌%◌, ◌^◌, ◌<◌, ◌≤◌, ◌≡◌, ◌≢◌, ◌==◌, Bool, true, false, ◌&&◌, not, if◌then◌else◌, nat_lt, nat_le, refl, ap, sym, ◌∙◌, inl, inr, arith}
 use Rattle.std.proofs.lemmas.Bool.{eqb-true, leb-true, ltb-true, and_parts}
+use Rattle.std.specs.Int.{is_in_range}
 use Rattle.law_lists.proofs.Tests.{eq_tells, bool_tells}
 use Rattle.def_words.specs.declared.Cap.{Cap}
 use Rattle.def_words.specs.Authority.{word_of, cap_address, cap_high, cap_bounds, cap_base, cap_top, seal_field, permission_bits}
 use Rattle.def_words.specs.Permissions.{cap_perms, has, unpacked, set_where, bit, execute, global, sealing, unsealing, is_within, Within}
-use Rattle.def_words.specs.Seals.{cap_seal, seal_type, is_unsealed, is_key_type, is_between}
+use Rattle.def_words.specs.Seals.{cap_seal, seal_type, is_unsealed, is_key_type}
 use Rattle.def_words.specs.Capability.{with_permission_bits, with_seal_field, is_inside, sealed_by, word_sealed, unsealed_by, bits_through}
 use Rattle.def_words.specs.Narrows.{Narrows}
 use Rattle.law_words.specs.Facts.{IsSealing, IsUnsealing}
@@ -39,7 +40,7 @@ with_field c d field small is =
 
 -- ---- sealing
 
-between : (low high n : ℕ) → is_between low high n ≡ true → (low ≤ n) × (n ≤ high)
+between : (low high n : ℕ) → is_in_range low high n ≡ true → (low ≤ n) × (n ≤ high)
 between low high n h = let parts = and_parts (nat_le low n) (nat_le n high) h in (leb-true low n parts.0, leb-true n high parts.1)
 
 pub kind_of_key : (executes : Bool) (n : ℕ) → is_key_type executes n ≡ true → seal_type executes (n % 8) ≡ n

@@ -1,6 +1,5 @@
 -- What each call leaves keeps what the next one asks.
-use Rattle.def_memory.specs.Ranges.{is_tagged}
-use Rattle.std.proofs.Common.{ℕ, ◌≡◌, ◌+◌, ◌-◌, ◌*◌, ◌/◌, ◌≤◌, ◌<◌, inl, inr, ◌&&◌, true, false, nat_le, List, Option, Some, None, is_some, unwrap_or, Result, Ok, Err, MatchResult, OnErr, length, refl, sym, ap, ◌∙◌, arith, subst, ◌%◌, ◌⊎◌, Bool, not, [], ◌∷◌}
+use Rattle.std.proofs.Common.{ℕ, ◌≡◌, ◌+◌, ◌-◌, ◌*◌, ◌/◌, ◌≤◌, ◌<◌, inl, inr, ◌&&◌, true, false, nat_le, List, Option, Some, None, is_some, unwrap_or, Result, Ok, Err, MatchResult, OnErr, length, refl, sym, ap, ◌∙◌, arith, subst}
 use Rattle.std.proofs.lemmas.List.{get_or_past}
 use Rattle.law_lists.proofs.Sets.{after_set_at}
 use Rattle.law_lists.proofs.Tests.{le_tells, lt_tells, both_left}
@@ -11,7 +10,7 @@ use Rattle.def_memory.specs.Granules.{nothing, granule_at}
 use Rattle.def_memory.specs.Accesses.{stored_cap}
 use Rattle.law_granules.proofs.Lists.{cap_marks}
 use Rattle.def_machine.specs.State.{Object}
-use Rattle.def_machine.specs.Memory.{filtered_in, is_marked_in}
+use Rattle.def_machine.specs.Memory.{filtered_in}
 use Rattle.def_machine.specs.Objects.{Each, quarantine, placed_among, painted, is_painted_at, unpainted}
 use Rattle.def_chunks.specs.declared.rows.Range.{Range}
 use Rattle.def_chunks.specs.Changes.{NoTagComes}
@@ -155,6 +154,20 @@ pub after_free : (s : SweptRow) (n : HeapRow) (hs : List Granule) (quota base to
 after_free s n hs quota base top (Ok o) is laid answer refused = was_freed s n hs quota base top o.number o.base o.length o.live is laid answer
 after_free s n hs quota base top (Err e) is laid answer refused = same_swept s n hs s.made refused.0 refused.1 is
 
+-- ---- memory changes, and heads and marks stay
+
+kept : (s : SweptRow) (hs : List Granule) (front : Option ℕ) → IsSwept s → KeepsHeap s.heap s.granules hs → MarksStay s.heap.range.ram s.granules hs → unwrap_or front 0 ≤ 8 * length hs → PassedClean front (rows s) hs → IsSwept (record s { granules = hs; front = front })
+kept s hs front is keeps stay high clean = record {
+  ram = is.ram;
+  laid = keeps.laid;
+  quotas = is.quotas;
+  made = is.made;
+  low = is.low;
+  front = high;
+  held = subst (λ rs. Each (λ r. Held s.heap.range.ram hs r) rs) (sym keeps.objects) (all_held_on s.heap.range.ram s.granules hs (rows s) stay is.held);
+  clean = subst (λ rs. PassedClean front rs hs) (sym keeps.objects) clean;
+}
+
 -- ---- stores below the heap
 
 after_put : (s : SweptRow) (slot : ℕ) (c : Cap) → IsSwept s → slot < s.low / 8 → IsSwept (record s { granules = stored_cap s.granules (8 * slot) (filtered_in s.heap.range.ram s.granules c) })
@@ -169,16 +182,7 @@ after_put s slot c is below =
     let keeps = cap_keeps s.heap s.granules (8 * slot) passed is.laid (record { aligned = omega arith; inside = omega (arith, below, low, inside) })
     (λ p starts. inr (let from = starts_low p s.heap.range.base (chunks s.heap.range s.granules) starts in omega (arith, from, low, below))) in
     let stay = same_marks ram s.granules hs (λ k. cap_marks s.granules (8 * slot) passed k) in
-    record {
-      ram = is.ram;
-      laid = keeps.laid;
-      quotas = is.quotas;
-      made = is.made;
-      low = is.low;
-      front = omega (arith, front, long);
-      held = subst (λ rs. Each (λ r. Held ram hs r) rs) (sym keeps.objects) (all_held_on ram s.granules hs (rows s) stay is.held);
-      clean = subst (λ rs. PassedClean s.front rs hs) (sym keeps.objects) (stored_clean s.front is.clean);
-    }
+    kept s hs s.front is keeps stay (omega (arith, front, long)) (stored_clean s.front is.clean)
   where
     stored_clean : (front : Option ℕ) → PassedClean front (rows s) s.granules → PassedClean front (rows s) (stored_cap s.granules (8 * slot) (filtered_in s.heap.range.ram s.granules c))
     stored_clean None clean = tt
@@ -252,7 +256,8 @@ after_slice s hs front high is some front_is most sliced clean =
         let low : ℕ = unwrap_or s.front 0 in
         let keeps = untag_keeps s.heap s.granules hs is.laid (sliced_untagged ram low high s.granules hs sliced) in
         let long = sliced.size in
-        let all : Each (λ r. Held ram hs r) (rows s) = all_held_on ram s.granules hs (rows s) (same_marks ram s.granules hs (sliced_marks ram low high s.granules hs sliced)) is.held in
+        let stay = same_marks ram s.granules hs (sliced_marks ram low high s.granules hs sliced) in
+        let all : Each (λ r. Held ram hs r) (rows s) = all_held_on ram s.granules hs (rows s) stay is.held in
         let before : PassedClean (Some low) (rows s) s.granules = subst (λ f. PassedClean f (rows s) s.granules) (running_is s.front some) is.clean in
         let passed : PassedClean (Some high) (rows s) hs = λ k behind tagged. elim (le_tells low (8 * k)) [
           | inl a ↦ unmarked_unpainted ram hs (rows s) (cap_base (granule_at hs k).cap) all (clean k (a.1, behind) tagged)
@@ -260,16 +265,7 @@ after_slice s hs front high is some front_is most sliced clean =
               let same : (granule_at hs k).cap ≡ (granule_at s.granules k).cap = ap (λ (g : Granule). g.cap) (sliced.rest k (inl a.1)) in
               ap (λ (c : Cap). is_painted_at (rows s) (cap_base c)) same ∙ before k a.1 (ap (λ (c : Cap). c.tag) (sym same) ∙ tagged)
         ] in
-        record {
-          ram = is.ram;
-          laid = keeps.laid;
-          quotas = is.quotas;
-          made = is.made;
-          low = is.low;
-          front = omega (arith, most, long);
-          held = subst (λ rs. Each (λ r. Held ram hs r) rs) (sym keeps.objects) all;
-          clean = subst (λ rs. PassedClean (Some high) rs hs) (sym keeps.objects) passed;
-        }
+        kept s hs (Some high) is keeps stay (omega (arith, most, long)) passed
 
 -- ---- flushes
 

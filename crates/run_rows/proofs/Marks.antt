@@ -1,17 +1,17 @@
 -- What was freed is marked until it leaves.
-use Rattle.std.proofs.Common.{ℕ, ◌≡◌, ◌+◌, ◌-◌, ◌*◌, ◌/◌, ◌%◌, ◌≤◌, ◌<◌, inl, inr, ◌&&◌, ◌||◌, Bool, true, false, not, cond, nat_eq, nat_le, nat_lt, List, [], ◌∷◌, Some, find, refl, sym, ap, ◌∙◌, arith, subst, ◌⊎◌, Option, length}
+use Rattle.std.proofs.Common.{ℕ, ◌≡◌, ◌+◌, ◌-◌, ◌*◌, ◌/◌, ◌%◌, ◌≤◌, ◌<◌, inl, inr, ◌&&◌, ◌||◌, Bool, true, false, not, cond, nat_eq, nat_le, nat_lt, List, [], ◌∷◌, Some, find, refl, sym, ap, ◌∙◌, arith, subst}
 use Rattle.law_lists.proofs.Tests.{bool_tells, eq_tells, le_tells, lt_tells, both_left, both_right, chosen}
 use Rattle.def_memory.specs.declared.Granule.{Granule}
 use Rattle.def_memory.specs.Granules.{granule_at}
 use Rattle.def_machine.specs.State.{Object}
 use Rattle.def_machine.specs.Memory.{is_marked_in}
-use Rattle.def_machine.specs.Objects.{Each, quarantine, painted, unpainted, is_painted_at, InChunk}
+use Rattle.def_machine.specs.Objects.{Each, quarantine, painted, unpainted, is_painted_at}
 use Rattle.def_chunks.specs.declared.rows.Range.{Range}
 use Rattle.def_chunks.specs.Heaps.{Distinct}
 use Rattle.law_chunks.specs.Kept.{StandsIn, InOrder}
-use Rattle.law_chunks.proofs.Rows.{each_more, quarantine_others, Others}
+use Rattle.law_chunks.proofs.Rows.{each_more, quarantine_others}
 use Rattle.ct_heap.specs.Lookups.{spans_of, whole_of}
-use Rattle.run_rows.specs.Swept.{Held, MarkedChunk}
+use Rattle.run_rows.specs.Swept.{Held}
 use Rattle.run_rows.proofs.Rows.{covers, Spared, each_two, each_painted, each_unpainted, each_found, unpainted_spared}
 
 -- what was marked is marked

@@ -1,6 +1,6 @@
 -- What holds of each object, where rows change.
-use Rattle.std.proofs.Common.{ℕ, ◌≡◌, ◌+◌, ◌≤◌, ◌<◌, inl, inr, ◌&&◌, ◌||◌, Bool, false, not, nat_eq, nat_le, nat_lt, List, [], ◌∷◌, Some, None, find, refl, ap, ◌∙◌, arith, true, Option, sym}
-use Rattle.law_lists.proofs.Tests.{bool_tells, le_tells, lt_tells, chosen, eq_tells}
+use Rattle.std.proofs.Common.{ℕ, ◌≡◌, ◌+◌, ◌≤◌, ◌<◌, inl, inr, ◌&&◌, ◌||◌, Bool, false, not, nat_eq, nat_le, nat_lt, List, [], ◌∷◌, Some, None, find, refl, ap, ◌∙◌, arith}
+use Rattle.law_lists.proofs.Tests.{bool_tells, le_tells, lt_tells, chosen}
 use Rattle.def_machine.specs.State.{Object}
 use Rattle.def_machine.specs.Objects.{Each, InChunk, quarantine, placed_among, painted, unpainted, is_painted_at}
 use Rattle.law_chunks.specs.Kept.{InOrder}

@@ -3,7 +3,7 @@
 ghost use Rattle.std.specs.Prelude.{◌≡◌, ◌+◌, ◌*◌, ◌≤◌, [], slice_index_or};
 ghost use Rattle.def_memory.specs.Granules.{plain};
 
-use ct_areas::{Area, Saved};
+use ct_areas::Area;
 use ct_cap::{Live, Posture, Trap};
 use ct_engine::{Called, Engine, Fresh, Region};
 use ct_entry::Entries;
@@ -92,29 +92,15 @@ fn threads_take_turns(rt: HostRuntime) -> Result<(), Fail> {
     engine.stop(1);
     assert!(rt; engine.load(0x250, 4) == 0);
     engine.pick(0);
-    let Saved {
-        export,
-        c1: _,
-        c2,
-        c3: _,
-        c8: _,
-        c9: _,
-    } = engine.pop(0);
-    assert!(rt; export == 7);
-    assert!(rt; c2.cap.word == 0);
+    let saved = engine.pop(0);
+    assert!(rt; saved.export == 7);
+    assert!(rt; saved.c2.cap.word == 0);
     assert!(rt; engine.running() == None);
     engine.pick(1);
     assert!(rt; engine.register(1, 2).cap.word == 5);
-    let Saved {
-        export,
-        c1: _,
-        c2,
-        c3: _,
-        c8: _,
-        c9: _,
-    } = engine.pop(1);
-    assert!(rt; export == 9);
-    assert!(rt; c2.cap.word == 2);
+    let saved = engine.pop(1);
+    assert!(rt; saved.export == 9);
+    assert!(rt; saved.c2.cap.word == 2);
     assert!(rt; engine.running() == Some(1));
     Ok(())
 }

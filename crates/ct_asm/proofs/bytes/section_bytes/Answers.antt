@@ -3,9 +3,6 @@ use Rattle.ct_asm.specs.Labels.{label_named}
 use Rattle.ct_asm.proofs.Walks.{from_here, first_lawful, rest_lawful, first_faultless, rest_faultless, bytes_step, found_here}
 use Rattle.ct_asm.proofs.bytes.section_bytes.Goals as goal
 
-pub push_in-requires-clause-fit : goal.push_in-requires-clause-fit
-push_in-requires-clause-fit c = (first_lawful c.loop-s.place.section _ _ _ (from_here c.args.statements.now c.loop-s.s-index _ c.loop-s-test.true) c.loop-s.invariant.lawful).1
-
 pub push_in-requires-clause-exist : goal.push_in-requires-clause-exist
 push_in-requires-clause-exist c = (first_lawful c.loop-s.place.section _ _ _ (from_here c.args.statements.now c.loop-s.s-index _ c.loop-s-test.true) c.loop-s.invariant.lawful).2
 
@@ -14,9 +11,6 @@ push_in-requires-clause-found c =
     let cut = from_here c.args.statements.now c.loop-s.s-index _ c.loop-s-test.true in
     found_here (λ n. label_named n c.args.labels.now) c.loop-s.s-index _ _
     (first_faultless (λ n. label_named n c.args.labels.now) c.loop-s.place c.loop-s.s-index _ _ _ cut c.loop-s.invariant.faultless).0
-
-pub advanced-place-requires-clause-fit : goal.advanced-place-requires-clause-fit
-advanced-place-requires-clause-fit c = (first_lawful c.loop-s.place.section _ _ _ (from_here c.args.statements.now c.loop-s.s-index _ c.loop-s-test.true) c.loop-s.invariant.lawful).1
 
 pub loop-s-preserved : goal.loop-s-preserved
 loop-s-preserved c =

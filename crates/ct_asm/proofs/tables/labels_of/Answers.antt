@@ -1,10 +1,7 @@
 use Rattle.std.proofs.Common.{arith}
-use Rattle.ct_asm.proofs.Walks.{from_here, first_lawful, rest_lawful}
+use Rattle.ct_asm.proofs.Walks.{from_here, rest_lawful}
 use Rattle.ct_asm.proofs.LabelSteps.{label_further}
 use Rattle.ct_asm.proofs.tables.labels_of.Goals as goal
-
-pub advanced-place-requires-clause-fit : goal.advanced-place-requires-clause-fit
-advanced-place-requires-clause-fit c = (first_lawful c.loop-k.place.section _ _ _ (from_here c.args.statements.now c.loop-k.k _ c.loop-k-test.true) c.loop-k.invariant.lawful).1
 
 pub loop-k-preserved : goal.loop-k-preserved
 loop-k-preserved c =

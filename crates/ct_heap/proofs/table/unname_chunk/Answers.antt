@@ -7,19 +7,8 @@ use Rattle.ct_chunks.proofs.Painting.{size_told}
 use Rattle.ct_heap.proofs.Answering.{stays_named, loses_name}
 use Rattle.ct_heap.proofs.table.unname_chunk.Goals as goal
 
-pub read_head-head-requires-clause-above : goal.read_head-head-requires-clause-above
-read_head-head-requires-clause-above g c = (sits _ _ _ c.requires.tiled c.requires.stands).over
-
-pub read_head-head-requires-clause-even : goal.read_head-head-requires-clause-even
-read_head-head-requires-clause-even g c = (sits _ _ _ c.requires.tiled c.requires.stands).even
-
-pub read_head-head-requires-clause-inside : goal.read_head-head-requires-clause-inside
-read_head-head-requires-clause-inside g c =
-    let k = sits _ _ _ c.requires.tiled c.requires.stands in
-    omega (arith, k.inside, k.over, k.shape.some)
-
 pub returns-then-head-ne-PAINTED-clause-unnames : goal.returns-then-head-ne-PAINTED-clause-unnames
-returns-then-head-ne-PAINTED-clause-unnames g c = stays_named c.args.range.now (g.M.Memory.granules c.args.mem.now) c.args.names.now.items c.args.at (head_in (head_at (g.M.Memory.granules c.args.mem.now) c.args.range.now.ram c.args.at)) (λ e. c.if-head-ne-PAINTED.true (ap (λ (x : Head). x.state) c.read_head-head.ensures ∙ e))
+returns-then-head-ne-PAINTED-clause-unnames g c = stays_named c.args.range.now (g.M.Memory.granules c.args.mem.now) c.args.names.now.items c.args.at (head_in (head_at (g.M.Memory.granules c.args.mem.now) c.args.range.now.ram c.args.at)) (λ e. c.if-head-ne-PAINTED.true (ap (λ (x : Head). x.state) c.chunk_head-head.ensures ∙ e))
 
 pub overflow_sub-at : goal.overflow_sub-at
 overflow_sub-at g c = (sits _ _ _ c.requires.tiled c.requires.stands).over
@@ -33,19 +22,19 @@ overflow_sub-at-3 g c = (sits _ _ _ c.requires.tiled c.requires.stands).low
 pub overflow_add-at : goal.overflow_add-at
 overflow_add-at g c =
     let k = sits _ _ _ c.requires.tiled c.requires.stands in
-    let size = size_told c.args.range.now (g.M.Memory.granules c.args.mem.now) c.args.at c.read_head-head.result c.requires.stands c.requires.tiled c.read_head-head.ensures in
+    let size = size_told c.args.range.now (g.M.Memory.granules c.args.mem.now) c.args.at c.chunk_head-head.result c.requires.stands c.requires.tiled c.chunk_head-head.ensures in
     omega (arith, k.low, k.over, k.inside, size, c.size-size.ensures)
 
 pub mark-requires : goal.mark-requires
 mark-requires g c =
     let k = sits _ _ _ c.requires.tiled c.requires.stands in
-    let size = size_told c.args.range.now (g.M.Memory.granules c.args.mem.now) c.args.at c.read_head-head.result c.requires.stands c.requires.tiled c.read_head-head.ensures in
+    let size = size_told c.args.range.now (g.M.Memory.granules c.args.mem.now) c.args.at c.chunk_head-head.result c.requires.stands c.requires.tiled c.chunk_head-head.ensures in
     record { start = k.even; finish = omega (arith, k.even, k.shape.whole, size); order = omega arith; inside = omega (arith, k.inside, k.over, size) }
 
 pub returns-clause-unnames : goal.returns-clause-unnames
 returns-clause-unnames g c =
-    let size : c.read_head-head.result.size ≡ (head_in (head_at (g.M.Memory.granules c.args.mem.now) c.args.range.now.ram c.args.at)).size = ap (λ (x : Head). x.size) c.read_head-head.ensures in
-    loses_name c.args.range.now (g.M.Memory.granules c.args.mem.now) (g.M.Memory.granules c.mark.new.self) c.args.names.now.items c.clear_name.new.names.items c.args.at (head_in (head_at (g.M.Memory.granules c.args.mem.now) c.args.range.now.ram c.args.at)) (ap (λ (x : Head). x.state) (sym c.read_head-head.ensures) ∙ c.if-head-ne-PAINTED.false) (subst (λ n. IsMarked (c.args.at - c.args.range.now.ram) (c.args.at - c.args.range.now.ram + n) false (g.M.Memory.granules c.args.mem.now) (g.M.Memory.granules c.mark.new.self)) size c.mark.ensures) c.clear_name.ensures
+    let size : c.chunk_head-head.result.size ≡ (head_in (head_at (g.M.Memory.granules c.args.mem.now) c.args.range.now.ram c.args.at)).size = ap (λ (x : Head). x.size) c.chunk_head-head.ensures in
+    loses_name c.args.range.now (g.M.Memory.granules c.args.mem.now) (g.M.Memory.granules c.mark.new.self) c.args.names.now.items c.clear_name.new.names.items c.args.at (head_in (head_at (g.M.Memory.granules c.args.mem.now) c.args.range.now.ram c.args.at)) (ap (λ (x : Head). x.state) (sym c.chunk_head-head.ensures) ∙ c.if-head-ne-PAINTED.false) (subst (λ n. IsMarked (c.args.at - c.args.range.now.ram) (c.args.at - c.args.range.now.ram + n) false (g.M.Memory.granules c.args.mem.now) (g.M.Memory.granules c.mark.new.self)) size c.mark.ensures) c.clear_name.ensures
 
 pub clear_name-requires : goal.clear_name-requires
 clear_name-requires g c =

@@ -15,8 +15,8 @@ returns-in-Some-clause-err c =
     let found : first_lost (built_of o) 0 (map (λ (x : LexportRow). x.at) row.exports) ≡ Some c.in-Some.item = rw (← c.library.view_is, ← c.as_slice.ensures.value) (sym c.first_lost.ensures ∙ c.in-Some.is) in
     library_lost c.args.index row c.args.source.now o c.in-Some.item h found
 
-pub returns-clause-ok : goal.returns-clause-ok
-returns-clause-ok c =
+pub returns-else-has_initial-clause-ok : goal.returns-else-has_initial-clause-ok
+returns-else-has_initial-clause-ok c =
     let row = c.args.library.now in
     let o = c.in_ok-object.object in
     let h : IsBuilt (built (Library c.args.index) (library_slot_names row) row.code c.args.source.now) o = rw (← c.in-Ok.ensures, ← c.library.view_is) c.in_ok-object.ensures.ok in

@@ -1,16 +1,11 @@
-use Rattle.std.proofs.Common.{◌≡◌, map, [], ◌∷◌, ap, ◌∙◌}
-use Rattle.def_description.specs.Names.{key_name}
-use Rattle.def_description.specs.Rows.{ImportRow, QuotaRow}
-use Rattle.ct_objects.specs.Slots.{with_slot, with_slots}
-use Rattle.ct_objects.proofs.Slots.{slots_taken}
+use Rattle.std.proofs.Common.{◌≡◌, [], ap, ◌∙◌}
+use Rattle.def_description.specs.Named.{slot_names}
+use Rattle.ct_objects.specs.Slots.{with_slots}
+use Rattle.ct_objects.proofs.Slots.{once_taken}
 use Rattle.ct_objects.proofs.names.names_of.Goals as goal
 
-pub returns : goal.returns
-returns c =
-    let row = c.args.compartment.now in
-    let switch = 115 ∷ 119 ∷ 105 ∷ 116 ∷ 99 ∷ 104 ∷ [] in
-    let one : c.add.new.names ≡ with_slot [] switch = c.in_ok-add.ensures ∙ ap (λ l. with_slot l switch) c.new-names.ensures in
-    let two : c.add_imports.new.names ≡ with_slots c.add.new.names (map (λ (x : ImportRow). x.alias) row.imports) = rw (← c.compartment.view_is, ← c.as_slice.ensures.value) c.in_ok-add_imports.ensures in
-    let three : c.add_quotas.new.names ≡ with_slots c.add_imports.new.names (map (λ (q : QuotaRow). q.name) row.quotas) = rw (← c.compartment.view_is, ← c.as_slice-2.ensures.value) c.in_ok-add_quotas.ensures in
-    let four : c.add_keys.new.names ≡ with_slots c.add_quotas.new.names (map key_name row.keys) = rw (← c.compartment.view_is, ← c.as_slice-3.ensures.value) c.in_ok-add_keys.ensures in
-    slots_taken switch (map (λ (x : ImportRow). x.alias) row.imports) (map (λ (q : QuotaRow). q.name) row.quotas) (map key_name row.keys) c.add.new.names c.add_imports.new.names c.add_quotas.new.names c.add_keys.new.names one two three four c.requires
+pub returns-in-Ok : goal.returns-in-Ok
+returns-in-Ok c =
+    let wanted = slot_names c.args.compartment.now in
+    let filled : c.add_slots.new.names ≡ with_slots [] wanted = c.in-Ok.ensures ∙ ap (λ l. with_slots l wanted) c.new-names.ensures in
+    filled ∙ once_taken wanted c.requires

@@ -41,8 +41,8 @@ returns-in-Err-read_sources g c = λ words form.
     (given_by c.args.form.now.name.now c.args.form.now.task c.requires.reads (g.F.Folder.file c.args.folder.now) _ _ _ _ c.in-Ok.bytes.items c.in-Ok.ensures.answer)
     c.in-Ok.ensures.same kind lawful c.in-Err-read_sources.stop c.in-Err-read_sources.ensures.answer c.refuse_file-in-Err-read_sources.ensures
 
-pub of_sources-requires-clause-linkable : goal.of_sources-requires-clause-linkable
-of_sources-requires-clause-linkable g c =
+pub of_sources-status-requires-clause-linkable : goal.of_sources-status-requires-clause-linkable
+of_sources-status-requires-clause-linkable g c =
     let lawful : WellFormed c.in-Ok.bytes.items c.in-Ok-read.desc = rw c.as_slice-2.ensures.value at c.in-Ok-read.ensures in
     linkable c.in-Ok.bytes.items c.in-Ok-read.desc _ _ _ _ _ _ lawful c.in-Ok-read_sources.ensures.answer
 
@@ -50,8 +50,8 @@ pub returns : goal.returns
 returns g c = λ words form.
     let kind : reads_image (command_of c.args.form.now) ≡ false = sym (c.reads_image.ensures c.args.form.now.name.now) ∙ c.if-reads_image.false in
     let lawful : WellFormed c.in-Ok.bytes.items c.in-Ok-read.desc = rw c.as_slice-2.ensures.value at c.in-Ok-read.ensures in
-    linked_done _ (command_of c.args.form.now) c.of_sources.result form c.requires.reads c.in-Ok.bytes.items c.in-Ok-read.desc
+    linked_done _ (command_of c.args.form.now) c.of_sources-status.result form c.requires.reads c.in-Ok.bytes.items c.in-Ok-read.desc
     (g.F.Folder.file c.read_file.new.folder) _ _
     (given_by c.args.form.now.name.now c.args.form.now.task c.requires.reads (g.F.Folder.file c.args.folder.now) _ _ _ _ c.in-Ok.bytes.items c.in-Ok.ensures.answer)
     c.in-Ok.ensures.same kind lawful _ (g.F.Folder.file c.read_sources.new.folder) _ _ c.in-Ok-read_sources.ensures.answer
-    (λ n. c.in-Ok-read_sources.ensures.same n ∙ c.in-Ok.ensures.same n) (c.of_sources.ensures c.args.form.now.name.now)
+    (λ n. c.in-Ok-read_sources.ensures.same n ∙ c.in-Ok.ensures.same n) (c.of_sources-status.ensures c.args.form.now.name.now)

@@ -3,12 +3,12 @@ use Rattle.def_program.specs.Runs.{run_lines, run_text}
 use Rattle.ct_top.proofs.Booted.{text_is, uncounted, some_quantum}
 use Rattle.ct_top.proofs.runs.play.Goals as goal
 
-pub write_run-requires-clause-booted : goal.write_run-requires-clause-booted
-write_run-requires-clause-booted g c = uncounted c.args.image.now c.args.machine.now c.requires.machine
-
-pub write_run-requires-clause-quantum : goal.write_run-requires-clause-quantum
-write_run-requires-clause-quantum g c =
-    some_quantum c.args.image.now c.parts.result.now _ c.parts.ensures.faultless c.parts.ensures.parts c.behind-image.view_is
+pub write_run-requires-clause-may : goal.write_run-requires-clause-may
+write_run-requires-clause-may g c = record {
+  booted = uncounted c.args.image.now c.args.machine.now c.requires.machine;
+  quantum = some_quantum c.args.image.now c.parts.result.now _ c.parts.ensures.faultless c.parts.ensures.parts c.behind-image.view_is;
+  limit = c.requires.limit;
+}
 
 pub returns-in-Ok : goal.returns-in-Ok
 returns-in-Ok g c =

@@ -1,15 +1,15 @@
-use Rattle.std.proofs.Common.{◌≡◌, refl, inl, inr}
+use Rattle.std.proofs.Common.{◌≡◌, refl, inl, inr, arith}
 use Rattle.def_program.specs.Runs.{demo_text, summary_after}
 use Rattle.def_program.specs.declared.TheConstants.{DEMO_STEPS}
 use Rattle.ct_top.proofs.Booted.{demo_is, uncounted, some_quantum}
 use Rattle.ct_top.proofs.runs.summarise.Goals as goal
 
-pub write_summary-requires-clause-booted : goal.write_summary-requires-clause-booted
-write_summary-requires-clause-booted g c = uncounted c.args.image.now c.args.machine.now c.requires.machine
-
-pub write_summary-requires-clause-quantum : goal.write_summary-requires-clause-quantum
-write_summary-requires-clause-quantum g c =
-    some_quantum c.args.image.now c.parts.result.now _ c.parts.ensures.faultless c.parts.ensures.parts c.behind-image.view_is
+pub write_summary-requires : goal.write_summary-requires
+write_summary-requires g c = record {
+  booted = uncounted c.args.image.now c.args.machine.now c.requires.machine;
+  quantum = some_quantum c.args.image.now c.parts.result.now _ c.parts.ensures.faultless c.parts.ensures.parts c.behind-image.view_is;
+  limit = omega arith;
+}
 
 pub returns-in-Ok : goal.returns-in-Ok
 returns-in-Ok g c =

@@ -4,15 +4,21 @@ use Rattle.def_step.specs.Instructions.{executed}
 use Rattle.ct_execute.specs.Deciding.{decision}
 use Rattle.ct_machine.specs.Going.{MayGoOn}
 use Rattle.ct_machine.proofs.Opened.{is_open}
+use Rattle.ct_machine.proofs.Taking.{ram_is}
 use Rattle.ct_machine.proofs.Keeping.{ran_kept, came_by, counted_so}
 use Rattle.ct_machine.proofs.Carried.{came}
 use Rattle.ct_machine.proofs.engine.Engine.execute.Goals as goal
 
-pub execute-requires-clause-opened : goal.execute-requires-clause-opened
-execute-requires-clause-opened g c =
+pub execute-requires : goal.execute-requires
+execute-requires g c =
+    let i = c.self.inside in
     let may = subst MayGoOn (sym c.self.view_is) c.requires.may in
-    is_open c.self.inside.plan c.self.inside.threads c.self.inside.sched c.self.inside.pending c.self.inside.bus.states c.self.inside.time c.self.inside.counts c.args.t
-    c.self.invariant.0 may.shut may.keeps.confined (subst (λ (m : MachineRow). m.state.running ≡ Some c.args.t) (sym c.self.view_is) c.requires.runs)
+    let runs = subst (λ (m : MachineRow). m.state.running ≡ Some c.args.t) (sym c.self.view_is) c.requires.runs in
+    record {
+      runs = runs;
+      opened = is_open i.plan i.threads i.sched i.pending i.bus.states i.time i.counts c.args.t c.self.invariant.0 may.shut may.keeps.confined runs;
+      heap = rw (ram_is i.plan i.threads i.sched c.self.invariant.0, c.heap.ensures) c.self.invariant.0.placed;
+    }
 
 pub invariant_of-self : goal.invariant_of-self
 invariant_of-self g c = (

@@ -9,15 +9,10 @@ use Rattle.ct_engine.specs.Seen.{thread}
 use Rattle.ct_machine.specs.Going.{MayGoOn, Runs}
 use Rattle.ct_machine.proofs.Opened.{is_open}
 use Rattle.ct_machine.proofs.Taking.{ram_is}
-use Rattle.ct_machine.proofs.Resting.{came_wait, kept_wait, runs_there_in, runs_ready}
+use Rattle.ct_machine.proofs.Resting.{came_wait, kept_wait, runs_ready}
 use Rattle.ct_machine.specs.Parts.{state_by}
 use Rattle.ct_machine.proofs.Keeping.{came_by, counted_so}
 use Rattle.ct_machine.proofs.engine.Engine.wait.Goals as goal
-
-pub wait-requires-clause-there : goal.wait-requires-clause-there
-wait-requires-clause-there g c =
-    let i = c.self.inside in
-    runs_there_in i.plan i.threads i.sched i.bus i.pending i.time i.counts c.args.t c.self.invariant.0 _ c.self.view_is c.requires.runs
 
 pub wait-requires-clause-opens : goal.wait-requires-clause-opens
 wait-requires-clause-opens g c =
@@ -40,7 +35,7 @@ invariant_of-self g c =
           (cap_address (register (thread i.threads.threads c.args.t) 10)) (loaded i.threads.threads.granules (cap_address (register (thread i.threads.threads c.args.t) 10) - c.ram.result) 4)
           (cap_address (register (thread i.threads.threads c.args.t) 11)) c.wait.result c.wait.new.engine c.wait.new.sched
           (runs_ready i.plan i.threads i.sched i.bus i.pending i.time i.counts c.args.t c.self.invariant.0 runs.runs)
-          (runs_there_in i.plan i.threads i.sched i.bus i.pending i.time i.counts c.args.t c.self.invariant.0 _ c.self.view_is c.requires.runs) c.wait.ensures.engine c.wait.ensures.sched,
+          c.wait.ensures.engine c.wait.ensures.sched,
       counted_so c.self.inside.counts c.self.inside.time c.self.inside.threads c.wait.new.engine _ c.wait.ensures.engine c.self.invariant.1,
     )
 
@@ -51,5 +46,4 @@ returns-clause-came g c =
     came_by (λ (m : MachineRow). ran m.board m.state c.args.t (wait m.board.image m.state c.args.t)) c.self.view_is c.ran_by_service.ensures.is
     (came_wait i.plan i.threads i.sched i.bus i.pending i.time i.counts c.args.t c.self.invariant.0 c.ram.result c.wait.result c.wait.new.engine c.wait.new.sched c.ram.ensures
     (runs_ready i.plan i.threads i.sched i.bus i.pending i.time i.counts c.args.t c.self.invariant.0 runs.runs)
-    (runs_there_in i.plan i.threads i.sched i.bus i.pending i.time i.counts c.args.t c.self.invariant.0 _ c.self.view_is c.requires.runs)
     (c.wait.ensures.trap i.plan (state_by i.threads i.sched i.pending i.bus.states i.time i.counts) (sym c.ram.ensures) refl) c.wait.ensures.engine c.wait.ensures.sched)
