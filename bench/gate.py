@@ -15,7 +15,7 @@ TICKS = os.sysconf("SC_CLK_TCK")
 
 
 def processes():
-    """Gives each process: its number, its session, its processor seconds, its words and its folder."""
+    """Gives each process: its number with its beginning, its session, its processor seconds, its words and its folder."""
     for name in os.listdir("/proc"):
         if not name.isdigit():
             continue
@@ -25,7 +25,7 @@ def processes():
             folder = os.readlink(f"/proc/{name}/cwd")
         except OSError:
             continue
-        yield int(name), int(stat[3]), (int(stat[11]) + int(stat[12])) / TICKS, words, folder
+        yield (int(name), stat[19]), int(stat[3]), (int(stat[11]) + int(stat[12])) / TICKS, words, folder
 
 
 def place(words, folder):
@@ -47,17 +47,17 @@ def watch(session, is_over):
         for pid, its, seconds, words, folder in processes():
             key = place(words, folder) if its == session else None
             if key:
-                seen[pid, key] = max(seconds, seen.get((pid, key), 0))
+                seen[pid] = key, seconds
         time.sleep(0.5)
     return seen
 
 
 def table(seen, whole=None):
     cost = defaultdict(lambda: defaultdict(float))
-    for (_, (crate, column)), seconds in seen.items():
+    for (crate, column), seconds in seen.values():
         cost[crate][column] += seconds / 60
     if whole is not None:
-        cost["rest"]["rest"] = whole / 60 - sum(seen.values()) / 60
+        cost["rest"]["rest"] = whole / 60 - sum(seconds for _, seconds in seen.values()) / 60
     rows = sorted(((sum(it.values()), crate, it) for crate, it in cost.items()), reverse=True)
     print("crate                 proof  tests  edits    all")
     for every, crate, it in rows:

@@ -1,15 +1,18 @@
 #!/bin/bash
-# Runs every sample through the program, unproved, and compares what it writes with what stands beside
-# the sample: report.json (audit), run.txt after it (run, at most 200 steps), and each line of why.txt
-# (an owner, a compartment, and what why writes of them). The kit builds the program once for all of
-# them, in about a minute. The worked rows are run with them: rows.py (commands, images), descriptions.py and
-# sources.py (their faults; integer instructions), calls.py (calls between compartments), threads.py (turns and
-# services), heap.py (the heap), freed.py (what was freed, and sweeps), scripts.py (bytes that come to devices). Of each
-# run the status is compared too (statuses.py).
+# Runs every sample through the program, and compares what it writes with what stands beside the sample:
+# report.json (audit), run.txt after it (run, at most 200 steps), and each line of why.txt (an owner, a
+# compartment, and what why writes of them). The worked rows are run with them: rows.py (commands, images),
+# descriptions.py and sources.py (their faults; integer instructions), calls.py (calls between
+# compartments), threads.py (turns and services), heap.py (the heap), freed.py (what was freed, and sweeps),
+# scripts.py (bytes that come to devices). Of each run the status is compared too (answers.py).
+#
+#     samples/try.sh PROGRAM    a built program, proved and optimised (crates/ct_main/out/ct_main): some seconds
+#     samples/try.sh            the kit tries the program unproved, with checks: some minutes
 here=$(cd "$(dirname "$0")" && pwd) || exit 1
+program=${1:+$(realpath "$1")}
 cases=$(mktemp -d) || exit 1
 trap 'rm -rf "$cases" "$cases"-*' EXIT
-sources=()
+files=()
 
 # expect FOLDER CASE TEXT WORD..: a run of the program on a folder's description, {} among the words
 expect() {
@@ -27,18 +30,26 @@ for report in "$here"/*/report.json; do
         expect "$folder" "why-$owner-$compartment" "$answer" why {} "$owner" "$compartment"
     done < <([ ! -f "$folder/why.txt" ] || cat "$folder/why.txt")
     for source in "$folder"/*.s; do
-        [ ! -f "$source" ] || sources+=(--data "${source##*/}=$source")
+        [ ! -f "$source" ] || files+=("${source##*/}=$source")
     done
 done
 for table in rows descriptions sources calls threads heap freed scripts; do
     rows=$(python3 "$here/$table.py" "$cases") || exit 1
     while IFS= read -r row; do
-        sources+=(--data "$row")
+        files+=("$row")
     done <<< "$rows"
 done
+if [ -n "$program" ]; then
+    python3 "$here/answers.py" "$cases" "$program" "${files[@]}"
+    exit
+fi
+data=()
+for file in "${files[@]}"; do
+    data+=(--data "$file")
+done
 cd "$here/../crates/ct_main" || exit 1
-rt try "${sources[@]}" --cases "$cases" 2> "$cases-said"
+rt try "${data[@]}" --cases "$cases" 2> "$cases-said"
 status=$?
 cat "$cases-said" >&2
 [ $status -eq 0 ] || exit $status
-python3 "$here/statuses.py" "$cases" < "$cases-said"
+python3 "$here/answers.py" "$cases" < "$cases-said"

@@ -12,7 +12,7 @@ ghost use Rattle.def_program.specs.Runs.{run_lines, summary_after};
 ghost use Rattle.def_program.specs.Scripts.{IsPlayable};
 ghost use Rattle.ct_running.specs.Rounds.{MayRun};
 
-use ct_machine::Machine;
+pub use ct_machine::Machine;
 use ct_mem::Memory;
 use ct_port::{Sink, WriteFailed};
 use ct_script::Script;

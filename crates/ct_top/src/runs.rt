@@ -17,12 +17,11 @@ ghost use Rattle.ct_top.specs.Done.{Amiss, IsDone};
 
 use crate::commands::report_of;
 use ct_image::Image;
-use ct_machine::Machine;
 use ct_planes::Planes;
 use ct_port::{Folder, NoMemory, Sink};
 use ct_reading::read_file;
 use ct_refusals::{close_text, refuse_file, script_line};
-use ct_running::{write_run, write_summary};
+use ct_running::{Machine, write_run, write_summary};
 use ct_script::{Script, ScriptFault, read};
 use def_program::{DEMO_STEPS, Status};
 use std::alloc::Global;

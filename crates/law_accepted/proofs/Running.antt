@@ -2,10 +2,12 @@
 use Rattle.std.proofs.Common.{ℕ, ◌≡◌, ◌≤◌, List, Some}
 use Rattle.def_boot.specs.Boot.{board_of, boot_state, image_of}
 use Rattle.def_confined.specs.Confined.{Confined}
+use Rattle.def_confined.specs.Keeps.{Keeps}
 use Rattle.def_confined.specs.Partitioned.{Partitioned}
 use Rattle.def_confined.specs.Telling.{AllLicensed}
 use Rattle.def_image.specs.Accepted.{IsFaultless}
 use Rattle.def_image.specs.Parts.{PartsRow}
+use Rattle.def_image.specs.Sound.{Sound}
 use Rattle.def_step.specs.Events.{happens, run, told}
 use Rattle.def_step.specs.declared.Event.{Event}
 use Rattle.ct_entry.specs.declared.acts.Act.TheVariants as acts
@@ -32,11 +34,21 @@ use Rattle.law_history.proofs.Running.{run_clean, run_uses_reach, run_uses_live,
 pub partitioned : (p : PartsRow) → IsFaultless p → Partitioned (image_of p)
 partitioned p f = booted.partitioned p (sound p f)
 
+-- ---- of sound parts
+
+pub kept : (p : PartsRow) (es : List Event) → Sound p → Keeps (image_of p) (run (board_of p) (boot_state p) es)
+kept p es s = run_keeps (board_of p) (boot_state p) es (booted.partitioned p s) (holds p s) (wired p s) (keeps p s)
+
+pub all_licensed : (p : PartsRow) (es : List Event) → Sound p → AllLicensed (image_of p).entries (told (board_of p) (boot_state p) es)
+all_licensed p es s = told_licensed (board_of p) (boot_state p) es (booted.partitioned p s) (holds p s) (wired p s) (keeps p s)
+
+-- ---- of faultless parts
+
 pub confined : (p : PartsRow) (es : List Event) → IsFaultless p → Confined (image_of p) (run (board_of p) (boot_state p) es)
-confined p es f = (run_keeps (board_of p) (boot_state p) es (partitioned p f) (holds p (sound p f)) (wired p (sound p f)) (keeps p (sound p f))).confined
+confined p es f = (kept p es (sound p f)).confined
 
 pub licensed : (p : PartsRow) (es : List Event) → IsFaultless p → AllLicensed (image_of p).entries (told (board_of p) (boot_state p) es)
-licensed p es f = told_licensed (board_of p) (boot_state p) es (partitioned p f) (holds p (sound p f)) (wired p (sound p f)) (keeps p (sound p f))
+licensed p es f = all_licensed p es (sound p f)
 
 -- ---- what runs do
 

@@ -5,11 +5,13 @@
 ghost use Rattle.std.specs.Prelude.{◌≤◌, List, [], ℕ};
 ghost use Rattle.def_boot.specs.Boot.{board_of, boot_state, image_of};
 ghost use Rattle.def_confined.specs.Confined.{Confined};
+ghost use Rattle.def_confined.specs.Keeps.{Keeps};
 ghost use Rattle.def_confined.specs.Partitioned.{Partitioned};
 ghost use Rattle.def_confined.specs.Telling.{AllLicensed};
 ghost use Rattle.def_description.specs.Rows.{DescRow};
 ghost use Rattle.def_image.specs.Accepted.{IsFaultless, IsImage};
 ghost use Rattle.def_image.specs.Parts.{PartsRow};
+ghost use Rattle.def_image.specs.Sound.{Sound};
 ghost use Rattle.def_machine.specs.Image.{root};
 ghost use Rattle.def_machine.specs.Objects.{charges};
 ghost use Rattle.def_step.specs.Events.{run, told};
@@ -24,6 +26,15 @@ ghost use Rattle.law_link.specs.Links.{Links};
 ghost use Rattle.law_linked.specs.Samples.{board_rows, board_sources, tiny_rows};
 
 use law_link_samples::samples_link;
+
+/// After any list of events from its boot the machine of every sound image is confined, with what
+/// stands beside, and each deed and each span with interrupts off that it tells is licensed.
+pub fn lawful_runs()
+    ensures keeps { (p : PartsRow) (es : List Event) → Sound p
+        → Keeps (image_of p) (run (board_of p) (boot_state p) es) }
+    ensures licensed { (p : PartsRow) (es : List Event) → Sound p
+        → AllLicensed (image_of p).entries (told (board_of p) (boot_state p) es) }
+{}
 
 /// Of any bytes that are an image: the machine's image of its parts is partitioned; the machine is confined
 /// after any list of events from its boot, and each deed and each span with interrupts off that these

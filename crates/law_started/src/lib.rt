@@ -1,6 +1,5 @@
-//! Laws of the machine that a sound image boots: its state is confined, with what stands beside, and
-//! so is every state after any list of events, which tell only what is licensed; and no entry reaches
-//! the threads' areas or the heap. Functions with empty bodies whose contracts are the laws.
+//! Laws of the machine that a sound image boots: its state is confined, with what stands beside; and no
+//! entry reaches the threads' areas or the heap. Functions with empty bodies whose contracts are the laws.
 #![tactic(auto)]
 
 mod settled;
@@ -9,4 +8,4 @@ mod started;
 
 pub use settled::boots_settled;
 pub use shut::{boots_blank, images_shut};
-pub use started::{boots_confined, lawful_runs};
+pub use started::boots_confined;

@@ -1,7 +1,9 @@
 //! Firmware of a few numbers, with texts that were made by a script from the written form.
 
-use ct_gen::generate;
+use crate::seen::{count_is, is};
+use ct_gen::{Generated, generate};
 use def_refusals::NoMemory;
+use std::process::Abort;
 
 /// A number over a text, by which texts are told apart.
 fn mark_of(text: &[u8], before: u32) -> u32 {
@@ -12,34 +14,63 @@ fn mark_of(text: &[u8], before: u32) -> u32 {
     mark
 }
 
+fn see_0(rt: &impl Abort, made: &Generated) {
+    is(rt, 0, made.description.as_str() == DESCRIPTION);
+    count_is(rt, made.sources.len(), 2);
+    is(rt, 1, made.sources[0].as_str() == FIRST);
+    is(rt, 2, made.sources[1].as_str() == SECOND);
+}
+
 #[test]
 fn firmware_of_0(rt: HostRuntime) -> Result<(), NoMemory> {
     let made = generate(rt.alloc(), 0)?;
-    assert!(rt; made.description.as_str() == DESCRIPTION);
-    assert!(rt; made.sources.len() == 2);
-    assert!(rt; made.sources[0].as_str() == FIRST);
-    assert!(rt; made.sources[1].as_str() == SECOND);
+    see_0(&rt, &made);
+    drop(made);
     Ok(())
 }
 
+/// A firmware's number, how many compartments it has, the length and the mark of its description, and
+/// the mark of its sources.
+type Other = (u32, usize, usize, u32, u32);
+
 /// The numbers with the most compartments, with the greatest number, and with a first compartment that
 /// passes data alone and a second that doesn't.
+const OTHERS: [Other; 3] = [
+    (62, 64, 19_977, 4_059_171_108, 2_797_775_433),
+    (4_294_967_295, 5, 1_792, 2_001_937_286, 1_118_150_750),
+    (693, 2, 879, 2_254_583_188, 2_272_467_025),
+];
+
+fn mark_of_all(sources: &[String]) -> u32 {
+    let mut all = 0;
+    for source in sources {
+        all = mark_of(source.as_bytes(), all);
+    }
+    all
+}
+
+fn see_other(rt: &impl Abort, made: &Generated, row: &Other) {
+    let (number, count, length, mark, sources) = *row;
+    is(rt, number as usize, made.description.len() == length);
+    is(
+        rt,
+        number as usize,
+        mark_of(made.description.as_bytes(), 0) == mark,
+    );
+    is(rt, number as usize, made.sources.len() == count);
+    is(
+        rt,
+        number as usize,
+        mark_of_all(made.sources.as_slice()) == sources,
+    );
+}
+
 #[test]
 fn firmware_of_others(rt: HostRuntime) -> Result<(), NoMemory> {
-    for (number, count, length, mark, sources) in [
-        (62, 64, 19_977, 4_059_171_108, 2_797_775_433),
-        (4_294_967_295, 5, 1_792, 2_001_937_286, 1_118_150_750),
-        (693, 2, 879, 2_254_583_188, 2_272_467_025),
-    ] {
-        let made = generate(rt.alloc(), number)?;
-        assert!(rt; made.description.len() == length);
-        assert!(rt; mark_of(made.description.as_bytes(), 0) == mark);
-        assert!(rt; made.sources.len() == count);
-        let mut all = 0;
-        for source in &made.sources {
-            all = mark_of(source.as_bytes(), all);
-        }
-        assert!(rt; all == sources);
+    for row in &OTHERS {
+        let made = generate(rt.alloc(), row.0)?;
+        see_other(&rt, &made, row);
+        drop(made);
     }
     Ok(())
 }

@@ -4,14 +4,15 @@
 ghost use Rattle.std.specs.Prelude.{◌≡◌, IfOk, None, length};
 ghost use Rattle.ct_launch.specs.Placed.{AreFirst};
 
-use crate::start::{accepted, shelf};
+use crate::seen::{count_is, is};
+use crate::start::shelf_image;
 use ct_heaped::{Engine, Object};
 use ct_image::Image;
 use ct_launch::launch;
 use ct_mem::Plain;
 use def_refusals::NoMemory;
 use std::alloc::Global;
-use std::test::Fail;
+use std::process::Abort;
 
 /// What each entry's quota may take: the first's something.
 const LIMITS: [u32; 17] = [0, 24, 0, 0, 0, 0, 0, 0, 0, 0, 0, 0, 0, 0, 0, 0, 0];
@@ -28,29 +29,35 @@ fn launched(alloc: Global, image: &Image) -> Result<Engine<Plain>, NoMemory>
     launch(alloc, image, mem, &LIMITS)
 }
 
-/// The second thread runs with its own stack.
-#[test]
-fn two_threads_start(rt: HostRuntime) -> Result<(), Fail> {
-    let image = accepted(&rt, rt.alloc(), &shelf(rt.alloc())?)?;
-    let mut engine = launched(rt.alloc(), &image)?;
-    assert!(rt; engine.count() == 2);
+/// The second thread runs with its own stack. The heap begins where the image has it: of 24 bytes an object of 16 bytes
+/// takes all, past the eight of its head.
+fn see_launched(rt: &impl Abort, engine: &mut Engine<Plain>)
+    requires none { engine.old.threads.running ≡ None }
+    requires first { AreFirst engine.old.threads }
+    requires quotas { length engine.old.limits ≡ 17 }
+    requires next { engine.old.next ≡ 1 }
+{
+    count_is(rt, engine.count(), 2);
     engine.pick(1);
-    assert!(rt; engine.register(1, 2).address() == 0x8000_02b0);
-    Ok(())
-}
-
-/// The heap begins where the image has it: of 24 bytes an object of 16 bytes takes all, past the eight of its head.
-#[test]
-fn one_object_fits(rt: HostRuntime) -> Result<(), Fail> {
-    let image = accepted(&rt, rt.alloc(), &shelf(rt.alloc())?)?;
-    let mut engine = launched(rt.alloc(), &image)?;
-    assert!(rt; engine.remaining(1) == 24 && engine.remaining(2) == 0);
+    is(rt, 0, engine.register(1, 2).address() == 0x8000_02b0);
+    is(rt, 1, engine.remaining(1) == 24);
+    is(rt, 2, engine.remaining(2) == 0);
     let object = Object {
         number: 1,
         base: 0x8000_0508,
         length: 16,
         live: 24,
     };
-    assert!(rt; engine.allocate(1, 16) == Ok(object));
+    is(rt, 3, engine.allocate(1, 16) == Ok(object));
+}
+
+#[test]
+fn two_threads_start_and_one_object_fits(rt: HostRuntime) -> Result<(), NoMemory> {
+    let image = shelf_image(&rt)?;
+    let launched = launched(rt.alloc(), &image);
+    drop(image);
+    let mut engine = launched?;
+    see_launched(&rt, &mut engine);
+    drop(engine);
     Ok(())
 }

@@ -13,6 +13,8 @@ mod launch;
 #[cfg(test)]
 mod licence;
 #[cfg(test)]
+mod seen;
+#[cfg(test)]
 mod start;
 #[cfg(test)]
 mod tables;

@@ -3,6 +3,7 @@
 
 ghost use Rattle.std.specs.Prelude.{◌≡◌, length, IfOk};
 
+use crate::seen::{count_is, fewer, is, put_made};
 use ct_cap::{Cap, Posture, Shadow};
 use ct_entry::{Device, DeviceKind, Mode};
 use ct_image::{Image, ImageFault, accept};
@@ -13,16 +14,71 @@ use ct_tables::{ExportRow, ImportRow, SlotKind};
 use def_refusals::NoMemory;
 use std::alloc::{AllocError, Global};
 use std::process::Abort;
-use std::test::Fail;
 
-/// A slot by its row and its name.
-fn slot(
-    alloc: Global,
-    kind: SlotKind,
-    rights: u8,
-    first: u32,
-    name: &str,
-) -> Result<Slot, AllocError> {
+/// A slot: its kind, its rights, the first number of its row, and its name.
+type SlotRow = (SlotKind, u8, u32, &'static str);
+
+/// What a compartment or a library is made of: its name, the bounds of its code, its slots, its one
+/// export and that one's name, and its text.
+#[derive(Clone, Copy, Drop)]
+struct Made {
+    name: &'static str,
+    base: u32,
+    length: u32,
+    slots: &'static [SlotRow],
+    export: ExportRow,
+    export_name: &'static str,
+    text: &'static [u8],
+}
+
+/// A slot of each kind, and three words of text. Interrupts are disabled in the export, whose code is
+/// the second word of the text.
+const APP: Made = Made {
+    name: "app",
+    base: 0x8000_0000,
+    length: 80,
+    slots: &[
+        (SlotKind::Service, 40, 0, "switch"),
+        (SlotKind::Device, 49, 0, "uart"),
+        (SlotKind::Shared, 59, 0, "ring"),
+        (SlotKind::Sealed, 51, 0, "box"),
+        (SlotKind::Call, 50, 0, "own"),
+        (SlotKind::Library, 43, 0, "lib"),
+        (SlotKind::Quota, 50, 64, "q"),
+        (SlotKind::Key, 35, 13, "key13"),
+    ],
+    export: ExportRow {
+        offset: 4,
+        stack: 64,
+        args: 2,
+        posture: Mode::Disabled,
+        capabilities: false,
+        entry: 11,
+    },
+    export_name: "main",
+    text: &[1, 2, 3, 4, 5, 6, 7, 8, 9, 10, 11, 12],
+};
+
+/// A library that imports itself.
+const LIB: Made = Made {
+    name: "lib",
+    base: 0x8000_0080,
+    length: 16,
+    slots: &[(SlotKind::Library, 43, 0, "lib")],
+    export: ExportRow {
+        offset: 4,
+        stack: 0,
+        args: 0,
+        posture: Mode::Disabled,
+        capabilities: true,
+        entry: 14,
+    },
+    export_name: "f",
+    text: &[0x21, 0x22, 0x23, 0x24, 0x25, 0x26, 0x27, 0x28],
+};
+
+fn slot(alloc: Global, numbers: &SlotRow) -> Result<Slot, AllocError> {
+    let (kind, rights, first, name) = *numbers;
     let row = ImportRow {
         kind,
         rights,
@@ -33,65 +89,72 @@ fn slot(
     Ok(Slot { row, name })
 }
 
-/// An export whose code is the second word of the text, with interrupts disabled.
-fn export(
-    alloc: Global,
-    name: &str,
-    stack: u32,
-    args: u8,
-    passes: bool,
-    entry: u32,
-) -> Result<Export, AllocError> {
-    let row = ExportRow {
-        offset: 4,
-        stack,
-        args,
-        posture: Mode::Disabled,
-        capabilities: passes,
-        entry,
-    };
-    let name = String::from_str(alloc, name)?;
+fn export(alloc: Global, made: &Made) -> Result<Export, AllocError> {
+    let row = made.export;
+    let name = String::from_str(alloc, made.export_name)?;
     Ok(Export { row, name })
 }
 
-/// A compartment with a slot of each kind, three words of text, and nine initial bytes.
-fn app(alloc: Global) -> Result<Compartment, AllocError> {
-    let slots = vec![in alloc;
-        slot(alloc, SlotKind::Service, 40, 0, "switch")?,
-        slot(alloc, SlotKind::Device, 49, 0, "uart")?,
-        slot(alloc, SlotKind::Shared, 59, 0, "ring")?,
-        slot(alloc, SlotKind::Sealed, 51, 0, "box")?,
-        slot(alloc, SlotKind::Call, 50, 0, "own")?,
-        slot(alloc, SlotKind::Library, 43, 0, "lib")?,
-        slot(alloc, SlotKind::Quota, 50, 64, "q")?,
-        slot(alloc, SlotKind::Key, 35, 13, "key13")?,
-    ]?;
-    let code = Code {
-        name: String::from_str(alloc, "app")?,
-        base: 0x8000_0000,
-        length: 80,
-        slots,
-        exports: vec![in alloc; export(alloc, "main", 64, 2, false, 11)?]?,
-        text: vec![in alloc; 1u8, 2, 3, 4, 5, 6, 7, 8, 9, 10, 11, 12]?,
+fn put_code(alloc: Global, code: &mut Code, made: &Made) -> Result<(), AllocError> {
+    code.name.push_str(made.name)?;
+    for row in made.slots {
+        put_made(&mut code.slots, slot(alloc, row))?;
+    }
+    put_made(&mut code.exports, export(alloc, made))?;
+    code.text.extend_from_slice(made.text)
+}
+
+fn code(alloc: Global, made: &Made) -> Result<Code, AllocError> {
+    let mut code = Code {
+        name: String::new(alloc),
+        base: made.base,
+        length: made.length,
+        slots: Vec::new(alloc),
+        exports: Vec::new(alloc),
+        text: Vec::new(alloc),
     };
+    put_code(alloc, &mut code, made)?;
+    Ok(code)
+}
+
+/// A compartment with nine initial bytes.
+fn app(alloc: Global) -> Result<Compartment, AllocError> {
+    let initial = Vec::from_slice(alloc, &[1u8, 2, 3, 4, 5, 6, 7, 8, 9])?;
+    let code = code(alloc, &APP)?;
     Ok(Compartment {
         code,
         table: 0x8000_0050,
         globals: 0x8000_0070,
         globals_length: 16,
-        initial: vec![in alloc; 1u8, 2, 3, 4, 5, 6, 7, 8, 9]?,
+        initial,
     })
 }
 
-/// A library that imports itself.
-fn lib(alloc: Global) -> Result<Code, AllocError> {
-    Ok(Code {
-        name: String::from_str(alloc, "lib")?,
-        base: 0x8000_0080,
+fn uart(alloc: Global) -> Result<Device, AllocError> {
+    Ok(Device {
+        name: String::from_str(alloc, "uart0")?,
+        kind: DeviceKind::Uart,
+        base: 0x1000_0000,
+    })
+}
+
+fn ring(alloc: Global) -> Result<Shared, AllocError> {
+    Ok(Shared {
+        name: String::from_str(alloc, "ring")?,
+        base: 0x8000_0090,
         length: 16,
-        slots: vec![in alloc; slot(alloc, SlotKind::Library, 43, 0, "lib")?]?,
-        exports: vec![in alloc; export(alloc, "f", 0, 0, true, 14)?]?,
-        text: vec![in alloc; 0x21u8, 0x22, 0x23, 0x24, 0x25, 0x26, 0x27, 0x28]?,
+    })
+}
+
+fn sealed(alloc: Global) -> Result<Sealed, AllocError> {
+    let name = String::from_str(alloc, "box")?;
+    let bytes = Vec::from_slice(alloc, &[9u8, 8, 7, 6, 5])?;
+    Ok(Sealed {
+        name,
+        base: 0x8000_00a0,
+        length: 16,
+        seal: 14,
+        bytes,
     })
 }
 
@@ -108,9 +171,21 @@ fn thread(alloc: Global, name: &str, stack: u32) -> Result<Thread, AllocError> {
     })
 }
 
+/// Puts the name and the lists of the shelf.
+fn put_lists(alloc: Global, parts: &mut Parts) -> Result<(), AllocError> {
+    parts.name.push_str("shelf")?;
+    put_made(&mut parts.devices, uart(alloc))?;
+    put_made(&mut parts.shared, ring(alloc))?;
+    put_made(&mut parts.sealed, sealed(alloc))?;
+    put_made(&mut parts.compartments, app(alloc))?;
+    put_made(&mut parts.libraries, code(alloc, &LIB))?;
+    put_made(&mut parts.threads, thread(alloc, "t", 0x8000_00b0))?;
+    put_made(&mut parts.threads, thread(alloc, "u", 0x8000_01b0))
+}
+
 /// One compartment, one library, an object of each sort, and two threads.
-pub fn shelf(alloc: Global) -> Result<Parts, AllocError> {
-    Ok(Parts {
+fn shelf(alloc: Global) -> Result<Parts, AllocError> {
+    let mut parts = Parts {
         version: 1,
         sweep: 64,
         quantum: 100,
@@ -118,37 +193,16 @@ pub fn shelf(alloc: Global) -> Result<Parts, AllocError> {
         size: 4096,
         trusted: 0x8000_02b0,
         heap: 0x8000_0500,
-        name: String::from_str(alloc, "shelf")?,
-        devices: vec![in alloc;
-            Device {
-                name: String::from_str(alloc, "uart0")?,
-                kind: DeviceKind::Uart,
-                base: 0x1000_0000,
-            },
-        ]?,
-        shared: vec![in alloc;
-            Shared {
-                name: String::from_str(alloc, "ring")?,
-                base: 0x8000_0090,
-                length: 16,
-            },
-        ]?,
-        sealed: vec![in alloc;
-            Sealed {
-                name: String::from_str(alloc, "box")?,
-                base: 0x8000_00a0,
-                length: 16,
-                seal: 14,
-                bytes: vec![in alloc; 9u8, 8, 7, 6, 5]?,
-            },
-        ]?,
-        compartments: vec![in alloc; app(alloc)?]?,
-        libraries: vec![in alloc; lib(alloc)?]?,
-        threads: vec![in alloc;
-            thread(alloc, "t", 0x8000_00b0)?,
-            thread(alloc, "u", 0x8000_01b0)?,
-        ]?,
-    })
+        name: String::new(alloc),
+        devices: Vec::new(alloc),
+        shared: Vec::new(alloc),
+        sealed: Vec::new(alloc),
+        compartments: Vec::new(alloc),
+        libraries: Vec::new(alloc),
+        threads: Vec::new(alloc),
+    };
+    put_lists(alloc, &mut parts)?;
+    Ok(parts)
 }
 
 /// An untagged word.
@@ -228,57 +282,80 @@ fn booted(alloc: Global, image: &Image) -> Result<(Plain, Start), NoMemory>
 /// RAM is as it is expected, granule by granule.
 fn see_ram(rt: &impl Abort, mem: &Plain) {
     let size = mem.size();
-    assert!(rt; size == 4096);
+    count_is(rt, size as usize, 4096);
     for k in 0..size / 8 {
-        assert!(rt; mem.load_cap(8 * k) == expected(8 * k), "at {k}");
-        assert!(rt; !mem.marked(8 * k), "at {k}");
+        is(rt, k as usize, mem.load_cap(8 * k) == expected(8 * k));
+        is(rt, k as usize, !mem.marked(8 * k));
     }
+}
+
+/// Whether a thread starts with the registers that are expected of its index.
+fn has_registers(thread: u32, first: &First) -> bool {
+    let mut same = true;
+    for n in 0..16 {
+        let register = first.regs[n];
+        same = same && register.cap == expected_register(thread, n);
+    }
+    same
 }
 
 /// The thread of an index starts as it is expected.
 fn see_first(rt: &impl Abort, thread: u32, first: &First) {
-    let pcc = first.pcc;
-    assert_eq!(rt; pcc.cap, given(1, 0x5600_0050_8000_0044));
-    for n in 0..16 {
-        let register = first.regs[n];
-        assert_eq!(rt;
-            register.cap,
-            expected_register(thread, n),
-            "c{n} of {thread}"
-        );
-    }
+    let row = thread as usize;
     let off = Posture {
         off: true,
         source: 11,
     };
-    assert_eq!(rt; first.posture, off);
-    assert_eq!(rt; first.actor, 0);
-    assert_eq!(rt; first.export, 11);
+    let pcc = first.pcc;
+    is(rt, row, pcc.cap == given(1, 0x5600_0050_8000_0044));
+    is(rt, row, has_registers(thread, first));
+    is(rt, row, first.posture == off);
+    is(rt, row, first.actor == 0);
+    is(rt, row, first.export == 11);
 }
 
-/// The image of these parts, written and accepted.
-pub fn accepted(rt: &impl Abort, alloc: Global, parts: &Parts) -> Result<Image, NoMemory> {
-    let bytes = written(alloc, parts)?;
-    assert!(rt; bytes.len() < 4096);
-    match accept(alloc, bytes.as_slice()) {
+/// Both threads start as they are expected.
+fn see_start(rt: &impl Abort, image: &Image, start: &Start)
+    requires { length start.now.firsts ≡ length image.now.threads }
+{
+    count_is(rt, image.parts().threads.len(), 2);
+    see_first(rt, 0, &start.first(0));
+    see_first(rt, 1, &start.first(1));
+}
+
+/// The image that these bytes spell.
+fn image_of(rt: &(impl Abort + AllocGlobal), bytes: &[u8]) -> Result<Image, NoMemory> {
+    fewer(rt, bytes.len(), 4096);
+    match accept(rt.alloc(), bytes) {
         Ok(image) => Ok(image),
         Err(fault) => {
-            assert!(rt; fault == ImageFault::NoMemory);
+            is(rt, 0, fault == ImageFault::NoMemory);
             Err(NoMemory)
         }
     }
 }
 
+/// The image of the shelf, written and accepted.
+pub fn shelf_image(rt: &(impl Abort + AllocGlobal)) -> Result<Image, NoMemory> {
+    let parts = shelf(rt.alloc())?;
+    let bytes = written(rt.alloc(), &parts);
+    drop(parts);
+    let bytes = bytes?;
+    image_of(rt, bytes.as_slice())
+}
+
+fn see_booted(rt: &(impl Abort + AllocGlobal), image: &Image) -> Result<(), NoMemory> {
+    let (mem, start) = booted(rt.alloc(), image)?;
+    see_ram(rt, &mem);
+    see_start(rt, image, &start);
+    Ok(())
+}
+
 /// Every granule of RAM, and how both threads start.
 #[test]
-fn boots_whole(rt: HostRuntime) -> Result<(), Fail> {
-    let parts = shelf(rt.alloc())?;
-    let image = accepted(&rt, rt.alloc(), &parts)?;
-    let (mem, start) = booted(rt.alloc(), &image)?;
-    see_ram(&rt, &mem);
-    let threads = image.parts().threads.len();
-    assert_eq!(rt; threads, 2);
-    see_first(&rt, 0, &start.first(0));
-    see_first(&rt, 1, &start.first(1));
-    Ok(())
+fn boots_whole(rt: HostRuntime) -> Result<(), NoMemory> {
+    let image = shelf_image(&rt)?;
+    let seen = see_booted(&rt, &image);
+    drop(image);
+    seen
 }

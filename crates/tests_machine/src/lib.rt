@@ -7,3 +7,5 @@
 mod engine;
 #[cfg(test)]
 mod ready;
+#[cfg(test)]
+mod seen;

@@ -5,6 +5,7 @@ ghost use Rattle.std.specs.Prelude.{◌≡◌, ◌+◌, ◌≤◌};
 ghost use Rattle.def_profile.specs.declared.limits.TheConstants.{RAM_END};
 ghost use Rattle.ct_areas.specs.Threads.{HasArea};
 
+use crate::seen::is;
 use ct_cap::{Cap, Live, Shadow, Trap, shrink};
 use ct_entry::Entries;
 use ct_mem::{Memory, Plain};
@@ -12,9 +13,8 @@ use ct_ready::{is_ready, may_call};
 use ct_switch::{Area, Called, Thread, call, give_back, resume, save, unwind};
 use def_profile::traps::TAG_CODE;
 use def_refusals::NoMemory;
-use std::alloc::Global;
+use std::alloc::{AllocError, Global};
 use std::process::Abort;
-use std::test::Fail;
 use worked_parts::{CODE, GLOBALS, RAM, TRUSTED, dress, entries, heads, thread};
 
 const STACK: u32 = 0x8000_0800;
@@ -96,13 +96,21 @@ fn is_clear(mem: &Plain, low: u32, high: u32) -> bool {
     true
 }
 
-/// All that RAM holds.
-fn all(alloc: Global, mem: &Plain) -> Result<Vec<Cap>, Fail> {
-    let mut rows = Vec::new(alloc);
+/// Puts all that RAM holds.
+fn put_all(rows: &mut Vec<Cap>, mem: &Plain) -> Result<(), AllocError> {
     for k in 0..1024u32 {
         rows.push(held(mem, 8 * k))?;
     }
-    Ok(rows)
+    Ok(())
+}
+
+/// Whether RAM holds these, and no more.
+fn holds_all(mem: &Plain, rows: &[Cap]) -> bool {
+    let mut same = rows.len() == 1024;
+    for k in 0..1024u32 {
+        same = same && rows.get(k as usize) == Some(&held(mem, 8 * k));
+    }
+    same
 }
 
 /// The second compartment's frame stands over the first's, and its own stack holds data and a capability above the
@@ -169,22 +177,23 @@ fn seen(t: &Thread, mem: &Plain, what: Look) -> u64 {
 fn see(rt: &impl Abort, t: &Thread, mem: &Plain, rows: &[(Look, u64)]) {
     for (place, row) in rows.iter().enumerate() {
         let (what, wanted) = *row;
-        assert!(rt; seen(t, mem, what) == wanted, "row {place}");
+        is(rt, place, seen(t, mem, what) == wanted);
     }
 }
 
 /// The call in c6 enters an export by an entry.
 fn enters(rt: &impl Abort, t: &mut Thread, mem: &mut Plain, e: &Entries, entry: u32, export: u32) {
     let answer = called(t, mem, e);
-    assert!(rt;
+    is(
+        rt,
+        export as usize,
         answer == Some(Called::Entered { entry, export }),
-        "export {export}"
     );
 }
 
 /// The unwind leaves a frame to go on in, or none.
 fn unwinds(rt: &impl Abort, t: &mut Thread, mem: &mut Plain, e: &Entries, goes_on: bool) {
-    assert!(rt; unwound(t, mem, e) == Some(goes_on));
+    is(rt, 0, unwound(t, mem, e) == Some(goes_on));
 }
 
 /// The call in c6 is answered so, and all of memory is as before.
@@ -194,10 +203,12 @@ fn refuses(
     mem: &mut Plain,
     e: &Entries,
     wanted: Called,
-) -> Result<(), Fail> {
-    let before = all(rt.alloc(), mem)?;
-    assert!(rt; called(t, mem, e) == Some(wanted));
-    assert!(rt; before == all(rt.alloc(), mem)?);
+) -> Result<(), AllocError> {
+    let mut before = Vec::new(rt.alloc());
+    put_all(&mut before, mem)?;
+    is(rt, 0, called(t, mem, e) == Some(wanted));
+    is(rt, 1, holds_all(mem, before.as_slice()));
+    drop(before);
     Ok(())
 }
 
@@ -258,25 +269,31 @@ const ENDED: [(Look, u64); 3] = [
     (Look::Clear(0x1000, 0x1000 + 352), 1),
 ];
 
+fn go_deep(rt: &impl Abort, t: &mut Thread, mem: &mut Plain, e: &Entries) {
+    put(mem, 0x800 + 40, t.regs[1]);
+    t.regs[12] = Live::integer(9);
+    enters(rt, t, mem, e, 3, 8);
+    see(rt, t, mem, &IN_SECOND);
+    second(t, mem);
+    enters(rt, t, mem, e, 7, 12);
+    see(rt, t, mem, &IN_THIRD);
+    put(mem, 0x800 + 8, t.regs[3]);
+    put(mem, 0x800 + 248, Live::integer(5));
+    unwinds(rt, t, mem, e, true);
+    see(rt, t, mem, &BACK_IN_SECOND);
+    unwinds(rt, t, mem, e, true);
+    see(rt, t, mem, &BACK_IN_FIRST);
+    unwinds(rt, t, mem, e, false);
+    see(rt, t, mem, &ENDED);
+}
+
 #[test]
-fn three_compartments_deep(rt: HostRuntime) -> Result<(), Fail> {
+fn three_compartments_deep(rt: HostRuntime) -> Result<(), NoMemory> {
     let e = entries(rt.alloc(), 128)?;
     let (mut mem, mut t) = begun(rt.alloc(), 3)?;
-    put(&mut mem, 0x800 + 40, t.regs[1]);
-    t.regs[12] = Live::integer(9);
-    enters(&rt, &mut t, &mut mem, &e, 3, 8);
-    see(&rt, &t, &mem, &IN_SECOND);
-    second(&mut t, &mut mem);
-    enters(&rt, &mut t, &mut mem, &e, 7, 12);
-    see(&rt, &t, &mem, &IN_THIRD);
-    put(&mut mem, 0x800 + 8, t.regs[3]);
-    put(&mut mem, 0x800 + 248, Live::integer(5));
-    unwinds(&rt, &mut t, &mut mem, &e, true);
-    see(&rt, &t, &mem, &BACK_IN_SECOND);
-    unwinds(&rt, &mut t, &mut mem, &e, true);
-    see(&rt, &t, &mem, &BACK_IN_FIRST);
-    unwinds(&rt, &mut t, &mut mem, &e, false);
-    see(&rt, &t, &mem, &ENDED);
+    go_deep(&rt, &mut t, &mut mem, &e);
+    drop(mem);
+    drop(e);
     Ok(())
 }
 
@@ -299,42 +316,64 @@ const SECOND: [(Look, u64); 3] = [
     (Look::Top, STACK as u64 + 512),
 ];
 
-#[test]
-fn too_deep_and_no_stack(rt: HostRuntime) -> Result<(), Fail> {
-    let (mut mem, mut t) = begun(rt.alloc(), 2)?;
-    let e = entries(rt.alloc(), 128)?;
-    let large = entries(rt.alloc(), 512)?;
+/// Of the two firmwares the exports of the second ask for more stack.
+fn go_too_deep(
+    rt: &(impl Abort + AllocGlobal),
+    t: &mut Thread,
+    mem: &mut Plain,
+    e: &Entries,
+    large: &Entries,
+) -> Result<(), AllocError> {
     // an export with stack 512, room 256, and a free frame
-    stand_at(&mut t, STACK + 256);
-    refuses(&rt, &mut t, &mut mem, &large, Called::NoStack)?;
-    see(&rt, &t, &mem, &FIRST);
+    stand_at(t, STACK + 256);
+    refuses(rt, t, mem, large, Called::NoStack)?;
+    see(rt, t, mem, &FIRST);
     // depth 2 of 2 frames
-    stand_at(&mut t, STACK + 512);
-    enters(&rt, &mut t, &mut mem, &e, 3, 8);
-    second(&mut t, &mut mem);
-    put(&mut mem, 0x800 + 8, t.regs[3]);
-    refuses(&rt, &mut t, &mut mem, &e, Called::TooDeep)?;
-    see(&rt, &t, &mem, &SECOND);
+    stand_at(t, STACK + 512);
+    enters(rt, t, mem, e, 3, 8);
+    second(t, mem);
+    put(mem, 0x800 + 8, t.regs[3]);
+    refuses(rt, t, mem, e, Called::TooDeep)?;
+    see(rt, t, mem, &SECOND);
     // too deep comes before no stack, and a failed check before both
-    refuses(&rt, &mut t, &mut mem, &large, Called::TooDeep)?;
+    refuses(rt, t, mem, large, Called::TooDeep)?;
     t.regs[2] = Live::integer(0);
     let trap = Trap::capability(TAG_CODE, 2);
-    refuses(&rt, &mut t, &mut mem, &large, Called::Trapped { trap })
+    refuses(rt, t, mem, large, Called::Trapped { trap })
+}
+
+#[test]
+fn too_deep_and_no_stack(rt: HostRuntime) -> Result<(), NoMemory> {
+    let e = entries(rt.alloc(), 128)?;
+    let large = entries(rt.alloc(), 512)?;
+    let (mut mem, mut t) = begun(rt.alloc(), 2)?;
+    let gone = go_too_deep(&rt, &mut t, &mut mem, &e, &large);
+    drop(mem);
+    drop(large);
+    drop(e);
+    gone?;
+    Ok(())
+}
+
+fn give_plain(rt: &impl Abort, t: &mut Thread, mem: &mut Plain, e: &Entries) {
+    enters(rt, t, mem, e, 3, 8);
+    let mut plain = shrink(t.regs[3]);
+    t.regs[10] = t.regs[3];
+    is(rt, 0, given_back(t, mem, e) == Some(true));
+    plain.tag = false;
+    plain.shadow = Shadow { root: 0, source: 0 };
+    is(rt, 1, shrink(t.regs[10]) == plain);
+    is(rt, 2, given_back(t, mem, e) == Some(false));
 }
 
 /// The callee hands back its globals through an export that passes plain values.
 #[test]
-fn plain_results(rt: HostRuntime) -> Result<(), Fail> {
+fn plain_results(rt: HostRuntime) -> Result<(), NoMemory> {
     let e = entries(rt.alloc(), 128)?;
     let (mut mem, mut t) = begun(rt.alloc(), 3)?;
-    enters(&rt, &mut t, &mut mem, &e, 3, 8);
-    let mut plain = shrink(t.regs[3]);
-    t.regs[10] = t.regs[3];
-    assert!(rt; given_back(&mut t, &mut mem, &e) == Some(true));
-    plain.tag = false;
-    plain.shadow = Shadow { root: 0, source: 0 };
-    assert!(rt; shrink(t.regs[10]) == plain);
-    assert!(rt; given_back(&mut t, &mut mem, &e) == Some(false));
+    give_plain(&rt, &mut t, &mut mem, &e);
+    drop(mem);
+    drop(e);
     Ok(())
 }
 
@@ -385,10 +424,11 @@ const AREA_HEAD: [(Look, u64); 1] = [(Look::Clear(0x1000, 0x1080), 1)];
 fn stops(rt: &impl Abort, t: &mut Thread, mem: &mut Plain) {
     let before = shrink(t.regs[3]);
     let code = t.pcc.cap;
-    assert!(rt; before.tag && code.tag);
-    assert!(rt; stopped_and_picked(t, mem, 0x420, 0x428));
+    is(rt, 0, before.tag && code.tag);
+    is(rt, 1, stopped_and_picked(t, mem, 0x420, 0x428));
     let after = shrink(t.regs[3]);
-    assert!(rt; t.pcc.cap == code && after.word == before.word && !after.tag);
+    is(rt, 2, t.pcc.cap == code);
+    is(rt, 3, after.word == before.word && !after.tag);
     see(rt, t, mem, &AREA_HEAD);
 }
 
@@ -399,28 +439,36 @@ const CALLER: [(Look, u64); 3] = [
     (Look::Address(9), 99),
 ];
 
-#[test]
-fn frames_by_their_layout(rt: HostRuntime) -> Result<(), Fail> {
-    let e = entries(rt.alloc(), 128)?;
-    let (mut mem, mut t) = begun(rt.alloc(), 3)?;
-    see(&rt, &t, &mem, &FRAME_0);
+fn go_by_layout(rt: &impl Abort, t: &mut Thread, mem: &mut Plain, e: &Entries) {
+    see(rt, t, mem, &FRAME_0);
     t.handling = true;
     t.regs[3] = Live::integer(33);
     t.regs[8] = Live::integer(88);
     t.regs[9] = Live::integer(99);
     let (link, stack) = (shrink(t.regs[1]), shrink(t.regs[2]));
-    enters(&rt, &mut t, &mut mem, &e, 3, 8);
-    assert!(rt; held(&mem, 0x10E0) == link && held(&mem, 0x10E8) == stack);
-    see(&rt, &t, &mem, &FRAME_1);
-    assert!(rt; !t.handling);
-    second(&mut t, &mut mem);
-    enters(&rt, &mut t, &mut mem, &e, 7, 12);
-    see(&rt, &t, &mem, &FRAME_2);
-    stops(&rt, &mut t, &mut mem);
-    unwinds(&rt, &mut t, &mut mem, &e, true);
-    see(&rt, &t, &mem, &SECOND);
-    unwinds(&rt, &mut t, &mut mem, &e, true);
-    assert!(rt; t.handling && shrink(t.regs[2]) == stack);
-    see(&rt, &t, &mem, &CALLER);
+    enters(rt, t, mem, e, 3, 8);
+    is(rt, 0, held(mem, 0x10E0) == link);
+    is(rt, 1, held(mem, 0x10E8) == stack);
+    see(rt, t, mem, &FRAME_1);
+    is(rt, 2, !t.handling);
+    second(t, mem);
+    enters(rt, t, mem, e, 7, 12);
+    see(rt, t, mem, &FRAME_2);
+    stops(rt, t, mem);
+    unwinds(rt, t, mem, e, true);
+    see(rt, t, mem, &SECOND);
+    unwinds(rt, t, mem, e, true);
+    is(rt, 3, t.handling);
+    is(rt, 4, shrink(t.regs[2]) == stack);
+    see(rt, t, mem, &CALLER);
+}
+
+#[test]
+fn frames_by_their_layout(rt: HostRuntime) -> Result<(), NoMemory> {
+    let e = entries(rt.alloc(), 128)?;
+    let (mut mem, mut t) = begun(rt.alloc(), 3)?;
+    go_by_layout(&rt, &mut t, &mut mem, &e);
+    drop(mem);
+    drop(e);
     Ok(())
 }

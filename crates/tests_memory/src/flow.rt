@@ -4,6 +4,7 @@
 ghost use Rattle.std.specs.Prelude.{IsTrue};
 ghost use Rattle.def_instr.specs.Shapes.{is_jump};
 
+use crate::seen::{at, is};
 use ct_cap::{Cap, Live, Posture, Shadow, Trap, expand};
 use ct_flow::{Flow, flow};
 use def_instr::Instr;
@@ -87,11 +88,25 @@ const MISALIGNED: Trap = Trap {
     register: 0,
 };
 
+/// A jump goes on where it must, or traps so; the message names it by a number.
+fn lands(rt: &impl Abort, number: usize, found: Result<Cap, Trap>, due: Result<Cap, Trap>) {
+    at(rt, found == due, "jump", number as u64);
+}
+
+/// A jump goes on in the posture that it must.
+fn runs(rt: &impl Abort, number: usize, found: Result<Posture, Trap>, due: Posture) {
+    at(rt, found == Ok(due), "type", number as u64);
+}
+
 #[test]
 fn jal_links_as_a_return_sentry(rt: HostRuntime) {
     let went = jump(Instr::Jal { rd: 1, offset: 8 }, number(0), number(0));
-    assert!(rt; target(&went) == Ok(code(1, 0x5600_0030_8000_0018)));
-    assert!(rt; link(&went) == Some(code(1, 0x5740_0030_8000_0014)));
+    lands(&rt, 0, target(&went), Ok(code(1, 0x5600_0030_8000_0018)));
+    is(
+        &rt,
+        link(&went) == Some(code(1, 0x5740_0030_8000_0014)),
+        "link",
+    );
 }
 
 /// Where a branch of registers 5 and 6 goes on: `blt` by 8, `bltu` by 8 or `beq` by 6.
@@ -116,9 +131,19 @@ fn branch(which: u32, x: u64, y: u64) -> Result<Cap, Trap> {
 
 #[test]
 fn branches_compare_and_align(rt: HostRuntime) {
-    assert!(rt; branch(0, 0xFFFF_FFFF, 1) == Ok(code(1, 0x5600_0030_8000_0018)));
-    assert!(rt; branch(1, 0xFFFF_FFFF, 1) == Ok(code(1, 0x5600_0030_8000_0014)));
-    assert!(rt; branch(2, 1, 1) == Err(MISALIGNED));
+    lands(
+        &rt,
+        0,
+        branch(0, 0xFFFF_FFFF, 1),
+        Ok(code(1, 0x5600_0030_8000_0018)),
+    );
+    lands(
+        &rt,
+        1,
+        branch(1, 0xFFFF_FFFF, 1),
+        Ok(code(1, 0x5600_0030_8000_0014)),
+    );
+    lands(&rt, 2, branch(2, 1, 1), Err(MISALIGNED));
 }
 
 /// A return through the sentry of the native return, and through a forward sentry, which it refuses.
@@ -130,10 +155,10 @@ fn returns_take_return_sentries(rt: HostRuntime) {
         immediate: 0,
     };
     let went = jump(back, of_entry(0, 0x5140_2018_0001_0010), number(0));
-    assert!(rt; target(&went) == Ok(code(0, 0x5000_2018_0001_0010)));
-    assert!(rt; posture(&went) == Ok(ON));
+    lands(&rt, 0, target(&went), Ok(code(0, 0x5000_2018_0001_0010)));
+    runs(&rt, 0, posture(&went), ON);
     let forward = jump(back, of_entry(3, 0x5040_0008_0001_0000), number(0));
-    assert!(rt; target(&forward) == Err(refused(3, 1)));
+    lands(&rt, 1, target(&forward), Err(refused(3, 1)));
 }
 
 /// Interrupts on, and off by export 6.
@@ -175,6 +200,11 @@ fn through(rd: u32, rs1: u32, immediate: u32, word: u64, posture: Posture) -> Re
     )
 }
 
+/// Where such a jump with interrupts on goes on, or its trap.
+fn end(rd: u32, rs1: u32, immediate: u32, word: u64) -> Result<Cap, Trap> {
+    target(&through(rd, rs1, immediate, word, ON))
+}
+
 /// Of a register for the link and one for the target, which types the jump takes, from unsealed to 5:
 /// the return, calls, and any other.
 const TAKEN: [(u32, u32, [bool; 6]); 6] = [
@@ -194,10 +224,7 @@ fn takes(rt: &impl Abort, rd: u32, rs1: u32, taken: &[bool; 6]) {
         } else {
             Err(refused(3, rs1))
         };
-        assert!(rt;
-            target(&through(rd, rs1, 0, TARGETS[kind], ON)) == due,
-            "type {kind}"
-        );
+        lands(rt, kind, end(rd, rs1, 0, TARGETS[kind]), due);
     }
 }
 
@@ -222,16 +249,18 @@ const POSTURES: [(u32, usize, Posture, bool, u32); 9] = [
     (0, 5, OFF, false, 0),
 ];
 
+/// A row of `POSTURES`.
+fn decides(rt: &impl Abort, row: &(u32, usize, Posture, bool, u32)) {
+    let (rd, kind, before, off, source) = *row;
+    at(rt, kind < 6, "type", kind as u64);
+    let went = through(rd, 1, 0, TARGETS[kind % 6], before);
+    runs(rt, kind, posture(&went), Posture { off, source });
+}
+
 #[test]
 fn targets_decide_the_posture(rt: HostRuntime) {
-    for (rd, kind, before, off, source) in &POSTURES {
-        let due = Posture {
-            off: *off,
-            source: *source,
-        };
-        assert!(rt; *kind < 6, "type {kind}");
-        let went = through(*rd, 1, 0, TARGETS[*kind % 6], *before);
-        assert!(rt; posture(&went) == Ok(due), "type {kind}");
+    for row in &POSTURES {
+        decides(&rt, row);
     }
 }
 
@@ -243,20 +272,21 @@ fn links_keep_interrupts_off(rt: HostRuntime) {
         word: 0x5700_0030_8000_0014,
         shadow: Shadow { root: 1, source: 6 },
     };
-    assert!(rt; link(&through(7, 5, 0, TARGETS[0], OFF)) == Some(due));
+    is(
+        &rt,
+        link(&through(7, 5, 0, TARGETS[0], OFF)) == Some(due),
+        "link",
+    );
 }
 
 #[test]
 fn immediates_of_unsealed_targets_alone(rt: HostRuntime) {
     for kind in 1..4 {
-        assert!(rt;
-            target(&through(1, 5, 4, TARGETS[kind], ON)) == Err(refused(3, 5)),
-            "type {kind}"
-        );
+        lands(&rt, kind, end(1, 5, 4, TARGETS[kind]), Err(refused(3, 5)));
     }
     let due = code(2, 0x5600_0030_8000_0024);
-    assert!(rt; target(&through(1, 5, 5, TARGETS[0], ON)) == Ok(due));
-    assert!(rt; target(&through(1, 5, 6, TARGETS[0], ON)) == Err(MISALIGNED));
+    lands(&rt, 4, end(1, 5, 5, TARGETS[0]), Ok(due));
+    lands(&rt, 5, end(1, 5, 6, TARGETS[0]), Err(MISALIGNED));
 }
 
 /// A sealed export, of type 9, is no target; an unsealed capability of data isn't executable; an
@@ -264,7 +294,7 @@ fn immediates_of_unsealed_targets_alone(rt: HostRuntime) {
 #[test]
 fn data_is_no_target(rt: HostRuntime) {
     for (word, fault) in [(0x6440_8050_8000_0040, 3), (0x6400_8050_8000_0040, 17)] {
-        assert!(rt; target(&through(1, 5, 0, word, ON)) == Err(refused(fault, 5)));
+        lands(&rt, 0, end(1, 5, 0, word), Err(refused(fault, 5)));
     }
     let call = Instr::CJalr {
         rd: 1,
@@ -272,5 +302,5 @@ fn data_is_no_target(rt: HostRuntime) {
         immediate: 0,
     };
     let went = jump(call, number(0x8000_0020), number(0));
-    assert!(rt; target(&went) == Err(refused(2, 5)));
+    lands(&rt, 1, target(&went), Err(refused(2, 5)));
 }

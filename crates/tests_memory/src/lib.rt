@@ -16,4 +16,6 @@ mod port;
 #[cfg(test)]
 mod revoke;
 #[cfg(test)]
+mod seen;
+#[cfg(test)]
 mod trace;

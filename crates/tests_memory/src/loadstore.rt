@@ -3,6 +3,7 @@
 
 ghost use Rattle.std.specs.Prelude.{◌≡◌, ◌⊎◌, length, false};
 
+use crate::seen;
 use ct_cap::{Cap, Live, Shadow, expand};
 use ct_loadstore::{filter, load_capability, load_number, store_quietly};
 use ct_mem::{Memory, Plain};
@@ -245,10 +246,8 @@ fn see_numbers<M: Memory>(
 ) {
     for (place, row) in rows.iter().enumerate() {
         let (x, width, signed, immediate, wanted) = *row;
-        assert!(rt;
-            number(mem, x, width, signed, immediate) == wanted,
-            "row {place}"
-        );
+        let found = number(mem, x, width, signed, immediate) == wanted;
+        seen::at(rt, found, "row", place as u64);
     }
 }
 
@@ -338,10 +337,8 @@ fn is_given(found: Option<Cap>, wanted: Option<Given>) -> bool {
 fn see_capabilities<M: Memory>(rt: &impl Abort, mem: &M, rows: &[(Through, u32, Option<Given>)]) {
     for (place, row) in rows.iter().enumerate() {
         let (x, immediate, wanted) = *row;
-        assert!(rt;
-            is_given(capability(mem, x, immediate), wanted),
-            "row {place}"
-        );
+        let found = is_given(capability(mem, x, immediate), wanted);
+        seen::at(rt, found, "row", place as u64);
     }
 }
 
@@ -380,6 +377,14 @@ fn value(is_capability: bool) -> Live {
     Live::integer(0xAABB_CC11)
 }
 
+/// What the granule of an offset holds.
+fn holds<M: Memory>(rt: &impl Abort, mem: &M, at: u32, wanted: Cap)
+    requires { length (M.granules mem.now) ≡ 4 }
+{
+    let granule = (at / 8 % 4) as usize;
+    seen::at(rt, all(mem)[granule] == wanted, "at", at as u64);
+}
+
 /// A number is stored.
 fn stores<M: Memory>(rt: &impl Abort, mem: &mut M, row: &(Through, bool, u32, u32, u32, u64))
     requires { length (M.granules mem.old) ≡ 4 }
@@ -387,11 +392,10 @@ fn stores<M: Memory>(rt: &impl Abort, mem: &mut M, row: &(Through, bool, u32, u3
 {
     let (x, is_capability, width, immediate, at, word) = *row;
     let y = value(is_capability);
-    assert!(rt; put(mem, x, &y, width, immediate));
-    let now = all(mem);
-    let index = (at / 8 % 4) as usize;
-    assert!(rt; now[index] == untagged(word), "at {at}");
-    assert!(rt; now[1] == object(0x7600_0020_8000_0008));
+    let done = put(mem, x, &y, width, immediate);
+    seen::at(rt, done, "stored at", at as u64);
+    holds(rt, mem, at, untagged(word));
+    holds(rt, mem, 8, object(0x7600_0020_8000_0008));
 }
 
 fn stored_numbers<M: Memory>(rt: &impl Abort, mem: &mut M)
@@ -421,9 +425,9 @@ fn stores_whole<M: Memory>(rt: &impl Abort, mem: &mut M, row: &(Through, bool, u
     ensures { length (M.granules mem.new) ≡ 4 }
 {
     let (x, tag, word, at, stays) = *row;
-    assert!(rt; put_whole(mem, x, of((tag, word)), at));
-    let index = (at / 8 % 4) as usize;
-    assert!(rt; all(mem)[index] == of((stays, word)), "at {at}");
+    let done = put_whole(mem, x, of((tag, word)), at);
+    seen::at(rt, done, "stored at", at as u64);
+    holds(rt, mem, at, of((stays, word)));
 }
 
 fn stored_capabilities<M: Memory>(rt: &impl Abort, mem: &mut M)
@@ -485,7 +489,8 @@ fn keeps_out<M: Memory>(rt: &impl Abort, mem: &mut M, row: &(Through, u32, u32))
     } else {
         put(mem, x, &Live::integer(0xAABB_CC11), width, immediate)
     };
-    assert!(rt; !stored && all(mem) == before);
+    seen::at(rt, !stored, "not stored", immediate as u64);
+    seen::at(rt, all(mem) == before, "unchanged", immediate as u64);
 }
 
 fn no_stores<M: Memory>(rt: &impl Abort, mem: &mut M, rows: &[(Through, u32, u32)])
@@ -513,8 +518,10 @@ fn over<M: Memory>(rt: &impl Abort, mem: &mut M)
 fn quiet_accesses_over_both(rt: HostRuntime) -> Result<(), Fail> {
     let mut plain = Plain::new(rt.alloc(), 32)?;
     over(&rt, &mut plain);
+    drop(plain);
     let mut planes = Planes::new(rt.alloc(), 32)?;
     over(&rt, &mut planes);
+    drop(planes);
     Ok(())
 }
 

@@ -1,7 +1,9 @@
 //! Lines as runs of the samples write them.
 
+use crate::seen::at;
 use ct_entry::{Act, Deed, Happened, Owned};
 use ct_trace::line_of;
+use std::process::Abort;
 
 /// A deed of thread 1, compartment 0, by entry 7 or none.
 fn deed(entry: u32, act: Act) -> Happened {
@@ -14,6 +16,12 @@ fn deed(entry: u32, act: Act) -> Happened {
         }),
         off: None,
     }
+}
+
+/// The lines of a step.
+fn writes(rt: &impl Abort, happened: &Happened, step: u32, text: &str) {
+    let lines = line_of(happened, step);
+    at(rt, lines.as_str() == text, "step", step as u64);
 }
 
 /// A load by a second thread, a trap with a span with interrupts off behind it, and a step that tells nothing.
@@ -41,11 +49,12 @@ fn lines_of_steps(rt: HostRuntime) {
         deed: None,
         off: None,
     };
-    for (happened, step, text) in [
-        (deed(4, load), 3, "3 load t1 c0 e4 10000000 4 00000041\n"),
-        (both, 7, "7 trap t1 c0 28 3 14\n7 off t0 c0 e7\n"),
-        (quiet, 8, ""),
-    ] {
-        assert!(rt; line_of(&happened, step).as_str() == text, "step {step}");
-    }
+    writes(
+        &rt,
+        &deed(4, load),
+        3,
+        "3 load t1 c0 e4 10000000 4 00000041\n",
+    );
+    writes(&rt, &both, 7, "7 trap t1 c0 28 3 14\n7 off t0 c0 e7\n");
+    writes(&rt, &quiet, 8, "");
 }
