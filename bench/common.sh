@@ -1,35 +1,63 @@
 # What the scripts beside it share; each that needs a folder for its files sources it first. It sets
 #   here     the repository
-#   parts    the program of single layers; build it first: (cd crates/bench_parts && rt run -- decode 1000)
-#   program  the program; build it first: bin/build
+#   program  the program, which the first word names; without one that of bin/build
 #   work     a folder for files, which is gone when the script ends
-#   output   what the last `timed` wrote
+#   output   what the last `used` wrote
 here=$(cd "$(dirname "${BASH_SOURCE[0]}")/.." && pwd)
-parts=$here/crates/bench_parts/out/bench_parts
-program=$here/crates/ct_main/out/ct_main
+program=$(realpath -m "${1:-$here/crates/ct_main/out/ct_main}")
+if [ ! -x "$program" ]; then
+    echo "$(basename "$0"): there is no program at $program; bin/build makes it" >&2
+    exit 1
+fi
 folder=$(mktemp -d)
 trap 'rm -rf "$folder"' EXIT
 work=$folder/files
 output=$folder/output
 mkdir "$work"
 
-# timed WORD..: runs a command; its status, and the seconds that it took
-timed() {
-    local start=$(date +%s.%N)
-    "$@" > "$output"
-    status=$?
-    seconds=$(echo "$(date +%s.%N) - $start" | bc)
-}
-
-# used WORD..: runs a command; seconds of the processor, the most memory that it held, and what it wrote
+# used WORD..: runs a command five times. Its status; the least seconds of the processor, of the system's too; and the
+# most MiB that it held, which can't be told below the ten or so of the Python that starts it.
 used() {
-    python3 - "$@" <<'PYTHON'
-import resource
+    read -r status seconds held < <(python3 - "$output" "$@" <<'PYTHON'
+import os
 import subprocess
 import sys
-answer = subprocess.run(sys.argv[1:], capture_output=True, text=True).stdout.strip()
-used = resource.getrusage(resource.RUSAGE_CHILDREN)
-print("%.3f s, %5.1f MiB: %s" % (used.ru_utime + used.ru_stime, used.ru_maxrss / 1024, answer))
+
+
+def once():
+    with open(sys.argv[1], "wb") as file:
+        run = subprocess.Popen(sys.argv[2:], stdout=file)
+        _, status, usage = os.wait4(run.pid, 0)
+        run.returncode = os.waitstatus_to_exitcode(status)
+    return usage.ru_utime + usage.ru_stime, usage.ru_maxrss / 1024, run.returncode
+
+
+runs = [once() for _ in range(5)]
+print(runs[0][2], "%.3f" % min(run[0] for run in runs), "%.0f" % max(run[1] for run in runs))
+PYTHON
+    )
+}
+
+# loads FILE: the least seconds of the processor of five that Python takes to read the file's text as JSON, without its
+# own start
+loads() {
+    python3 - "$1" <<'PYTHON'
+import json
+import sys
+import time
+
+
+def once():
+    start = time.process_time()
+    try:
+        with open(sys.argv[1]) as file:
+            json.load(file)
+    except (ValueError, RecursionError):
+        pass
+    return time.process_time() - start
+
+
+print("%.3f" % min(once() for _ in range(5)))
 PYTHON
 }
 

@@ -43,9 +43,9 @@ with tempfile.TemporaryDirectory() as work:
     assert len(words) == count, (len(words), count)
     copy = work + "/copy"
     shutil.copytree(top, copy, ignore=shutil.ignore_patterns("out", ".git"))
-    tests = copy + "/crates/tests_code/src/asm.rt"
+    tests = copy + "/crates/tests_words/src/asm.rt"
     with open(tests, "a") as file:
         file.write("\n#[test]\nfn compared(rt: HostRuntime) {\n    let names = Names::new(rt.alloc());\n    gives(&rt, rt.alloc(), &names, \"%s\", &[%s]);\n}\n" % (source.replace("\n", "\\n"), ", ".join(map(str, words))))
-    done = subprocess.run(["rt", "try", "--test"], cwd=copy + "/crates/tests_code", capture_output=True, text=True)
+    done = subprocess.run(["rt", "try", "--test"], cwd=copy + "/crates/tests_words", capture_output=True, text=True)
     line = [l for l in done.stdout.splitlines() if "compared" in l]
     print("\n".join(line) or done.stdout + done.stderr)

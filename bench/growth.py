@@ -104,11 +104,11 @@ HEAP = {
 }
 
 
-def described(ram, threads=1, frames=2, sweep=64, exports=(), **more):
+def described(ram, threads=1, stack=256, frames=2, sweep=64, exports=(), **more):
     """A firmware of one compartment and threads that begin in its `main`; `more` are the compartment's members."""
     app = {"name": "app", "code": {"file": "app.s"}, "globals": 16, **more}
     app["exports"] = [{"name": "main", "at": "main"}, *exports]
-    rows = [{"name": f"t{i}", "entry": "app.main", "priority": 1, "stack": 256, "frames": frames}
+    rows = [{"name": f"t{i}", "entry": "app.main", "priority": 1, "stack": stack, "frames": frames}
             for i in range(threads)]
     return {"firmware": "growth", "version": 2, "ram": {"base": 2147483648, "size": ram}, "sweep": sweep,
             "quantum": QUANTUM, "compartments": [app], "threads": rows}
@@ -210,15 +210,27 @@ def threads(program, steps):
         row(str(count), f"{step:.1f}", f"{8 * step:.0f}")
 
 
+def nested(depth, told, program, steps, **more):
+    """Nanoseconds a step of calls so deep."""
+    def counts(limit):
+        return {"calls": sum(comes(limit, 7 + 9 * i, 12 * depth) for i in range(depth))}
+    firmware = described(64 * KIB, frames=96, imports=[{"as": "down", "call": "app.down"}],
+                         exports=[{"name": "down", "at": "down", "args": 1, "passes": "data"}], **more)
+    return measured(told, program, steps, firmware, NESTS.format(depth=depth), counts=counts)[0]
+
+
 def frames(program, steps):
     table("calls nested", "ns a step", "ns of the 12 steps with a call and its return")
     for depth in [1, 4, 16, 60, 95]:
-        def counts(limit):
-            return {"calls": sum(comes(limit, 7 + 9 * i, 12 * depth) for i in range(depth))}
-        firmware = described(64 * KIB, frames=96, imports=[{"as": "down", "call": "app.down"}],
-                             exports=[{"name": "down", "at": "down", "args": 1, "passes": "data"}])
-        step, _, _ = measured(f"nested {depth}", program, steps, firmware, NESTS.format(depth=depth), counts=counts)
+        step = nested(depth, f"nested {depth}", program, steps)
         row(str(depth), f"{step:.1f}", f"{12 * step:.0f}")
+
+
+def stacks(program, steps):
+    table("bytes of stack", "ns a step", "ns of the 12 steps with a call and its return")
+    for size in [256, 1024, 4096, 16384]:
+        step = nested(1, f"stack {size}", program, steps, stack=size)
+        row(f"{size:,}", f"{step:.1f}", f"{12 * step:.0f}")
 
 
 def heap(program, steps):
@@ -257,7 +269,7 @@ def ram(program, steps):
 
 def main():
     steps, program = int(sys.argv[1]), sys.argv[2]
-    for number, quantity in enumerate([threads, frames, heap, sweep, ram]):
+    for number, quantity in enumerate([threads, frames, stacks, heap, sweep, ram]):
         if number > 0:
             print()
         quantity(program, steps)

@@ -1,8 +1,7 @@
 #!/bin/bash
-# How long an image takes to accept, beside reading its file alone: 1, 4 and 16 MiB that are refused
-# (many devices, one list of slots, one text), and the largest lawful list of owners, each with as many
-# slots and exports as may be and 64 KiB of text.
-# Build first: (cd crates/bench_parts && rt run -- decode 1000)
+# How long an image takes to be read and judged, and to be written again where it is lawful (`upgrade`), beside reading
+# its file alone (`cat`): 1, 4 and 16 MiB that are refused (many devices, one list of slots, one text), and the largest
+# lawful list of owners, each with as many slots and exports as may be and 64 KiB of text.
 source "$(dirname "$0")/common.sh"
 python3 -B - "$here/bench" "$work" <<'PYTHON'
 import sys
@@ -22,10 +21,11 @@ def image(devices=(), owners=(), libraries=(), threads=(), size=8 * MIB, trusted
 
 
 for mib in (1, 4, 16):
-    put(f"devices-{mib}", image([(f"d{i}", 1, 0x10000000 + 16 * i) for i in range(mib * MIB // 40)]))
-    slots = [r.SWITCH] + [(SERVICE, f"s{i}") for i in range(mib * MIB // 48)]
+    size = mib * MIB - 512
+    put(f"devices-{mib}", image([(f"d{i}", 1, 0x10000000 + 16 * i) for i in range(size // 40)]))
+    slots = [r.SWITCH] + [(SERVICE, f"s{i}") for i in range(size // 48)]
     put(f"slots-{mib}", image(owners=[r.owner(True, "c", 0x80000000, 48, slots, [], r.TEXT)]))
-    put(f"text-{mib}", image(owners=[r.owner(True, "c", 0x80000000, 48, [r.SWITCH], [], bytes(mib * MIB))]))
+    put(f"text-{mib}", image(owners=[r.owner(True, "c", 0x80000000, 48, [r.SWITCH], [], bytes(size))]))
 
 
 def exports(entry, own):
@@ -50,8 +50,9 @@ put("largest", image([(f"d{i}", 1, 0x10000000 + 16 * i) for i in range(16)], own
                      64 * MIB, trusted, laid.rest()))
 PYTHON
 for file in $(ls -v "$work"); do
-    for form in accept read; do
-        timed "$parts" image "$form" "$work/$file"
-        printf '%-12s %9d bytes, %s s: %s\n' "$file" "$(stat -c %s "$work/$file")" "$seconds" "$(cat "$output")"
-    done
+    used cat "$work/$file"
+    alone=$seconds
+    used "$program" upgrade "$work/$file"
+    printf '%-12s %9d bytes, status %d, %8d bytes written, %s s, cat %s s\n' "$file" "$(stat -c %s "$work/$file")" \
+        "$status" "$(stat -c %s "$output")" "$seconds" "$alone"
 done

@@ -1,9 +1,9 @@
-"""Images, as crates/run_rows/reference writes them, and regions one after another in their RAM."""
+"""Images, as samples/model writes them, and regions one after another in their RAM."""
 import os
 import sys
 
-sys.path.insert(0, os.path.join(os.path.dirname(os.path.abspath(__file__)), "../crates/run_rows/reference"))
-import images
+sys.path.insert(0, os.path.join(os.path.dirname(os.path.abspath(__file__)), "../samples"))
+from model import images
 
 MIB = 1 << 20
 

@@ -101,8 +101,9 @@ def counted(name, steps, program, plain, image):
 def modelled(name, steps, plain):
     """The lines of the plain machine, and those of the interpreter on the same image."""
     sys.path.insert(0, os.path.join(HERE, "..", "samples"))
+    from model import images
     from model.heap import HeapMachine
-    from model.linker import images, link
+    from model.linker import link
     with open(os.path.join(LOOPS, name + ".json")) as file:
         firmware = json.load(file)
     sources = {}

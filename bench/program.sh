@@ -1,23 +1,31 @@
 #!/bin/bash
-# How long the program's commands take: audits of 1, 4 and 16 MiB of JSON that is accepted (the small
-# sample after blanks) and that is refused (many devices of distinct names, many words of code, open
-# brackets alone); and each command on the largest lawful description, and on its image.
-# Build first: bin/build
+# How long the program's commands take: audits of 1, 4 and 16 MiB of JSON that is accepted (the small sample after
+# blanks) and that is refused (many devices and many exports of distinct names, many words of code, open brackets
+# alone), and of the largest lawful description, each beside Python's json.load of the same text; each other command on
+# the largest, and on its image; and a run by scripts of 4 and 16 MiB.
 source "$(dirname "$0")/common.sh"
-program=${1:-$program}
-descriptions "$here/samples/tiny/tiny.json" blanks devices words brackets
+tiny=$here/samples/tiny/tiny.json
+descriptions "$tiny" blanks devices exports words brackets
 
-# told WORD..: seconds of one run, its status, and how much it wrote
+# told WORD..: a line with the status of a command, how much it wrote and how long it took
 told() {
-    timed "$program" "$@"
-    printf '%-10s %-12s %9d bytes, status %d, %8d bytes written, %s s\n' "$1" "$(basename "$2")" \
+    used "$program" "$@"
+    printf '%-9s %-11s %9d bytes, status %d, %8d bytes written, %s s' "$1" "$(basename "$2")" \
         "$(stat -c %s "$2")" "$status" "$(stat -c %s "$output")" "$seconds"
 }
 for file in $(ls -v "$work"); do
     told audit "$work/$file"
+    printf ', json.load %s s\n' "$(loads "$work/$file")"
 done
-told image "$work/largest"
+told image "$work/largest" && echo
 cp "$output" "$folder/image"
-told run "$work/largest" 1
-told runimage "$folder/image" 1
-told why "$work/largest" l31 c0
+told upgrade "$folder/image" && echo
+told runimage "$folder/image" 1 && echo
+told run "$work/largest" 1 && echo
+told why "$work/largest" l31 c0 && echo
+for mib in 4 16; do
+    yes | awk -v size=$((mib << 20)) '{ line = 1000000000 + NR " uart0 65"; size -= length(line) + 1
+        if (size < 0) exit; print line }' > "$folder/script-$mib"
+    told run "$tiny" 1 "$folder/script-$mib"
+    printf ', a script of %d bytes, %s lines\n' "$(stat -c %s "$folder/script-$mib")" "$(wc -l < "$folder/script-$mib")"
+done

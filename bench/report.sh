@@ -1,13 +1,17 @@
 #!/bin/bash
-# How long the report of an image takes and how much memory, beside acceptance alone: images of 8, 16, 32 and
-# 64 compartments of 148 slots and 64 exports with 64 threads, and the largest with 32 libraries besides. Names
-# have 32 letters, each compartment calls and shares with every other.
-# Build first: (cd crates/bench_parts && rt run -- decode 1000)
+# How long the report of an image takes and how much memory: `runimage` for one step, which accepts the image, boots it
+# and writes its report, beside `upgrade`, which accepts it and writes it again. Images of 8, 16, 32 and 64 compartments
+# of 148 slots and 64 exports with 64 threads, and the largest with 32 libraries besides; names have 32 letters, and
+# each compartment calls and shares with every other. The line of each must be the one that
+# samples/model/reports.py makes of the image.
 source "$(dirname "$0")/common.sh"
-python3 -B - "$here/bench" "$work" <<'PYTHON'
+lines=$folder/lines
+mkdir "$lines"
+python3 -B - "$here/bench" "$work" "$lines" <<'PYTHON'
 import sys
 sys.path.insert(0, sys.argv[1])
 from laid import Laid, MIB, images as r
+from model import reports
 
 
 def largest(count, libraries):
@@ -31,7 +35,7 @@ def largest(count, libraries):
     shared = [(("o%d" % i).ljust(32, "x"), *laid.placed(16)) for i in range(64)]
     threads = [(("t%d" % i).ljust(32, "x"), *laid.placed(256), count - 1, 63, 1, 96) for i in range(64)]
     trusted = laid.placed(16 + 64 * (160 + 64 * 96))[0]
-    return r.image(2, 100, 0x80000000, 64 * MIB, trusted, laid.rest(), 64, "f", [], shared, [], owners, lent,
+    return r.image(2, 100, 0x80000000, 4 * MIB, trusted, laid.rest(), 64, "f", [], shared, [], owners, lent,
                    threads)
 
 
@@ -39,9 +43,17 @@ for count, libraries in ((8, 0), (16, 0), (32, 0), (64, 0), (64, 32)):
     data = largest(count, libraries)
     with open("%s/%02d-%02d" % (sys.argv[2], count, libraries), "wb") as file:
         file.write(data)
+    with open("%s/%02d-%02d" % (sys.argv[3], count, libraries), "w") as file:
+        file.write(reports.report(data) + "\n")
 PYTHON
 for file in $(ls "$work"); do
-    for form in accept report; do
-        printf '%-6s %-7s %s\n' "$file" "$form" "$(used "$parts" report "$form" "$work/$file")"
-    done
+    used "$program" upgrade "$work/$file"
+    alone="$seconds s, $held MiB"
+    used "$program" runimage "$work/$file" 1
+    if ! head -n 1 "$output" | cmp -s - "$lines/$file"; then
+        echo "report.sh: of $file the reference makes another line" >&2
+        exit 1
+    fi
+    printf '%-6s line of %8d bytes: upgrade %s; runimage %s s, %s MiB\n' "$file" "$(stat -c %s "$lines/$file")" \
+        "$alone" "$seconds" "$held"
 done

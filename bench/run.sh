@@ -1,11 +1,9 @@
 #!/bin/bash
-# Steps per second of `run`: a loop of the machine's five first instructions (auipcc, clc, addi, csw and
-# the register jump) that loads and stores in the globals, and the smallest loop, a jump to itself.
-# The second word is the number of steps, 100 million by default.
-# Build first: bin/build
+# Steps per second of `run`: a loop of the machine's five first instructions (auipcc, clc, addi, csw and the register
+# jump) that loads and stores in the globals, and the smallest loop, a jump to itself. The second word is the number of
+# steps, 20 million by default.
 source "$(dirname "$0")/common.sh"
-program=${1:-$program}
-limit=${2:-100000000}
+limit=${2:-20000000}
 python3 - "$here/samples/tiny/tiny.json" "$work" <<'PYTHON'
 import json, sys
 for name, words in (("five", ["00000097", "0001b283", "00150513", "00a1a023", "00008067"]), ("jump", ["0000006f"])):
@@ -14,7 +12,7 @@ for name, words in (("five", ["00000097", "0001b283", "00150513", "00a1a023", "0
     json.dump(firmware, open(f"{sys.argv[2]}/{name}", "w"))
 PYTHON
 for name in five jump; do
-    timed "$program" run "$work/$name" "$limit"
+    used "$program" run "$work/$name" "$limit"
     printf '%s: status %d, %s\n  %s s, %s steps a second\n' "$name" "$status" "$(tail -n 1 "$output")" "$seconds" \
         "$(echo "$limit / $seconds" | bc)"
 done

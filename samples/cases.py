@@ -1,17 +1,19 @@
 """What the tables of worked rows share: a case of the program for each row, sources, images and runs.
 
-A table is run as TABLE.py OUT: it writes OUT/NAME, OUT/NAME.args and OUT/NAME.stdout for each row, and prints
-SOURCE=FILE for each source. What a row must write was worked out by hand. Images and reports are made by
-model/linker.py and run_rows' reference of reports; the plain machine of model/heap.py must write of each run what its
-row says, so what the program's output is compared with was found twice. samples/try.sh runs the cases.
+A table is run as TABLE.py OUT: it writes OUT/NAME, OUT/NAME.args and OUT/NAME.stdout for each row, OUT/NAME.room where
+not all that is written has room (answers.py), and prints SOURCE=FILE for each source. What a row must write was worked
+out by hand. Images and reports are made by model/linker.py and model/reports.py; the plain machine of model/heap.py must
+write of each run what its row says, so what the program's output is compared with was found twice. samples/try.sh runs
+the cases.
 """
 import json
 import os
 import sys
 
 sys.dont_write_bytecode = True
+from model import images, reports  # noqa: E402
 from model.heap import HeapMachine  # noqa: E402
-from model.linker import images, link, reports  # noqa: E402
+from model.linker import link  # noqa: E402
 
 HERE = os.path.dirname(os.path.abspath(__file__))
 OUT = sys.argv[1]
@@ -28,9 +30,12 @@ def text_of(*path):
         return file.read()
 
 
-def case(name, words, data, wanted):
-    """One call of the program: its words, where {} stands for a file of this data, and what it must write."""
-    for path, content in ((name, data), (name + ".args", "\n".join(words) + "\n"), (name + ".stdout", wanted)):
+def case(name, words, data, wanted, room=None):
+    """One call of the program: its words, where {} stands for a file of this data, and what it must write into room."""
+    files = [(name, data), (name + ".args", "\n".join(words) + "\n"), (name + ".stdout", wanted)]
+    if room is not None:
+        files.append((name + ".room", f"{room}\n"))
+    for path, content in files:
         with open(os.path.join(OUT, path), "wb") as file:
             file.write(content if isinstance(content, bytes) else content.encode())
 
@@ -38,7 +43,7 @@ def case(name, words, data, wanted):
 def stored_file(name, text):
     """A file of this text, which the kit hands to the program too."""
     path = os.path.join(OUT, "..", os.path.basename(OUT) + "-" + name)
-    with open(path, "w", newline="") as file:
+    with open(path, "w", encoding="utf-8", newline="") as file:
         file.write(text)
     print(f"{name}={os.path.abspath(path)}")
     return name
@@ -64,7 +69,7 @@ def image(firmware):
 
 
 def report(firmware):
-    return reports.report(image(firmware))[0]
+    return reports.report(image(firmware))
 
 
 def modelled(data, limit, script=""):

@@ -3,12 +3,12 @@
 
     memory.py PROGRAM WORK     called by memory.sh, whose WORK/refusing.so counts allocations and refuses them
 
-A row is a sample, a row of the tables beside this one, or an image that run_rows reports, so what it is to write with
-ample memory was found apart from the program. It is run once without the library, and then with the first allocation
-refused, the second, and so on, up to a run that makes no refused one: once with that allocation alone refused, and
-once with all from it on. By docs/use/errors.md a run of which memory was wanted ends with status 10 and has written
-nothing. Any other run ends and writes as with ample memory: it can do without what was refused. Nothing goes to
-standard error. What differs is a fault: another status, a part of the output, a signal, a run of more than a minute.
+A row is a sample, or a row of the tables beside this one, so what it is to write with ample memory was found apart
+from the program. It is run once without the library, and then with the first allocation refused, the second, and so
+on, up to a run that makes no refused one: once with that allocation alone refused, and once with all from it on. By
+docs/use/errors.md a run of which memory was wanted ends with status 10 and has written nothing. Any other run ends and
+writes as with ample memory: it can do without what was refused. Nothing goes to standard error. What differs is a
+fault: another status, a part of the output, a signal, a run of more than a minute.
 """
 import glob
 import os
@@ -18,16 +18,13 @@ import sys
 from collections import Counter
 
 sys.dont_write_bytecode = True
-from model.linker import images, reports  # noqa: E402
-from model.machine import Machine  # noqa: E402
-from statuses import DENIED, status_of  # noqa: E402
+from answers import DENIED, status_of  # noqa: E402
 
 HERE = os.path.dirname(os.path.abspath(__file__))
 PROGRAM, WORK = sys.argv[1:]
 FILES, CASES, LOG = (os.path.join(WORK, name) for name in ("files", "cases", "log"))
 MOST_SECONDS = 60
 MOST_CALLS = 10 ** 9
-MOST_STEPS = 10
 NO_MEMORY = 10, b""
 MOST_BYTES = 16_777_216
 
@@ -36,8 +33,11 @@ COMMANDS = "audit image run runimage why upgrade check demo".split()
 # Of each table the rows that are run here: each command, and each status but 9, which no want of memory gives.
 ROWS = {
     "rows": "image runimage runimage_upgraded upgrade upgrade_again why_passing check_allowed check_several "
-            "no_steps no_file missing_1 check_no_policy open nowhere mnemonic no_room undeclared altered_version "
-            "altered_rights why_small_name check_device check_apart check_no_form check_no_name",
+            "no_steps no_file missing_1 check_no_policy open nowhere mnemonic no_room undeclared why_small_name "
+            "check_device check_apart check_no_form check_no_name",
+    "images": "altered_version altered_rights",
+    "reports": "report_tiny report_board report_open report_shared report_plain report_passing report_services "
+               "report_large",
     "scripts": "input input_image script_tab script_missing",
     "heap": "board_run demo_0",
 }
@@ -84,15 +84,6 @@ def of_tables():
             put(name, content(CASES, name))
             words = content(CASES, name + ".args").decode().splitlines()
             yield FILES, [name if word == "{}" else word for word in words], content(CASES, name + ".stdout")
-
-
-def of_images():
-    """The report and the run of each image that run_rows reports, one with each service, one with each kind of slot."""
-    for stem, data in reports.reported():
-        name, read = stem + ".image", images.read(data)
-        put(name, data)
-        due = [reports.report(data)[0], *Machine(read).run(MOST_STEPS, read.quantum, [])]
-        yield FILES, ["runimage", name, str(MOST_STEPS)], "".join(line + "\n" for line in due).encode()
 
 
 def of_sizes():
@@ -191,7 +182,7 @@ def main():
     for folder in (FILES, CASES):
         os.mkdir(folder)
     kinds = {}
-    for table in (of_samples, of_tables, of_images, of_sizes):
+    for table in (of_samples, of_tables, of_sizes):
         for row in (Row(*made) for made in table()):
             kinds.setdefault(row.kind(), []).append(row)
     line("command or refusal", "rows", "allocations", "one refused", "all from one on refused")

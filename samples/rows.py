@@ -1,5 +1,5 @@
 #!/usr/bin/env python3
-"""Worked rows of the program: each command, the smallest sample with other code, sources, descriptions and images.
+"""Worked rows of the program: each command, the smallest sample with other code, sources, descriptions, policies.
 
     rows.py OUT     writes the cases that cases.py tells of
 """
@@ -168,23 +168,6 @@ for name, firmware in (("small", BOARD), ("board", both)):
     case(f"why_{name}_name", ["why", "{}", "t", "app"], json.dumps(firmware), "refused 11 name\n")
 case("why_passing", ["why", "{}", "app", "driver"], json.dumps(passing), "path app driver\n")
 
-
-def sharing(rights):
-    """Compartments a and b share an object, b with these rights; c calls b, which takes data."""
-    def ring(letters):
-        return {"as": "ring", "shared": "ring", "rights": letters}
-
-    code = {"words": ["00008067"]}
-    return {"firmware": "sharing", "ram": TINY["ram"], "shared": [{"name": "ring", "size": 16}], "compartments": [
-        {"name": "a", "code": code, "imports": [ring("RWC")]},
-        {"name": "b", "code": code, "imports": [ring(rights)], "exports": [{"name": "f", "at": 0, "passes": "data"}]},
-        {"name": "c", "code": code, "imports": [{"as": "f", "call": "b.f"}]}]}
-
-
-for name, rights, ends, wanted in (("shared", "RWC", ("a", "b"), "path a b"), ("called", "RWC", ("c", "a"), "none"),
-                                   ("plain", "RW", ("a", "b"), "none")):
-    case(f"why_{name}", ["why", "{}", *ends], json.dumps(sharing(rights)), wanted + "\n")
-
 # ---- images
 
 BYTES = image(TINY)
@@ -192,44 +175,14 @@ assert len(BYTES) == 412
 case("image", ["image", "{}"], json.dumps(TINY), BYTES)
 case("runimage", ["runimage", "{}", "100"], BYTES, lines(report(TINY), STORE, ended("finished", 6, devices=1)))
 
-
-def altered(name, data, wanted):
-    case("altered_" + name, ["runimage", "{}", "100"], data, f"refused 7 image {wanted}\n")
-
-
-def put(at, *new):
-    return BYTES[:at] + bytes(new) + BYTES[at + len(new):]
-
-
-for size in (8, 100, 411):
-    altered(f"cut_{size}", BYTES[:size], f"I2 {size}")
-for size in (0, 7):
-    altered(f"cut_{size}", BYTES[:size], "I1 0")
-altered("longer", BYTES + b"\0", "I2 413")
-altered("begin", put(0, 0), "I1 0")
-altered("version", put(4, 9), "I1 0")
-altered("quantum", put(32, 0, 0, 0, 0), "I3 32")
-altered("heap", put(48, 0x80, 2, 0, 0x80), "I4 48")
-altered("globals", put(172, *BYTES[168:172]), "I4 172")
-altered("service", put(196, 2), "I5 192")
-altered("device", put(244, 1), "I5 240")
-altered("rights", put(241, 0x28), "I6 240")
-altered("offset", put(288, 20), "I3 288")
-altered("entry", put(300, 4), "I3 300")
-altered("compartment", put(396, 1), "I5 396")
-altered("export", put(400, 1), "I5 396")
-
 # ---- images in the last version of the format
 
 UPGRADED = BYTES[:4] + bytes([2, 0, 0, 0]) + BYTES[8:52] + bytes([64, 0, 0, 0]) + BYTES[52:]
 assert len(UPGRADED) == 416
 case("upgrade", ["upgrade", "{}"], BYTES, UPGRADED)
 case("upgrade_again", ["upgrade", "{}"], UPGRADED, UPGRADED)
-case("upgrade_cut", ["upgrade", "{}"], BYTES[:411], "refused 7 image I2 411\n")
 case("upgrade_no_file", ["upgrade", "nosuch.image"], "", "refused 2 read nosuch.image\n")
 case("runimage_upgraded", ["runimage", "{}", "100"], UPGRADED, lines(report(TINY), STORE, ended("finished", 6, devices=1)))
-altered("no_sweep", UPGRADED[:52] + bytes(4) + UPGRADED[56:], "I3 52")
-altered("upgraded_globals", UPGRADED[:176] + UPGRADED[172:176] + UPGRADED[180:], "I4 176")
 
 # ---- policies
 

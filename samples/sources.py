@@ -9,7 +9,7 @@ with unbounded integers (docs/build/testing.md).
 import copy
 import json
 
-from cases import case, ended, image, lines, report, run, sample, source, stored, stored_file
+from cases import case, ended, lines, report, run, sample, source, stored, stored_file
 
 TINY = sample("tiny")
 COUNT = [0]

@@ -1,13 +1,16 @@
 #!/bin/bash
 # Runs every sample through the program, and compares what it writes with what stands beside the sample:
 # report.json (audit), run.txt after it (run, at most 200 steps), and each line of why.txt (an owner, a
-# compartment, and what why writes of them). The worked rows are run with them: rows.py (commands, images),
-# descriptions.py and sources.py (their faults; integer instructions), calls.py (calls between
-# compartments), threads.py (turns and services), heap.py (the heap), freed.py (what was freed, and sweeps),
-# scripts.py (bytes that come to devices). Of each run the status is compared too (answers.py).
+# compartment, and what why writes of them). The worked rows are run with them: rows.py (commands),
+# descriptions.py and sources.py (their faults; integer instructions), links.py (what is linked), images.py
+# (images altered), reports.py (reports, and paths), policies.py, calls.py (calls between compartments),
+# threads.py (turns and services), heap.py (the heap), freed.py (what was freed, and sweeps), scripts.py (bytes
+# that come to devices), faults.py (files and output that fail). Of each run the status is compared too (answers.py).
 #
 #     samples/try.sh PROGRAM    a built program, proved and optimised (crates/ct_main/out/ct_main): some seconds
-#     samples/try.sh            the kit tries the program unproved, with checks: some minutes
+#     samples/try.sh            the kit tries the program unproved, with checks: some minutes, without images.py; it
+#                               hands the program an output that takes all, so the rows of output that fails are
+#                               left out
 here=$(cd "$(dirname "$0")" && pwd) || exit 1
 program=${1:+$(realpath "$1")}
 cases=$(mktemp -d) || exit 1
@@ -33,16 +36,21 @@ for report in "$here"/*/report.json; do
         [ ! -f "$source" ] || files+=("${source##*/}=$source")
     done
 done
-for table in rows descriptions sources calls threads heap freed scripts; do
+tables=(rows descriptions sources links reports policies calls threads heap freed scripts faults)
+[ -z "$program" ] || tables+=(images)
+for table in "${tables[@]}"; do
     rows=$(python3 "$here/$table.py" "$cases") || exit 1
     while IFS= read -r row; do
-        files+=("$row")
+        [ -z "$row" ] || files+=("$row")
     done <<< "$rows"
 done
 if [ -n "$program" ]; then
     python3 "$here/answers.py" "$cases" "$program" "${files[@]}"
     exit
 fi
+for room in "$cases"/*.room; do
+    rm "${room%.room}" "${room%.room}".{args,stdout,room} || exit 1
+done
 data=()
 for file in "${files[@]}"; do
     data+=(--data "$file")

@@ -1,20 +1,7 @@
-"""A linker by docs/use/description.md and image.md, for descriptions without faults: the bytes of an image.
-
-The rows of images, and how an image is read again, are those of the references of run_rows.
-"""
-import importlib.util
-import os
-import sys
-
-sys.dont_write_bytecode = True
-from model.assembler import assemble  # noqa: E402
-from model.words import round_length  # noqa: E402
-
-CRATES = os.path.join(os.path.dirname(os.path.abspath(__file__)), "..", "..", "crates")
-spec = importlib.util.spec_from_file_location("reports", os.path.join(CRATES, "run_rows", "reference", "reports.py"))
-reports = importlib.util.module_from_spec(spec)
-spec.loader.exec_module(reports)
-images = reports.r
+"""A linker by docs/use/description.md and image.md, for descriptions without faults: the bytes of an image."""
+from model import images, reports
+from model.assembler import assemble
+from model.words import round_length
 
 DEVICE_KINDS = {"uart": 1, "timer": 2, "gpio": 3}
 RIGHTS = {"R": 50, "W": 49, "RW": 51, "RC": 55, "WC": 48, "RWC": 59}

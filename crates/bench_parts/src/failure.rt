@@ -8,12 +8,8 @@ pub enum Failure {
     /// Nothing was measured: there is no measure of such a name, a word is lacking or asks for too much, or memory
     /// was wanting for what is measured on.
     Unmeasured,
-    /// A file could not be read.
-    File,
     /// The line could not be written.
     Output,
-    /// Memory was wanting for what is measured.
-    Memory,
 }
 
 impl Failure {
@@ -21,9 +17,7 @@ impl Failure {
     pub fn status(self) -> u8 {
         match self {
             Failure::Unmeasured => 1,
-            Failure::File => 2,
             Failure::Output => 9,
-            Failure::Memory => 10,
         }
     }
 }

@@ -2,20 +2,13 @@
 //! file says which. After the word `then` the next measure's words follow.
 #![tactic(auto)]
 
-mod assemble;
 mod decode;
-mod description;
 mod failure;
 mod given;
-mod graph;
 mod heap;
-mod image;
 mod laden;
-mod link;
 mod planes;
-mod report;
 mod sweep;
-mod switch;
 
 use failure::Failure;
 use std::env;
@@ -27,17 +20,10 @@ fn measure(rt: &HostRuntime, words: &[String]) -> Result<(), Failure> {
         return Err(Failure::Unmeasured);
     };
     match name.as_str() {
-        "assemble" => assemble::measure(rt, words),
         "decode" => decode::measure(rt, words),
-        "description" => description::measure(rt, words),
-        "graph" => graph::measure(rt, words),
         "heap" => heap::measure(rt, words),
-        "image" => image::measure(rt, words),
-        "link" => link::measure(rt, words),
         "planes" => planes::measure(rt, words),
-        "report" => report::measure(rt, words),
         "sweep" => sweep::measure(rt, words),
-        "switch" => switch::measure(rt, words),
         _ => Err(Failure::Unmeasured),
     }
 }

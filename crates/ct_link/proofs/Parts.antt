@@ -84,6 +84,18 @@ own_more d regions cs os k dc dp low less =
     ∙ own_suc d regions 1 0 cs os k dc dp low less
     ∙ ap (λ p. compartment_parts d 1 regions (own_built (take k cs) (take k os)) ++ compartment_part d (1 + sum_of row_entries (take k cs)) (drop p regions) (with_object (get_or cs k dc) (get_or os k dp)) ∷ []) a
 
+-- one more part of a loop, pushed
+pub own_part_pushed : (d : DescRow) (regions : List Region) (cs : List CompartmentRow) (os : List Assembled) (k index at entry : ℕ) (dc x : CompartmentRow) (dp o : Assembled) (old new : List CompartmentPart) (y : CompartmentPart)
+    → index ≡ k → at ≡ 3 * k → entry ≡ 1 + sum_of row_entries (take k cs) → old ≡ compartment_parts d 1 regions (own_built (take k cs) (take k os))
+    → k < length cs → length cs ≡ length os → x ≡ get_or cs k dc → o ≡ get_or os index dp → y ≡ compartment_part d entry (drop at regions) (with_object x o) → new ≡ old ++ y ∷ []
+    → new ≡ compartment_parts d 1 regions (own_built (take (k + 1) cs) (take (k + 1) os))
+own_part_pushed d regions cs os k index at entry dc x dp o old new y i a n before low each is there made pushed =
+    let object : o ≡ get_or os k dp = there ∙ ap (λ j. get_or os j dp) i in
+    let last : y ≡ compartment_part d (1 + sum_of row_entries (take k cs)) (drop (3 * k) regions) (with_object (get_or cs k dc) (get_or os k dp)) =
+    made ∙ ap₂ (λ e p. compartment_part d e (drop p regions) (with_object x o)) n a
+    ∙ ap₂ (λ c z. compartment_part d (1 + sum_of row_entries (take k cs)) (drop (3 * k) regions) (with_object c z)) is object in
+    pushed ∙ ap₂ (λ l z. l ++ z ∷ []) before last ∙ sym (own_more d regions cs os k dc dp low (omega (arith, low, each)))
+
 -- ---- libraries
 
 lent_suc : (d : DescRow) (regions : List Region) (entry at : ℕ) (ls : List LibraryRow) (os : List Assembled) (k : ℕ) (dl : LibraryRow) (dp : Assembled) → k < length ls → k < length os
@@ -116,6 +128,18 @@ lent_more d regions entry first ls os k dl dp low less =
     let on : k + 1 ≡ suc k = omega arith in
     ap (λ n. library_parts d entry (drop first regions) (lent_built (take n ls) (take n os))) on
     ∙ lent_suc d regions entry first ls os k dl dp low less
+
+-- one more part of a loop, pushed
+pub lent_part_pushed : (d : DescRow) (regions : List Region) (entry first : ℕ) (ls : List LibraryRow) (os : List Assembled) (k index at number : ℕ) (dl x : LibraryRow) (dp o : Assembled) (old new : List CodePart) (y : CodePart)
+    → index ≡ k → at ≡ first + k → number ≡ entry + sum_of library_row_entries (take k ls) → old ≡ library_parts d entry (drop first regions) (lent_built (take k ls) (take k os))
+    → k < length ls → length ls ≡ length os → x ≡ get_or ls k dl → o ≡ get_or os index dp → y ≡ library_part d number (drop at regions) (library_with_object x o) → new ≡ old ++ y ∷ []
+    → new ≡ library_parts d entry (drop first regions) (lent_built (take (k + 1) ls) (take (k + 1) os))
+lent_part_pushed d regions entry first ls os k index at number dl x dp o old new y i a n before low each is there made pushed =
+    let object : o ≡ get_or os k dp = there ∙ ap (λ j. get_or os j dp) i in
+    let last : y ≡ library_part d (entry + sum_of library_row_entries (take k ls)) (drop (first + k) regions) (library_with_object (get_or ls k dl) (get_or os k dp)) =
+    made ∙ ap₂ (λ e p. library_part d e (drop p regions) (library_with_object x o)) n a
+    ∙ ap₂ (λ l z. library_part d (entry + sum_of library_row_entries (take k ls)) (drop (first + k) regions) (library_with_object l z)) is object in
+    pushed ∙ ap₂ (λ l z. l ++ z ∷ []) before last ∙ sym (lent_more d regions entry first ls os k dl dp low (omega (arith, low, each)))
 
 -- ---- sizes
 

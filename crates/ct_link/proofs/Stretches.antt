@@ -1,5 +1,5 @@
 -- Elements of lists by their index.
-use Rattle.std.proofs.Common.{ℕ, zero, suc, ◌≡◌, ◌+◌, ◌≤◌, ◌<◌, List, [], ◌∷◌, ◌++◌, length, take, get_or, refl, sym, ap, ap₂, ◌∙◌, arith}
+use Rattle.std.proofs.Common.{ℕ, zero, suc, ◌≡◌, ◌+◌, ◌≤◌, ◌<◌, List, [], ◌∷◌, ◌++◌, length, take, get_or, refl, sym, ap, ap₂, ◌∙◌, subst, arith}
 use Rattle.std.specs.List.{AllByRecursion}
 use Rattle.std.proofs.lemmas.Option.{slice_get-get_or}
 use Rattle.def_link.specs.Owners.{numbered}
@@ -14,6 +14,17 @@ numbered_more f n xs k d low =
 
 pub at_each : {A : Type 0} (P : A → Type 0) (xs : List A) (k : ℕ) (d : A) → AllByRecursion P xs → k < length xs → P (get_or xs k d)
 at_each P xs k d h low = each P xs k d h low
+
+-- what holds of each element holds of the one that a loop reads
+pub here : {A : Type 0} (P : A → Type 0) (xs : List A) (k : ℕ) (d x : A) → AllByRecursion P xs → k < length xs → x ≡ get_or xs k d → P x
+here P xs k d x h low is = subst P (sym is) (at_each P xs k d h low)
+
+-- a place and an element of a slice are those of the same list
+pub below_in : {A : Type 0} (xs ys : List A) (k : ℕ) → xs ≡ ys → k < length xs → k < length ys
+below_in {A = A} xs ys k same low = subst (λ (zs : List A). k < length zs) same low
+
+pub read_in : {A : Type 0} (xs ys : List A) (k : ℕ) (d x : A) → xs ≡ ys → x ≡ get_or xs k d → x ≡ get_or ys k d
+read_in {A = A} xs ys k d x same is = is ∙ ap (λ (zs : List A). get_or zs k d) same
 
 -- one more element of a loop, pushed at its number
 pub numbered_pushed : {A B : Type 0} (f : ℕ → A → B) (n : ℕ) (xs : List A) (k at : ℕ) (d x : A) (old new : List B) (y : B) → (at ≡ n + k) × (old ≡ numbered f n (take k xs))

@@ -11,3 +11,12 @@ pub sum_more : {A : Type 0} (f : A → ℕ) (xs : List A) (k : ℕ) (d : A) → 
 sum_more f xs k d low =
     let on : k + 1 ≡ suc k = omega arith in
     ap (λ n. sum_of f (take n xs)) on ∙ sum_suc f xs k d low
+
+-- a number that has grown by an element's is that of one element more
+pub sum_grown : {A : Type 0} (f : A → ℕ) (xs : List A) (k : ℕ) (d x : A) (base old n : ℕ) → old ≡ base + sum_of f (take k xs) → k < length xs → x ≡ get_or xs k d → n ≡ f x
+    → old + n ≡ base + sum_of f (take (k + 1) xs)
+sum_grown f xs k d x base old n so low is made =
+    added base (sum_of f (take k xs)) (f (get_or xs k d)) old n (sum_of f (take (k + 1) xs)) so (made ∙ ap f is) (sum_more f xs k d low)
+  where
+    added : (b s e old n all : ℕ) → old ≡ b + s → n ≡ e → all ≡ s + e → old + n ≡ b + all
+    added b s e old n all so made whole = omega (arith, so, made, whole)

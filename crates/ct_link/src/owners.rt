@@ -106,7 +106,6 @@ fn compartment_part(
 }
 
 /// The parts of compartments, whose entries begin at 1 and whose regions come first.
-#[tactic(auto, using(crate::proofs::Sums::sum_more, crate::proofs::Stretches::at_each, crate::proofs::Parts::own_more))]
 pub(crate) fn compartment_parts(
     alloc: Global,
     desc: &Desc,
@@ -173,7 +172,6 @@ fn library_entry_count(library: &Library) -> u32
 }
 
 /// The parts of libraries, whose entries begin at `entry` and whose regions at `first`.
-#[tactic(auto, using(crate::proofs::Sums::sum_more, crate::proofs::Stretches::at_each, crate::proofs::Parts::lent_more))]
 pub(crate) fn library_parts(
     alloc: Global,
     desc: &Desc,

@@ -51,7 +51,6 @@ fn globals_size(compartment: &Compartment, object: &Object) -> u32
     compartment.globals.max(object.init.len() as u32)
 }
 
-#[tactic(auto, using(crate::proofs::Parts::own_sizes_more, crate::proofs::Stretches::at_each))]
 fn add_compartments(
     sizes: &mut Vec<u32>,
     compartments: &[Compartment],
@@ -81,7 +80,6 @@ fn library_size(library: &Library, object: &Object) -> u32
     SLOT_SIZE * library.imports.len() as u32 + object.text.len() as u32
 }
 
-#[tactic(auto, using(crate::proofs::Parts::lent_sizes_more, crate::proofs::Stretches::at_each))]
 fn add_libraries(
     sizes: &mut Vec<u32>,
     libraries: &[Library],

@@ -9,6 +9,7 @@ use Rattle.def_image.specs.Shapes.{IsField, IsNumber, IsCounted, IsEntry, IsDevi
 use Rattle.ct_raw.specs.declared.heads.CodeHead.{CodeHead}
 use Rattle.ct_raw.specs.declared.heads.GlobalsHead.{GlobalsHead}
 use Rattle.ct_raw.specs.Reading.{◌>>=◌, field_at, number_at, many_at, entry_at, device_at, shared_at, sealed_at, code_head_at, globals_head_at, code_at, compartment_at, library_at, thread_at}
+use Rattle.ct_raw.proofs.Turns.{three_in_turn, four_in_turn, seven_in_turn, four_joined}
 use Rattle.ct_raw.proofs.Exact.{IsBytes, Took, Exact, begin, then, made, on, AreSo, field_exact, number_exact, many_exact}
 
 -- ---- rows with names, devices, shared objects, threads
@@ -42,7 +43,7 @@ unfolding device_at
 device_again d rest h =
     let r2 = number d.base ++ rest in
     let r1 = number d.kind ++ r2 in
-    let regrouped : device_spelled d ++ rest ≡ d.name ++ r1 = simp append_assoc in
+    let regrouped : device_spelled d ++ rest ≡ d.name ++ r1 = three_in_turn d.name (number d.kind) (number d.base) rest in
     ap device_at regrouped ∙ on (field_exact NAME) d.name r1 _ h.0 ∙ on number_exact d.kind r2 _ h.1 ∙ on number_exact d.base rest _ h.2
 
 pub device_exact : Exact IsDevice device_spelled device_at
@@ -61,7 +62,7 @@ unfolding shared_at
 shared_again s rest h =
     let r2 = number s.length ++ rest in
     let r1 = number s.base ++ r2 in
-    let regrouped : shared_spelled s ++ rest ≡ s.name ++ r1 = simp append_assoc in
+    let regrouped : shared_spelled s ++ rest ≡ s.name ++ r1 = three_in_turn s.name (number s.base) (number s.length) rest in
     ap shared_at regrouped ∙ on (field_exact NAME) s.name r1 _ h.0 ∙ on number_exact s.base r2 _ h.1 ∙ on number_exact s.length rest _ h.2
 
 pub shared_exact : Exact IsShared shared_spelled shared_at
@@ -89,7 +90,8 @@ thread_again t rest h =
     let r3 = number t.compartment ++ r4 in
     let r2 = number t.stack_length ++ r3 in
     let r1 = number t.stack ++ r2 in
-    let regrouped : thread_spelled t ++ rest ≡ t.name ++ r1 = simp append_assoc in
+    let regrouped : thread_spelled t ++ rest ≡ t.name ++ r1 =
+    seven_in_turn t.name (number t.stack) (number t.stack_length) (number t.compartment) (number t.export) (number t.priority) (number t.frames) rest in
     ap thread_at regrouped ∙ on (field_exact NAME) t.name r1 _ h.0 ∙ on number_exact t.stack r2 _ h.1 ∙ on number_exact t.stack_length r3 _ h.2
     ∙ on number_exact t.compartment r4 _ h.3 ∙ on number_exact t.export r5 _ h.4 ∙ on number_exact t.priority r6 _ h.5 ∙ on number_exact t.frames rest _ h.6
 
@@ -123,7 +125,8 @@ sealed_again s rest h =
     let r3 = number s.seal ++ r4 in
     let r2 = number s.length ++ r3 in
     let r1 = number s.base ++ r2 in
-    let regrouped : sealed_spelled s ++ rest ≡ s.name ++ r1 = simp append_assoc in
+    let regrouped : sealed_spelled s ++ rest ≡ s.name ++ r1 =
+    seven_in_turn s.name (number s.base) (number s.length) (number s.seal) (count s.bytes) s.bytes s.padding rest in
     let held : IsField (length s.bytes) s.bytes = record { size = refl; each = h.4.1 } in
     ap sealed_at regrouped ∙ on (field_exact NAME) s.name r1 _ h.0 ∙ on number_exact s.base r2 _ h.1 ∙ on number_exact s.length r3 _ h.2
     ∙ on number_exact s.seal r4 _ h.3 ∙ on number_exact (length s.bytes) r5 _ h.4.0 ∙ on (field_exact (length s.bytes)) s.bytes r6 _ held
@@ -158,7 +161,7 @@ head_again h rest is =
     let r3 = number h.text ++ rest in
     let r2 = number h.length ++ r3 in
     let r1 = number h.base ++ r2 in
-    let regrouped : head_spelled h ++ rest ≡ h.name ++ r1 = simp append_assoc in
+    let regrouped : head_spelled h ++ rest ≡ h.name ++ r1 = four_in_turn h.name (number h.base) (number h.length) (number h.text) rest in
     ap code_head_at regrouped ∙ on (field_exact NAME) h.name r1 _ is.name ∙ on number_exact h.base r2 _ is.base ∙ on number_exact h.length r3 _ is.size ∙ on number_exact h.text rest _ is.text
 
 head_exact : Exact IsHead head_spelled code_head_at
@@ -221,7 +224,8 @@ unfolding code_at
 code_again h slots exports c rest f =
     let r2 = c.text ++ rest in
     let r1 = flat_map entry_spelled c.exports ++ r2 in
-    let regrouped : tables_spelled c ++ rest ≡ flat_map entry_spelled c.slots ++ r1 = simp append_assoc in
+    let regrouped : tables_spelled c ++ rest ≡ flat_map entry_spelled c.slots ++ r1 =
+    three_in_turn (flat_map entry_spelled c.slots) (flat_map entry_spelled c.exports) c.text rest in
     let name = f.name in
     let base = f.base in
     let size = f.size in
@@ -291,7 +295,8 @@ library_again c rest is =
     let r3 = tables_spelled c ++ rest in
     let r2 = count c.exports ++ r3 in
     let r1 = count c.slots ++ r2 in
-    let regrouped : library_spelled c ++ rest ≡ head_spelled (head_of c) ++ r1 = simp append_assoc in
+    let regrouped : library_spelled c ++ rest ≡ head_spelled (head_of c) ++ r1 =
+    four_in_turn (head_spelled (head_of c)) (count c.slots) (count c.exports) (tables_spelled c) rest in
     ap library_at regrouped ∙ on head_exact (head_of c) r1 _ (own_head c is) ∙ on number_exact (length c.slots) r2 _ is.slots.0 ∙ on number_exact (length c.exports) r3 _ is.exports.0
     ∙ code_again (head_of c) (length c.slots) (length c.exports) c rest (own_follows c is)
 
@@ -302,10 +307,7 @@ library_exact = record { takes = library_takes; again = library_again }
 
 -- parts that are joined one after the other, and by their heads
 in_one : (a b c d e f g h n m t i p : List ℕ) → (a ++ b ++ c ++ d) ++ (e ++ f ++ g ++ h) ++ n ++ m ++ t ++ i ++ p ≡ a ++ b ++ c ++ d ++ e ++ f ++ g ++ h ++ n ++ m ++ t ++ i ++ p
-in_one a b c d e f g h n m t i p = simp append_assoc
-
-in_turn : (a b n m t i p rest : List ℕ) → (a ++ b ++ n ++ m ++ t ++ i ++ p) ++ rest ≡ a ++ (b ++ (n ++ (m ++ (t ++ (i ++ (p ++ rest))))))
-in_turn a b n m t i p rest = simp append_assoc
+in_one a b c d e f g h n m t i p = ap (λ (l : List ℕ). l ++ n ++ m ++ t ++ i ++ p) (four_joined (a ++ b ++ c ++ d) e f g h)
 
 abbrev compartment_parts : CodeHead → GlobalsHead → ℕ → ℕ → RawCompartment → List ℕ
 compartment_parts h g slots exports c = head_spelled h ++ own_spelled g ++ number slots ++ number exports ++ tables_spelled c.code ++ c.initial ++ c.padding
@@ -373,7 +375,7 @@ compartment_again c rest is =
     let r1 = own_spelled (globals_of c) ++ r2 in
     let regrouped : compartment_spelled c ++ rest ≡ head_spelled (head_of c.code) ++ r1 =
     ap (λ (b : List ℕ). b ++ rest) (sym (flat_parts c))
-    ∙ in_turn (head_spelled (head_of c.code)) (own_spelled (globals_of c)) (count c.code.slots) (count c.code.exports) (tables_spelled c.code) c.initial c.padding rest in
+    ∙ seven_in_turn (head_spelled (head_of c.code)) (own_spelled (globals_of c)) (count c.code.slots) (count c.code.exports) (tables_spelled c.code) c.initial c.padding rest in
     let own : IsOwn (globals_of c) = record { table = is.table; globals = is.globals; size = is.size; initial = is.initial.0 } in
     let held : IsField (length c.initial) c.initial = record { size = refl; each = is.initial.1 } in
     ap compartment_at regrouped ∙ on head_exact (head_of c.code) r1 _ (own_head c.code is.code) ∙ on own_exact (globals_of c) r2 _ own

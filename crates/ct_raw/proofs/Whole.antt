@@ -13,6 +13,7 @@ use Rattle.def_image.specs.Accepted.{Spells}
 use Rattle.ct_raw.specs.declared.heads.Bases.{Bases}
 use Rattle.ct_raw.specs.declared.heads.Counts.{Counts}
 use Rattle.ct_raw.specs.Reading.{◌>>=◌, field_at, number_at, many_at, counts_at, bases_at, sweep_at, lists_at, image_at, all_of}
+use Rattle.ct_raw.proofs.Turns.{six_in_turn, seven_in_turn, six_joined}
 use Rattle.ct_raw.proofs.Exact.{IsBytes, Took, Exact, begin, then, made, on, AreSo, field_exact, number_exact, many_exact, bind_some}
 use Rattle.ct_raw.proofs.Parts.{device_exact, shared_exact, sealed_exact, compartment_exact, library_exact, thread_exact}
 use Rattle.ct_raw.proofs.Texts.{same_text, is_same_text}
@@ -209,7 +210,8 @@ lists_again version n sweep name k r rest c =
     let r3 = flat_map compartment_spelled r.compartments ++ r4 in
     let r2 = flat_map sealed_spelled r.sealed ++ r3 in
     let r1 = flat_map shared_spelled r.shared ++ r2 in
-    let regrouped : lists_spelled r ++ rest ≡ flat_map device_spelled r.devices ++ r1 = simp append_assoc in
+    let regrouped : lists_spelled r ++ rest ≡ flat_map device_spelled r.devices ++ r1 =
+    six_in_turn (flat_map device_spelled r.devices) (flat_map shared_spelled r.shared) (flat_map sealed_spelled r.sealed) (flat_map compartment_spelled r.compartments) (flat_map library_spelled r.libraries) (flat_map thread_spelled r.threads) rest in
     let f0 = c.version in
     let f1 = c.quantum in
     let f2 = c.ram in
@@ -244,17 +246,10 @@ abbrev image_parts : List ℕ → ℕ → Counts → Bases → ℕ → List ℕ 
 image_parts begin version k n sweep name r =
     begin ++ number version ++ counts_spelled k ++ bases_spelled n ++ rate_spelled version sweep ++ name ++ lists_spelled r
 
--- parts that are joined one after the other, and by their lists
-all_in_one : (y d s x c l t : List ℕ) → y ++ (d ++ s ++ x ++ c ++ l ++ t) ≡ y ++ d ++ s ++ x ++ c ++ l ++ t
-all_in_one y d s x c l t = simp append_assoc
-
-in_turn : (m v k n s a l rest : List ℕ) → (m ++ v ++ k ++ n ++ s ++ a ++ l) ++ rest ≡ m ++ (v ++ (k ++ (n ++ (s ++ (a ++ (l ++ rest))))))
-in_turn m v k n s a l rest = simp append_assoc
-
 flat_parts : (r : RawImage) → image_parts magic r.version (counts_of r) (bases_of r) r.sweep r.name r ≡ spelled r
 unfolding spelled
 flat_parts r =
-    all_in_one (magic ++ number r.version ++ counts_spelled (counts_of r) ++ bases_spelled (bases_of r) ++ rate_spelled r.version r.sweep ++ r.name)
+    six_joined (magic ++ number r.version ++ counts_spelled (counts_of r) ++ bases_spelled (bases_of r) ++ rate_spelled r.version r.sweep ++ r.name)
     (flat_map device_spelled r.devices) (flat_map shared_spelled r.shared) (flat_map sealed_spelled r.sealed)
     (flat_map compartment_spelled r.compartments) (flat_map library_spelled r.libraries) (flat_map thread_spelled r.threads)
 
@@ -357,7 +352,7 @@ image_again r rest is =
     let r2 = counts_spelled (counts_of r) ++ r3 in
     let r1 = number r.version ++ r2 in
     let grouped : image_parts magic r.version (counts_of r) (bases_of r) r.sweep r.name r ++ rest ≡ magic ++ r1 =
-    in_turn magic (number r.version) (counts_spelled (counts_of r)) (bases_spelled (bases_of r)) (rate_spelled r.version r.sweep) r.name (lists_spelled r) rest in
+    seven_in_turn magic (number r.version) (counts_spelled (counts_of r)) (bases_spelled (bases_of r)) (rate_spelled r.version r.sweep) r.name (lists_spelled r) rest in
     let regrouped : spelled r ++ rest ≡ magic ++ r1 = ap (λ (b : List ℕ). b ++ rest) (sym (flat_parts r)) ∙ grouped in
     let counts : AreCounts (counts_of r) = record { devices = is.devices.0; shared = is.shared.0; sealed = is.sealed.0; compartments = is.compartments.0; libraries = is.libraries.0; threads = is.threads.0 } in
     let bases : AreBases (bases_of r) = record { quantum = is.quantum; ram = is.ram; size = is.size; trusted = is.trusted; heap = is.heap } in

@@ -1,18 +1,11 @@
-//! What the parts share: why one ends early, the files of `data`, and lines.
+//! Why the program ends early, and lines.
 
 use def_refusals::NoMemory;
 use std::alloc::AllocError;
-use std::fs;
 
-/// Why a part, and with it the program, ends early.
+/// Why the program ends early.
 #[derive(Clone, Copy)]
 pub enum Failure {
-    /// A file could not be read.
-    File,
-    /// A file has more bytes than any image.
-    Large,
-    /// A file is no image.
-    Image,
     /// Lines could not be written.
     Output,
     /// Memory was wanting.
@@ -23,9 +16,6 @@ impl Failure {
     /// The status that the program ends with.
     pub fn status(self) -> u8 {
         match self {
-            Failure::File => 2,
-            Failure::Large => 3,
-            Failure::Image => 7,
             Failure::Output => 9,
             Failure::Memory => 10,
         }
@@ -41,14 +31,6 @@ impl From<AllocError> for Failure {
 impl From<NoMemory> for Failure {
     fn from(_error: NoMemory) -> Failure {
         Failure::Memory
-    }
-}
-
-/// The bytes of a file of `data`.
-pub fn read_file(rt: &HostRuntime, name: &str) -> Result<Vec<u8>, Failure> {
-    match fs::read(rt, name) {
-        Ok(bytes) => Ok(bytes),
-        Err(_) => Err(Failure::File),
     }
 }
 

@@ -6,6 +6,8 @@
 #[cfg(test)]
 mod engine;
 #[cfg(test)]
+mod firmware;
+#[cfg(test)]
 mod ready;
 #[cfg(test)]
 mod seen;

@@ -5,6 +5,7 @@ ghost use Rattle.std.specs.Prelude.{◌≡◌, ◌+◌, ◌≤◌};
 ghost use Rattle.def_profile.specs.declared.limits.TheConstants.{RAM_END};
 ghost use Rattle.ct_areas.specs.Threads.{HasArea};
 
+use crate::firmware::{CODE, GLOBALS, RAM, TRUSTED, dress, entries, heads, thread};
 use crate::seen::is;
 use ct_cap::{Cap, Live, Shadow, Trap, shrink};
 use ct_entry::Entries;
@@ -15,7 +16,6 @@ use def_profile::traps::TAG_CODE;
 use def_refusals::NoMemory;
 use std::alloc::{AllocError, Global};
 use std::process::Abort;
-use worked_parts::{CODE, GLOBALS, RAM, TRUSTED, dress, entries, heads, thread};
 
 const STACK: u32 = 0x8000_0800;
 

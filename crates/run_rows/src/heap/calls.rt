@@ -6,15 +6,8 @@ use crate::common::{add, truth};
 use crate::heap::swept::{Slice, Swept};
 use crate::heap::told::{add_allocated, add_begun, add_found, add_freed, add_left};
 use ct_heap::Object;
-use def_refusals::NoMemory;
 use std::alloc::{AllocError, Global};
 
-/// Bytes of RAM below the heap, and of the heap; what each quota may take.
-const LOW: u32 = 256;
-
-const LENGTH: u32 = 32768;
-
-const LIMIT: u32 = 12000;
 /// Slots for capabilities below the heap.
 const SLOTS: u32 = 32;
 
@@ -35,17 +28,17 @@ fn part(seed: u64, shift: u32, bound: u32) -> u32
 
 /// An object's bounds and its quota.
 #[derive(Clone, Copy, Drop)]
-struct Made {
+pub struct Made {
     base: u32,
     top: u64,
     quota: u32,
 }
 
-/// A heap, and the objects that were made of it.
+/// A heap, and the objects that were made of it by random calls.
 #[derive(Drop)]
-struct Tried {
-    swept: Swept,
-    made: Vec<Made>,
+pub struct Tried {
+    pub swept: Swept,
+    pub made: Vec<Made>,
 }
 
 /// One of the last 24 objects that were made, or none.
@@ -170,7 +163,7 @@ fn call(alloc: Global, run: &mut Tried, seed: u64, out: &mut String) -> Result<(
 }
 
 /// Adds the lines of so many random calls.
-fn add_calls(
+pub fn add_random(
     alloc: Global,
     run: &mut Tried,
     first: u64,
@@ -182,14 +175,5 @@ fn add_calls(
         seed = next(seed);
         call(alloc, run, seed, out)?;
     }
-    Ok(())
-}
-
-/// Adds the lines of so many random calls of a heap that is empty.
-pub fn calls(alloc: Global, first: u64, count: u32, out: &mut String) -> Result<(), NoMemory> {
-    let swept = Swept::new(alloc, LOW + LENGTH, LOW, LENGTH, LIMIT)?;
-    let made = Vec::new(alloc);
-    let mut run = Tried { swept, made };
-    add_calls(alloc, &mut run, first, count, out)?;
     Ok(())
 }

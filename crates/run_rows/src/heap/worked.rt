@@ -4,12 +4,11 @@
 use crate::common::{add, truth};
 use crate::heap::swept::{Slice, Swept};
 use crate::heap::told::{add_allocated, add_begun, add_found, add_freed, add_left};
-use def_refusals::NoMemory;
 use std::alloc::{AllocError, Global};
 
 /// A call by the first quota, or something that is looked at.
 #[derive(Clone, Copy)]
-enum Row {
+pub enum Row {
     Allocate(u32),
     Free(u32, u64),
     Find(u32, u64),
@@ -58,15 +57,18 @@ const NOTHING: &[Row] = &[
     Row::Find(0x8000_0008, 0x8000_0010),
 ];
 
-fn alone() -> &'static [Row] {
+/// The calls of the heap of one object.
+pub fn alone() -> &'static [Row] {
     ALONE
 }
 
-fn places() -> &'static [Row] {
+/// The calls of the heap of two objects and a third.
+pub fn places() -> &'static [Row] {
     PLACES
 }
 
-fn nothing() -> &'static [Row] {
+/// The calls of the heap of no bytes.
+pub fn nothing() -> &'static [Row] {
     NOTHING
 }
 
@@ -118,8 +120,8 @@ fn answer(alloc: Global, swept: &mut Swept, row: Row, out: &mut String) -> Resul
     }
 }
 
-/// Adds the lines of calls.
-fn calls(
+/// Adds the lines of worked calls.
+pub fn add_worked(
     alloc: Global,
     swept: &mut Swept,
     rows: &[Row],
@@ -129,32 +131,4 @@ fn calls(
         answer(alloc, swept, *row, out)?;
     }
     Ok(())
-}
-
-/// The heap of one object.
-fn add_alone(alloc: Global, out: &mut String) -> Result<(), NoMemory> {
-    let mut swept = Swept::new(alloc, 64, 0, 64, 200)?;
-    calls(alloc, &mut swept, alone(), out)?;
-    Ok(())
-}
-
-/// The heap of two objects and a third.
-fn add_places(alloc: Global, out: &mut String) -> Result<(), NoMemory> {
-    let mut swept = Swept::new(alloc, 4096, 0x550, 2736, 64)?;
-    calls(alloc, &mut swept, places(), out)?;
-    Ok(())
-}
-
-/// The heap of no bytes.
-fn add_nothing(alloc: Global, out: &mut String) -> Result<(), NoMemory> {
-    let mut swept = Swept::new(alloc, 64, 64, 0, 200)?;
-    calls(alloc, &mut swept, nothing(), out)?;
-    Ok(())
-}
-
-/// Adds the lines of the three heaps.
-pub fn worked(alloc: Global, out: &mut String) -> Result<(), NoMemory> {
-    add_alone(alloc, out)?;
-    add_places(alloc, out)?;
-    add_nothing(alloc, out)
 }

@@ -1,11 +1,15 @@
+use Rattle.std.proofs.Common.{refl, ap, subst}
 use Rattle.def_words.specs.declared.Cap.{Cap}
+use Rattle.def_words.specs.declared.Trap.{Trap}
+use Rattle.def_step.specs.declared.Next.TheVariants.{Returning, Native, Instruction, Nothing}
 use Rattle.def_machine.specs.State.{register}
 use Rattle.def_step.specs.Operands.{operands_of, class_of}
 use Rattle.def_step.specs.Instructions.{carried_out}
 use Rattle.ct_engine.specs.Seen.{thread}
 use Rattle.ct_engine.specs.Steps.{space_in}
-use Rattle.ct_execute.specs.Deciding.{decide_instruction, around_of, named_in}
-use Rattle.ct_execute.proofs.Ends.{decided_unfinished, no_routine}
+use Rattle.ct_execute.specs.declared.ran.Ran.TheVariants as ran
+use Rattle.ct_execute.specs.Deciding.{Decision, decide_instruction, around_of, named_in, Decided}
+use Rattle.ct_execute.proofs.Ends.{decided_unfinished, no_routine, fetch_fails, fetch_passes, stays_same}
 use Rattle.ct_execute.proofs.executing.execute.Goals as goal
 
 pub returns-in-Instruction-clause-unfinished : goal.returns-in-Instruction-clause-unfinished
@@ -23,3 +27,65 @@ returns-in-Instruction-clause-ranged g c =
     no_routine x.shadow.root
     (carried_out (class_of i) i (operands_of i).to x (register w (operands_of i).second) (named_in c.args.entries.now x) (around_of w (space_in e c.args.bus.now c.args.time)))
     c.args.t e c.carry_out.new.engine.threads c.args.bus.now c.carry_out.new.bus c.carry_out.result c.carry_out.ensures.is
+
+pub returns-in-Some : goal.returns-in-Some
+returns-in-Some g c = record {
+  is = fetch_fails c.args.entries.now c.args.engine.now.threads c.args.t c.args.bus.now c.args.time c.pcc-pcc.result c.in-Some.trap c.pcc-pcc.ensures c.in-Some.ensures;
+  kept = refl;
+  unfinished = (refl, refl);
+  ranged = tt;
+  stays = stays_same c.args.engine.now.threads;
+  bases = refl;
+}
+
+pub returns-in-Returning : goal.returns-in-Returning
+returns-in-Returning g c =
+    let s = c.args.engine.now.threads in
+    let k = c.args.bus.now in
+    record {
+      is = subst (λ (d : Decision). Decided d c.args.t s k s k ran.Returned)
+          (fetch_passes c.args.entries.now s c.args.t k c.args.time c.pcc-pcc.result c.address.result Returning c.pcc-pcc.ensures c.in_default.ensures c.address.ensures c.in-Returning.ensures.is) (refl, refl, refl);
+      kept = refl;
+      unfinished = (refl, refl);
+      ranged = tt;
+      stays = stays_same s;
+      bases = refl;
+    }
+
+pub returns-in-Native : goal.returns-in-Native
+returns-in-Native g c =
+    let s = c.args.engine.now.threads in
+    let k = c.args.bus.now in
+    let number = c.in-Native.number in
+    record {
+      is = subst (λ (d : Decision). Decided d c.args.t s k s k (ran.Native number))
+          (fetch_passes c.args.entries.now s c.args.t k c.args.time c.pcc-pcc.result c.address.result (Native number) c.pcc-pcc.ensures c.in_default.ensures c.address.ensures c.in-Native.ensures.is) (refl, refl, refl);
+      kept = refl;
+      unfinished = (refl, refl);
+      ranged = c.in-Native.ensures.ranged;
+      stays = stays_same s;
+      bases = refl;
+    }
+
+pub returns-in-Nothing : goal.returns-in-Nothing
+returns-in-Nothing g c =
+    let s = c.args.engine.now.threads in
+    let k = c.args.bus.now in
+    record {
+      is = subst (λ (d : Decision). Decided d c.args.t s k s k (ran.Trapped c.plain.result))
+          (fetch_passes c.args.entries.now s c.args.t k c.args.time c.pcc-pcc.result c.address.result Nothing c.pcc-pcc.ensures c.in_default.ensures c.address.ensures c.in-Nothing.ensures.is)
+          (refl, refl, ap (λ (w : Trap). ran.Trapped w) c.plain.ensures);
+      kept = refl;
+      unfinished = (refl, refl);
+      ranged = tt;
+      stays = stays_same s;
+      bases = refl;
+    }
+
+pub returns-in-Instruction-clause-is : goal.returns-in-Instruction-clause-is
+returns-in-Instruction-clause-is g c =
+    let s = c.args.engine.now.threads in
+    let k = c.args.bus.now in
+    subst (λ (d : Decision). Decided d c.args.t s k c.carry_out.new.engine.threads c.carry_out.new.bus c.carry_out.result)
+    (fetch_passes c.args.entries.now s c.args.t k c.args.time c.pcc-pcc.result c.address.result (Instruction c.in-Instruction.instruction) c.pcc-pcc.ensures c.in_default.ensures c.address.ensures c.in-Instruction.ensures.is)
+    c.carry_out.ensures.is

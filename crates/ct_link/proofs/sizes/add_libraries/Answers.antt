@@ -1,5 +1,17 @@
+use Rattle.std.proofs.Common.{arith}
+use Rattle.ct_link.specs.Rows.{IsSized, IsSmallLibrary}
 use Rattle.ct_link.proofs.Parts.{lent_pushed}
+use Rattle.ct_link.proofs.Stretches.{here}
 use Rattle.ct_link.proofs.sizes.add_libraries.Goals as goal
+
+pub library_size-requires-clause-row : goal.library_size-requires-clause-row
+library_size-requires-clause-row c =
+    here IsSmallLibrary c.args.libraries.now c.loop-library.library-index _ c.library-item.result c.requires.rows c.loop-library-test.true c.library-item.is
+
+pub library_size-requires-clause-object : goal.library_size-requires-clause-object
+library_size-requires-clause-object c =
+    let at = c.loop-library.invariant.0 in
+    here IsSized c.args.objects.now c.loop-library.index _ c.index-objects-index.result c.requires.objects (omega (arith, at, c.loop-library-test.true, c.requires.each)) c.index-objects-index.is
 
 pub loop-library-preserved : goal.loop-library-preserved
 loop-library-preserved c =

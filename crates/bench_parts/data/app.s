@@ -1,4 +1,0 @@
-main: cimport ct0, uart
-li a0, 65
-csw a0, 0(ct0)
-cret
