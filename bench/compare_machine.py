@@ -1,5 +1,5 @@
 #!/usr/bin/env python3
-"""Compares runs of random firmware with those of the plain machine in samples/model.
+"""Compares runs of random firmware with those of the plain machine in tests/model.
 
     compare_machine.py COUNT SEED [STEPS]
 
@@ -18,7 +18,7 @@ COUNT, SEED = int(sys.argv[1]), int(sys.argv[2])
 STEPS = int(sys.argv[3]) if len(sys.argv) > 3 else 400
 OUT = tempfile.mkdtemp()
 sys.argv = [sys.argv[0], OUT]
-sys.path.insert(0, os.path.join(HERE, "..", "samples"))
+sys.path.insert(0, os.path.join(HERE, "..", "tests"))
 sys.dont_write_bytecode = True
 from cases import case, compartment, image, lines, modelled, report, source  # noqa: E402
 import json  # noqa: E402

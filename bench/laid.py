@@ -1,8 +1,8 @@
-"""Images, as samples/model writes them, and regions one after another in their RAM."""
+"""Images, as tests/model writes them, and regions one after another in their RAM."""
 import os
 import sys
 
-sys.path.insert(0, os.path.join(os.path.dirname(os.path.abspath(__file__)), "../samples"))
+sys.path.insert(0, os.path.join(os.path.dirname(os.path.abspath(__file__)), "../tests"))
 from model import images
 
 MIB = 1 << 20

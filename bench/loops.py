@@ -100,7 +100,7 @@ def counted(name, steps, program, plain, image):
 
 def modelled(name, steps, plain):
     """The lines of the plain machine, and those of the interpreter on the same image."""
-    sys.path.insert(0, os.path.join(HERE, "..", "samples"))
+    sys.path.insert(0, os.path.join(HERE, "..", "tests"))
     from model import images
     from model.heap import HeapMachine
     from model.linker import link

@@ -6,7 +6,7 @@
 #
 #     loops.sh [STEPS]           steps of each run, 20 million by default
 #     loops.sh --count [STEPS]   instructions a step by valgrind, of the program by function; 200,000 steps by default
-#     loops.sh --model [STEPS]   compares the lines of the interpreter alone, with those of the machine of samples/model;
+#     loops.sh --model [STEPS]   compares the lines of the interpreter alone, with those of the machine of tests/model;
 #                                20,000 steps by default
 #
 # The program is crates/ct_main/out/ct_main, or CAPFW. Build it first: bin/build. The interpreter is built by cargo;

@@ -3,7 +3,7 @@
 # and writes its report, beside `upgrade`, which accepts it and writes it again. Images of 8, 16, 32 and 64 compartments
 # of 148 slots and 64 exports with 64 threads, and the largest with 32 libraries besides; names have 32 letters, and
 # each compartment calls and shares with every other. The line of each must be the one that
-# samples/model/reports.py makes of the image.
+# tests/model/reports.py makes of the image.
 source "$(dirname "$0")/common.sh"
 lines=$folder/lines
 mkdir "$lines"

@@ -11,16 +11,12 @@ A dashed arrow is where a thread begins.
 import json
 import sys
 
-LETTERS = {"LD": "read", "SD": "write"}
+sys.dont_write_bytecode = True
+from reports import allowed, report_of  # noqa: E402
 
 
 def quoted(text):
     return json.dumps(text)
-
-
-def allowed(entry):
-    rights = entry["rights"].split()
-    return " and ".join(LETTERS[right] for right in ("LD", "SD") if right in rights)
 
 
 def arrow(entry, end, text):
@@ -29,27 +25,25 @@ def arrow(entry, end, text):
 
 
 def lines(report):
-    yield f"graph {quoted(report['firmware'])} {{"
+    yield f"graph {quoted(report.firmware)} {{"
     yield '  rankdir=LR; node [fontname="Helvetica"]; edge [fontname="Helvetica", fontsize=10];'
-    for name in report["compartments"]:
+    for name in report.compartments:
         yield f"  {quoted('owner ' + name)} [shape=box, label={quoted(name)}];"
-    for name in report["libraries"]:
+    for name in report.libraries:
         yield f"  {quoted('owner ' + name)} [shape=folder, label={quoted(name)}];"
-    for device in report["devices"]:
+    for device in report.devices:
         label = f"{device['name']}\n{device['kind']} at {device['base']:#x}"
         yield f"  {quoted('device ' + device['name'])} [label={quoted(label)}];"
-    for first, second in report["edges"]:
-        names = [report["compartments"][first], report["compartments"][second]]
-        yield f"  {quoted('owner ' + names[0])} -- {quoted('owner ' + names[1])} [penwidth=3];"
-    for entry in report["entries"]:
+    for first, second in report.edges:
+        yield f"  {quoted('owner ' + first)} -- {quoted('owner ' + second)} [penwidth=3];"
+    for entry in report.entries:
         if entry["kind"] == "device":
-            yield arrow(entry, "device " + entry["of"], allowed(entry))
+            yield arrow(entry, "device " + entry["of"], allowed(entry).replace(", ", " and "))
         if entry["kind"] in ("call", "library"):
             owner, export = entry["of"].split(".")
             yield arrow(entry, "owner " + owner, export)
-    entries = {entry["number"]: entry for entry in report["entries"]}
-    for thread in report["threads"]:
-        gate = entries[thread["entry"]]
+    for thread in report.threads:
+        gate = report.entry[thread["entry"]]
         yield f"  {quoted('thread ' + thread['name'])} [shape=plaintext, label={quoted(thread['name'])}];"
         ends = f"{quoted('thread ' + thread['name'])} -- {quoted('owner ' + gate['owner'])}"
         yield f"  {ends} [dir=forward, style=dashed, label={quoted(gate['name'])}];"
@@ -57,4 +51,4 @@ def lines(report):
 
 
 if __name__ == "__main__":
-    print("\n".join(lines(json.load(sys.stdin))))
+    print("\n".join(lines(report_of(sys.stdin.read())[0])))

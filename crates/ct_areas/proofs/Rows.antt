@@ -4,11 +4,11 @@ use Rattle.def_profile.specs.declared.layout.TheConstants.{FRAME_SIZE}
 use Rattle.def_profile.specs.Areas.{frame_after}
 use Rattle.def_words.specs.declared.Cap.{Cap}
 use Rattle.def_memory.specs.declared.Granule.{Granule}
-use Rattle.def_memory.specs.Granules.{plain}
+use Rattle.def_memory.specs.Granules.{plain, held, holding, holding_all}
 use Rattle.def_memory.specs.Accesses.{loaded_cap}
 use Rattle.def_machine.specs.State.{Thread, Frame, outermost}
 use Rattle.def_machine.specs.Frames.{pushed_frame}
-use Rattle.def_areas.specs.Areas.{held, holding, holding_all, frame_place, frame_at, frames_in, frame_words, low_word, caller_actor, caller_top, caller_handling}
+use Rattle.def_areas.specs.Areas.{frame_place, frame_at, frames_in, frame_words, low_word, caller_actor, caller_top, caller_handling}
 use Rattle.def_areas.specs.Touches.{Touches}
 use Rattle.law_areas.proofs.Writes.{put_same, put_other}
 use Rattle.law_areas.proofs.Frames.{frames_same, frames_next, frames_none, frame_written}

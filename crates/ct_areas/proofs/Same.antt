@@ -5,7 +5,8 @@ use Rattle.def_memory.specs.declared.Granule.{Granule}
 use Rattle.def_memory.specs.Accesses.{stored, stored_cap}
 use Rattle.def_memory.specs.Ranges.{zeroed_from}
 use Rattle.def_machine.specs.State.{Thread, nobody}
-use Rattle.def_areas.specs.Areas.{held, held_from, frame_place, frames_in}
+use Rattle.def_areas.specs.Areas.{frame_place, frames_in}
+use Rattle.def_memory.specs.Granules.{held, held_from}
 use Rattle.def_areas.specs.Touches.{Touches}
 use Rattle.law_areas.proofs.Writes.{held_same}
 use Rattle.law_areas.proofs.Frames.{frames_same}

@@ -4,11 +4,11 @@ use Rattle.std.proofs.Math.ListN.{get_or, set}
 use Rattle.std.proofs.lemmas.List.{append-nil}
 use Rattle.def_words.specs.declared.Cap.{Cap}
 use Rattle.def_memory.specs.declared.Granule.{Granule}
-use Rattle.def_memory.specs.Granules.{plain}
+use Rattle.def_memory.specs.Granules.{plain, held, held_from, holding, holding_all}
 use Rattle.def_machine.specs.State.{Thread, Frame, nobody}
 use Rattle.def_machine.specs.Threads.{picked_with}
 use Rattle.def_machine.specs.Memory.{filtered_in}
-use Rattle.def_areas.specs.Areas.{held, held_from, holding, holding_all, frame_place, frames_in}
+use Rattle.def_areas.specs.Areas.{frame_place, frames_in}
 use Rattle.def_areas.specs.Touches.{Touches}
 use Rattle.law_areas.proofs.Writes.{read_back, all_other, put_same, put_other, put_length}
 use Rattle.law_areas.proofs.Frames.{frames_same}

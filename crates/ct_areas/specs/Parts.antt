@@ -4,11 +4,11 @@ use Rattle.def_profile.specs.Areas.{frame_after}
 use Rattle.def_profile.specs.declared.layout.TheConstants.{FRAME_SIZE, SAVED_SIZE}
 use Rattle.def_words.specs.declared.Cap.{Cap}
 use Rattle.def_memory.specs.declared.Granule.{Granule}
-use Rattle.def_memory.specs.Granules.{plain}
+use Rattle.def_memory.specs.Granules.{plain, holding_all}
 use Rattle.def_memory.specs.Ranges.{zeroed_from}
 use Rattle.def_machine.specs.State.{Thread, Frame}
 use Rattle.def_machine.specs.Frames.{pushed_frame}
-use Rattle.def_areas.specs.Areas.{frame_place, frame_at, frames_in, frame_words, caller_actor, caller_top, caller_handling, holding_all}
+use Rattle.def_areas.specs.Areas.{frame_place, frame_at, frames_in, frame_words, caller_actor, caller_top, caller_handling}
 use Rattle.ct_areas.specs.declared.thread.Area.{Area}
 use Rattle.ct_areas.specs.declared.thread.Thread as row
 use Rattle.ct_areas.specs.declared.frames.Saved.{Saved}

@@ -5,9 +5,9 @@ use Rattle.def_profile.specs.declared.layout.TheConstants.{GRANULE, AREA_HEAD, F
 use Rattle.def_words.specs.declared.Cap.{Cap}
 use Rattle.def_words.specs.declared.Posture.{Posture}
 use Rattle.def_memory.specs.declared.Granule.{Granule}
-use Rattle.def_memory.specs.Granules.{plain}
+use Rattle.def_memory.specs.Granules.{plain, held, held_from}
 use Rattle.def_machine.specs.State.{Thread, Ready, nobody, outermost}
-use Rattle.def_areas.specs.Areas.{held, held_from, frames_in}
+use Rattle.def_areas.specs.Areas.{frames_in}
 use Rattle.ct_areas.specs.declared.thread.Area.{Area}
 use Rattle.ct_areas.specs.declared.thread.Thread as row
 

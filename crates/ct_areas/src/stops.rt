@@ -1,10 +1,9 @@
 //! A stop and a pick: registers go to the area and come back through the load filter.
 
 ghost use Rattle.std.specs.Prelude.{◌≡◌, ◌+◌, ◌-◌, ◌*◌, ◌/◌, ◌%◌, ◌^◌, ◌≤◌, ◌<◌, ◌∷◌, true, false, length, drop, map};
-ghost use Rattle.def_memory.specs.Granules.{plain};
+ghost use Rattle.def_memory.specs.Granules.{plain, held_from, holding_all};
 ghost use Rattle.def_machine.specs.Threads.{picked_with};
 ghost use Rattle.def_machine.specs.Memory.{filtered_in};
-ghost use Rattle.def_areas.specs.Areas.{held_from, holding_all};
 ghost use Rattle.def_areas.specs.Touches.{Touches};
 ghost use Rattle.ct_areas.specs.Threads.{HasArea, area_begin, area_end, frames_most, thread_of};
 ghost use Rattle.ct_areas.specs.Parts.{register_in, with_saved, without_saved};

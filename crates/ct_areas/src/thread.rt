@@ -2,8 +2,8 @@
 
 ghost use Rattle.std.specs.Prelude.{◌≡◌, ◌+◌, ◌*◌, ◌<◌, ◌≤◌, ℕ, true, false, length};
 ghost use Rattle.def_profile.specs.declared.limits.TheConstants.{RAM_END};
-ghost use Rattle.def_memory.specs.Granules.{plain};
-ghost use Rattle.def_areas.specs.Areas.{held, holding, frame_place};
+ghost use Rattle.def_memory.specs.Granules.{plain, held, holding};
+ghost use Rattle.def_areas.specs.Areas.{frame_place};
 ghost use Rattle.def_areas.specs.Touches.{Touches};
 ghost use Rattle.ct_areas.specs.Threads.{HasArea, area_begin, area_end, thread_of, first};
 

@@ -1,7 +1,8 @@
 //! All devices, each at its base.
 
 ghost use Rattle.std.specs.Prelude.{◌≡◌, ◌<◌, ◌≤◌, ◌*◌, ◌⊎◌, ◌^◌, length, map, IfOk, IfSome, true, is_some};
-ghost use Rattle.def_step.specs.Devices.{fresh_device, IsWidth, is_of, base_of, found, bank_value, bank_read, bank_written, bank_input};
+ghost use Rattle.def_step.specs.Devices.{IsWidth, is_of, base_of, found, bank_value, bank_read, bank_written, bank_input};
+ghost use Rattle.def_machine.specs.State.{fresh_device};
 
 use crate::unit::Unit;
 use ct_entry::Device;

@@ -1,8 +1,7 @@
 //! One device.
 
 ghost use Rattle.std.specs.Prelude.{◌≡◌, ◌<◌, ◌≤◌, ◌*◌, ◌⊎◌, ◌^◌, ◌/◌, ◌%◌, IfOk, length};
-ghost use Rattle.def_machine.specs.State.{Serial, Clock, Pins};
-ghost use Rattle.def_step.specs.Devices.{fresh_device};
+ghost use Rattle.def_machine.specs.State.{Serial, Clock, Pins, fresh_device};
 ghost use Rattle.def_step.specs.Devices.{IsWidth, register_value, after_read, after_write, after_input, part_read, part_written, value_read, left_by_read, left_by_write};
 
 use circular_buffer::HeapCircularBuffer;

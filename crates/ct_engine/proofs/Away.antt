@@ -1,39 +1,64 @@
 -- Changes of memory that meet nothing hidden leave the threads, and what is kept of them.
-use Rattle.std.proofs.Common.{ℕ, zero, suc, ◌≡◌, ◌*◌, ◌/◌, ◌<◌, ◌≤◌, inl, inr, Bool, true, false, List, [], ◌∷◌, length, map, refl, sym, ap, ◌∙◌, arith, subst}
+use Rattle.std.proofs.Common.{ℕ, zero, suc, ◌≡◌, ◌*◌, ◌/◌, ◌<◌, ◌≤◌, ◌+◌, ◌⊎◌, inl, inr, Bool, true, false, List, [], ◌∷◌, length, map, refl, sym, ap, ◌∙◌, arith, subst}
 use Rattle.law_lists.proofs.Tests.{lt_tells}
 use Rattle.def_memory.specs.declared.Granule.{Granule}
 use Rattle.def_memory.specs.Accesses.{IsAccess, loaded}
-use Rattle.def_areas.specs.Areas.{held}
+use Rattle.def_memory.specs.Granules.{held}
 use Rattle.def_veil.specs.Veil.{veiled}
 use Rattle.law_veil.proofs.Granules.{veiled_length, load_seen}
 use Rattle.def_machine.specs.Objects.{Each}
-use Rattle.def_machine.specs.State.{Thread, nobody}
+use Rattle.def_machine.specs.State.{Thread, Object, nobody}
+use Rattle.def_chunks.specs.Heaps.{objects_of}
+use Rattle.law_heaped.specs.Heaped.{hides_heap, heap_hides}
+use Rattle.std.proofs.lemmas.Bool.{or_cases, or_left, or_right}
+use Rattle.ct_engine.proofs.HeapStays.{HeapStays, heap_keeps, heap_holds}
 use Rattle.std.proofs.Math.ListN.{get_or}
 use Rattle.ct_areas.specs.declared.thread.Thread as row
 use Rattle.ct_engine.specs.declared.rows.Rows.{Rows}
-use Rattle.ct_engine.specs.Seen.{Seen, hides, threads_of, seen, thread, with_granules}
+use Rattle.ct_engine.specs.Seen.{Seen, hides, threads_of, seen, thread, with_granules, region_hides, seen_by, seen_of, hidden}
 use Rattle.ct_engine.specs.Kept.{StackLies, Holds}
 use Rattle.ct_engine.proofs.Lists.{areas_same, threads_same, how_many}
 use Rattle.ct_engine.proofs.Whole.{hidden_is}
 
 -- what is hidden holds what it held
 abbrev pub HiddenStays : List Granule → List Granule → Rows → Type 0
-HiddenStays gs hs rows = (k : ℕ) → hides rows.region k ≡ true → held hs k ≡ held gs k
+HiddenStays gs hs rows = (k : ℕ) → hidden gs rows k ≡ true → held hs k ≡ held gs k
+
+-- it is the region's or the heap's
+pub hidden_cases : (gs : List Granule) (rows : Rows) (k : ℕ) → Holds gs rows → hidden gs rows k ≡ true → (region_hides rows.region k ≡ true) ⊎ (heap_hides rows.heap gs k ≡ true)
+hidden_cases gs rows k holds is =
+    subst (λ ram. (region_hides rows.region k ≡ true) ⊎ (hides_heap ram rows.heap.range.base (rows.heap.range.base + rows.heap.range.length) (objects_of rows.heap gs) k ≡ true)) (sym holds.heap.ram)
+    (or_cases (region_hides rows.region k) _ is)
+
+pub region_hidden : (gs : List Granule) (rows : Rows) (k : ℕ) → region_hides rows.region k ≡ true → hidden gs rows k ≡ true
+region_hidden gs rows k is = or_left (region_hides rows.region k) _ is
+
+pub heap_hidden : (gs : List Granule) (rows : Rows) (k : ℕ) → Holds gs rows → heap_hides rows.heap gs k ≡ true → hidden gs rows k ≡ true
+heap_hidden gs rows k holds is =
+    or_right (region_hides rows.region k) (hides_heap rows.region.ram rows.heap.range.base (rows.heap.range.base + rows.heap.range.length) (objects_of rows.heap gs) k)
+    (subst (λ ram. hides_heap ram rows.heap.range.base (rows.heap.range.base + rows.heap.range.length) (objects_of rows.heap gs) k ≡ true) holds.heap.ram is)
+
+heap_stays : (gs hs : List Granule) (rows : Rows) → Holds gs rows → HiddenStays gs hs rows → HeapStays rows.heap gs hs
+heap_stays gs hs rows holds same k is = same k (heap_hidden gs rows k holds is)
 
 pub away_holds : (gs hs : List Granule) (rows : Rows) → Holds gs rows → length hs ≡ length gs → HiddenStays gs hs rows → Holds hs rows
 away_holds gs hs rows holds size same = record {
   areas = areas_same rows.region.ram gs hs rows.running rows.running 0 rows.region.trusted rows.region.end rows.list.items holds.areas size
-      (λ m lo hi. same m (hidden_is rows.region m lo hi)) (λ u lo. refl);
+      (λ m lo hi. same m (region_hidden gs rows m (hidden_is rows.region m lo hi))) (λ u lo. refl);
   runs = holds.runs;
-  stacks = subst (λ n. Each (StackLies rows.region (8 * n)) (map (λ (t : row.Thread). t.area) rows.list.items)) (sym size) holds.stacks;
+  stacks = subst (λ n. Each (StackLies rows.region rows.heap.range.base (8 * n)) (map (λ (t : row.Thread). t.area) rows.list.items)) (sym size) holds.stacks;
+  heap = heap_holds gs hs rows.region rows.heap rows.front holds.heap size (heap_stays gs hs rows holds same);
 }
 
-pub away_seen : (gs hs : List Granule) (rows : Rows) → Holds gs rows → HiddenStays gs hs rows → seen hs rows ≡ with_granules (seen gs rows) (veiled (hides rows.region) hs)
-away_seen gs hs rows holds same =
+pub away_seen : (gs hs : List Granule) (rows : Rows) → Holds gs rows → length hs ≡ length gs → HiddenStays gs hs rows → seen hs rows ≡ with_granules (seen gs rows) (veiled (hidden gs rows) hs)
+away_seen gs hs rows holds size same =
+    let objects : objects_of rows.heap hs ≡ objects_of rows.heap gs =
+    (heap_keeps gs hs rows.region rows.heap rows.front holds.heap size (heap_stays gs hs rows holds same)).objects in
     let threads : threads_of hs rows.running 0 rows.list.items ≡ threads_of gs rows.running 0 rows.list.items =
     threads_same rows.region.ram gs hs rows.running rows.running 0 rows.region.trusted rows.region.end rows.list.items holds.areas
-    (λ m lo hi. same m (hidden_is rows.region m lo hi)) (λ u lo. refl) in
-    rw threads refl
+    (λ m lo hi. same m (region_hidden gs rows m (hidden_is rows.region m lo hi))) (λ u lo. refl) in
+    ap (λ (os : List Object). seen_by os rows hs rows.list.items rows.running) objects
+    ∙ ap (λ (ts : List Thread). let s : Seen = record (seen_by (objects_of rows.heap gs) rows hs rows.list.items rows.running) { threads = ts } in s) threads
 
 pub apart : (h : ℕ → Bool) (k m : ℕ) → h m ≡ false → h k ≡ true → k ≡ m → ⊥
 apart h k m open_ hidden e = let clash : true ≡ false = sym hidden ∙ ap (λ n. h n) e ∙ open_ in cc
@@ -41,17 +66,19 @@ apart h k m open_ hidden e = let clash : true ≡ false = sym hidden ∙ ap (λ 
 -- ---- what is asked of a place
 
 pub size_is : (gs : List Granule) (rows : Rows) (v : Seen) → seen gs rows ≡ v → length v.granules ≡ length gs
-size_is gs rows v is = ap (λ (s : Seen). length s.granules) (sym is) ∙ veiled_length (hides rows.region) gs
+size_is gs rows v is = ap (λ (s : Seen). length s.granules) (sym is) ∙ veiled_length (hidden gs rows) gs
 
 pub access_by : (gs : List Granule) (rows : Rows) (v : Seen) (at width : ℕ) → seen gs rows ≡ v → IsAccess (8 * length v.granules) at width → IsAccess (8 * length gs) at width
 access_by gs rows v at width is access = subst (λ n. IsAccess (8 * n) at width) (size_is gs rows v is) access
 
 -- ---- what is read
 
-pub load_is : (gs : List Granule) (rows : Rows) (v : Seen) (at width : ℕ) → seen gs rows ≡ v → hides v.region (at / 8) ≡ false → loaded gs at width ≡ loaded v.granules at width
+pub load_is : (gs : List Granule) (rows : Rows) (v : Seen) (at width : ℕ) → seen gs rows ≡ v → hides v (at / 8) ≡ false → loaded gs at width ≡ loaded v.granules at width
 load_is gs rows v at width is open_ =
-    let here : hides rows.region (at / 8) ≡ false = rw (← is) at open_ in
-    sym (load_seen (hides rows.region) gs at width here) ∙ ap (λ (s : Seen). loaded s.granules at width) is
+    let here : hidden gs rows (at / 8) ≡ false = rw (← is) at open_ in
+    sym (load_seen (hidden gs rows) gs at width here) ∙ ap (λ (s : Seen). loaded s.granules at width) is
+
+-- ---- how many there are
 
 pub count_is : (gs : List Granule) (rows : Rows) (v : Seen) → seen gs rows ≡ v → length rows.list.items ≡ length v.threads
 count_is gs rows v is = sym (how_many gs rows.running 0 rows.list.items) ∙ ap (λ (s : Seen). length s.threads) is

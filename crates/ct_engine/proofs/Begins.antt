@@ -2,25 +2,24 @@
 use Rattle.std.proofs.Common.{ℕ, zero, suc, ◌≡◌, ◌+◌, ◌*◌, ◌<◌, ◌≤◌, inl, inr, true, false, List, [], ◌∷◌, ◌++◌, length, map, take, drop, Option, None, refl, sym, ap, ◌∙◌, arith, subst}
 use Rattle.std.proofs.Math.ListN.{get_or}
 use Rattle.std.proofs.lemmas.Bool.{cases_eq}
-use Rattle.law_lists.proofs.Tests.{bool_tells, lt_tells}
+use Rattle.law_lists.proofs.Tests.{lt_tells}
 use Rattle.def_words.specs.declared.Cap.{Cap}
 use Rattle.def_memory.specs.declared.Granule.{Granule}
-use Rattle.def_memory.specs.Granules.{plain, granule_at, blank}
-use Rattle.def_machine.specs.Objects.{Each}
-use Rattle.def_areas.specs.Areas.{held, holding, frame_place}
+use Rattle.def_memory.specs.Granules.{plain, granule_at, held, holding}
+use Rattle.def_areas.specs.Areas.{frame_place}
 use Rattle.def_areas.specs.Touches.{Touches}
 use Rattle.law_areas.proofs.Writes.{put_other, put_same}
 use Rattle.def_veil.specs.Veil.{veiled}
-use Rattle.law_veil.proofs.Granules.{veiled_is, hidden_changes}
+use Rattle.law_veil.proofs.Granules.{hidden_changes}
 use Rattle.ct_areas.specs.declared.thread.Area.{Area}
 use Rattle.ct_areas.specs.declared.thread.Thread as row
 use Rattle.ct_areas.specs.Threads.{HasArea, area_begin, area_end, thread_of}
 use Rattle.ct_areas.proofs.Places.{area_inside}
 use Rattle.ct_engine.specs.declared.rows.Region.{Region}
 use Rattle.ct_engine.specs.declared.starting.Fresh.{Fresh}
-use Rattle.ct_engine.specs.Seen.{hides, threads_of, seen_by}
-use Rattle.ct_engine.specs.Kept.{IsPlain, IsKept, ArePlain, AreasFrom, StackLies}
-use Rattle.ct_engine.specs.Starts.{IsFresh, AreFresh, first_of, started}
+use Rattle.ct_engine.specs.Seen.{region_hides, threads_of}
+use Rattle.ct_engine.specs.Kept.{IsPlain, IsKept, ArePlain, AreasFrom}
+use Rattle.ct_engine.specs.Starts.{IsFresh, AreFresh, HaveBegun, first_of}
 use Rattle.ct_engine.proofs.Lists.{Same, ends, within, outside, areas_same, threads_same}
 use Rattle.ct_engine.proofs.Whole.{hidden_is}
 
@@ -102,7 +101,7 @@ end_last from (g ∷ gs) f = end_last (g.area.trusted + g.area.trusted_length) g
 -- some started, in memory that was otherwise, and others have yet to
 pub record Begun (g : Region) (was gs : List Granule) (ts : List row.Thread) (done todo : List Fresh) : Type 0 where
   pub size : length gs ≡ length was
-  pub veil : veiled (hides g) gs ≡ veiled (hides g) was
+  pub veil : veiled (region_hides g) gs ≡ veiled (region_hides g) was
   pub threads : threads_of gs None 0 ts ≡ map (λ f. first_of f) done
   pub places : map (λ (t : row.Thread). t.area) ts ≡ map (λ (f : Fresh). f.area) done
   pub areas : AreasFrom g.ram gs None 0 g.trusted (end_of g.trusted done) ts
@@ -110,7 +109,7 @@ pub record Begun (g : Region) (was gs : List Granule) (ts : List row.Thread) (do
   pub rest : AreFresh g.ram (8 * length was) (end_of g.trusted done) g.end todo
 
 pub begun_first : (g : Region) (gs : List Granule) (fs : List Fresh) → AreFresh g.ram (8 * length gs) g.trusted g.end fs
-    → ((k : ℕ) → hides g k ≡ true → held gs k ≡ plain 0) → Begun g gs gs [] [] fs
+    → ((k : ℕ) → region_hides g k ≡ true → held gs k ≡ plain 0) → Begun g gs gs [] [] fs
 begun_first g gs fs fresh clear = record {
   size = refl;
   veil = refl;
@@ -161,7 +160,7 @@ begun_next g was gs hs ts t done todo f b touches kept place same =
     let to : t.area.trusted + t.area.trusted_length ≡ end_of g.trusted (done ++ f ∷ []) = ap (λ (a : Area). a.trusted + a.trusted_length) place ∙ sym end in
     record {
       size = touches.size ∙ b.size;
-      veil = hidden_changes (hides g) gs hs (area_begin f.area) (area_end f.area) touches
+      veil = hidden_changes (region_hides g) gs hs (area_begin f.area) (area_end f.area) touches
           (λ k lo hi. let w = within (8 * length was) f.area k has lo hi in
           let l = w.0 in
           let h = w.1 in
@@ -226,32 +225,14 @@ begun_all g was gs ts fs i b le =
     subst (λ (xs : List Fresh). Begun g was gs ts fs xs) (drop_whole fs i le)
     (subst (λ (xs : List Fresh). Begun g was gs ts xs (drop i fs)) (take_whole fs i le) b)
 
-pub begun_areas : (g : Region) (was gs : List Granule) (ts : List row.Thread) (fs : List Fresh) (i : ℕ) → BegunTo g was gs ts fs i → length fs ≤ i
-    → AreasFrom g.ram gs None 0 g.trusted g.end ts
-begun_areas g was gs ts fs i b le =
+pub have_begun : (g : Region) (was gs : List Granule) (ts : List row.Thread) (fs : List Fresh) (i : ℕ) → BegunTo g was gs ts fs i → length fs ≤ i
+    → HaveBegun g was gs ts fs
+have_begun g was gs ts fs i b le =
     let all = begun_all g was gs ts fs i b le in
-    areas_more g.ram gs None 0 g.trusted (end_of g.trusted fs) g.end ts all.rest (λ k lo hi. plain_zero (held gs k) (all.clear k lo hi)) all.areas
-
-clear_veil : (g : Region) (gs : List Granule) → ((k : ℕ) → hides g k ≡ true → held gs k ≡ plain 0) → veiled (hides g) gs ≡ gs
-clear_veil g gs clear =
-    sym (veiled_is (hides g) gs gs refl (λ k lt. elim (bool_tells (hides g k)) [
-      | inl e ↦ rw e (zero_is (granule_at gs k) (clear k e))
-      | inr e ↦ rw e refl
-    ]))
-  where
-    zero_is : (x : Granule) → x.cap ≡ plain 0 → x ≡ blank x
-    zero_is x e = ap (λ (c : Cap). let z : Granule = record { cap = c; mark = x.mark } in z) e
-
--- the stacks are where they were
-pub begun_stacks : (g : Region) (was gs : List Granule) (ts : List row.Thread) (fs : List Fresh) (i : ℕ) → BegunTo g was gs ts fs i → length fs ≤ i
-    → Each (StackLies g (8 * length was)) (map (λ (f : Fresh). f.area) fs) → Each (StackLies g (8 * length gs)) (map (λ (t : row.Thread). t.area) ts)
-begun_stacks g was gs ts fs i b le stacks =
-    let all = begun_all g was gs ts fs i b le in
-    subst (λ (as_ : List Area). Each (StackLies g (8 * length gs)) as_) (sym all.places)
-    (subst (λ n. Each (StackLies g (8 * n)) (map (λ (f : Fresh). f.area) fs)) (sym all.size) stacks)
-
-pub begun_seen : (g : Region) (was gs : List Granule) (ts : List row.Thread) (fs : List Fresh) (i : ℕ) → BegunTo g was gs ts fs i → length fs ≤ i
-    → ((k : ℕ) → hides g k ≡ true → held was k ≡ plain 0) → seen_by gs g ts None ≡ started was g fs
-begun_seen g was gs ts fs i b le clear =
-    let all = begun_all g was gs ts fs i b le in
-    rw (all.veil, clear_veil g was clear, all.threads, all.places) refl
+    record {
+      size = all.size;
+      veil = all.veil;
+      threads = all.threads;
+      places = all.places;
+      areas = areas_more g.ram gs None 0 g.trusted (end_of g.trusted fs) g.end ts all.rest (λ k lo hi. plain_zero (held gs k) (all.clear k lo hi)) all.areas;
+    }

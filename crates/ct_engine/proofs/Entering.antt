@@ -19,7 +19,7 @@ use Rattle.def_machine.specs.State.{Thread, nobody, register}
 use Rattle.def_machine.specs.Frames.{Given, given, entered_by}
 use Rattle.def_step.specs.Checks.{first_failed}
 use Rattle.def_step.specs.Switch.{Switched, Trapped, TooDeep, NoStack, Enters, switch_checks, room_of, room_exponent, new_top, called, with_room, past_checks, switch_of, frame_top}
-use Rattle.def_areas.specs.Areas.{held}
+use Rattle.def_memory.specs.Granules.{held}
 use Rattle.def_areas.specs.Touches.{Touches}
 use Rattle.law_veil.proofs.Granules.{veiled_length, seen_at}
 use Rattle.law_granules.proofs.Lists.{zeroed_length}
@@ -33,15 +33,15 @@ use Rattle.ct_switch.specs.Ready as ready
 use Rattle.ct_switch.specs.Calls.{switch_in, memory_after, thread_after, row_after, given_in, stack_cap, entered_row}
 use Rattle.ct_switch.proofs.Failing.{checks_passed}
 use Rattle.ct_engine.specs.declared.rows.Rows.{Rows}
-use Rattle.ct_engine.specs.Seen.{Seen, hides, seen_by, seen, thread, area_at}
-use Rattle.ct_engine.specs.Kept.{IsKept, AreasFrom, Holds}
+use Rattle.ct_engine.specs.Seen.{Seen, hidden, seen_of, seen, thread, area_at}
+use Rattle.ct_engine.specs.Kept.{IsKept, AreasFrom, HeapHolds, Holds}
 use Rattle.ct_engine.specs.Calls.{HeadStands, IsEnterable, MayCall, head_at, switch_at, given_at, switched, after_call, cleared}
 use Rattle.ct_engine.proofs.Whole.{runs_it, thread_depth, running_kept, set_self, seen_turn}
 use Rattle.ct_engine.proofs.Ends.{stays_on, call_areas}
 use Rattle.ct_engine.proofs.Clean.{pushed_kept}
 use Rattle.ct_engine.proofs.Goes.{running_is}
 use Rattle.ct_engine.proofs.Stacks.{running_area, running_thread, running_top, ready_is}
-use Rattle.ct_engine.proofs.Turning.{kept_as, kept_beside, switched_areas, switched_seen}
+use Rattle.ct_engine.proofs.Turning.{kept_as, kept_beside, switched_areas, switched_seen, running_heap, switched_heap}
 
 -- ---- the switch
 
@@ -64,7 +64,7 @@ pub may_is : (gs : List Granule) (rows : Rows) (t : ℕ) (r : row.Thread) (e : L
 may_is gs rows t r e holds runs is may =
     let base = (running_kept gs rows t r holds runs is).base in
     let six : register (thread (seen gs rows) t) 6 ≡ register_in r 6 = register_is gs rows t 6 r holds runs is in
-    let size : length (seen gs rows).granules ≡ length gs = veiled_length (hides rows.region) gs in
+    let size : length (seen gs rows).granules ≡ length gs = veiled_length (hidden gs rows) gs in
     record {
       ready = ready_is gs rows t r holds runs is may.top;
       sorted = may.sorted;
@@ -191,9 +191,9 @@ given_is gs rows t r e export high holds runs is open_ =
     let code : ℕ = (gate_for e.gates export).code in
     let place : (table_of e (callee_of e export) - r.area.ram) / 8 ≡ head = ap (λ n. (table_of e (callee_of e export) - n) / 8) base in
     let first : held gs ((table_of e (callee_of e export) - r.area.ram) / 8) ≡ held (seen gs rows).granules head =
-    ap (λ n. held gs n) place ∙ sym (ap (λ (g : Granule). g.cap) (seen_at (hides rows.region) gs head open_.code)) in
+    ap (λ n. held gs n) place ∙ sym (ap (λ (g : Granule). g.cap) (seen_at (hidden gs rows) gs head open_.code)) in
     let second : held gs ((table_of e (callee_of e export) - r.area.ram) / 8 + 1) ≡ held (seen gs rows).granules (head + 1) =
-    ap (λ n. held gs (n + 1)) place ∙ sym (ap (λ (g : Granule). g.cap) (seen_at (hides rows.region) gs (head + 1) open_.globals)) in
+    ap (λ n. held gs (n + 1)) place ∙ sym (ap (λ (g : Granule). g.cap) (seen_at (hidden gs rows) gs (head + 1) open_.globals)) in
     let stack : stack_cap r.area.stack high (register_in r 2).shadow ≡ stack_cap (area_at (seen gs rows) t).stack high (register (thread (seen gs rows) t) 2).shadow =
     ap (λ (c : Cap). stack_cap r.area.stack high c.shadow) (sym (register_is gs rows t 2 r holds runs is))
     ∙ ap (λ (a : Area). stack_cap a.stack high (register (thread (seen gs rows) t) 2).shadow) (sym (running_area gs rows t r holds runs is)) in
@@ -238,16 +238,16 @@ high_fits gs rows t r e export high holds runs is may enters =
 -- nothing
 same_seen : (gs hs : List Granule) (rows : Rows) (t : ℕ) (r q : row.Thread) → Holds gs rows → rows.running ≡ Some t → r ≡ get_or rows.list.items t r
     → Touches (area_begin r.area) (area_end r.area) gs hs → q.area ≡ r.area → thread_of hs true q ≡ thread_of gs true r
-    → seen_by hs rows.region (set rows.list.items t q) rows.running ≡ seen gs rows
+    → seen_of hs rows (set rows.list.items t q) rows.running ≡ seen gs rows
 same_seen gs hs rows t r q holds runs is touches place same =
-    seen_turn rows.region gs hs rows.list.items rows.running rows.running t r q (thread (seen gs rows) t) holds.areas (holds.runs t runs) is touches (stays_on rows.running t) place
+    seen_turn rows gs hs rows.list.items rows.running rows.running t r q (thread (seen gs rows) t) holds.areas holds.heap (holds.runs t runs) is touches (stays_on rows.running t) place
     (subst (λ b. thread_of hs b q ≡ thread (seen gs rows) t) (sym (runs_it rows t runs)) (same ∙ sym (running_thread gs rows t r holds runs is)))
     ∙ ap (λ (xs : List Thread). let s : Seen = record (seen gs rows) { threads = xs } in s) (set_self (seen gs rows).threads t nobody)
 
 pub call_sees : (gs hs : List Granule) (rows : Rows) (t : ℕ) (r q : row.Thread) (e : Listed) → Holds gs rows → rows.running ≡ Some t → r ≡ get_or rows.list.items t r
     → MayCall (seen gs rows) t e → (w : Switched) → switch_in gs e r ≡ w → Touches (area_begin r.area) (area_end r.area) (cleared gs r w) hs → q.area ≡ r.area
     → thread_of hs true q ≡ thread_after gs e r w
-    → seen_by hs rows.region (set rows.list.items t q) rows.running ≡ after_call (seen gs rows) e t w
+    → seen_of hs rows (set rows.list.items t q) rows.running ≡ after_call (seen gs rows) e t w
 call_sees gs hs rows t r q e holds runs is may (Trapped why) w touches place same = same_seen gs hs rows t r q holds runs is touches place same
 call_sees gs hs rows t r q e holds runs is may TooDeep w touches place same = same_seen gs hs rows t r q holds runs is touches place same
 call_sees gs hs rows t r q e holds runs is may NoStack w touches place same = same_seen gs hs rows t r q holds runs is touches place same
@@ -268,6 +268,15 @@ call_areas_by gs hs rows t r q e holds runs is may NoStack w touches place kept 
 call_areas_by gs hs rows t r q e holds runs is may (Enters export high) w touches place kept =
     switched_areas gs hs rows t r q high rows.running holds runs is (high_fits gs rows t r e export high holds runs is may w) touches (stays_on rows.running t) place
     (subst (λ b. IsKept hs b q) (sym (runs_it rows t runs)) kept)
+
+pub call_heap_by : (gs hs : List Granule) (rows : Rows) (t : ℕ) (r : row.Thread) (e : Listed) → Holds gs rows → rows.running ≡ Some t → r ≡ get_or rows.list.items t r
+    → MayCall (seen gs rows) t e → (w : Switched) → switch_in gs e r ≡ w → Touches (area_begin r.area) (area_end r.area) (cleared gs r w) hs
+    → HeapHolds hs rows.region rows.heap rows.front
+call_heap_by gs hs rows t r e holds runs is may (Trapped why) w touches = running_heap gs hs rows t r holds runs is touches
+call_heap_by gs hs rows t r e holds runs is may TooDeep w touches = running_heap gs hs rows t r holds runs is touches
+call_heap_by gs hs rows t r e holds runs is may NoStack w touches = running_heap gs hs rows t r holds runs is touches
+call_heap_by gs hs rows t r e holds runs is may (Enters export high) w touches =
+    switched_heap gs hs rows t r high holds runs is (high_fits gs rows t r e export high holds runs is may w) touches
 
 cleared_size : (gs : List Granule) (t : row.Thread) (w : Switched) → length (cleared gs t w) ≡ length gs
 cleared_size gs t (Trapped why) = refl

@@ -1,27 +1,28 @@
 -- Where none of what is seen is a capability of a painted object, none of memory is: what is hidden is a saved capability
--- or a plain word.
+-- or a plain word in the region, and untagged in the heap.
 use Rattle.std.proofs.Common.{ℕ, zero, suc, ◌≡◌, ◌+◌, ◌-◌, ◌*◌, ◌/◌, ◌%◌, ◌<◌, ◌≤◌, inl, inr, Bool, true, false, List, [], ◌∷◌, length, Option, Some, refl, sym, ap, ◌∙◌, arith, subst}
 use Rattle.std.proofs.Math.ListN.{get_or}
 use Rattle.def_profile.specs.Areas.{area_length}
 use Rattle.law_lists.proofs.Tests.{bool_tells, lt_tells, eq_tells}
 use Rattle.def_words.specs.declared.Cap.{Cap}
 use Rattle.def_memory.specs.declared.Granule.{Granule}
-use Rattle.def_memory.specs.Granules.{plain}
+use Rattle.def_memory.specs.Granules.{plain, held, held_from}
 use Rattle.def_machine.specs.State.{Thread, Frame, Object, nobody}
-use Rattle.def_machine.specs.Heap.{is_number}
+use Rattle.def_machine.specs.Slices.{is_number}
 use Rattle.def_machine.specs.Objects.{Each}
-use Rattle.def_areas.specs.Areas.{held, held_from, frame_place, frames_from, frames_in, caller_actor, caller_top, caller_handling}
+use Rattle.def_areas.specs.Areas.{frame_place, frames_from, frames_in, caller_actor, caller_top, caller_handling}
 use Rattle.law_veil.proofs.Granules.{seen_at}
 use Rattle.ct_areas.specs.declared.thread.Area.{Area}
 use Rattle.ct_areas.specs.declared.thread.Thread as row
 use Rattle.ct_areas.specs.Threads.{HasArea, area_begin, area_end, frames_most, living, thread_of}
 use Rattle.ct_areas.proofs.Places.{alive_is, frames_of}
 use Rattle.ct_engine.specs.declared.rows.Rows.{Rows}
-use Rattle.ct_engine.specs.Seen.{Seen, hides, threads_of, seen}
+use Rattle.ct_engine.specs.Seen.{Seen, threads_of, seen, hidden}
 use Rattle.ct_engine.specs.Kept.{IsPlain, IsSaved, IsKept, AreasFrom, Holds}
 use Rattle.law_sweeps.specs.Clean.{NotStale, SavedClean, StoppedClean}
-use Rattle.ct_engine.specs.Heaps.{NoneLeft}
+use Rattle.ct_engine.specs.Sweeps.{NoneLeft}
 use Rattle.ct_engine.proofs.Whole.{itself}
+use Rattle.ct_engine.proofs.Away.{hidden_cases}
 use Rattle.ct_engine.proofs.Stacks.{hidden_place}
 
 -- ---- one granule
@@ -148,9 +149,12 @@ pub none_stale : (objects : List Object) (gs : List Granule) (rows : Rows) (v : 
     → (k : ℕ) → NotStale objects (held gs k)
 none_stale objects gs rows v is holds left k =
     let mine : NoneLeft objects (seen gs rows) = subst (λ (s : Seen). NoneLeft objects s) (sym is) left in
-    elim (bool_tells (hides rows.region k)) [
-      | inl e ↦ (let place = hidden_place rows.region k e in
-          areas_clean objects rows.region.ram gs rows.running 0 rows.region.trusted rows.region.end rows.list.items holds.areas mine.frames
-          (λ t off. mine.stopped t (λ runs. off (let same : 0 + t ≡ t = omega arith in rw same runs))) k place.0 place.1)
-      | inr e ↦ same_clean objects (held gs k) (held (seen gs rows).granules k) (ap (λ (g : Granule). g.cap) (sym (seen_at (hides rows.region) gs k e))) (mine.granules k)
+    elim (bool_tells (hidden gs rows k)) [
+      | inl e ↦ elim (hidden_cases gs rows k holds e) [
+        | inl region ↦ (let place = hidden_place rows.region k region in
+            areas_clean objects rows.region.ram gs rows.running 0 rows.region.trusted rows.region.end rows.list.items holds.areas mine.frames
+            (λ t off. mine.stopped t (λ runs. off (let same : 0 + t ≡ t = omega arith in rw same runs))) k place.0 place.1)
+        | inr heap ↦ (λ tagged some. absurd (let clash : true ≡ false = sym tagged ∙ holds.heap.clear k heap in cc))
+      ]
+      | inr e ↦ same_clean objects (held gs k) (held (seen gs rows).granules k) (ap (λ (g : Granule). g.cap) (sym (seen_at (hidden gs rows) gs k e))) (mine.granules k)
     ]

@@ -18,7 +18,7 @@ use Rattle.ct_areas.specs.Parts.{inner_frame, outer_frames}
 use Rattle.ct_areas.proofs.Places.{alive_is}
 use Rattle.ct_areas.proofs.Rows.{frames_are}
 use Rattle.ct_engine.specs.declared.rows.Rows.{Rows}
-use Rattle.ct_engine.specs.Seen.{seen_by, seen, thread, went, row_gone}
+use Rattle.ct_engine.specs.Seen.{seen, thread, went, row_gone, seen_of}
 use Rattle.ct_engine.specs.Kept.{IsKept, AreasFrom, Holds}
 use Rattle.ct_engine.proofs.Whole.{runs_it, thread_is, seen_turn, running_kept}
 use Rattle.ct_engine.proofs.Ends.{call_areas, stays_on}
@@ -76,15 +76,15 @@ go_areas gs rows t r q pcc posture to value holds runs is gone =
 
 pub go_seen : (gs : List Granule) (rows : Rows) (t : ℕ) (r q : row.Thread) (pcc : Cap) (posture : Posture) (to : ℕ) (value : Cap) → Holds gs rows → rows.running ≡ Some t
     → r ≡ get_or rows.list.items t r → q ≡ row_gone r pcc posture to value
-    → seen_by gs rows.region (set rows.list.items t q) rows.running ≡ went (seen gs rows) t pcc posture to value
+    → seen_of gs rows (set rows.list.items t q) rows.running ≡ went (seen gs rows) t pcc posture to value
 go_seen gs rows t r q pcc posture to value holds runs is gone =
     let alive : 0 < r.depth = (running_kept gs rows t r holds runs is).kept.alive refl in
     let new : thread_of gs true (row_gone r pcc posture to value) ≡ jumped (thread (seen gs rows) t) pcc posture to value =
     alive_is gs true (row_gone r pcc posture to value) alive
     ∙ ap (λ (u : Thread). jumped u pcc posture to value) (sym (running_is gs rows t r holds runs is)) in
-    subst (λ (u : row.Thread). seen_by gs rows.region (set rows.list.items t u) rows.running ≡ went (seen gs rows) t pcc posture to value) (sym gone)
-    (seen_turn rows.region gs gs rows.list.items rows.running rows.running t r (row_gone r pcc posture to value) (jumped (thread (seen gs rows) t) pcc posture to value)
-    holds.areas (holds.runs t runs) is (unchanged gs (area_begin r.area) (area_end r.area)) (stays_on rows.running t) refl
+    subst (λ (u : row.Thread). seen_of gs rows (set rows.list.items t u) rows.running ≡ went (seen gs rows) t pcc posture to value) (sym gone)
+    (seen_turn rows gs gs rows.list.items rows.running rows.running t r (row_gone r pcc posture to value) (jumped (thread (seen gs rows) t) pcc posture to value)
+    holds.areas holds.heap (holds.runs t runs) is (unchanged gs (area_begin r.area) (area_end r.area)) (stays_on rows.running t) refl
     (subst (λ b. thread_of gs b (row_gone r pcc posture to value) ≡ jumped (thread (seen gs rows) t) pcc posture to value) (sym (runs_it rows t runs)) new))
 
 -- ---- it goes on from its own program counter, with its own posture
@@ -99,11 +99,12 @@ own_holds gs rows t r q f to value holds runs is gone = record {
   areas = go_areas gs rows t r q (f r.pcc) r.posture to value holds runs is gone;
   runs = λ u e. (let lt = holds.runs u e in let size = length-set rows.list.items t q in omega (arith, lt, size));
   stacks = stacks_turn gs gs rows t r q holds (holds.runs t runs) is refl (ap (λ (u : row.Thread). u.area) gone);
+  heap = holds.heap;
 }
 
 pub own_seen : (gs : List Granule) (rows : Rows) (t : ℕ) (r q : row.Thread) (f : Cap → Cap) (to : ℕ) (value : Cap) → Holds gs rows → rows.running ≡ Some t
     → r ≡ get_or rows.list.items t r → q ≡ row_gone r (f r.pcc) r.posture to value
-    → seen_by gs rows.region (set rows.list.items t q) rows.running ≡ went (seen gs rows) t (f (thread (seen gs rows) t).pcc) (thread (seen gs rows) t).posture to value
+    → seen_of gs rows (set rows.list.items t q) rows.running ≡ went (seen gs rows) t (f (thread (seen gs rows) t).pcc) (thread (seen gs rows) t).posture to value
 own_seen gs rows t r q f to value holds runs is gone =
     go_seen gs rows t r q (f r.pcc) r.posture to value holds runs is gone
     ∙ ap (λ (u : Thread). went (seen gs rows) t (f u.pcc) u.posture to value) (sym (running_is gs rows t r holds runs is))

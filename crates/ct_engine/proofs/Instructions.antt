@@ -8,7 +8,7 @@ use Rattle.def_words.specs.declared.Trap.{Trap}
 use Rattle.def_words.specs.Authority.{cap_address}
 use Rattle.def_words.specs.Loaded.{stored_through}
 use Rattle.def_memory.specs.declared.Granule.{Granule}
-use Rattle.def_areas.specs.Areas.{held}
+use Rattle.def_memory.specs.Granules.{held}
 use Rattle.def_instr.specs.declared.Instr.{Instr}
 use Rattle.def_instr.specs.Reading.{instruction_in}
 use Rattle.def_step.specs.declared.Access.{Access}
@@ -22,7 +22,7 @@ use Rattle.law_veil.proofs.Granules.{veiled_length}
 use Rattle.law_veil.proofs.Steps.{access_same, next_same}
 use Rattle.ct_loadstore.specs.Shapes.{MovedRow, space_of}
 use Rattle.ct_engine.specs.declared.rows.Rows.{Rows}
-use Rattle.ct_engine.specs.Seen.{Seen, hides, seen, with_granules}
+use Rattle.ct_engine.specs.Seen.{Seen, hides, seen, with_granules, hidden}
 use Rattle.ct_engine.specs.Kept.{Holds}
 use Rattle.ct_engine.specs.Steps.{space_in, no_bank, next_in, IsHeapPlaced, IsMoved}
 use Rattle.ct_engine.proofs.Away.{HiddenStays, away_holds, away_seen, apart, size_is}
@@ -32,14 +32,14 @@ use Rattle.ct_engine.proofs.Away.{HiddenStays, away_holds, away_seen, apart, siz
 pub even_by : (gs : List Granule) (rows : Rows) (v : Seen) → seen gs rows ≡ v → v.region.ram % 16 ≡ 0 → rows.region.ram % 16 ≡ 0
 even_by gs rows v is even = rw (← is) at even
 
-pub next_is : (gs : List Granule) (rows : Rows) (v : Seen) (at : ℕ) → seen gs rows ≡ v → IsSeen (hides v.region) v.region.ram at
+pub next_is : (gs : List Granule) (rows : Rows) (v : Seen) (at : ℕ) → seen gs rows ≡ v → IsSeen (hides v) v.region.ram at
     → next_at (space_of rows.region.ram gs no_bank 0) at ≡ next_in v at
 next_is gs rows v at is open_ =
-    let here : IsSeen (hides rows.region) rows.region.ram at = rw (← is) at open_ in
-    sym (next_same (hides rows.region) (space_of rows.region.ram gs no_bank 0) at here) ∙ ap (λ (s : Seen). next_in s at) is
+    let here : IsSeen (hidden gs rows) rows.region.ram at = rw (← is) at open_ in
+    sym (next_same (hidden gs rows) (space_of rows.region.ram gs no_bank 0) at here) ∙ ap (λ (s : Seen). next_in s at) is
 
 -- of a word
-pub word_is : (gs : List Granule) (rows : Rows) (v : Seen) (at : ℕ) (r : Option ℕ) → seen gs rows ≡ v → IsSeen (hides v.region) v.region.ram at
+pub word_is : (gs : List Granule) (rows : Rows) (v : Seen) (at : ℕ) (r : Option ℕ) → seen gs rows ≡ v → IsSeen (hides v) v.region.ram at
     → IfSome r (λ w. next_at (space_of rows.region.ram gs no_bank 0) at ≡ next_word (instruction_in w)) → IfSome r (λ w. next_in v at ≡ next_word (instruction_in w))
 word_is gs rows v at None is open_ e = e
 word_is gs rows v at (Some w) is open_ e = sym (next_is gs rows v at is open_) ∙ e
@@ -89,24 +89,24 @@ moved_seen h i x y p hs k (Err w) open_ c = (access_same h i x y p open_ ∙ ap 
 pub heap_by : (gs : List Granule) (rows : Rows) (v : Seen) (heap : ℕ) → seen gs rows ≡ v → IsHeapPlaced v.region.ram heap (length v.granules) → IsHeapPlaced rows.region.ram heap (length gs)
 heap_by gs rows v heap is placed =
     let here : IsHeapPlaced rows.region.ram heap (length (seen gs rows).granules) = subst (λ (s : Seen). IsHeapPlaced s.region.ram heap (length s.granules)) (sym is) placed in
-    subst (λ n. IsHeapPlaced rows.region.ram heap n) (veiled_length (hides rows.region) gs) here
+    subst (λ n. IsHeapPlaced rows.region.ram heap n) (veiled_length (hidden gs rows) gs) here
 
 -- what is known of an access of seen granules, of which the real ones are gs before it and hs after it
 pub record Moving (gs hs : List Granule) (rows : Rows) (v : Seen) (i : Instr) (x y : Cap) (k after : Bank) (time : ℕ) (r : Result MovedRow Trap) : Type 0 where
   pub is : seen gs rows ≡ v
   pub holds : Holds gs rows
-  pub meets : SeesAccess (hides v.region) v.region.ram i x y
+  pub meets : SeesAccess (hides v) v.region.ram i x y
   pub moved : IsMoved i x y (space_of rows.region.ram gs k time) hs after r
   pub size : length hs ≡ length gs
 
 meets_here : (gs hs : List Granule) (rows : Rows) (v : Seen) (i : Instr) (x y : Cap) (k after : Bank) (time : ℕ) (r : Result MovedRow Trap) → Moving gs hs rows v i x y k after time r
-    → SeesAccess (hides rows.region) rows.region.ram i x y
-meets_here gs hs rows v i x y k after time r m = subst (λ (s : Seen). SeesAccess (hides s.region) s.region.ram i x y) (sym m.is) m.meets
+    → SeesAccess (hidden gs rows) rows.region.ram i x y
+meets_here gs hs rows v i x y k after time r m = subst (λ (s : Seen). SeesAccess (hides s) s.region.ram i x y) (sym m.is) m.meets
 
 move_stays : (gs hs : List Granule) (rows : Rows) (v : Seen) (i : Instr) (x y : Cap) (k after : Bank) (time : ℕ) (r : Result MovedRow Trap) → Moving gs hs rows v i x y k after time r
     → HiddenStays gs hs rows
 move_stays gs hs rows v i x y k after time r m =
-    moved_stays (hides rows.region) i x y (space_of rows.region.ram gs k time) hs after r (meets_here gs hs rows v i x y k after time r m) m.moved
+    moved_stays (hidden gs rows) i x y (space_of rows.region.ram gs k time) hs after r (meets_here gs hs rows v i x y k after time r m) m.moved
 
 pub move_holds : (gs hs : List Granule) (rows : Rows) (v : Seen) (i : Instr) (x y : Cap) (k after : Bank) (time : ℕ) (r : Result MovedRow Trap) → Moving gs hs rows v i x y k after time r
     → Holds hs rows
@@ -116,14 +116,19 @@ move_holds gs hs rows v i x y k after time r m = away_holds gs hs rows m.holds m
 pub move_kept : (gs hs : List Granule) (rows : Rows) (v : Seen) (i : Instr) (x y : Cap) (k after : Bank) (time : ℕ) (r : Result MovedRow Trap) → Moving gs hs rows v i x y k after time r
     → seen hs rows ≡ with_granules v (seen hs rows).granules
 move_kept gs hs rows v i x y k after time r m =
-    away_seen gs hs rows m.holds (move_stays gs hs rows v i x y k after time r m) ∙ ap (λ (s : Seen). with_granules s (veiled (hides rows.region) hs)) m.is
+    let whole = away_seen gs hs rows m.holds m.size (move_stays gs hs rows v i x y k after time r m) in
+    whole
+    ∙ ap (λ (xs : List Granule). with_granules (seen gs rows) xs) (sym (ap (λ (s : Seen). s.granules) whole))
+    ∙ ap (λ (s : Seen). with_granules s (seen hs rows).granules) m.is
 
 pub move_size : (gs hs : List Granule) (rows : Rows) (v : Seen) → seen gs rows ≡ v → length hs ≡ length gs → length (seen hs rows).granules ≡ length v.granules
-move_size gs hs rows v is size = veiled_length (hides rows.region) hs ∙ size ∙ sym (size_is gs rows v is)
+move_size gs hs rows v is size = veiled_length (hidden hs rows) hs ∙ size ∙ sym (size_is gs rows v is)
 
 -- it comes to what the written access comes to over the seen granules
 pub move_is : (gs hs : List Granule) (rows : Rows) (v : Seen) (i : Instr) (x y : Cap) (k after : Bank) (time : ℕ) (r : Result MovedRow Trap) → Moving gs hs rows v i x y k after time r
     → IsMoved i x y (space_in v k time) (seen hs rows).granules after r
 move_is gs hs rows v i x y k after time r m =
+    let whole = away_seen gs hs rows m.holds m.size (move_stays gs hs rows v i x y k after time r m) in
     subst (λ (s : Seen). IsMoved i x y (space_in s k time) (seen hs rows).granules after r) m.is
-    (moved_seen (hides rows.region) i x y (space_of rows.region.ram gs k time) hs after r (meets_here gs hs rows v i x y k after time r m) m.moved)
+    (subst (λ (xs : List Granule). IsMoved i x y (space_in (seen gs rows) k time) xs after r) (sym (ap (λ (s : Seen). s.granules) whole))
+    (moved_seen (hidden gs rows) i x y (space_of rows.region.ram gs k time) hs after r (meets_here gs hs rows v i x y k after time r m) m.moved))

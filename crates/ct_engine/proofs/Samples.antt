@@ -1,11 +1,12 @@
--- The threads of the tests may start.
+-- The threads of the tests may start, with a heap behind their stacks.
 use Rattle.std.proofs.Common.{ℕ, zero, suc, ◌≡◌, ◌+◌, ◌*◌, ◌%◌, ◌≤◌, inr, List, [], ◌∷◌, length, replicate, refl, sym, ap, ◌∙◌, arith, subst}
 use Rattle.std.proofs.Math.ListN.{get_or}
 use Rattle.def_profile.specs.declared.limits.TheConstants.{RAM_END}
 use Rattle.def_memory.specs.declared.Granule.{Granule}
-use Rattle.def_memory.specs.Granules.{plain, nothing}
+use Rattle.def_memory.specs.Granules.{plain, nothing, held}
 use Rattle.def_machine.specs.Objects.{Each}
-use Rattle.def_areas.specs.Areas.{held}
+use Rattle.def_chunks.specs.Heaps.{HeapRow}
+use Rattle.ct_heap.specs.Effects.{Empty, empty, range_of}
 use Rattle.ct_areas.specs.declared.thread.Area.{Area}
 use Rattle.ct_areas.specs.Threads.{HasArea}
 use Rattle.ct_engine.specs.declared.starting.Fresh.{Fresh}
@@ -39,17 +40,21 @@ fresh_is f trusted stack is zero_ has le = record {
 abbrev sample_region : Region
 sample_region = record { ram = 2147483648; trusted = 2147483664; end = 2147484240 }
 
-stack_lies : (trusted stack : ℕ) → stack % 16 ≡ 0 → 2147484240 ≤ stack → stack + 256 ≤ 2147485696 → StackLies sample_region 2048 (sample_area trusted stack)
-stack_lies trusted stack even low high = record { even = even; whole = refl; low = omega (arith, low); high = omega (arith, high); apart = inr low }
+stack_lies : (trusted stack : ℕ) → stack % 16 ≡ 0 → 2147484240 ≤ stack → stack + 256 ≤ 2147485184 → StackLies sample_region 2147485184 2048 (sample_area trusted stack)
+stack_lies trusted stack even low high = record { even = even; whole = refl; low = omega (arith, low); high = omega (arith, high); apart = inr low; before = high }
 
-pub may_start : (gs : List Granule) (f g : Fresh) → gs ≡ replicate 256 nothing → f.area ≡ sample_area 2147483664 2147484672 → g.area ≡ sample_area 2147483952 2147484928
+-- half a KiB without a quota
+abbrev sample_heap : HeapRow
+sample_heap = empty (range_of 2147483648 2147485184 512) []
+
+pub may_start : (gs : List Granule) (f g : Fresh) (h : HeapRow) → gs ≡ replicate 256 nothing → f.area ≡ sample_area 2147483664 2147484672 → g.area ≡ sample_area 2147483952 2147484928
     → get_or f.regs 0 (plain 0) ≡ plain 0 → get_or g.regs 0 (plain 0) ≡ plain 0
-    → MayStart gs sample_region (f ∷ g ∷ [])
-may_start gs f g is first second zero_f zero_g =
+    → h ≡ sample_heap → Empty h → MayStart gs sample_region (f ∷ g ∷ []) h
+may_start gs f g h is first second zero_f zero_g heap none =
     let size : 8 * length gs ≡ 2048 = ap (λ (xs : List Granule). 8 * length xs) is ∙ ap (λ n. 8 * n) (count_of 256) in
     let one : IsFresh 2048 f = fresh_is f 2147483664 2147484672 first zero_f (has_area 2147483664 2147484672 refl (omega arith) (omega arith)) (omega arith) in
     let two : IsFresh 2048 g = fresh_is g 2147483952 2147484928 second zero_g (has_area 2147483952 2147484928 refl (omega arith) (omega arith)) (omega arith) in
-    record {
+    rw heap (record {
       areas = (
         subst (λ (a : Area). 2147483664 ≤ a.trusted) (sym first) (omega arith),
         ap (λ (a : Area). a.ram) first,
@@ -61,9 +66,16 @@ may_start gs f g is first second zero_f zero_g =
           subst (λ (a : Area). a.trusted + a.trusted_length ≤ 2147484240) (sym second) (omega arith),
         ),
       );
-      stacks = subst (λ n. Each (StackLies sample_region n) (f.area ∷ g.area ∷ [])) (sym size) (
-        subst (λ (a : Area). StackLies sample_region 2048 a) (sym first) (stack_lies 2147483664 2147484672 refl (omega arith) (omega arith)),
-        (subst (λ (a : Area). StackLies sample_region 2048 a) (sym second) (stack_lies 2147483952 2147484928 refl (omega arith) (omega arith)), tt),
+      stacks = subst (λ n. Each (StackLies sample_region 2147485184 n) (f.area ∷ g.area ∷ [])) (sym size) (
+        subst (λ (a : Area). StackLies sample_region 2147485184 2048 a) (sym first) (stack_lies 2147483664 2147484672 refl (omega arith) (omega arith)),
+        (subst (λ (a : Area). StackLies sample_region 2147485184 2048 a) (sym second) (stack_lies 2147483952 2147484928 refl (omega arith) (omega arith)), tt),
       );
       clear = λ k hidden. subst (λ (xs : List Granule). held xs k ≡ plain 0) (sym is) (none_held 256 k);
-    }
+      heap = record {
+        empty = subst Empty heap none;
+        ram = refl;
+        past = omega arith;
+        inside = omega (arith, size);
+        clear = λ k low high. subst (λ (xs : List Granule). held xs k ≡ plain 0) (sym is) (none_held 256 k);
+      };
+    })

@@ -13,9 +13,8 @@ use Rattle.ct_areas.specs.declared.thread.Thread as row
 use Rattle.ct_areas.specs.Threads.{area_begin, area_end, living, thread_of}
 use Rattle.ct_areas.proofs.Places.{alive_is}
 use Rattle.ct_engine.specs.declared.rows.Rows.{Rows}
-use Rattle.ct_engine.specs.Seen.{hides, seen_by, seen, thread}
+use Rattle.ct_engine.specs.Seen.{seen, thread, sifted, hidden, seen_of}
 use Rattle.ct_engine.specs.Kept.{IsKept, AreasFrom, Holds}
-use Rattle.ct_engine.specs.Heaps.{sifted}
 use Rattle.ct_engine.proofs.Whole.{runs_it, seen_turn, running_kept}
 use Rattle.ct_engine.proofs.Ends.{call_areas, stays_on}
 use Rattle.ct_engine.proofs.Goes.{running_is}
@@ -86,19 +85,19 @@ sift_areas gs rows t r q holds runs is passed =
     (sifted_kept gs r (running_kept gs rows t r holds runs is).kept))
 
 pub sift_seen : (gs : List Granule) (rows : Rows) (t : ℕ) (r q : row.Thread) → Holds gs rows → rows.running ≡ Some t → r ≡ get_or rows.list.items t r
-    → q ≡ row_sifted gs r → seen_by gs rows.region (set rows.list.items t q) rows.running ≡ sifted (seen gs rows) t
+    → q ≡ row_sifted gs r → seen_of gs rows (set rows.list.items t q) rows.running ≡ sifted (seen gs rows) t
 sift_seen gs rows t r q holds runs is passed =
     let l = running_kept gs rows t r holds runs is in
-    let keep : (c : Cap) → filtered_in r.area.ram gs c ≡ filtered_in rows.region.ram (veiled (hides rows.region) gs) c =
-    λ c. ap (λ n. filtered_in n gs c) l.base ∙ sym (filtered_same (hides rows.region) rows.region.ram gs c) in
-    let new : thread_of gs true (row_sifted gs r) ≡ thread_sifted (filtered_in rows.region.ram (veiled (hides rows.region) gs)) (thread (seen gs rows) t) =
+    let keep : (c : Cap) → filtered_in r.area.ram gs c ≡ filtered_in rows.region.ram (veiled (hidden gs rows) gs) c =
+    λ c. ap (λ n. filtered_in n gs c) l.base ∙ sym (filtered_same (hidden gs rows) rows.region.ram gs c) in
+    let new : thread_of gs true (row_sifted gs r) ≡ thread_sifted (filtered_in rows.region.ram (veiled (hidden gs rows) gs)) (thread (seen gs rows) t) =
     alive_is gs true (row_sifted gs r) (l.kept.alive refl)
     ∙ ap (λ xs. let u : Thread = record (living gs true r) { registers = xs } in u)
-    (map_same (filtered_in r.area.ram gs) (filtered_in rows.region.ram (veiled (hides rows.region) gs)) keep r.regs)
-    ∙ ap (λ (u : Thread). thread_sifted (filtered_in rows.region.ram (veiled (hides rows.region) gs)) u) (sym (running_is gs rows t r holds runs is)) in
-    subst (λ (u : row.Thread). seen_by gs rows.region (set rows.list.items t u) rows.running ≡ sifted (seen gs rows) t) (sym passed)
-    (seen_turn rows.region gs gs rows.list.items rows.running rows.running t r (row_sifted gs r)
-    (thread_sifted (filtered_in rows.region.ram (veiled (hides rows.region) gs)) (thread (seen gs rows) t))
-    holds.areas (holds.runs t runs) is (unchanged gs (area_begin r.area) (area_end r.area)) (stays_on rows.running t) refl
-    (subst (λ b. thread_of gs b (row_sifted gs r) ≡ thread_sifted (filtered_in rows.region.ram (veiled (hides rows.region) gs)) (thread (seen gs rows) t))
+    (map_same (filtered_in r.area.ram gs) (filtered_in rows.region.ram (veiled (hidden gs rows) gs)) keep r.regs)
+    ∙ ap (λ (u : Thread). thread_sifted (filtered_in rows.region.ram (veiled (hidden gs rows) gs)) u) (sym (running_is gs rows t r holds runs is)) in
+    subst (λ (u : row.Thread). seen_of gs rows (set rows.list.items t u) rows.running ≡ sifted (seen gs rows) t) (sym passed)
+    (seen_turn rows gs gs rows.list.items rows.running rows.running t r (row_sifted gs r)
+    (thread_sifted (filtered_in rows.region.ram (veiled (hidden gs rows) gs)) (thread (seen gs rows) t))
+    holds.areas holds.heap (holds.runs t runs) is (unchanged gs (area_begin r.area) (area_end r.area)) (stays_on rows.running t) refl
+    (subst (λ b. thread_of gs b (row_sifted gs r) ≡ thread_sifted (filtered_in rows.region.ram (veiled (hidden gs rows) gs)) (thread (seen gs rows) t))
     (sym (runs_it rows t runs)) new))

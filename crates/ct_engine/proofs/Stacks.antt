@@ -5,12 +5,11 @@ use Rattle.std.proofs.lemmas.Bool.{leb-true}
 use Rattle.law_lists.proofs.Tests.{both_left, both_right, lt_tells}
 use Rattle.law_granules.proofs.Lists.{zeroed_length, zeroed_at}
 use Rattle.def_memory.specs.declared.Granule.{Granule}
-use Rattle.def_memory.specs.Granules.{granule_at, blank}
+use Rattle.def_memory.specs.Granules.{granule_at, blank, held}
 use Rattle.def_memory.specs.Ranges.{zeroed_from}
 use Rattle.def_machine.specs.State.{Thread, Frame}
 use Rattle.def_machine.specs.Objects.{Each}
 use Rattle.def_step.specs.Switch.{frame_top}
-use Rattle.def_areas.specs.Areas.{held}
 use Rattle.def_areas.specs.Touches.{Touches}
 use Rattle.law_veil.proofs.Granules.{zeroed_seen}
 use Rattle.ct_areas.specs.declared.thread.Area.{Area}
@@ -20,40 +19,41 @@ use Rattle.ct_areas.proofs.Rows.{frames_are}
 use Rattle.ct_switch.specs.Ready.{HasStack, IsReady}
 use Rattle.ct_engine.specs.declared.rows.Region.{Region}
 use Rattle.ct_engine.specs.declared.rows.Rows.{Rows}
-use Rattle.ct_engine.specs.Seen.{hides, seen, thread, with_granules, no_area, area_at}
+use Rattle.ct_engine.specs.Seen.{seen, thread, with_granules, no_area, area_at, region_hides, hidden}
 use Rattle.ct_engine.specs.Kept.{StackLies, Holds}
 use Rattle.ct_engine.specs.Calls.{TopLies}
 use Rattle.ct_engine.proofs.Lists.{Lies, places_put}
 use Rattle.ct_engine.proofs.Whole.{runs_it, thread_is, running_kept}
 use Rattle.ct_engine.proofs.Ends.{area_of_row}
-use Rattle.ct_engine.proofs.Away.{HiddenStays, away_holds, away_seen}
+use Rattle.ct_engine.proofs.Away.{HiddenStays, away_holds, away_seen, hidden_cases}
+use Rattle.ct_engine.proofs.HeapStays.{heap_low}
 
 -- ---- where they lie
 
 -- a row that changes, and keeps its area, leaves the stacks where they are
-pub stacks_put : (g : Region) (gs hs : List Granule) (ts : List row.Thread) (t : ℕ) (d q : row.Thread)
-    → Each (StackLies g (8 * length gs)) (map (λ (u : row.Thread). u.area) ts) → length hs ≡ length gs → q.area ≡ (get_or ts t d).area → t < length ts
-    → Each (StackLies g (8 * length hs)) (map (λ (u : row.Thread). u.area) (set ts t q))
-stacks_put g gs hs ts t d q stacks size is lt =
-    subst (λ (as_ : List Area). Each (StackLies g (8 * length hs)) as_) (sym (places_put ts t d q is lt))
-    (subst (λ n. Each (StackLies g (8 * n)) (map (λ (u : row.Thread). u.area) ts)) (sym size) stacks)
+pub stacks_put : (g : Region) (base : ℕ) (gs hs : List Granule) (ts : List row.Thread) (t : ℕ) (d q : row.Thread)
+    → Each (StackLies g base (8 * length gs)) (map (λ (u : row.Thread). u.area) ts) → length hs ≡ length gs → q.area ≡ (get_or ts t d).area → t < length ts
+    → Each (StackLies g base (8 * length hs)) (map (λ (u : row.Thread). u.area) (set ts t q))
+stacks_put g base gs hs ts t d q stacks size is lt =
+    subst (λ (as_ : List Area). Each (StackLies g base (8 * length hs)) as_) (sym (places_put ts t d q is lt))
+    (subst (λ n. Each (StackLies g base (8 * n)) (map (λ (u : row.Thread). u.area) ts)) (sym size) stacks)
 
 pub stacks_turn : (gs hs : List Granule) (rows : Rows) (t : ℕ) (r q : row.Thread) → Holds gs rows → t < length rows.list.items → r ≡ get_or rows.list.items t r
-    → length hs ≡ length gs → q.area ≡ r.area → Each (StackLies rows.region (8 * length hs)) (map (λ (u : row.Thread). u.area) (set rows.list.items t q))
+    → length hs ≡ length gs → q.area ≡ r.area → Each (StackLies rows.region rows.heap.range.base (8 * length hs)) (map (λ (u : row.Thread). u.area) (set rows.list.items t q))
 stacks_turn gs hs rows t r q holds lt is size place =
-    stacks_put rows.region gs hs rows.list.items t r q holds.stacks size (place ∙ ap (λ (u : row.Thread). u.area) is) lt
+    stacks_put rows.region rows.heap.range.base gs hs rows.list.items t r q holds.stacks size (place ∙ ap (λ (u : row.Thread). u.area) is) lt
 
-pub stack_at : (g : Region) (size : ℕ) (ts : List row.Thread) (t : ℕ) (d : row.Thread) → Each (StackLies g size) (map (λ (u : row.Thread). u.area) ts)
-    → t < length ts → StackLies g size (get_or ts t d).area
-stack_at g size [] t d stacks lt = absurd (omega (arith, lt))
-stack_at g size (u ∷ us) zero d stacks lt = stacks.0
-stack_at g size (u ∷ us) (suc t) d stacks lt = stack_at g size us t d stacks.1 (omega (arith, lt))
+pub stack_at : (g : Region) (base size : ℕ) (ts : List row.Thread) (t : ℕ) (d : row.Thread) → Each (StackLies g base size) (map (λ (u : row.Thread). u.area) ts)
+    → t < length ts → StackLies g base size (get_or ts t d).area
+stack_at g base size [] t d stacks lt = absurd (omega (arith, lt))
+stack_at g base size (u ∷ us) zero d stacks lt = stacks.0
+stack_at g base size (u ∷ us) (suc t) d stacks lt = stack_at g base size us t d stacks.1 (omega (arith, lt))
 
 -- of the running thread
 pub running_stack : (gs : List Granule) (rows : Rows) (t : ℕ) (r : row.Thread) → Holds gs rows → rows.running ≡ Some t → r ≡ get_or rows.list.items t r
-    → StackLies rows.region (8 * length gs) r.area
+    → StackLies rows.region rows.heap.range.base (8 * length gs) r.area
 running_stack gs rows t r holds runs is =
-    subst (λ (u : row.Thread). StackLies rows.region (8 * length gs) u.area) (sym is) (stack_at rows.region (8 * length gs) rows.list.items t r holds.stacks (holds.runs t runs))
+    subst (λ (u : row.Thread). StackLies rows.region rows.heap.range.base (8 * length gs) u.area) (sym is) (stack_at rows.region rows.heap.range.base (8 * length gs) rows.list.items t r holds.stacks (holds.runs t runs))
 
 pub running_area : (gs : List Granule) (rows : Rows) (t : ℕ) (r : row.Thread) → Holds gs rows → rows.running ≡ Some t → r ≡ get_or rows.list.items t r
     → area_at (seen gs rows) t ≡ r.area
@@ -69,9 +69,9 @@ running_top gs rows t r holds runs is =
     ap (λ (u : Thread). frame_top u.frames) (running_thread gs rows t r holds runs is)
     ∙ ap (λ (fs : List Frame). frame_top fs) (frames_are gs true r ((running_kept gs rows t r holds runs is).kept.alive refl))
 
-has_stack : (g : Region) (gs : List Granule) (runs : Bool) (t : row.Thread) → Lies g.ram gs runs g.trusted g.end t → StackLies g (8 * length gs) t.area
+has_stack : (g : Region) (base : ℕ) (gs : List Granule) (runs : Bool) (t : row.Thread) → Lies g.ram gs runs g.trusted g.end t → StackLies g base (8 * length gs) t.area
     → HasStack (8 * length gs) t.area
-has_stack g gs runs t l s =
+has_stack g base gs runs t l s =
     let base = l.base in
     let low = s.low in
     let high = s.high in
@@ -97,7 +97,7 @@ ready_is gs rows t r holds runs is top =
     subst (λ n. n ≤ (area_at (seen gs rows) t).stack + (area_at (seen gs rows) t).stack_length) here top.high in
     record {
       area = l.kept.area;
-      stack = has_stack rows.region gs true r l (running_stack gs rows t r holds runs is);
+      stack = has_stack rows.region rows.heap.range.base gs true r l (running_stack gs rows t r holds runs is);
       alive = l.kept.alive refl;
       room = l.kept.room;
       low = subst (λ (a : Area). a.stack ≤ r.top) area low;
@@ -107,7 +107,7 @@ ready_is gs rows t r holds runs is top =
 
 -- ---- one is zeroed
 
-pub hidden_place : (g : Region) (k : ℕ) → hides g k ≡ true → (g.trusted ≤ g.ram + 8 * k) × (g.ram + 8 * k < g.end)
+pub hidden_place : (g : Region) (k : ℕ) → region_hides g k ≡ true → (g.trusted ≤ g.ram + 8 * k) × (g.ram + 8 * k < g.end)
 hidden_place g k hidden = (
   leb-true g.trusted (g.ram + 8 * k) (both_left (nat_le g.trusted (g.ram + 8 * k)) (nat_lt (g.ram + 8 * k) g.end) hidden),
   below (g.ram + 8 * k) g.end (both_right (nat_le g.trusted (g.ram + 8 * k)) (nat_lt (g.ram + 8 * k) g.end) hidden),
@@ -116,27 +116,31 @@ hidden_place g k hidden = (
     below : (a b : ℕ) → nat_lt a b ≡ true → a < b
     below a b e = elim (lt_tells a b) [ inl x ↦ x.1 | inr x ↦ absurd (let clash : true ≡ false = sym e ∙ x.0 in cc) ]
 
-stack_stays : (gs : List Granule) (rows : Rows) (a : Area) (high : ℕ) → StackLies rows.region (8 * length gs) a → high ≤ a.stack + a.stack_length
+stack_stays : (gs : List Granule) (rows : Rows) (a : Area) (high : ℕ) → Holds gs rows → StackLies rows.region rows.heap.range.base (8 * length gs) a → high ≤ a.stack + a.stack_length
     → HiddenStays gs (zeroed_from a.stack high rows.region.ram gs) rows
-stack_stays gs rows a high s le = λ k hidden.
-    let place = hidden_place rows.region k hidden in
-    let from = place.0 in
-    let to = place.1 in
+stack_stays gs rows a high holds s le = λ k is_hidden.
     zeroed_at a.stack high rows.region.ram gs k (λ (g : Granule). g.cap ≡ held gs k)
-    (λ lo hi. absurd (elim s.apart [ inl x ↦ omega (arith, from, hi, x, le) | inr x ↦ omega (arith, to, lo, x) ]))
+    (λ lo hi. absurd (elim (hidden_cases gs rows k holds is_hidden) [
+      | inl region ↦
+          (let place = hidden_place rows.region k region in
+          let from = place.0 in
+          let to = place.1 in
+          elim s.apart [ inl x ↦ omega (arith, from, hi, x, le) | inr x ↦ omega (arith, to, lo, x) ])
+      | inr heap ↦ (let low = heap_low rows.heap gs k heap in let ram = holds.heap.ram in let before = s.before in omega (arith, low, ram, before, le, hi))
+    ]))
     (λ out. refl)
 
-pub zeroed_holds : (gs : List Granule) (rows : Rows) (a : Area) (high : ℕ) → Holds gs rows → StackLies rows.region (8 * length gs) a
+pub zeroed_holds : (gs : List Granule) (rows : Rows) (a : Area) (high : ℕ) → Holds gs rows → StackLies rows.region rows.heap.range.base (8 * length gs) a
     → high ≤ a.stack + a.stack_length → Holds (zeroed_from a.stack high rows.region.ram gs) rows
 zeroed_holds gs rows a high holds s le =
-    away_holds gs (zeroed_from a.stack high rows.region.ram gs) rows holds (zeroed_length a.stack high rows.region.ram gs) (stack_stays gs rows a high s le)
+    away_holds gs (zeroed_from a.stack high rows.region.ram gs) rows holds (zeroed_length a.stack high rows.region.ram gs) (stack_stays gs rows a high holds s le)
 
-pub zeroed_is_seen : (gs : List Granule) (rows : Rows) (a : Area) (high : ℕ) → Holds gs rows → StackLies rows.region (8 * length gs) a
+pub zeroed_is_seen : (gs : List Granule) (rows : Rows) (a : Area) (high : ℕ) → Holds gs rows → StackLies rows.region rows.heap.range.base (8 * length gs) a
     → high ≤ a.stack + a.stack_length
     → seen (zeroed_from a.stack high rows.region.ram gs) rows ≡ with_granules (seen gs rows) (zeroed_from a.stack high rows.region.ram (seen gs rows).granules)
 zeroed_is_seen gs rows a high holds s le =
-    away_seen gs (zeroed_from a.stack high rows.region.ram gs) rows holds (stack_stays gs rows a high s le)
-    ∙ ap (λ xs. with_granules (seen gs rows) xs) (sym (zeroed_seen (hides rows.region) gs a.stack high rows.region.ram))
+    away_seen gs (zeroed_from a.stack high rows.region.ram gs) rows holds (zeroed_length a.stack high rows.region.ram gs) (stack_stays gs rows a high holds s le)
+    ∙ ap (λ xs. with_granules (seen gs rows) xs) (sym (zeroed_seen (hidden gs rows) gs a.stack high rows.region.ram))
 
 -- a change of a range, before and after other granules are zeroed
 pub zeroed_touches : (lo hi from to place : ℕ) (gs hs : List Granule) → Touches lo hi gs hs → Touches lo hi (zeroed_from from to place gs) (zeroed_from from to place hs)

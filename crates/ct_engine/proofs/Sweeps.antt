@@ -1,27 +1,34 @@
--- A slice of a sweep over memory, as what is seen of it: behind the veil, and in the threads' areas.
-use Rattle.std.proofs.Common.{ℕ, zero, suc, ◌≡◌, ◌+◌, ◌-◌, ◌*◌, ◌==◌, ◌<◌, ◌≤◌, ◌⊎◌, inl, inr, ◌&&◌, Bool, true, false, nat_le, nat_lt, List, [], ◌∷◌, length, map, Option, refl, sym, ap, ◌∙◌, arith, subst}
+-- A slice of a sweep over memory, as what is seen of it: behind the veil, and in the threads' areas; and what it leaves
+-- of the heap.
+use Rattle.std.proofs.Common.{ℕ, zero, suc, ◌≡◌, ◌+◌, ◌-◌, ◌*◌, ◌==◌, ◌<◌, ◌≤◌, ◌⊎◌, inl, inr, ◌&&◌, Bool, true, false, nat_le, nat_lt, List, [], ◌∷◌, length, map, Option, Some, refl, sym, ap, ◌∙◌, arith, subst}
 use Rattle.std.proofs.lemmas.List.{ext_get_or}
+use Rattle.std.proofs.Math.ListN.{get_or}
 use Rattle.law_lists.proofs.Tests.{bool_tells, le_tells, lt_tells}
 use Rattle.def_words.specs.declared.Cap.{Cap}
 use Rattle.def_memory.specs.declared.Granule.{Granule}
-use Rattle.def_memory.specs.Granules.{plain, nothing, granule_at}
+use Rattle.def_memory.specs.Granules.{plain, nothing, granule_at, held, held_from}
+use Rattle.def_memory.specs.Ranges.{is_tagged}
 use Rattle.def_machine.specs.State.{Thread, Frame, nobody}
 use Rattle.def_machine.specs.Objects.{Each}
-use Rattle.def_machine.specs.Heap.{is_number}
+use Rattle.def_machine.specs.Slices.{is_number, filtered_between, kept_granules, kept_frames, kept_registers, kept_thread, kept_threads, KeepsWords}
 use Rattle.def_machine.specs.Memory.{filtered_in}
-use Rattle.def_areas.specs.Areas.{held, held_from, frames_in, frames_from}
+use Rattle.def_areas.specs.Areas.{frames_in, frames_from}
 use Rattle.def_veil.specs.Veil.{veiled}
+use Rattle.def_chunks.specs.Heaps.{HeapRow, objects_of, Laid}
+use Rattle.law_chunks.specs.Kept.{KeepsHeap, KeepsUntagged}
+use Rattle.law_chunks.proofs.Kept.{untag_keeps}
 use Rattle.ct_revoke.specs.Slices.{IsSliced}
-use Rattle.law_heaped.specs.Slices.{passed, kept_granules, kept_frames, kept_registers, KeepsWords}
+use Rattle.law_heaped.specs.Heaped.{heap_hides}
+use Rattle.law_heaped.proofs.Shown.{hides_same}
 use Rattle.law_heaped.proofs.Slices.{kept_same, kept_length, passed_same, slice_veiled}
 use Rattle.law_heaped.proofs.Areas.{held_kept, registers_kept, frames_kept, passed_keeps}
 use Rattle.ct_areas.specs.declared.thread.Thread as row
 use Rattle.ct_areas.specs.Threads.{HasArea, area_begin, living, thread_of}
 use Rattle.ct_areas.proofs.Places.{area_even}
 use Rattle.ct_engine.specs.declared.rows.Rows.{Rows}
-use Rattle.ct_engine.specs.Seen.{Seen, hides, threads_of, seen}
-use Rattle.ct_engine.specs.Kept.{IsPlain, IsKept, AreasFrom, StackLies, Holds}
-use Rattle.ct_engine.specs.Sweeps.{kept_thread, kept_threads, sliced}
+use Rattle.ct_engine.specs.Seen.{Seen, threads_of, seen, seen_by, hidden, no_area}
+use Rattle.ct_engine.specs.Kept.{IsPlain, IsKept, AreasFrom, StackLies, IsClear, Holds}
+use Rattle.ct_engine.specs.Sweeps.{area_offset, with_slice}
 
 -- ---- granule by granule
 
@@ -33,8 +40,8 @@ granule_kept f n (g ∷ gs) (suc k) lt =
     let next : n + 8 + 8 * k ≡ n + 8 * suc k = omega arith in
     granule_kept f (n + 8) gs k (omega (arith, lt)) ∙ ap (λ m. let x : Granule = record (granule_at gs k) { cap = f m (granule_at gs k).cap } in x) next
 
--- inside the slice it has passed, outside it stays
-passed_by : (ram : ℕ) (gs : List Granule) (low high n : ℕ) (c : Cap) (P : Cap → Type 0) → (low ≤ n → n < high → P (filtered_in ram gs c)) → ((n < low) ⊎ (high ≤ n) → P c) → P (passed ram gs low high n c)
+-- inside the slice it has filtered_between, outside it stays
+passed_by : (ram : ℕ) (gs : List Granule) (low high n : ℕ) (c : Cap) (P : Cap → Type 0) → (low ≤ n → n < high → P (filtered_in ram gs c)) → ((n < low) ⊎ (high ≤ n) → P c) → P (filtered_between ram gs low high n c)
 passed_by ram gs low high n c P yes_case no_case = elim (le_tells low n) [
   | inl a ↦ elim (lt_tells n high) [
     | inl b ↦ (let test : (nat_le low n && nat_lt n high) ≡ true = rw (a.0, b.0) refl in rw test (yes_case a.1 b.1))
@@ -43,9 +50,9 @@ passed_by ram gs low high n c P yes_case no_case = elim (le_tells low n) [
   | inr a ↦ (let test : (nat_le low n && nat_lt n high) ≡ false = rw a.0 refl in rw test (no_case (inl a.1)))
 ]
 
-pub slice_kept : (ram low high : ℕ) (gs hs : List Granule) → IsSliced ram low high gs hs → hs ≡ kept_granules (λ n c. passed ram gs low high n c) 0 gs
+slice_kept : (ram low high : ℕ) (gs hs : List Granule) → IsSliced ram low high gs hs → hs ≡ kept_granules (λ n c. filtered_between ram gs low high n c) 0 gs
 slice_kept ram low high gs hs is =
-    ext_get_or nothing hs (kept_granules (λ n c. passed ram gs low high n c) 0 gs) (is.size ∙ sym (kept_length (λ n c. passed ram gs low high n c) 0 gs))
+    ext_get_or nothing hs (kept_granules (λ n c. filtered_between ram gs low high n c) 0 gs) (is.size ∙ sym (kept_length (λ n c. filtered_between ram gs low high n c) 0 gs))
     (λ k lt.
     let size = is.size in
     let inside : k < length gs = omega (arith, lt, size) in
@@ -53,10 +60,10 @@ slice_kept ram low high gs hs is =
     passed_by ram gs low high (0 + 8 * k) (granule_at gs k).cap (λ c. granule_at hs k ≡ put c)
     (λ a b. is.passed k (omega (arith, a), omega (arith, b)))
     (λ out. is.rest k (elim out [ inl a ↦ inl (omega (arith, a)) | inr b ↦ inr (omega (arith, b)) ]))
-    ∙ sym (granule_kept (λ n c. passed ram gs low high n c) 0 gs k inside))
+    ∙ sym (granule_kept (λ n c. filtered_between ram gs low high n c) 0 gs k inside))
 
 -- a plain word passes
-plain_passes : (ram : ℕ) (gs : List Granule) (low high n w : ℕ) → passed ram gs low high n (plain w) ≡ plain w
+plain_passes : (ram : ℕ) (gs : List Granule) (low high n w : ℕ) → filtered_between ram gs low high n (plain w) ≡ plain w
 plain_passes ram gs low high n w = elim (bool_tells (nat_le low n && nat_lt n high)) [ inl e ↦ rw e refl | inr e ↦ rw e refl ]
 
 -- ---- a thread
@@ -96,15 +103,31 @@ thread_kept f z gs size runs t has = elim (bool_tells (t.depth == 0)) [
   | inr e ↦ rw e (living_kept f z gs t (t.area.trusted - t.area.ram) (area_even size t.area has) runs)
 ]
 
-pub threads_kept : (f : ℕ → Cap → Cap) → KeepsWords f → (ram : ℕ) (gs : List Granule) (run : Option ℕ) (n from to : ℕ) (ts : List row.Thread) → AreasFrom ram gs run n from to ts
-    → threads_of (kept_granules f 0 gs) run n ts ≡ kept_threads f ram run n (map (λ (t : row.Thread). t.area) ts) (threads_of gs run n ts)
-threads_kept f z ram gs run n from to [] h = refl
-threads_kept f z ram gs run n from to (t ∷ ts) h =
-    let first : thread_of (kept_granules f 0 gs) (is_number run n) t ≡ kept_thread f (t.area.trusted - ram) (is_number run n) (thread_of gs (is_number run n) t) =
-    thread_kept f z gs (8 * length gs) (is_number run n) t h.2.area ∙ ap (λ m. kept_thread f (t.area.trusted - m) (is_number run n) (thread_of gs (is_number run n) t)) h.1 in
+-- the areas of these threads begin at these offsets, the first being thread n
+abbrev BeginAt : (ℕ → ℕ) → ℕ → ℕ → List row.Thread → Type 0
+BeginAt area ram n ts = (k : ℕ) → k < length ts → area (n + k) ≡ (get_or (map (λ (t : row.Thread). t.area) ts) k no_area).trusted - ram
+
+begins_first : (area : ℕ → ℕ) (ram n : ℕ) (t : row.Thread) (ts : List row.Thread) → BeginAt area ram n (t ∷ ts) → area n ≡ t.area.trusted - ram
+begins_first area ram n t ts begins =
+    let here : n + 0 ≡ n = omega arith in
+    ap area (sym here) ∙ begins 0 (omega arith)
+
+begins_more : (area : ℕ → ℕ) (ram n : ℕ) (t : row.Thread) (ts : List row.Thread) → BeginAt area ram n (t ∷ ts) → BeginAt area ram (n + 1) ts
+begins_more area ram n t ts begins k lt =
+    let next : n + 1 + k ≡ n + suc k = omega arith in
+    ap area next ∙ begins (suc k) (omega (arith, lt))
+
+threads_kept : (f : ℕ → Cap → Cap) → KeepsWords f → (area : ℕ → ℕ) (ram : ℕ) (gs : List Granule) (run : Option ℕ) (n from to : ℕ) (ts : List row.Thread) → AreasFrom ram gs run n from to ts
+    → BeginAt area ram n ts → threads_of (kept_granules f 0 gs) run n ts ≡ kept_threads f area run n (threads_of gs run n ts)
+threads_kept f z area ram gs run n from to [] h begins = refl
+threads_kept f z area ram gs run n from to (t ∷ ts) h begins =
+    let first : thread_of (kept_granules f 0 gs) (is_number run n) t ≡ kept_thread f (area n) (is_number run n) (thread_of gs (is_number run n) t) =
+    thread_kept f z gs (8 * length gs) (is_number run n) t h.2.area
+    ∙ ap (λ m. kept_thread f (t.area.trusted - m) (is_number run n) (thread_of gs (is_number run n) t)) h.1
+    ∙ ap (λ m. kept_thread f m (is_number run n) (thread_of gs (is_number run n) t)) (sym (begins_first area ram n t ts begins)) in
     ap (λ x. x ∷ threads_of (kept_granules f 0 gs) run (n + 1) ts) first
-    ∙ ap (λ xs. kept_thread f (t.area.trusted - ram) (is_number run n) (thread_of gs (is_number run n) t) ∷ xs)
-    (threads_kept f z ram gs run (n + 1) (t.area.trusted + t.area.trusted_length) to ts h.3)
+    ∙ ap (λ xs. kept_thread f (area n) (is_number run n) (thread_of gs (is_number run n) t) ∷ xs)
+    (threads_kept f z area ram gs run (n + 1) (t.area.trusted + t.area.trusted_length) to ts h.3 (begins_more area ram n t ts begins))
 
 -- ---- what is kept
 
@@ -138,34 +161,72 @@ areas_kept f z p ram gs run n from to (t ∷ ts) h = (
   λ m lo hi. word_kept f z p gs m (h.4 m lo hi),
 )
 
-pub slice_holds : (gs hs : List Granule) (rows : Rows) (low high : ℕ) → IsSliced rows.region.ram low high gs hs → Holds gs rows → Holds hs rows
-slice_holds gs hs rows low high is holds =
-    let f : ℕ → Cap → Cap = λ n c. passed rows.region.ram gs low high n c in
-    let kept : Holds (kept_granules f 0 gs) rows = record {
+-- ---- the heap
+
+-- what is untagged passes
+untagged_passes : (ram : ℕ) (gs : List Granule) (low high n : ℕ) (c : Cap) → c.tag ≡ false → filtered_between ram gs low high n c ≡ c
+untagged_passes ram gs low high n c off = elim (bool_tells (nat_le low n && nat_lt n high)) [ inl e ↦ rw e (rw off refl) | inr e ↦ rw e refl ]
+
+slice_untags : (ram : ℕ) (gs : List Granule) (low high : ℕ) → KeepsUntagged gs (kept_granules (λ n c. filtered_between ram gs low high n c) 0 gs)
+slice_untags ram gs low high = record {
+  size = kept_length (λ n c. filtered_between ram gs low high n c) 0 gs;
+  same = λ k off. held_kept (λ n c. filtered_between ram gs low high n c) (passed_keeps ram gs low high) gs k
+      ∙ untagged_passes ram gs low high (8 * k) (held gs k) off;
+}
+
+slice_heap : (ram : ℕ) (gs : List Granule) (low high : ℕ) (h : HeapRow) → Laid h gs → KeepsHeap h gs (kept_granules (λ n c. filtered_between ram gs low high n c) 0 gs)
+slice_heap ram gs low high h laid = untag_keeps h gs (kept_granules (λ n c. filtered_between ram gs low high n c) 0 gs) laid (slice_untags ram gs low high)
+
+slice_clear : (ram : ℕ) (gs : List Granule) (low high : ℕ) (h : HeapRow) → Laid h gs → IsClear h gs → IsClear h (kept_granules (λ n c. filtered_between ram gs low high n c) 0 gs)
+slice_clear ram gs low high h laid clear k hid =
+    let was : heap_hides h gs k ≡ true = sym (hides_same h gs (kept_granules (λ n c. filtered_between ram gs low high n c) 0 gs) k (slice_heap ram gs low high h laid).objects) ∙ hid in
+    let off : is_tagged gs k ≡ false = clear k was in
+    ap (λ (c : Cap). c.tag) ((slice_untags ram gs low high).same k off) ∙ off
+
+-- ---- all that is kept, and all that is seen
+
+-- these rows, with this front
+abbrev pub with_front : Rows → Option ℕ → Rows
+with_front rows front = record rows { front = front }
+
+pub slice_holds : (gs hs : List Granule) (rows : Rows) (low high : ℕ) → IsSliced rows.region.ram low high gs hs → Holds gs rows → high ≤ 8 * length gs → Holds hs (with_front rows (Some high))
+slice_holds gs hs rows low high is holds inside =
+    let f : ℕ → Cap → Cap = λ n c. filtered_between rows.region.ram gs low high n c in
+    let kept : Holds (kept_granules f 0 gs) (with_front rows (Some high)) = record {
       areas = areas_kept f (passed_keeps rows.region.ram gs low high) (λ n w. plain_passes rows.region.ram gs low high n w)
           rows.region.ram gs rows.running 0 rows.region.trusted rows.region.end rows.list.items holds.areas;
       runs = holds.runs;
-      stacks = subst (λ n. Each (StackLies rows.region (8 * n)) (map (λ (t : row.Thread). t.area) rows.list.items)) (sym (kept_length f 0 gs)) holds.stacks;
+      stacks = subst (λ n. Each (StackLies rows.region rows.heap.range.base (8 * n)) (map (λ (t : row.Thread). t.area) rows.list.items)) (sym (kept_length f 0 gs)) holds.stacks;
+      heap = record {
+        laid = (slice_heap rows.region.ram gs low high rows.heap holds.heap.laid).laid;
+        ram = holds.heap.ram;
+        past = holds.heap.past;
+        within = subst (λ n. high ≤ 8 * n) (sym (kept_length f 0 gs)) inside;
+        clear = slice_clear rows.region.ram gs low high rows.heap holds.heap.laid holds.heap.clear;
+      };
     } in
-    subst (λ xs. Holds xs rows) (sym (slice_kept rows.region.ram low high gs hs is)) kept
+    subst (λ xs. Holds xs (with_front rows (Some high))) (sym (slice_kept rows.region.ram low high gs hs is)) kept
 
--- ---- all that is seen
+slice_objects : (gs hs : List Granule) (rows : Rows) (low high : ℕ) → IsSliced rows.region.ram low high gs hs → Holds gs rows → objects_of rows.heap hs ≡ objects_of rows.heap gs
+slice_objects gs hs rows low high is holds =
+    ap (λ xs. objects_of rows.heap xs) (slice_kept rows.region.ram low high gs hs is) ∙ (slice_heap rows.region.ram gs low high rows.heap holds.heap.laid).objects
 
-pub slice_seen : (gs hs : List Granule) (rows : Rows) (low high : ℕ) → IsSliced rows.region.ram low high gs hs → Holds gs rows → seen hs rows ≡ sliced (seen gs rows) low high
+pub slice_seen : (gs hs : List Granule) (rows : Rows) (low high : ℕ) → IsSliced rows.region.ram low high gs hs → Holds gs rows → seen hs (with_front rows (Some high)) ≡ with_slice (seen gs rows) low high
 slice_seen gs hs rows low high is holds =
     let ram : ℕ = rows.region.ram in
-    let shown : List Granule = veiled (hides rows.region) gs in
-    let f : ℕ → Cap → Cap = λ n c. passed ram shown low high n c in
-    let put : List Granule → List Thread → Seen = λ xs ts. record (seen gs rows) { granules = xs; threads = ts } in
+    let v : ℕ → Bool = hidden gs rows in
+    let shown : List Granule = veiled v gs in
+    let f : ℕ → Cap → Cap = λ n c. filtered_between ram shown low high n c in
+    let area : ℕ → ℕ = area_offset (seen gs rows) in
+    let put : List Granule → List Thread → Seen = λ xs ts. record (seen gs rows) { granules = xs; threads = ts; front = Some high } in
     let memory : hs ≡ kept_granules f 0 gs = slice_kept ram low high gs hs is
-    ∙ sym (kept_same f (λ n c. passed ram gs low high n c) (λ n c. passed_same (hides rows.region) ram gs low high n c) 0 gs) in
-    let granules : veiled (hides rows.region) hs ≡ kept_granules f 0 shown =
-    ap (λ xs. veiled (hides rows.region) xs) (slice_kept ram low high gs hs is) ∙ sym (slice_veiled (hides rows.region) ram gs low high) in
-    let threads : threads_of hs rows.running 0 rows.list.items ≡ kept_threads f ram rows.running 0 (map (λ (t : row.Thread). t.area) rows.list.items) (threads_of gs rows.running 0 rows.list.items) =
+    ∙ sym (kept_same f (λ n c. filtered_between ram gs low high n c) (λ n c. passed_same v ram gs low high n c) 0 gs) in
+    let granules : veiled v hs ≡ kept_granules f 0 shown =
+    ap (λ xs. veiled v xs) (slice_kept ram low high gs hs is) ∙ sym (slice_veiled v ram gs low high) in
+    let begins : BeginAt area ram 0 rows.list.items = λ k lt. (let none : 0 + k ≡ k = omega arith in ap area none) in
+    let threads : threads_of hs rows.running 0 rows.list.items ≡ kept_threads f area rows.running 0 (threads_of gs rows.running 0 rows.list.items) =
     ap (λ xs. threads_of xs rows.running 0 rows.list.items) memory
-    ∙ threads_kept f (passed_keeps ram shown low high) ram gs rows.running 0 rows.region.trusted rows.region.end rows.list.items holds.areas in
-    ap (λ xs. put xs (threads_of hs rows.running 0 rows.list.items)) granules
+    ∙ threads_kept f (passed_keeps ram shown low high) area ram gs rows.running 0 rows.region.trusted rows.region.end rows.list.items holds.areas begins in
+    ap (λ os. seen_by os (with_front rows (Some high)) hs rows.list.items rows.running) (slice_objects gs hs rows low high is holds)
+    ∙ ap (λ xs. put xs (threads_of hs rows.running 0 rows.list.items)) granules
     ∙ ap (λ ts. put (kept_granules f 0 shown) ts) threads
-
-pub slice_is : (gs hs : List Granule) (rows : Rows) (v : Seen) (low high : ℕ) → seen gs rows ≡ v → IsSliced rows.region.ram low high gs hs → Holds gs rows → seen hs rows ≡ sliced v low high
-slice_is gs hs rows v low high is sl holds = subst (λ s. seen hs rows ≡ sliced s low high) is (slice_seen gs hs rows low high sl holds)

@@ -1,13 +1,12 @@
 -- The running thread changes whole, after its stack was zeroed up to an address: what is seen of it, and what is kept.
-use Rattle.std.proofs.Common.{ℕ, ◌≡◌, ◌+◌, ◌*◌, ◌<◌, ◌≤◌, inl, inr, Bool, List, length, Option, Some, refl, sym, ap, ◌∙◌, arith, subst}
+use Rattle.std.proofs.Common.{ℕ, ◌≡◌, ◌+◌, ◌*◌, ◌<◌, ◌≤◌, inl, inr, Bool, true, List, length, Option, Some, refl, sym, ap, ◌∙◌, arith, subst}
 use Rattle.std.proofs.Math.ListN.{get_or, set}
 use Rattle.law_granules.proofs.Lists.{zeroed_length, zeroed_at}
 use Rattle.def_memory.specs.declared.Granule.{Granule}
-use Rattle.def_memory.specs.Granules.{plain}
+use Rattle.def_memory.specs.Granules.{plain, held}
 use Rattle.def_memory.specs.Ranges.{zeroed_from}
 use Rattle.def_machine.specs.State.{Thread}
-use Rattle.def_machine.specs.Heap.{is_number}
-use Rattle.def_areas.specs.Areas.{held}
+use Rattle.def_machine.specs.Slices.{is_number}
 use Rattle.def_areas.specs.Touches.{Touches}
 use Rattle.ct_areas.specs.declared.thread.Area.{Area}
 use Rattle.ct_areas.specs.declared.thread.Thread as row
@@ -15,8 +14,9 @@ use Rattle.ct_areas.specs.Threads.{area_begin, area_end, thread_of}
 use Rattle.ct_areas.specs.Parts.{register_in}
 use Rattle.ct_switch.specs.Ready.{IsReady}
 use Rattle.ct_engine.specs.declared.rows.Rows.{Rows}
-use Rattle.ct_engine.specs.Seen.{Seen, seen_by, seen, with_thread, with_running}
-use Rattle.ct_engine.specs.Kept.{IsKept, AreasFrom, Holds}
+use Rattle.ct_engine.specs.Seen.{Seen, seen, with_thread, with_running, seen_of}
+use Rattle.ct_engine.specs.Kept.{IsKept, AreasFrom, HeapHolds, Holds}
+use Rattle.ct_engine.proofs.HeapStays.{turn_heap}
 use Rattle.ct_engine.specs.Calls.{switched}
 use Rattle.ct_engine.proofs.Lists.{OthersRun, within, kept_same}
 use Rattle.ct_engine.proofs.Whole.{seen_turn, areas_turn, running_kept}
@@ -68,14 +68,14 @@ switched_areas gs hs rows t r q high now holds runs is le touches others place k
 pub switched_seen : (gs hs : List Granule) (rows : Rows) (t : ℕ) (r q : row.Thread) (high : ℕ) (now : Option ℕ) (x : Thread) → Holds gs rows → rows.running ≡ Some t
     → r ≡ get_or rows.list.items t r → high ≤ r.area.stack + r.area.stack_length
     → Touches (area_begin r.area) (area_end r.area) (zeroed_from r.area.stack high r.area.ram gs) hs → OthersRun rows.running now t → q.area ≡ r.area
-    → thread_of hs (is_number now t) q ≡ x → seen_by hs rows.region (set rows.list.items t q) now ≡ switched (seen gs rows) t high x now
+    → thread_of hs (is_number now t) q ≡ x → seen_of hs rows (set rows.list.items t q) now ≡ switched (seen gs rows) t high x now
 switched_seen gs hs rows t r q high now x holds runs is le touches others place same =
     let base = (running_kept gs rows t r holds runs is).base in
     let stack = running_stack gs rows t r holds runs is in
     let ms : List Granule = zeroed_from r.area.stack high rows.region.ram gs in
     let after : Touches (area_begin r.area) (area_end r.area) ms hs =
     subst (λ n. Touches (area_begin r.area) (area_end r.area) (zeroed_from r.area.stack high n gs) hs) base touches in
-    seen_turn rows.region ms hs rows.list.items rows.running now t r q x (zeroed_holds gs rows r.area high holds stack le).areas (holds.runs t runs) is after others place same
+    seen_turn rows ms hs rows.list.items rows.running now t r q x (zeroed_holds gs rows r.area high holds stack le).areas (zeroed_holds gs rows r.area high holds stack le).heap (holds.runs t runs) is after others place same
     ∙ ap (λ v. with_running (with_thread v t x) now) (zeroed_is_seen gs rows r.area high holds stack le)
     ∙ ap (λ (a : Area). switched_at a) (sym (running_area gs rows t r holds runs is))
   where
@@ -85,3 +85,19 @@ switched_seen gs hs rows t r q high now x holds runs is le touches others place 
       threads = set (seen gs rows).threads t x;
       running = now;
     }
+
+pub running_heap : (gs hs : List Granule) (rows : Rows) (t : ℕ) (r : row.Thread) → Holds gs rows → rows.running ≡ Some t
+    → r ≡ get_or rows.list.items t r → Touches (area_begin r.area) (area_end r.area) gs hs → HeapHolds hs rows.region rows.heap rows.front
+running_heap gs hs rows t r holds runs is touches =
+    turn_heap gs hs rows.region rows.heap rows.front true r holds.heap (running_kept gs rows t r holds runs is) touches
+
+pub switched_heap : (gs hs : List Granule) (rows : Rows) (t : ℕ) (r : row.Thread) (high : ℕ) → Holds gs rows → rows.running ≡ Some t
+    → r ≡ get_or rows.list.items t r → high ≤ r.area.stack + r.area.stack_length
+    → Touches (area_begin r.area) (area_end r.area) (zeroed_from r.area.stack high r.area.ram gs) hs → HeapHolds hs rows.region rows.heap rows.front
+switched_heap gs hs rows t r high holds runs is le touches =
+    let base = (running_kept gs rows t r holds runs is).base in
+    let ms : List Granule = zeroed_from r.area.stack high rows.region.ram gs in
+    let after : Touches (area_begin r.area) (area_end r.area) ms hs =
+    subst (λ n. Touches (area_begin r.area) (area_end r.area) (zeroed_from r.area.stack high n gs) hs) base touches in
+    let mid = zeroed_holds gs rows r.area high holds (running_stack gs rows t r holds runs is) le in
+    running_heap ms hs rows t r mid runs is after

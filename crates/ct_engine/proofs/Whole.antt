@@ -4,8 +4,10 @@ use Rattle.std.proofs.Math.ListN.{get_or, set}
 use Rattle.law_lists.proofs.Tests.{le_tells, lt_tells}
 use Rattle.def_words.specs.declared.Cap.{Cap}
 use Rattle.def_memory.specs.declared.Granule.{Granule}
-use Rattle.def_machine.specs.State.{Thread, Frame, nobody}
-use Rattle.def_machine.specs.Heap.{is_number}
+use Rattle.def_machine.specs.State.{Thread, Frame, Object, nobody}
+use Rattle.def_chunks.specs.Heaps.{objects_of}
+use Rattle.std.proofs.lemmas.Bool.{or_left}
+use Rattle.def_machine.specs.Slices.{is_number}
 use Rattle.def_machine.specs.Threads.{picked_with}
 use Rattle.def_machine.specs.Memory.{filtered_in}
 use Rattle.def_areas.specs.Touches.{Touches}
@@ -18,9 +20,10 @@ use Rattle.ct_areas.specs.declared.thread.Thread as row
 use Rattle.ct_areas.specs.Threads.{area_begin, area_end, thread_of}
 use Rattle.ct_engine.specs.declared.rows.Region.{Region}
 use Rattle.ct_engine.specs.declared.rows.Rows.{Rows}
-use Rattle.ct_engine.specs.Seen.{Seen, hides, threads_of, seen_by, seen, thread, with_thread, with_running, resumed}
-use Rattle.ct_engine.specs.Kept.{IsKept, AreasFrom, Holds}
+use Rattle.ct_engine.specs.Seen.{Seen, threads_of, seen, thread, with_thread, with_running, resumed, region_hides, hides_over, seen_by, seen_of, hidden}
+use Rattle.ct_engine.specs.Kept.{IsKept, AreasFrom, HeapHolds, Holds}
 use Rattle.ct_engine.proofs.Lists.{Lies, OthersRun, lies, within, areas_put, threads_put, places_put, the_thread}
+use Rattle.ct_engine.proofs.HeapStays.{turn_objects}
 
 -- who has a number
 pub itself : (t : ℕ) → is_number (Some t) t ≡ true
@@ -33,34 +36,35 @@ other t u no_ = elim (le_tells t u) [
 ]
 
 -- a granule of the region is hidden
-pub hidden_is : (g : Region) (k : ℕ) → g.trusted ≤ g.ram + 8 * k → g.ram + 8 * k < g.end → hides g k ≡ true
+pub hidden_is : (g : Region) (k : ℕ) → g.trusted ≤ g.ram + 8 * k → g.ram + 8 * k < g.end → region_hides g k ≡ true
 hidden_is g k low high = elim (le_tells g.trusted (g.ram + 8 * k)) [
   | inl a ↦ elim (lt_tells (g.ram + 8 * k) g.end) [ inl b ↦ rw (a.0, b.0) refl | inr b ↦ absurd (let h = b.1 in omega (arith, h, high)) ]
   | inr a ↦ absurd (let l = a.1 in omega (arith, l, low))
 ]
 
 -- a change of one area isn't seen
-pub unseen : (g : Region) (gs hs : List Granule) (runs : Bool) (t : row.Thread) → Lies g.ram gs runs g.trusted g.end t
-    → Touches (area_begin t.area) (area_end t.area) gs hs → veiled (hides g) hs ≡ veiled (hides g) gs
-unseen g gs hs runs t l touches =
-    hidden_changes (hides g) gs hs (area_begin t.area) (area_end t.area) touches (λ k lo hi.
+pub unseen : (os : List Object) (rows : Rows) (gs hs : List Granule) (runs : Bool) (t : row.Thread) → Lies rows.region.ram gs runs rows.region.trusted rows.region.end t
+    → Touches (area_begin t.area) (area_end t.area) gs hs → veiled (hides_over rows.region rows.heap.range os) hs ≡ veiled (hides_over rows.region rows.heap.range os) gs
+unseen os rows gs hs runs t l touches =
+    hidden_changes (hides_over rows.region rows.heap.range os) gs hs (area_begin t.area) (area_end t.area) touches (λ k lo hi.
     let w = within (8 * length gs) t.area k l.kept.area lo hi in
     let a = w.0 in
     let b = w.1 in
     let low = l.low in
     let high = l.high in
     let base = l.base in
-    hidden_is g k (omega (arith, a, low, base)) (omega (arith, b, high, base)))
+    or_left (region_hides rows.region k) _ (hidden_is rows.region k (omega (arith, a, low, base)) (omega (arith, b, high, base))))
 
 -- the row that an index gives, whichever default it is read by
-pub turned : (g : Region) (gs hs : List Granule) (ts : List row.Thread) (run now : Option ℕ) (t : ℕ) (d q : row.Thread) (x : Thread)
-    → AreasFrom g.ram gs run 0 g.trusted g.end ts → t < length ts → Touches (area_begin (get_or ts t d).area) (area_end (get_or ts t d).area) gs hs
+pub turned : (os : List Object) (rows : Rows) (gs hs : List Granule) (ts : List row.Thread) (run now : Option ℕ) (t : ℕ) (d q : row.Thread) (x : Thread)
+    → AreasFrom rows.region.ram gs run 0 rows.region.trusted rows.region.end ts → t < length ts → Touches (area_begin (get_or ts t d).area) (area_end (get_or ts t d).area) gs hs
     → OthersRun run now t → q.area ≡ (get_or ts t d).area → thread_of hs (is_number now t) q ≡ x
-    → seen_by hs g (set ts t q) now ≡ record (seen_by gs g ts run) { threads = set (threads_of gs run 0 ts) t x; running = now }
-turned g gs hs ts run now t d q x areas lt touches runs is same =
+    → seen_by os rows hs (set ts t q) now ≡ record (seen_by os rows gs ts run) { threads = set (threads_of gs run 0 ts) t x; running = now }
+turned os rows gs hs ts run now t d q x areas lt touches runs is same =
+    let g : Region = rows.region in
     let start : 0 + t ≡ t = omega arith in
     let l : Lies g.ram gs (is_number run (0 + t)) g.trusted g.end (get_or ts t d) = lies g.ram gs run 0 g.trusted g.end ts t d areas lt in
-    let granules : veiled (hides g) hs ≡ veiled (hides g) gs = unseen g gs hs (is_number run (0 + t)) (get_or ts t d) l touches in
+    let granules = unseen os rows gs hs (is_number run (0 + t)) (get_or ts t d) l touches in
     let others : OthersRun run now (0 + t) = rw start runs in
     let here : thread_of hs (is_number now (0 + t)) q ≡ x = rw start same in
     let threads : threads_of hs now 0 (set ts t q) ≡ set (threads_of gs run 0 ts) t x =
@@ -103,12 +107,16 @@ set_self [] t d = refl
 set_self (x ∷ xs) zero d = refl
 set_self (x ∷ xs) (suc t) d = ap (λ r. x ∷ r) (set_self xs t d)
 
-pub seen_turn : (g : Region) (gs hs : List Granule) (ts : List row.Thread) (run now : Option ℕ) (t : ℕ) (r q : row.Thread) (x : Thread)
-    → AreasFrom g.ram gs run 0 g.trusted g.end ts → t < length ts → r ≡ get_or ts t r → Touches (area_begin r.area) (area_end r.area) gs hs
-    → OthersRun run now t → q.area ≡ r.area → thread_of hs (is_number now t) q ≡ x
-    → seen_by hs g (set ts t q) now ≡ with_running (with_thread (seen_by gs g ts run) t x) now
-seen_turn g gs hs ts run now t r q x areas lt is touches runs place same =
-    turned g gs hs ts run now t r q x areas lt (subst (λ (u : row.Thread). Touches (area_begin u.area) (area_end u.area) gs hs) is touches)
+pub seen_turn : (rows : Rows) (gs hs : List Granule) (ts : List row.Thread) (run now : Option ℕ) (t : ℕ) (r q : row.Thread) (x : Thread)
+    → AreasFrom rows.region.ram gs run 0 rows.region.trusted rows.region.end ts → HeapHolds gs rows.region rows.heap rows.front → t < length ts → r ≡ get_or ts t r
+    → Touches (area_begin r.area) (area_end r.area) gs hs → OthersRun run now t → q.area ≡ r.area → thread_of hs (is_number now t) q ≡ x
+    → seen_of hs rows (set ts t q) now ≡ with_running (with_thread (seen_of gs rows ts run) t x) now
+seen_turn rows gs hs ts run now t r q x areas heap lt is touches runs place same =
+    let start : 0 + t ≡ t = omega arith in
+    let l : Lies rows.region.ram gs (is_number run t) rows.region.trusted rows.region.end r =
+    kept_of rows.region gs ts run t r (is_number run t) areas lt is refl in
+    ap (λ (os : List Object). seen_by os rows hs (set ts t q) now) (turn_objects gs hs rows.region rows.heap rows.front (is_number run t) r heap l touches)
+    ∙ turned (objects_of rows.heap gs) rows gs hs ts run now t r q x areas lt (subst (λ (u : row.Thread). Touches (area_begin u.area) (area_end u.area) gs hs) is touches)
     runs (subst (λ (u : row.Thread). q.area ≡ u.area) is place) same
 
 pub areas_turn : (g : Region) (gs hs : List Granule) (ts : List row.Thread) (run now : Option ℕ) (t : ℕ) (r q : row.Thread)
@@ -153,12 +161,12 @@ stop_areas gs hs rows t r q holds runs is touches place kept =
 
 pub stop_seen : (gs hs : List Granule) (rows : Rows) (t : ℕ) (r q : row.Thread) → Holds gs rows → rows.running ≡ Some t → r ≡ get_or rows.list.items t r
     → Touches (area_begin r.area) (area_end r.area) gs hs → q.area ≡ r.area → thread_of hs false q ≡ thread_of gs true r
-    → seen_by hs rows.region (set rows.list.items t q) None ≡ with_running (seen gs rows) None
+    → seen_of hs rows (set rows.list.items t q) None ≡ with_running (seen gs rows) None
 stop_seen gs hs rows t r q holds runs is touches place same =
     let ts : List row.Thread = rows.list.items in
     let lt : t < length rows.list.items = holds.runs t runs in
     let here : get_or (threads_of gs rows.running 0 rows.list.items) t nobody ≡ thread_of gs true r = thread_is gs rows.list.items rows.running t r true lt is (runs_it rows t runs) in
-    let turn = seen_turn rows.region gs hs rows.list.items rows.running None t r q (get_or (threads_of gs rows.running 0 rows.list.items) t nobody) holds.areas lt is touches
+    let turn = seen_turn rows gs hs rows.list.items rows.running None t r q (get_or (threads_of gs rows.running 0 rows.list.items) t nobody) holds.areas holds.heap lt is touches
     (leaves_off rows.running t runs) place (same ∙ sym here) in
     turn ∙ ap (λ (xs : List Thread). let s : Seen = record (seen gs rows) { threads = xs; running = None } in s) (set_self (threads_of gs rows.running 0 rows.list.items) t nobody)
 
@@ -181,19 +189,19 @@ pick_areas gs hs rows t r q holds runs lt is touches place kept =
 pub pick_seen : (gs hs : List Granule) (rows : Rows) (t : ℕ) (r q : row.Thread) → Holds gs rows → rows.running ≡ None → t < length rows.list.items
     → r ≡ get_or rows.list.items t r → Touches (area_begin r.area) (area_end r.area) gs hs → q.area ≡ r.area
     → thread_of hs true q ≡ picked_with (filtered_in r.area.ram gs) (thread_of gs false r)
-    → seen_by hs rows.region (set rows.list.items t q) (Some t) ≡ resumed (seen gs rows) t
+    → seen_of hs rows (set rows.list.items t q) (Some t) ≡ resumed (seen gs rows) t
 pick_seen gs hs rows t r q holds runs lt is touches place same =
     let l = stopped_lies gs rows t r holds runs lt is in
     let here : get_or (threads_of gs rows.running 0 rows.list.items) t nobody ≡ thread_of gs false r = thread_is gs rows.list.items rows.running t r false lt is (none_runs rows t runs) in
-    let keep : (c : Cap) → filtered_in rows.region.ram (veiled (hides rows.region) gs) c ≡ filtered_in r.area.ram gs c =
-    λ c. filtered_same (hides rows.region) rows.region.ram gs c ∙ ap (λ n. filtered_in n gs c) (sym l.base) in
-    let new : picked_with (filtered_in rows.region.ram (veiled (hides rows.region) gs)) (get_or (threads_of gs rows.running 0 rows.list.items) t nobody)
+    let keep : (c : Cap) → filtered_in rows.region.ram (veiled (hidden gs rows) gs) c ≡ filtered_in r.area.ram gs c =
+    λ c. filtered_same (hidden gs rows) rows.region.ram gs c ∙ ap (λ n. filtered_in n gs c) (sym l.base) in
+    let new : picked_with (filtered_in rows.region.ram (veiled (hidden gs rows) gs)) (get_or (threads_of gs rows.running 0 rows.list.items) t nobody)
     ≡ picked_with (filtered_in r.area.ram gs) (thread_of gs false r) =
-    ap (λ (u : Thread). picked_with (filtered_in rows.region.ram (veiled (hides rows.region) gs)) u) here
-    ∙ picked_same (filtered_in rows.region.ram (veiled (hides rows.region) gs)) (filtered_in r.area.ram gs) (thread_of gs false r) keep in
-    let now : thread_of hs (is_number (Some t) t) q ≡ picked_with (filtered_in rows.region.ram (veiled (hides rows.region) gs)) (get_or (threads_of gs rows.running 0 rows.list.items) t nobody) =
-    subst (λ b. thread_of hs b q ≡ picked_with (filtered_in rows.region.ram (veiled (hides rows.region) gs)) (get_or (threads_of gs rows.running 0 rows.list.items) t nobody)) (sym (itself t)) (same ∙ sym new) in
-    seen_turn rows.region gs hs rows.list.items rows.running (Some t) t r q _ holds.areas lt is touches (takes_on rows.running t runs) place now
+    ap (λ (u : Thread). picked_with (filtered_in rows.region.ram (veiled (hidden gs rows) gs)) u) here
+    ∙ picked_same (filtered_in rows.region.ram (veiled (hidden gs rows) gs)) (filtered_in r.area.ram gs) (thread_of gs false r) keep in
+    let now : thread_of hs (is_number (Some t) t) q ≡ picked_with (filtered_in rows.region.ram (veiled (hidden gs rows) gs)) (get_or (threads_of gs rows.running 0 rows.list.items) t nobody) =
+    subst (λ b. thread_of hs b q ≡ picked_with (filtered_in rows.region.ram (veiled (hidden gs rows) gs)) (get_or (threads_of gs rows.running 0 rows.list.items) t nobody)) (sym (itself t)) (same ∙ sym new) in
+    seen_turn rows gs hs rows.list.items rows.running (Some t) t r q _ holds.areas holds.heap lt is touches (takes_on rows.running t runs) place now
 
 -- ---- how many frames
 

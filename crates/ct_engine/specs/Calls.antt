@@ -8,7 +8,7 @@ use Rattle.def_words.specs.declared.Cap.{Cap}
 use Rattle.def_words.specs.Capability.{with_address}
 use Rattle.def_words.specs.Seals.{cap_seal}
 use Rattle.def_memory.specs.declared.Granule.{Granule}
-use Rattle.def_memory.specs.Granules.{plain}
+use Rattle.def_memory.specs.Granules.{plain, held}
 use Rattle.def_memory.specs.Ranges.{zeroed_from}
 use Rattle.def_reach.specs.Roots.{root_of, gate_for}
 use Rattle.def_boot.specs.Made.{return_sentry}
@@ -17,7 +17,6 @@ use Rattle.def_machine.specs.State.{Thread, Frame, nobody, register}
 use Rattle.def_machine.specs.Memory.{filtered_in}
 use Rattle.def_machine.specs.Frames.{Given, entered_by, answer_by, left_with}
 use Rattle.def_step.specs.Switch.{Switched, Enters, switch_of, frame_top}
-use Rattle.def_areas.specs.Areas.{held}
 use Rattle.def_areas.specs.Touches.{Touches}
 use Rattle.ct_areas.specs.declared.thread.Thread as row
 use Rattle.ct_areas.specs.Threads.{area_begin, area_end, frames_most, thread_of}
@@ -41,8 +40,8 @@ head_at s e export = (table_of e (callee_of e export) - s.region.ram) / GRANULE
 -- an export that can be called, and the head of whose table isn't hidden
 pub record IsEnterable (s : Seen) (e : Listed) (export : ℕ) : Type 0 where
   pub callable : IsCallable e s.region.ram (8 * length s.granules) export
-  pub code : hides s.region (head_at s e export) ≡ false
-  pub globals : hides s.region (head_at s e export + 1) ≡ false
+  pub code : hides s (head_at s e export) ≡ false
+  pub globals : hides s (head_at s e export + 1) ≡ false
 
 -- Of a call: beside the top, gates stand by their numbers, and where c6 is a tagged capability of an export's type, its
 -- root is an entry that names an open export.

@@ -1,11 +1,14 @@
--- What an engine keeps: where the threads' areas lie, and what stands in them.
-use Rattle.std.specs.Prelude.{ℕ, ◌+◌, ◌-◌, ◌*◌, ◌%◌, ◌≡◌, ◌≤◌, ◌<◌, ◌⊎◌, Bool, true, false, List, [], ◌∷◌, length, map, Option, Some}
+-- What an engine keeps: where the threads' areas lie, and what stands in them; and that chunks and heap agree.
+use Rattle.std.specs.Prelude.{ℕ, ◌+◌, ◌-◌, ◌*◌, ◌%◌, ◌≡◌, ◌≤◌, ◌<◌, ◌⊎◌, Bool, true, false, List, [], ◌∷◌, length, map, Option, Some, unwrap_or}
 use Rattle.def_words.specs.declared.Cap.{Cap}
 use Rattle.def_memory.specs.declared.Granule.{Granule}
-use Rattle.def_memory.specs.Granules.{plain}
-use Rattle.def_machine.specs.Heap.{is_number}
+use Rattle.def_memory.specs.Granules.{plain, held}
+use Rattle.def_memory.specs.Ranges.{is_tagged}
+use Rattle.def_chunks.specs.Heaps.{HeapRow, Laid}
+use Rattle.law_heaped.specs.Heaped.{heap_hides}
+use Rattle.def_machine.specs.Slices.{is_number}
 use Rattle.def_machine.specs.Objects.{Each}
-use Rattle.def_areas.specs.Areas.{held, frame_place}
+use Rattle.def_areas.specs.Areas.{frame_place}
 use Rattle.ct_areas.specs.declared.thread.Area.{Area}
 use Rattle.ct_areas.specs.declared.thread.Thread as row
 use Rattle.ct_areas.specs.Threads.{HasArea, area_begin, area_end, frames_most}
@@ -50,17 +53,32 @@ AreasFrom ram gs running n from to (t ∷ ts) =
     × AreasFrom ram gs running (n + 1) (t.area.trusted + t.area.trusted_length) to ts
     × ArePlain ram gs from t.area.trusted
 
--- a stack lies in RAM of so many bytes, in multiples of 16, and doesn't meet the region
-pub record StackLies (g : Region) (size : ℕ) (a : Area) : Type 0 where
+-- a stack lies in RAM of so many bytes, in multiples of 16, ends before the heap, and doesn't meet the region
+pub record StackLies (g : Region) (heap size : ℕ) (a : Area) : Type 0 where
   pub even : a.stack % 16 ≡ 0
   pub whole : a.stack_length % 16 ≡ 0
   pub low : g.ram ≤ a.stack
   pub high : a.stack + a.stack_length ≤ g.ram + size
   pub apart : (a.stack + a.stack_length ≤ g.trusted) ⊎ (g.end ≤ a.stack)
+  pub before : a.stack + a.stack_length ≤ heap
 
--- all of them in the region, the thread that runs is one of them, and their stacks lie apart from the region
+-- what the heap hides holds no capability
+abbrev pub IsClear : HeapRow → List Granule → Type 0
+IsClear h gs = (k : ℕ) → heap_hides h gs k ≡ true → is_tagged gs k ≡ false
+
+-- chunks and heap agree, the heap lies past the region, and a sweep's front in RAM or at its end
+pub record HeapHolds (gs : List Granule) (g : Region) (h : HeapRow) (front : Option ℕ) : Type 0 where
+  pub laid : Laid h gs
+  pub ram : h.range.ram ≡ g.ram
+  pub past : g.end ≤ h.range.base
+  pub within : unwrap_or front 0 ≤ 8 * length gs
+  pub clear : IsClear h gs
+
+-- All areas in the region, the thread that runs is one of them, their stacks lie apart from the region and before the
+-- heap, and the heap.
 pub record Holds (gs : List Granule) (r : Rows) : Type 0 where
   pub areas : AreasFrom r.region.ram gs r.running 0 r.region.trusted r.region.end r.list.items
   pub runs : (t : ℕ) → r.running ≡ Some t → t < length r.list.items
-  pub stacks : Each (StackLies r.region (8 * length gs))
+  pub stacks : Each (StackLies r.region r.heap.range.base (8 * length gs))
       (map (λ (t : row.Thread). t.area) r.list.items)
+  pub heap : HeapHolds gs r.region r.heap r.front

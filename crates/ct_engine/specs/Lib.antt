@@ -3,6 +3,6 @@ pub mod Kept
 pub mod Starts
 pub mod Steps
 pub mod Calls
-pub mod Written
-pub mod Heaps
+pub mod Grants
 pub mod Sweeps
+pub mod Written

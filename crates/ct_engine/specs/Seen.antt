@@ -1,10 +1,15 @@
--- What contracts see of an engine: memory behind the veil, and its threads as the machine's state has them.
-use Rattle.std.specs.Prelude.{ℕ, ◌+◌, ◌*◌, ◌&&◌, Bool, nat_le, nat_lt, List, [], ◌∷◌, length, Option, Some, None, map, slice_set, slice_index_or}
+-- What contracts see of an engine: memory behind the veil, its threads as the machine's state has them, and its heap's
+-- objects as rows.
+use Rattle.std.specs.Prelude.{ℕ, ◌+◌, ◌*◌, ◌&&◌, ◌||◌, Bool, nat_le, nat_lt, List, [], ◌∷◌, length, Option, Some, None, map, slice_set, slice_index_or}
 use Rattle.def_profile.specs.declared.layout.TheConstants.{GRANULE}
 use Rattle.def_memory.specs.declared.Granule.{Granule}
 use Rattle.def_machine.specs.Image.{Image, trusted_end}
-use Rattle.def_machine.specs.State.{Thread, Frame, nobody, outermost}
-use Rattle.def_machine.specs.Heap.{is_number}
+use Rattle.def_machine.specs.State.{Thread, Object, nobody}
+use Rattle.def_chunks.specs.declared.rows.Range.{Range}
+use Rattle.def_chunks.specs.declared.rows.Account.{Account}
+use Rattle.def_chunks.specs.Heaps.{HeapRow, objects_of}
+use Rattle.law_heaped.specs.Heaped.{hides_heap}
+use Rattle.def_machine.specs.Slices.{is_number}
 use Rattle.def_machine.specs.Threads.{picked_with, jumped}
 use Rattle.def_machine.specs.Registers.{written}
 use Rattle.def_words.specs.declared.Cap.{Cap}
@@ -14,8 +19,7 @@ use Rattle.def_machine.specs.Memory.{filtered_in}
 use Rattle.def_veil.specs.Veil.{veiled}
 use Rattle.ct_areas.specs.declared.thread.Area.{Area}
 use Rattle.ct_areas.specs.declared.thread.Thread as row
-use Rattle.ct_areas.specs.Threads.{thread_of, frames_most}
-use Rattle.ct_areas.specs.Parts.{pushed}
+use Rattle.ct_areas.specs.Threads.{thread_of}
 use Rattle.ct_engine.specs.declared.rows.Region.{Region}
 use Rattle.ct_engine.specs.declared.rows.Rows.{Rows}
 
@@ -24,8 +28,8 @@ abbrev pub region_of : Image → Region
 region_of i = record { ram = i.ram; trusted = i.trusted; end = trusted_end i }
 
 -- a granule of the region is hidden
-abbrev pub hides : Region → ℕ → Bool
-hides g k = nat_le g.trusted (g.ram + GRANULE * k) && nat_lt (g.ram + GRANULE * k) g.end
+abbrev pub region_hides : Region → ℕ → Bool
+region_hides g k = nat_le g.trusted (g.ram + GRANULE * k) && nat_lt (g.ram + GRANULE * k) g.end
 
 -- the threads of these rows, of which the first has number n
 abbrev pub threads_of : List Granule → Option ℕ → ℕ → List row.Thread → List Thread
@@ -33,25 +37,60 @@ threads_of gs running n [] = []
 threads_of gs running n (t ∷ ts) =
     thread_of gs (is_number running n) t ∷ threads_of gs running (n + 1) ts
 
--- the areas and stacks of threads never change
+-- `next` is the next object's number; `front` is the running sweep's, an offset in RAM in bytes; the heap's base and end
+-- are addresses; `limits` are in bytes, by the quotas' numbers. Where areas, stacks and the heap lie, and what quotas may
+-- take, never changes.
 pub record Seen : Type 0 where
   pub granules : List Granule
   pub threads : List Thread
   pub running : Option ℕ
   pub region : Region
   pub areas : List Area
+  pub objects : List Object
+  pub next : ℕ
+  pub front : Option ℕ
+  pub heap_base : ℕ
+  pub heap_end : ℕ
+  pub limits : List ℕ
 
-abbrev pub seen_by : List Granule → Region → List row.Thread → Option ℕ → Seen
-seen_by gs g ts running = record {
-  granules = veiled (hides g) gs;
+-- what is hidden: the threads' region, and the heap outside live objects
+abbrev pub hides : Seen → ℕ → Bool
+hides s k =
+    region_hides s.region k || hides_heap s.region.ram s.heap_base s.heap_end s.objects k
+
+-- ---- what is seen of an engine
+
+abbrev pub hides_over : Region → Range → List Object → ℕ → Bool
+hides_over g r objects k =
+    region_hides g k || hides_heap g.ram r.base (r.base + r.length) objects k
+
+abbrev pub limits_in : List Account → List ℕ
+limits_in accounts = map (λ (a : Account). a.limit) accounts
+
+-- of these objects, threads, and who runs
+abbrev pub seen_by : List Object → Rows → List Granule → List row.Thread → Option ℕ → Seen
+seen_by objects r gs ts running = record {
+  granules = veiled (hides_over r.region r.heap.range objects) gs;
   threads = threads_of gs running 0 ts;
   running = running;
-  region = g;
+  region = r.region;
   areas = map (λ (t : row.Thread). t.area) ts;
+  objects = objects;
+  next = r.heap.next;
+  front = r.front;
+  heap_base = r.heap.range.base;
+  heap_end = r.heap.range.base + r.heap.range.length;
+  limits = limits_in r.heap.accounts;
 }
 
+abbrev pub seen_of : List Granule → Rows → List row.Thread → Option ℕ → Seen
+seen_of gs r ts running = seen_by (objects_of r.heap gs) r gs ts running
+
 abbrev pub seen : List Granule → Rows → Seen
-seen gs r = seen_by gs r.region r.list.items r.running
+seen gs r = seen_of gs r r.list.items r.running
+
+abbrev pub hidden : List Granule → Rows → ℕ → Bool
+hidden gs r k = hides_over r.region r.heap.range (objects_of r.heap gs) k
 
 -- ---- what calls make of it
 
@@ -98,31 +137,16 @@ row_gone t pcc posture to value =
 abbrev pub area_at : Seen → ℕ → Area
 area_at s t = slice_index_or s.areas t no_area
 
--- whether it has room for one frame more
-abbrev pub has_room : Seen → ℕ → Bool
-has_room s t = nat_lt (length (thread s t).frames) (frames_most (area_at s t))
+-- what a quota may take
+abbrev pub limit_at : Seen → ℕ → ℕ
+limit_at s quota = slice_index_or s.limits quota 0
 
-abbrev pub called : Seen → ℕ → ℕ → ℕ → ℕ → Seen
-called s t actor export top = with_thread s t (pushed (thread s t) actor export top)
+-- ---- the running thread's registers
 
--- the innermost frame of a thread that has some
-abbrev pub innermost : Seen → ℕ → Frame
-innermost s t = slice_index_or (thread s t).frames 0 (outermost 0 0 0)
-
--- a thread without its innermost frame; without one below it the thread ends
-abbrev pub shorter_by : Thread → List Frame → Thread
-shorter_by t [] = t
-shorter_by t (f ∷ []) = nobody
-shorter_by t (f ∷ g ∷ fs) = record t { frames = g ∷ fs }
-
-abbrev pub shorter : Thread → Thread
-shorter t = shorter_by t t.frames
-
--- where the thread ends, none runs
-abbrev pub left_by : Seen → ℕ → List Frame → Seen
-left_by s t [] = s
-left_by s t (f ∷ []) = with_running (with_thread s t nobody) None
-left_by s t (f ∷ g ∷ fs) = with_thread s t (record (thread s t) { frames = g ∷ fs })
-
-abbrev pub left : Seen → ℕ → Seen
-left s t = left_by s t (thread s t).frames
+-- each register of a thread passes the load filter
+abbrev pub sifted : Seen → ℕ → Seen
+sifted s t =
+    with_thread s t
+    (record (thread s t) {
+      registers = map (filtered_in s.region.ram s.granules) (thread s t).registers;
+    })

@@ -1,16 +1,19 @@
--- Threads before their first step.
-use Rattle.std.specs.Prelude.{ℕ, ◌+◌, ◌*◌, ◌≡◌, ◌≤◌, true, List, [], ◌∷◌, length, None, map, slice_index_or}
+-- Threads and an empty heap before the first step.
+use Rattle.std.specs.Prelude.{ℕ, ◌+◌, ◌*◌, ◌≡◌, ◌≤◌, ◌<◌, true, List, [], ◌∷◌, length, None, map, slice_index_or}
 use Rattle.def_profile.specs.declared.limits.TheConstants.{RAM_END}
 use Rattle.def_memory.specs.declared.Granule.{Granule}
-use Rattle.def_memory.specs.Granules.{plain}
+use Rattle.def_memory.specs.Granules.{plain, held}
 use Rattle.def_machine.specs.State.{Thread}
 use Rattle.def_machine.specs.Objects.{Each}
-use Rattle.def_areas.specs.Areas.{held}
+use Rattle.def_chunks.specs.Heaps.{HeapRow}
+use Rattle.ct_heap.specs.Effects.{Empty}
+use Rattle.def_veil.specs.Veil.{veiled}
+use Rattle.ct_areas.specs.declared.thread.Thread as row
 use Rattle.ct_areas.specs.Threads.{HasArea, first}
 use Rattle.ct_engine.specs.declared.rows.Region.{Region}
 use Rattle.ct_engine.specs.declared.starting.Fresh.{Fresh}
-use Rattle.ct_engine.specs.Seen.{Seen, hides}
-use Rattle.ct_engine.specs.Kept.{StackLies}
+use Rattle.ct_engine.specs.Seen.{Seen, region_hides, limits_in, threads_of}
+use Rattle.ct_engine.specs.Kept.{AreasFrom, StackLies}
 
 -- its area lies in RAM of so many bytes, register 0 is zero, and its stack ends below the last granules of addresses
 pub record IsFresh (size : ℕ) (f : Fresh) : Type 0 where
@@ -25,22 +28,46 @@ AreFresh ram size from to (f ∷ fs) =
     (from ≤ f.area.trusted) × (f.area.ram ≡ ram) × IsFresh size f
     × AreFresh ram size (f.area.trusted + f.area.trusted_length) to fs
 
--- Memory in which threads may start: their areas stand in a region that reads as zero, and their stacks lie apart
--- from it.
-pub record MayStart (gs : List Granule) (g : Region) (fs : List Fresh) : Type 0 where
-  pub areas : AreFresh g.ram (8 * length gs) g.trusted g.end fs
-  pub stacks : Each (StackLies g (8 * length gs)) (map (λ (f : Fresh). f.area) fs)
-  pub clear : (k : ℕ) → hides g k ≡ true → held gs k ≡ plain 0
-
 -- the thread as the machine's state has it: its one frame's top is the stack's end
 abbrev pub first_of : Fresh → Thread
 first_of f = first f.pcc f.regs f.posture f.actor f.export (f.area.stack + f.area.stack_length)
 
-abbrev pub started : List Granule → Region → List Fresh → Seen
-started gs g fs = record {
+-- They have begun, stopped, in memory that was otherwise: outside the region it is as it was.
+pub record HaveBegun (g : Region) (was gs : List Granule) (ts : List row.Thread) (fs : List Fresh) : Type 0 where
+  pub size : length gs ≡ length was
+  pub veil : veiled (region_hides g) gs ≡ veiled (region_hides g) was
+  pub threads : threads_of gs None 0 ts ≡ map (λ f. first_of f) fs
+  pub places : map (λ (t : row.Thread). t.area) ts ≡ map (λ (f : Fresh). f.area) fs
+  pub areas : AreasFrom g.ram gs None 0 g.trusted g.end ts
+
+-- an empty heap that may lie in this memory
+pub record MayHold (gs : List Granule) (g : Region) (h : HeapRow) : Type 0 where
+  pub empty : Empty h
+  pub ram : h.range.ram ≡ g.ram
+  pub past : g.end ≤ h.range.base
+  pub inside : h.range.base + h.range.length ≤ g.ram + 8 * length gs
+  pub clear : (k : ℕ) → h.range.base ≤ g.ram + 8 * k
+      → g.ram + 8 * k < h.range.base + h.range.length → held gs k ≡ plain 0
+
+-- Memory in which threads may start and an empty heap may lie: their areas stand in a region that reads as zero, their
+-- stacks lie apart from it and end before the heap, and the heap lies past the region, where memory reads as zero.
+pub record MayStart (gs : List Granule) (g : Region) (fs : List Fresh) (h : HeapRow) : Type 0 where
+  pub areas : AreFresh g.ram (8 * length gs) g.trusted g.end fs
+  pub stacks : Each (StackLies g h.range.base (8 * length gs)) (map (λ (f : Fresh). f.area) fs)
+  pub clear : (k : ℕ) → region_hides g k ≡ true → held gs k ≡ plain 0
+  pub heap : MayHold gs g h
+
+abbrev pub started : List Granule → Region → List Fresh → HeapRow → Seen
+started gs g fs h = record {
   granules = gs;
   threads = map (λ f. first_of f) fs;
   running = None;
   region = g;
   areas = map (λ (f : Fresh). f.area) fs;
+  objects = [];
+  next = 1;
+  front = None;
+  heap_base = h.range.base;
+  heap_end = h.range.base + h.range.length;
+  limits = limits_in h.accounts;
 }

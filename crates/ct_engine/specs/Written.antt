@@ -1,5 +1,5 @@
 -- A state of the machine, and what is seen of an engine that holds the same.
-use Rattle.std.specs.Prelude.{ℕ, ◌≡◌, ◌<◌, List, length, Option, Some, slice_set}
+use Rattle.std.specs.Prelude.{ℕ, ◌≡◌, ◌<◌, List, length, Option, slice_set}
 use Rattle.def_machine.specs.Image.{Image, root, stack_base, frames_most, area_of}
 use Rattle.def_machine.specs.State.{State, Thread, Status}
 use Rattle.def_machine.specs.State as state
@@ -7,7 +7,7 @@ use Rattle.def_machine.specs.Threads.{with_statuses}
 use Rattle.def_machine.specs.Frames as machine
 use Rattle.def_reach.specs.Roots.{compartment_of}
 use Rattle.ct_areas.specs.Threads as areas
-use Rattle.ct_engine.specs.Seen.{Seen, thread, area_at}
+use Rattle.ct_engine.specs.Seen.{Seen, thread, area_at, limit_at}
 
 -- RAM and thread t are the state's, and the thread's stack and the room for its frames are as the image has them.
 pub record Shows (i : Image) (m : State) (s : Seen) (t : ℕ) : Type 0 where
@@ -32,21 +32,33 @@ callee_thread i m t export high =
     machine.entered i (state.thread m t) (compartment_of (root i export).owner) export high
     (machine.given i (state.thread m t) t (compartment_of (root i export).owner) export high)
 
--- ---- a slice of a sweep
+-- ---- the whole state
 
--- the state where this is seen of RAM and of threads, which have these statuses
+-- the state where this is seen, whose threads have these statuses
 abbrev pub state_with : State → Seen → List Status → State
 state_with m s statuses = record m {
   granules = s.granules;
   threads = with_statuses s.threads statuses;
   running = s.running;
+  objects = s.objects;
+  next = s.next;
+  front = s.front;
 }
-
-abbrev pub with_front : State → ℕ → State
-with_front m front = record m { front = Some front }
 
 -- RAM begins where the image has it, and so do the threads' areas, one for each thread
 pub record HasAreas (i : Image) (s : Seen) : Type 0 where
   pub ram : s.region.ram ≡ i.ram
   pub count : length s.areas ≡ length s.threads
   pub begins : (t : ℕ) → t < length s.areas → (area_at s t).trusted ≡ area_of i t
+
+-- The heap lies where the image has it, and quotas may take what their entries say. So quota 0 may take nothing: no
+-- entry has that number.
+pub record HasHeap (i : Image) (s : Seen) : Type 0 where
+  pub base : i.heap_base ≡ s.heap_base
+  pub end : i.heap_end ≡ s.heap_end
+  pub limits : (q : ℕ) → (root i q).limit ≡ limit_at s q
+
+-- the state's objects are those that are seen
+pub record SharesObjects (m : State) (s : Seen) : Type 0 where
+  pub objects : m.objects ≡ s.objects
+  pub next : m.next ≡ s.next

@@ -1,6 +1,6 @@
 //! A call and a frame's end of the running thread.
 
-ghost use Rattle.std.specs.Prelude.{ℕ, ◌≡◌, Some, true, nat_lt, length};
+ghost use Rattle.std.specs.Prelude.{ℕ, ◌≡◌, Some, None, true, cond, nat_lt, length};
 ghost use Rattle.def_memory.specs.Granules.{plain};
 ghost use Rattle.def_machine.specs.Image.{Image};
 ghost use Rattle.def_machine.specs.State.{register};
@@ -15,7 +15,6 @@ ghost use Rattle.ct_engine.specs.Kept.{IsKept, Holds};
 ghost use Rattle.ct_engine.specs.Seen.{Seen, seen, thread};
 ghost use Rattle.ct_engine.specs.Calls.{TopLies, MayCall, switch_at, given_at, after_call, returned, ended_with, cleared, Ends, HeadStands};
 
-use crate::frames::still;
 use crate::rows::Rows;
 use ct_areas::Thread;
 use ct_entry::Entries;
@@ -59,6 +58,13 @@ fn end_row<M: Memory>(t: &mut Thread, mem: &mut M, e: &Entries, value: u32) -> b
         (λ f. plain value) (λ f. plain 0) }
 {
     end(t, mem, e, value)
+}
+
+/// Who runs after a frame's end.
+fn still(t: u32, more: bool) -> Option<u32>
+    ensures { result ≡ cond more (Some t) None }
+{
+    if more { Some(t) } else { None }
 }
 
 /// The running thread calls.

@@ -1,15 +1,14 @@
 //! The engine.
 
-ghost use Rattle.std.specs.Prelude.{◌≡◌, ◌*◌, ◌/◌, ◌%◌, ◌<◌, Some, None, true, false, cond, length, nat_lt, IfOk};
+ghost use Rattle.std.specs.Prelude.{◌≡◌, ◌*◌, ◌/◌, ◌%◌, ◌<◌, Some, None, true, false, length, nat_lt, IfOk};
 ghost use Rattle.def_instr.specs.Shapes.{is_access};
 ghost use Rattle.def_profile.specs.declared.answers.TheConstants.{UNWOUND};
 ghost use Rattle.def_memory.specs.Accesses.{IsAccess, loaded};
 ghost use Rattle.def_machine.specs.State.{register};
 ghost use Rattle.def_step.specs.Instructions.{actor_of};
 ghost use Rattle.def_veil.specs.Steps.{IsSeen, SeesAccess};
-ghost use Rattle.ct_areas.specs.Parts.{saved_in};
 ghost use Rattle.ct_engine.specs.Starts.{MayStart, started};
-ghost use Rattle.ct_engine.specs.Seen.{hides, thread, has_room, innermost, with_granules, with_running, resumed, went, called, left};
+ghost use Rattle.ct_engine.specs.Seen.{hides, thread, with_granules, with_running, resumed, went};
 ghost use Rattle.ct_engine.specs.Steps.{space_in, next_in, NextInRange, HeapLies, IsMoved};
 ghost use Rattle.ct_exports.specs.Exports.{AreSorted};
 ghost use Rattle.ct_switch.specs.Calls.{told};
@@ -18,15 +17,14 @@ ghost use Rattle.ct_engine.specs.Calls.{TopLies, MayCall, switch_at, after_call,
 use crate::accesses::access;
 use crate::calls;
 use crate::fetching::next;
-use crate::frames::{call, leave};
 use crate::rows::{Region, Rows};
 use crate::starting::{Fresh, start};
 use crate::steps::{actor, go, pcc, posture, register};
 use crate::turns::{pick, stop};
-use ct_areas::Saved;
 use ct_bus::Bus;
 use ct_cap::{Live, Posture, Trap};
 use ct_entry::Entries;
+use ct_heap::Heap;
 use ct_loadstore::Moved;
 use ct_mem::Memory;
 use ct_switch::Called;
@@ -37,10 +35,11 @@ use def_step::Next;
 use std::alloc::Global;
 use std::marker::Model;
 
-/// Threads over a memory, whose frames and saved registers stand in that memory's trusted region.
+/// Threads over a memory that has a quota heap: their frames and saved registers stand in that memory's trusted region.
 ///
-/// Contracts see memory behind the veil, where the region reads as zero, and each thread as the machine's state has
-/// it; one without frames has ended. Offsets count bytes from RAM's begin. No method takes memory.
+/// Contracts see memory where the region and the heap outside live objects read as zero, each thread as the machine's
+/// state has it, and the heap's objects as rows; a thread without frames has ended. Offsets count bytes from RAM's
+/// begin. No method but `start` takes memory.
 #[derive(Drop)]
 pub struct Engine<M: Memory + Drop> {
     pub(crate) mem: M,
@@ -59,19 +58,20 @@ impl<M: Memory + Drop> Model for Engine<M> {
 }
 
 impl<M: Memory + Drop> Engine<M> {
-    /// Threads that start over a memory whose trusted region reads as zero, in the order of their numbers: each is
-    /// stopped before its first step. The one error is `NoMemory`.
+    /// Threads that start, stopped before their first step, in the order of their numbers, over a memory whose trusted
+    /// region and whose heap read as zero; the heap, in which there is no object, is laid. The one error is `NoMemory`.
     pub fn start(
         alloc: Global,
         memory: M,
         region: Region,
         fresh: &[Fresh],
+        heap: Heap,
     ) -> Result<Engine<M>, NoMemory>
-        requires { MayStart (M.granules memory) region fresh.now }
-        ensures { IfOk result (λ e. e ≡ started (M.granules memory) region fresh.now) }
+        requires { MayStart (M.granules memory) region fresh.now heap }
+        ensures { IfOk result (λ e. e ≡ started (M.granules memory) region fresh.now heap) }
     {
         let mut mem = memory;
-        let rows = start(alloc, &mut mem, region, fresh)?;
+        let rows = start(alloc, &mut mem, region, fresh, heap)?;
         Ok(Engine { mem, rows })
     }
 
@@ -99,7 +99,7 @@ impl<M: Memory + Drop> Engine<M> {
     /// The bytes at an offset of what isn't hidden. The width is 1, 2 or 4.
     pub fn load(&self, at: u32, width: u32) -> u32
         requires access { IsAccess (8 * length self.now.granules) at width }
-        requires seen { hides self.now.region (at / 8) ≡ false }
+        requires seen { hides self.now (at / 8) ≡ false }
         ensures { result ≡ loaded self.now.granules at width }
     {
         self.mem.load(at, width)
@@ -168,26 +168,6 @@ impl<M: Memory + Drop> Engine<M> {
         pick(&mut self.rows, &mut self.mem, t);
     }
 
-    /// The running thread gets one frame more, of this compartment, export and top, which keeps its registers c1, c2,
-    /// c3, c8 and c9. `false` exactly where it has no room; then nothing changes.
-    pub fn push(&mut self, t: u32, actor: u32, export: u32, top: u32) -> bool
-        requires { self.old.running ≡ Some t }
-        ensures result { result ≡ has_room self.old t }
-        ensures is { self.new ≡ cond result (called self.old t actor export top) self.old }
-    {
-        call(&mut self.rows, &mut self.mem, t, actor, export, top)
-    }
-
-    /// The running thread loses its innermost frame: what that kept of its caller. Where it was the last the thread has
-    /// ended, and none runs. The thread's program counter capability and registers stay.
-    pub fn pop(&mut self, t: u32) -> Saved
-        requires { self.old.running ≡ Some t }
-        ensures saved { result ≡ saved_in (innermost self.old t) }
-        ensures is { self.new ≡ left self.old t }
-    {
-        leave(&mut self.rows, &mut self.mem, t)
-    }
-
     /// The running thread calls the export whose capability stands in c6, as the switcher does.
     ///
     /// Where a check fails, the thread is too deep or the callee's stack has too little room nothing changes; else the
@@ -230,7 +210,7 @@ impl<M: Memory + Drop> Engine<M> {
     /// number, or nothing that is carried out.
     pub fn next(&self, at: u32) -> Next
         requires even { self.now.region.ram % 16 ≡ 0 }
-        requires seen { IsSeen (hides self.now.region) self.now.region.ram at }
+        requires seen { IsSeen (hides self.now) self.now.region.ram at }
         ensures is { result ≡ next_in self.now at }
         ensures ranged { NextInRange result }
     {
@@ -252,7 +232,7 @@ impl<M: Memory + Drop> Engine<M> {
     ) -> Result<Moved, Trap>
         requires access { is_access instruction ≡ true }
         requires heap { HeapLies self.old heap }
-        requires seen { SeesAccess (hides self.old.region) self.old.region.ram instruction x y }
+        requires seen { SeesAccess (hides self.old) self.old.region.ram instruction x y }
         ensures is { IsMoved instruction x y (space_in self.old bus.old time) self.new.granules
             bus.new result }
         ensures kept { self.new ≡ with_granules self.old self.new.granules }

@@ -1,28 +1,32 @@
-//! Threads whose frames and saved registers stand in memory that firmware never sees.
+//! Threads over a memory with a quota heap, and the heap's revoker: frames, saved registers and chunks stand in memory
+//! that firmware never sees.
 //!
-//! Contracts see memory behind the veil, and the threads of the machine's state, which are functions of rows and
-//! memory (specs/Seen). A thread that stops and one that is picked change nothing of these but who runs, and what the
-//! load filter takes from the picked one; a store of what isn't hidden changes no thread. docs/use/machine.md tells
-//! the layout in prose.
+//! Contracts see memory behind one veil, over what threads keep and over the heap outside live objects; the threads of
+//! the machine's state and the heap's objects as its rows, which are functions of memory and of what is kept beside it
+//! (specs/Seen). A thread that stops and one that is picked change nothing of these but who runs, and what the load
+//! filter takes from the picked one; a store of what isn't hidden changes no thread and no object. An allocation, a free
+//! and a slice of a sweep are the changes that the machine's definitions say. docs/use/machine.md tells the layout in
+//! prose.
 #![tactic(auto)]
 
 mod accesses;
 mod calls;
 mod engine;
 mod fetching;
-mod frames;
-mod heaps;
+mod granting;
 mod quiet;
 mod rows;
 mod starting;
 mod steps;
+mod sweeping;
 mod turns;
 mod written;
 
 pub use calls::callee_given;
+pub use ct_heap::{Heap, HeapRefusal, NotWhole, Object};
 pub use ct_switch::Called;
 pub use def_refusals::NoMemory;
 pub use engine::Engine;
-pub use rows::{Region, region_hidden};
+pub use rows::Region;
 pub use starting::Fresh;
-pub use written::{calls_written, ends_written, sweeps_written};
+pub use written::{calls_written, ends_written, grants_written, sweeps_written};

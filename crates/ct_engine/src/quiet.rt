@@ -74,7 +74,7 @@ impl<M: Memory + Drop> Engine<M> {
     #[inline(always)]
     pub fn word_at(&self, at: u32) -> Option<u32>
         requires even { self.now.region.ram % 16 ≡ 0 }
-        requires seen { IsSeen (hides self.now.region) self.now.region.ram at }
+        requires seen { IsSeen (hides self.now) self.now.region.ram at }
         ensures when { is_some result
             ≡ is_word_of_ram self.now.region.ram self.now.granules at }
         ensures given { IfSome result (λ w. next_in self.now at ≡ next_word (instruction_in w)) }
@@ -123,7 +123,7 @@ impl<M: Memory + Drop> Engine<M> {
         requires shape { IsShape access.now }
         requires loads { access.now.loads ≡ true }
         requires part { access.now.whole ≡ false }
-        requires seen { SeesLoad (hides self.now.region) self.now t number access.now }
+        requires seen { SeesLoad (hides self.now) self.now t number access.now }
         ensures when { is_some result ≡ loads_ram self.now t number access.now }
         ensures given { IfSome result (λ n. Loads self.now t number access.now (integer n)) }
     {
@@ -143,7 +143,7 @@ impl<M: Memory + Drop> Engine<M> {
         requires shape { IsShape access.now }
         requires loads { access.now.loads ≡ true }
         requires whole { access.now.whole ≡ true }
-        requires seen { SeesLoad (hides self.now.region) self.now t number access.now }
+        requires seen { SeesLoad (hides self.now) self.now t number access.now }
         ensures when { is_some result ≡ loads_ram self.now t number access.now }
         ensures given { IfSome result (λ c. Loads self.now t number access.now c) }
     {
@@ -163,7 +163,7 @@ impl<M: Memory + Drop> Engine<M> {
         requires even { self.old.region.ram % 16 ≡ 0 }
         requires shape { IsShape access.now }
         requires stores { access.now.loads ≡ false }
-        requires seen { SeesStore (hides self.old.region) self.old t number stored access.now }
+        requires seen { SeesStore (hides self.old) self.old t number stored access.now }
         ensures when { result ≡ stores_ram self.old t number stored access.now }
         ensures is { result ≡ true
             → Stores self.old t number stored access.now self.new.granules }

@@ -1,19 +1,20 @@
 //! How threads start: stopped before their first step, with one frame each.
 
 ghost use Rattle.std.specs.Prelude.{ℕ, ◌≡◌, ◌*◌, ◌≤◌, ◌<◌, true, false, length, IfOk};
-ghost use Rattle.def_memory.specs.Granules.{plain};
-ghost use Rattle.def_areas.specs.Areas.{held};
+ghost use Rattle.def_memory.specs.Granules.{plain, held};
 ghost use Rattle.def_areas.specs.Touches.{Touches};
 ghost use Rattle.ct_areas.specs.Threads.{area_begin, area_end, thread_of};
 ghost use Rattle.ct_engine.specs.Kept.{IsKept, Holds};
-ghost use Rattle.ct_engine.specs.Seen.{seen};
-ghost use Rattle.ct_engine.specs.Starts.{IsFresh, MayStart, first_of, started};
+ghost use Rattle.ct_engine.specs.Seen.{seen, region_hides};
+ghost use Rattle.ct_engine.specs.Starts.{IsFresh, AreFresh, HaveBegun, MayStart, first_of, started};
 
 use crate::rows::{Region, Rows};
 use crate::turns::stop_row;
 use ct_areas::{Area, Thread};
 use ct_cap::{Live, Posture};
+use ct_heap::Heap;
 use ct_mem::Memory;
+use ct_revoke::Front;
 use def_refusals::NoMemory;
 use std::alloc::Global;
 
@@ -67,26 +68,48 @@ fn begin<M: Memory>(mem: &mut M, fresh: &Fresh) -> Thread
     row
 }
 
-/// Threads start in the order of their numbers. The one error is `NoMemory`.
-pub(crate) fn start<M: Memory>(
+/// Threads start in the order of their numbers, each stopped. The one error is `NoMemory`.
+fn begin_all<M: Memory>(
     alloc: Global,
     mem: &mut M,
     region: Region,
     fresh: &[Fresh],
-) -> Result<Rows, NoMemory>
-    requires { MayStart (M.granules mem.old) region fresh.now }
-    ensures holds { IfOk result (λ rows. Holds (M.granules mem.new) rows) }
-    ensures seen { IfOk result (λ rows. seen (M.granules mem.new) rows
-        ≡ started (M.granules mem.old) region fresh.now) }
+) -> Result<Vec<Thread>, NoMemory>
+    requires fresh { AreFresh region.ram (8 * length (M.granules mem.old)) region.trusted region.end
+        fresh.now }
+    requires clear { (k : ℕ) → region_hides region k ≡ true → held (M.granules mem.old) k ≡ plain 0 }
+    ensures { IfOk result (λ list. HaveBegun region (M.granules mem.old) (M.granules mem.new)
+        list.items fresh.now) }
 {
     let mut list = Vec::with_capacity(alloc, fresh.len())?;
     for i in 0..fresh.len() {
         let row = begin(mem, &fresh[i]);
         list.push(row)?;
     }
+    Ok(list)
+}
+
+/// Threads start, and the heap is laid. The one error is `NoMemory`.
+pub(crate) fn start<M: Memory>(
+    alloc: Global,
+    mem: &mut M,
+    region: Region,
+    fresh: &[Fresh],
+    heap: Heap,
+) -> Result<Rows, NoMemory>
+    requires { MayStart (M.granules mem.old) region fresh.now heap }
+    ensures holds { IfOk result (λ rows. Holds (M.granules mem.new) rows) }
+    ensures seen { IfOk result (λ rows. seen (M.granules mem.new) rows
+        ≡ started (M.granules mem.old) region fresh.now heap) }
+{
+    let list = begin_all(alloc, mem, region, fresh)?;
+    let mut heap = heap;
+    heap.lay(mem);
     Ok(Rows {
         region,
         list,
         running: None,
+        heap,
+        front: Front::idle(),
     })
 }

@@ -10,9 +10,8 @@ ghost use Rattle.def_machine.specs.Registers.{written};
 ghost use Rattle.def_machine.specs.State.{register};
 ghost use Rattle.def_step.specs.Checks.{first_failed};
 ghost use Rattle.def_step.specs.Instructions.{actor_of, fetch_checks};
-ghost use Rattle.ct_engine.specs.Heaps.{sifted};
 ghost use Rattle.ct_engine.specs.Kept.{Holds};
-ghost use Rattle.ct_engine.specs.Seen.{seen, thread, went, advanced, moved_to, row_gone};
+ghost use Rattle.ct_engine.specs.Seen.{seen, thread, sifted, went, advanced, moved_to, row_gone};
 
 use crate::rows::Rows;
 use ct_areas::Thread;

@@ -1,16 +1,20 @@
-//! That calls, frames' ends and slices of a sweep over what is seen are the machine's written ones.
+//! That calls, frames' ends, allocations, frees and slices of the revoker over what is seen are the machine's written
+//! ones.
 
-ghost use Rattle.std.specs.Prelude.{ℕ, ◌≡◌, List, [], ◌∷◌, None};
+ghost use Rattle.std.specs.Prelude.{ℕ, ◌≡◌, ◌-◌, List, [], ◌∷◌, None};
 ghost use Rattle.def_memory.specs.Granules.{plain};
-ghost use Rattle.def_machine.specs.Image.{Image, stack_base, frames_most};
-ghost use Rattle.def_machine.specs.State.{State, Frame, Status, nobody, thread};
-ghost use Rattle.def_machine.specs.Heap.{with_slice};
+ghost use Rattle.def_machine.specs.Image.{Image, root, stack_base, frames_most};
+ghost use Rattle.def_machine.specs.State.{State, Frame, Object, Status, nobody, thread};
+ghost use Rattle.def_machine.specs.Objects.{charges};
+ghost use Rattle.def_machine.specs.Heap as machine;
+ghost use Rattle.def_machine.specs.Heap.{swept};
 ghost use Rattle.def_machine.specs.Frames.{answer, left_by};
 ghost use Rattle.def_step.specs.Switch.{Enters, switch_of, frame_top};
-ghost use Rattle.ct_engine.specs.Seen.{Seen};
+ghost use Rattle.ct_engine.specs.Seen.{Seen, limit_at};
 ghost use Rattle.ct_engine.specs.Calls.{HeadStands, switch_at, after_call, returned, ended_with};
-ghost use Rattle.ct_engine.specs.Sweeps.{sliced};
-ghost use Rattle.ct_engine.specs.Written.{Shows, written, callee_thread, HasAreas, state_with, with_front};
+ghost use Rattle.ct_engine.specs.Grants.{with_object, freed};
+ghost use Rattle.ct_engine.specs.Sweeps.{swept_by};
+ghost use Rattle.ct_engine.specs.Written.{Shows, written, callee_thread, HasAreas, HasHeap, SharesObjects, state_with};
 
 /// Where a state of the machine holds what is seen, a call comes to what the written switch comes to. Where it enters an
 /// export, the head of whose table is as boot made it, it leaves what the written one leaves.
@@ -46,11 +50,24 @@ pub fn ends_written()
         × (ended_with s t v ≡ written i m s t f.top nobody None) }
 {}
 
-/// A slice of a sweep leaves of a state that holds what is seen, whatever the statuses of its threads, what the slice over
-/// what is seen leaves of that.
+/// Of a state of the machine that holds what is seen, whatever the statuses of its threads, the written changes of an
+/// allocation and of a free leave what `allocate` and `free` leave of that; and a quota may still take what `remaining`
+/// says.
+pub fn grants_written()
+    ensures allocates { (m : State) (s : Seen) (statuses : List Status) (r : Object)
+        → machine.with_object (state_with m s statuses) r
+        ≡ state_with m (with_object s r) statuses }
+    ensures frees { (i : Image) (m : State) (s : Seen) (statuses : List Status) (t : ℕ)
+        (r : Object) → s.region.ram ≡ i.ram
+        → machine.freed i (state_with m s statuses) t r ≡ state_with m (freed s t r) statuses }
+    ensures remains { (i : Image) (m : State) (s : Seen) (quota : ℕ) → HasHeap i s
+        → SharesObjects m s → (root i quota).limit - charges quota m.objects
+        ≡ limit_at s quota - charges quota s.objects }
+{}
+
+/// A Sweep event leaves of a state of the machine that holds what is seen, whatever the statuses of its threads, what
+/// `sweep` at the image's rate leaves of that.
 pub fn sweeps_written()
-    ensures { (i : Image) (m : State) (s : Seen) (statuses : List Status) (low high : ℕ)
-        → HasAreas i s
-        → with_slice i (state_with m s statuses) low high
-        ≡ with_front (state_with m (sliced s low high) statuses) high }
+    ensures { (i : Image) (m : State) (s : Seen) (statuses : List Status) → HasAreas i s
+        → swept i (state_with m s statuses) ≡ state_with m (swept_by s i.sweep) statuses }
 {}

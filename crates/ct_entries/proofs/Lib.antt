@@ -2,3 +2,4 @@ pub mod Spelled
 pub mod Standing
 pub mod Named
 pub mod Few
+mod Numbered

@@ -22,7 +22,7 @@ within [] i x is = cc
 within (y ∷ ys) zero x is = omega arith
 within (y ∷ ys) (suc i) x is = let later : i < length ys = within ys i x is in omega (arith, later)
 
-compartment_is : (p : PartsRow) (b : ℕ) (c : CompartmentRow) → slice_get p.compartments b ≡ Some c → compartment p b ≡ c
+pub compartment_is : (p : PartsRow) (b : ℕ) (c : CompartmentRow) → slice_get p.compartments b ≡ Some c → compartment p b ≡ c
 compartment_is p b c at = ap (λ o. unwrap_or o no_compartment) at
 
 library_is : (p : PartsRow) (l : ℕ) (c : CodeRow) → slice_get p.libraries l ≡ Some c → library p l ≡ c

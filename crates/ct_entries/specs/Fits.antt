@@ -1,9 +1,10 @@
 -- What the parts of an image owe so that the numbers of its entries have 32 bits.
-use Rattle.std.specs.Prelude.{ℕ, ◌≡◌, ◌+◌, ◌*◌, ◌^◌, ◌≤◌, ◌<◌, Some, List, length, option_map, unwrap_or, slice_get}
+use Rattle.std.specs.Prelude.{ℕ, ◌≡◌, ◌+◌, ◌*◌, ◌^◌, ◌≤◌, ◌<◌, Some, List, length, option_map, position, unwrap_or, slice_get}
 use Rattle.std.specs.List.{AllByRecursion}
 use Rattle.def_profile.specs.declared.layout.TheConstants.{SLOT_SIZE, TABLE_HEAD, TABLE_ROW}
 use Rattle.def_profile.specs.declared.limits.TheConstants as most
 use Rattle.def_image.specs.Parts.{SlotRow, GateRow, CodeRow, CompartmentRow, PartsRow}
+use Rattle.def_image.specs.Members.{is_handler}
 use Rattle.def_image.specs.Sound.{SlotFits}
 
 abbrev pub HasFit : PartsRow → SlotRow → Type 0
@@ -36,6 +37,13 @@ pub record Stands (p : PartsRow) : Type 0 where
 -- the number in an export's row
 abbrev pub entry_at : List GateRow → ℕ → ℕ
 entry_at xs j = unwrap_or (option_map (λ (x : GateRow). x.row.entry) (slice_get xs j)) 0
+
+-- the number in the row of a compartment's error handler; 0 where it has none
+abbrev pub handler_in : CompartmentRow → ℕ
+handler_in c =
+    unwrap_or
+    (option_map (λ j. entry_at c.code.exports j) (position is_handler c.code.exports))
+    0
 
 -- there is a compartment of this index, with an export of this one
 abbrev pub HasExport : PartsRow → ℕ → ℕ → Type 0

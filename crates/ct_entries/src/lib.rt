@@ -1,14 +1,16 @@
-//! The entries of an image: the numbered rows of the report, and the gates of the exports
-//! (docs/use/report.md; definitions in def_boot).
+//! The entries of an image: the numbered rows of the report, the gates of the exports
+//! (docs/use/report.md; definitions in def_boot), and which exports are error handlers.
 #![tactic(auto)]
 
 mod gates;
+mod handling;
 mod naming;
 mod owners;
 mod rows;
 mod slots;
 
 ghost use Rattle.std.specs.Prelude.{◌≡◌, ◌<◌, ◌^◌, length, IfOk};
+ghost use Rattle.def_boot.specs.Boot.{image_of};
 ghost use Rattle.def_boot.specs.Gates.{entries_of};
 ghost use Rattle.def_image.specs.Sound.{Sound};
 
@@ -26,6 +28,15 @@ pub fn entries(alloc: Global, image: &Image) -> Result<Entries, NoMemory>
     ensures few { IfOk result (λ e. length e.rows < 2 ^ 32) }
 {
     Ok(of_parts(alloc, image.parts())?)
+}
+
+/// Of each compartment, in their order, the number of the entry of its error handler: its export of the name
+/// `handler`; 0 where it has none. `NoMemory`: want of memory.
+#[tactic(auto, unfolding(def_boot::specs::Boot::image_of))]
+pub fn handlers(alloc: Global, image: &Image) -> Result<Vec<u32>, NoMemory>
+    ensures { IfOk result (λ v. v.items ≡ (image_of image.now).handlers) }
+{
+    Ok(handling::handlers_of(alloc, image.parts())?)
 }
 
 /// The entries of an image's parts.

@@ -68,7 +68,7 @@ fn number_in(parts: &Parts, index: u32, export: u32) -> u32
     ensures { result ≡ entry_at (compartment parts.now index).code.exports export }
 {
     match parts.compartments.get(index as usize) {
-        Some(compartment) => number_at(compartment.code.exports.as_slice(), export),
+        Some(compartment) => number_at(compartment.code.exports.as_slice(), export as usize),
         None => 0,
     }
 }
@@ -89,16 +89,16 @@ fn lent_in(parts: &Parts, index: u32, export: u32) -> u32
     ensures { result ≡ entry_at (library parts.now index).exports export }
 {
     match parts.libraries.get(index as usize) {
-        Some(library) => number_at(library.exports.as_slice(), export),
+        Some(library) => number_at(library.exports.as_slice(), export as usize),
         None => 0,
     }
 }
 
 /// The number in an export's row; 0 where there is no such export.
-fn number_at(exports: &[Export], index: u32) -> u32
+pub(crate) fn number_at(exports: &[Export], index: usize) -> u32
     ensures { result ≡ entry_at exports.now index }
 {
-    match exports.get(index as usize) {
+    match exports.get(index) {
         Some(export) => export.row.entry,
         None => 0,
     }

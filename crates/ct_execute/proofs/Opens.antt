@@ -13,14 +13,11 @@ use Rattle.def_hidden.specs.Hidden.{Shut, is_hidden}
 use Rattle.law_shut.proofs.Seeing.{register_sees, counter_sees}
 use Rattle.law_heaped.specs.Heaped.{hides_heap}
 use Rattle.ct_engine.specs.declared.rows.Region.{Region}
-use Rattle.ct_engine.specs.Seen as engine
-use Rattle.ct_engine.specs.Seen.{thread}
-use Rattle.ct_heaped.specs.Seen.{Seen, hides}
-use Rattle.ct_engine.specs.Seen.{region_of}
+use Rattle.ct_engine.specs.Seen.{Seen, region_hides, hides, thread, region_of}
 use Rattle.ct_execute.specs.Opening.{IsOpen, Runs}
 
 abbrev hides_at : Region → ℕ → ℕ → List Object → ℕ → Bool
-hides_at g base end objects k = engine.hides g k || hides_heap g.ram base end objects k
+hides_at g base end objects k = region_hides g k || hides_heap g.ram base end objects k
 
 -- region and heap hide what the image does
 hides_is : (i : Image) (s : State) (v : Seen) (t k : ℕ) → Runs i s v t → hides v k ≡ is_hidden i s.objects k
@@ -31,19 +28,19 @@ hides_is i s v t k r =
     ∙ ap (λ os. hides_at (region_of i) i.heap_base i.heap_end os k) r.objects
 
 at_place : (i : Image) (s : State) (v : Seen) (t x : ℕ) → Runs i s v t → (i.ram ≤ x → is_hidden i s.objects (granule_of i x) ≡ false)
-    → v.threads.region.ram ≤ x → hides v ((x - v.threads.region.ram) / 8) ≡ false
+    → v.region.ram ≤ x → hides v ((x - v.region.ram) / 8) ≡ false
 at_place i s v t x r see inside =
-    let base : v.threads.region.ram ≡ i.ram = ap (λ (g : Region). g.ram) r.region in
-    hides_is i s v t ((x - v.threads.region.ram) / 8) r
+    let base : v.region.ram ≡ i.ram = ap (λ (g : Region). g.ram) r.region in
+    hides_is i s v t ((x - v.region.ram) / 8) r
     ∙ ap (λ n. is_hidden i s.objects ((x - n) / 8)) base
     ∙ see (subst (λ n. n ≤ x) base inside)
 
-same_register : (i : Image) (s : State) (v : Seen) (t n : ℕ) → Runs i s v t → register (thread v.threads t) n ≡ register (state.thread s t) n
+same_register : (i : Image) (s : State) (v : Seen) (t n : ℕ) → Runs i s v t → register (thread v t) n ≡ register (state.thread s t) n
 same_register i s v t n r = ap (λ (cs : List Cap). get_or cs n (plain 0)) r.registers
 
-registers_open : (i : Image) (s : State) (v : Seen) (t n x : ℕ) → Shut i → Confined i s → Runs i s v t → v.threads.region.ram ≤ x → (register (thread v.threads t) n).tag ≡ true
-    → (has (register (thread v.threads t) n) load_data ≡ true) ⊎ (has (register (thread v.threads t) n) store_data ≡ true)
-    → cap_base (register (thread v.threads t) n) ≤ x → x < cap_top (register (thread v.threads t) n) → hides v ((x - v.threads.region.ram) / 8) ≡ false
+registers_open : (i : Image) (s : State) (v : Seen) (t n x : ℕ) → Shut i → Confined i s → Runs i s v t → v.region.ram ≤ x → (register (thread v t) n).tag ≡ true
+    → (has (register (thread v t) n) load_data ≡ true) ⊎ (has (register (thread v t) n) store_data ≡ true)
+    → cap_base (register (thread v t) n) ≤ x → x < cap_top (register (thread v t) n) → hides v ((x - v.region.ram) / 8) ≡ false
 registers_open i s v t n x shut held r inside tagged may low high =
     let same = same_register i s v t n r in
     at_place i s v t x r

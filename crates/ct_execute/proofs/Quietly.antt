@@ -23,7 +23,6 @@ use Rattle.ct_decoded.specs.declared.reading.Reading.{Reading}
 use Rattle.ct_decoded.specs.Reading.{reading_by}
 use Rattle.ct_engine.specs.Seen.{Seen, thread, went}
 use Rattle.ct_engine.specs.Steps.{space_in, next_in, is_word_of_ram}
-use Rattle.ct_heaped.specs.Seen as heaped
 use Rattle.ct_execute.specs.Deciding.{decision, decide_fetched, decide_next, named_in, WentQuietly}
 use Rattle.ct_execute.specs.Quiet.{offset_of, address_in, takes, plain_jump, jump_by, jump_offset, goes_at, goes_quietly, Says, CarriesQuietly}
 
@@ -172,9 +171,9 @@ moved_quiet : (s : Seen) (t : ℕ) (i : Instr) (o : Option ℕ) (n : ℕ) (new :
 moved_quiet s t i None n new e by whole is = plain_quiet s t i n new by whole is
 moved_quiet s t i (Some offset) n new e by whole is = branch_by s t i offset n new e (cc) whole is
 
-pub jump_quiet : (s new : heaped.Seen) (t : ℕ) (i : Instr) (n : ℕ) → Some n ≡ jump_offset (thread s.threads t) i
-    → (target_at (thread s.threads t).pcc n % 4 == 0) ≡ true
-    → new ≡ heaped.with_threads s (went s.threads t (with_address (thread s.threads t).pcc (target_at (thread s.threads t).pcc n)) (thread s.threads t).posture 0 (integer 0))
-    → CarriesQuietly s.threads t i new.threads
+pub jump_quiet : (s new : Seen) (t : ℕ) (i : Instr) (n : ℕ) → Some n ≡ jump_offset (thread s t) i
+    → (target_at (thread s t).pcc n % 4 == 0) ≡ true
+    → new ≡ (went s t (with_address (thread s t).pcc (target_at (thread s t).pcc n)) (thread s t).posture 0 (integer 0))
+    → CarriesQuietly s t i new
 jump_quiet s new t i n by whole turned =
-    moved_quiet s.threads t i (offset_of i) n new.threads refl by whole (ap (λ (m : heaped.Seen). m.threads) turned)
+    moved_quiet s t i (offset_of i) n new refl by whole turned

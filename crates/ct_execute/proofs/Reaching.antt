@@ -14,8 +14,7 @@ use Rattle.def_step.specs.Checks.{first_failed}
 use Rattle.def_step.specs.declared.Access.{Access}
 use Rattle.def_step.specs.Accesses.{access_of, access_address, load_checks, store_checks}
 use Rattle.def_veil.specs.Steps.{SeesAccess}
-use Rattle.ct_engine.specs.Seen.{thread}
-use Rattle.ct_heaped.specs.Seen.{Seen, hides}
+use Rattle.ct_engine.specs.Seen.{thread, Seen, hides}
 use Rattle.ct_execute.specs.Opening.{IsOpen}
 
 five : (b0 b1 b2 b3 b4 : Bool) (t0 t1 t2 t3 t4 : Trap) → first_failed ((b0, t0) ∷ (b1, t1) ∷ (b2, t2) ∷ (b3, t3) ∷ (b4, t4) ∷ []) ≡ None → (b0 ≡ true) × (b2 ≡ true) × (b3 ≡ true)
@@ -75,7 +74,7 @@ access_seen h ram i x y opens passes inside =
     let high : at + (access_of i).width ≤ cap_top x = r.high in
     opens at inside r.tagged r.may r.low (omega arith)
 
-pub register_seen : (s : Seen) (t n : ℕ) (i : Instr) (x y : Cap) → IsOpen s t → x ≡ register (thread s.threads t) n → SeesAccess (hides s) s.threads.region.ram i x y
+pub register_seen : (s : Seen) (t n : ℕ) (i : Instr) (x y : Cap) → IsOpen s t → x ≡ register (thread s t) n → SeesAccess (hides s) s.region.ram i x y
 register_seen s t n i x y opens is =
-    access_seen (hides s) s.threads.region.ram i x y
-    (subst (λ (c : Cap). OpenTo (hides s) s.threads.region.ram c) (sym is) (λ a inside tagged may low high. opens.registers n a inside tagged may low high))
+    access_seen (hides s) s.region.ram i x y
+    (subst (λ (c : Cap). OpenTo (hides s) s.region.ram c) (sym is) (λ a inside tagged may low high. opens.registers n a inside tagged may low high))

@@ -21,7 +21,8 @@ use Rattle.def_step.specs.Checks.{first_failed}
 use Rattle.def_step.specs.Devices.{Bank}
 use Rattle.def_step.specs.Accesses.{Space}
 use Rattle.def_step.specs.Operands.{operands_of, class_of}
-use Rattle.def_step.specs.Instructions.{Board, Done, Around, carried_out, fetch_checks, next_at, served, trapped, put_done, deed}
+use Rattle.def_step.specs.Instructions.{Done, Around, carried_out, fetch_checks, next_at, served, trapped, put_done, deed}
+use Rattle.def_machine.specs.Board.{Board}
 use Rattle.ct_decoded.specs.Reading.{AreRegisters}
 use Rattle.ct_engine.specs.Seen.{Seen, thread, went, with_granules}
 use Rattle.def_step.specs.Native.{native}
@@ -115,9 +116,7 @@ RanInRange ran = Unit {0}
 
 -- what no instruction changes of an engine
 pub record Stays (s new : Seen) : Type 0 where
-  pub running : new.running ≡ s.running
-  pub region : new.region ≡ s.region
-  pub areas : new.areas ≡ s.areas
+  pub beside : new ≡ record s { granules = new.granules; threads = new.threads }
   pub size : length new.granules ≡ length s.granules
 
 -- an instruction of the table has these operands, each a register's number

@@ -5,37 +5,36 @@ use Rattle.def_words.specs.Permissions.{has, load_data, store_data}
 use Rattle.def_machine.specs.Image.{Image}
 use Rattle.def_machine.specs.State.{State, register}
 use Rattle.def_machine.specs.State as state
-use Rattle.ct_engine.specs.Seen.{region_of, thread}
+use Rattle.ct_engine.specs.Seen.{region_of, thread, Seen, hides}
 use Rattle.ct_engine.specs.Steps.{HeapLies}
-use Rattle.ct_heaped.specs.Seen.{Seen, hides}
 
 -- Nothing is hidden that a thread may load or store through a register, or fetch. All x are addresses of RAM or past
 -- it.
 pub record IsOpen (s : Seen) (t : ℕ) : Type 0 where
-  pub registers : (n x : ℕ) → s.threads.region.ram ≤ x
-      → (register (thread s.threads t) n).tag ≡ true
-      → (has (register (thread s.threads t) n) load_data ≡ true)
-      ⊎ (has (register (thread s.threads t) n) store_data ≡ true)
-      → cap_base (register (thread s.threads t) n) ≤ x
-      → x < cap_top (register (thread s.threads t) n)
-      → hides s ((x - s.threads.region.ram) / 8) ≡ false
-  pub fetches : (x : ℕ) → s.threads.region.ram ≤ x → (thread s.threads t).pcc.tag ≡ true
-      → cap_base (thread s.threads t).pcc ≤ x → x < cap_top (thread s.threads t).pcc
-      → hides s ((x - s.threads.region.ram) / 8) ≡ false
+  pub registers : (n x : ℕ) → s.region.ram ≤ x
+      → (register (thread s t) n).tag ≡ true
+      → (has (register (thread s t) n) load_data ≡ true)
+      ⊎ (has (register (thread s t) n) store_data ≡ true)
+      → cap_base (register (thread s t) n) ≤ x
+      → x < cap_top (register (thread s t) n)
+      → hides s ((x - s.region.ram) / 8) ≡ false
+  pub fetches : (x : ℕ) → s.region.ram ≤ x → (thread s t).pcc.tag ≡ true
+      → cap_base (thread s t).pcc ≤ x → x < cap_top (thread s t).pcc
+      → hides s ((x - s.region.ram) / 8) ≡ false
 
 -- Thread t runs, nothing is hidden that it may reach, and the heap lies from an address to RAM's end.
 pub record MayGo (s : Seen) (t base : ℕ) : Type 0 where
-  pub runs : s.threads.running ≡ Some t
+  pub runs : s.running ≡ Some t
   pub opened : IsOpen s t
-  pub heap : HeapLies s.threads base
+  pub heap : HeapLies s base
 
 -- Thread t runs in the state, and an engine whose region and heap are the image's holds for it what the state does, and
 -- the same objects.
 pub record Runs (i : Image) (s : State) (v : Seen) (t : ℕ) : Type 0 where
   pub running : s.running ≡ Some t
-  pub region : v.threads.region ≡ region_of i
+  pub region : v.region ≡ region_of i
   pub heap_base : v.heap_base ≡ i.heap_base
   pub heap_end : v.heap_end ≡ i.heap_end
   pub objects : v.objects ≡ s.objects
-  pub registers : (thread v.threads t).registers ≡ (state.thread s t).registers
-  pub pcc : (thread v.threads t).pcc ≡ (state.thread s t).pcc
+  pub registers : (thread v t).registers ≡ (state.thread s t).registers
+  pub pcc : (thread v t).pcc ≡ (state.thread s t).pcc

@@ -7,7 +7,6 @@ ghost use Rattle.def_step.specs.declared.Class.TheVariants as kinds;
 ghost use Rattle.def_step.specs.Devices.{Bank};
 ghost use Rattle.def_step.specs.Operands.{class_of};
 ghost use Rattle.ct_engine.specs.Seen.{thread, advanced};
-ghost use Rattle.ct_heaped.specs.Seen.{with_threads};
 ghost use Rattle.ct_engine.specs.Steps.{space_in};
 ghost use Rattle.ct_execute.specs.Deciding.{decide_by, decide_instruction, Decided, HasOperands, Stays};
 ghost use Rattle.ct_execute.specs.Opening.{MayGo};
@@ -18,10 +17,10 @@ use ct_bus::Bus;
 use ct_cap::{Live, Trap, add_address};
 use ct_capstep::capstep;
 use ct_decoded::{class_of, operands_of};
+use ct_engine::Engine;
 use ct_entry::Entries;
 use ct_exports::called;
 use ct_flow::flow;
-use ct_heaped::Engine;
 use ct_isa::shape;
 use ct_mem::Memory;
 use def_instr::Instr;
@@ -30,9 +29,9 @@ use def_step::{Class, Operands};
 
 /// Execution goes on after the instruction, and a register gets a value.
 fn advance<M: Memory + Drop>(engine: &mut Engine<M>, t: u32, to: u32, value: Live)
-    requires runs { engine.old.threads.running ≡ Some t }
+    requires runs { engine.old.running ≡ Some t }
     requires to { to < 16 }
-    ensures { engine.new ≡ with_threads engine.old (advanced engine.old.threads t to value) }
+    ensures { engine.new ≡ advanced engine.old t to value }
 {
     let pcc = add_address(engine.pcc(t), 4);
     let posture = engine.posture(t);
@@ -47,16 +46,15 @@ fn carry_jump<M: Memory + Drop>(
     engine: &mut Engine<M>,
     t: u32,
 ) -> Ran
-    requires runs { engine.old.threads.running ≡ Some t }
+    requires runs { engine.old.running ≡ Some t }
     requires has { HasOperands instruction operands }
     requires class { class_of instruction ≡ kinds.Jump }
     requires jump { is_jump instruction ≡ true }
     ensures is { (k : Bank) (time : ℕ) → Decided
-        (decide_instruction entries.now (thread engine.old.threads t)
-        (space_in engine.old.threads k time) instruction)
-        t engine.old.threads k engine.new.threads k result }
-    ensures kept { engine.new ≡ with_threads engine.old engine.new.threads }
-    ensures stays { Stays engine.old.threads engine.new.threads }
+        (decide_instruction entries.now (thread engine.old t)
+        (space_in engine.old k time) instruction)
+        t engine.old k engine.new k result }
+    ensures stays { Stays engine.old engine.new }
 {
     let x = engine.register(t, operands.first);
     let y = engine.register(t, operands.second);
@@ -92,11 +90,10 @@ fn carry_access<M: Memory + Drop>(
     requires class { class_of instruction ≡ kinds.Access }
     requires access { is_access instruction ≡ true }
     ensures is { (named : ℕ) → Decided
-        (decide_by named (thread engine.old.threads t)
-        (space_in engine.old.threads bus.old time) instruction)
-        t engine.old.threads bus.old engine.new.threads bus.new result }
-    ensures kept { engine.new ≡ with_threads engine.old engine.new.threads }
-    ensures stays { Stays engine.old.threads engine.new.threads }
+        (decide_by named (thread engine.old t)
+        (space_in engine.old bus.old time) instruction)
+        t engine.old bus.old engine.new bus.new result }
+    ensures stays { Stays engine.old engine.new }
     ensures bases { bus.new.bases ≡ bus.old.bases }
 {
     let x = engine.register(t, operands.first);
@@ -126,7 +123,7 @@ fn carry_value<M: Memory + Drop>(
     engine: &mut Engine<M>,
     t: u32,
 ) -> Ran
-    requires runs { engine.old.threads.running ≡ Some t }
+    requires runs { engine.old.running ≡ Some t }
     requires has { HasOperands instruction operands }
     requires is { class ≡ class_of instruction }
     requires jump { class ≡ kinds.Jump → ⊥ }
@@ -135,11 +132,10 @@ fn carry_value<M: Memory + Drop>(
     requires capability { class ≡ kinds.Capability
         → (is_capability instruction ≡ true) × (is_system instruction ≡ false) }
     ensures is { (named : ℕ) (k : Bank) (time : ℕ) → Decided
-        (decide_by named (thread engine.old.threads t)
-        (space_in engine.old.threads k time) instruction)
-        t engine.old.threads k engine.new.threads k result }
-    ensures kept { engine.new ≡ with_threads engine.old engine.new.threads }
-    ensures stays { Stays engine.old.threads engine.new.threads }
+        (decide_by named (thread engine.old t)
+        (space_in engine.old k time) instruction)
+        t engine.old k engine.new k result }
+    ensures stays { Stays engine.old engine.new }
 {
     let x = engine.register(t, operands.first);
     let y = engine.register(t, operands.second);
@@ -190,11 +186,10 @@ pub(crate) fn carry_out<M: Memory + Drop>(
     requires may { MayGo engine.old t heap }
     requires ranged { InRange instruction }
     ensures is { Decided
-        (decide_instruction entries.now (thread engine.old.threads t)
-        (space_in engine.old.threads bus.old time) instruction)
-        t engine.old.threads bus.old engine.new.threads bus.new result }
-    ensures kept { engine.new ≡ with_threads engine.old engine.new.threads }
-    ensures stays { Stays engine.old.threads engine.new.threads }
+        (decide_instruction entries.now (thread engine.old t)
+        (space_in engine.old bus.old time) instruction)
+        t engine.old bus.old engine.new bus.new result }
+    ensures stays { Stays engine.old engine.new }
     ensures bases { bus.new.bases ≡ bus.old.bases }
 {
     let shape = shape(instruction);

@@ -3,15 +3,14 @@
 ghost use Rattle.std.specs.Prelude.{◌≡◌};
 ghost use Rattle.ct_execute.specs.Deciding.{decision, Decided, IfUnfinished, RanInRange, Stays};
 ghost use Rattle.ct_execute.specs.Opening.{MayGo};
-ghost use Rattle.ct_heaped.specs.Seen.{with_threads};
 
 use crate::carrying::carry_out;
 use crate::fetching::fetch_trap;
 use crate::ran::Ran;
 use ct_bus::Bus;
 use ct_cap::Trap;
+use ct_engine::Engine;
 use ct_entry::Entries;
-use ct_heaped::Engine;
 use ct_mem::Memory;
 use def_profile::traps::ILLEGAL_INSTRUCTION;
 use def_step::Next;
@@ -29,12 +28,11 @@ pub fn execute<M: Memory + Drop>(
     time: u64,
 ) -> Ran
     requires { MayGo engine.old t heap }
-    ensures is { Decided (decision entries.now engine.old.threads t bus.old time) t
-        engine.old.threads bus.old engine.new.threads bus.new result }
-    ensures kept { engine.new ≡ with_threads engine.old engine.new.threads }
+    ensures is { Decided (decision entries.now engine.old t bus.old time) t
+        engine.old bus.old engine.new bus.new result }
     ensures unfinished { IfUnfinished result ((engine.new ≡ engine.old) × (bus.new ≡ bus.old)) }
     ensures ranged { RanInRange result }
-    ensures stays { Stays engine.old.threads engine.new.threads }
+    ensures stays { Stays engine.old engine.new }
     ensures bases { bus.new.bases ≡ bus.old.bases }
 {
     let pcc = engine.pcc(t);

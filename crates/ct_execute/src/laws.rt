@@ -5,10 +5,11 @@ ghost use Rattle.def_confined.specs.Confined.{Confined};
 ghost use Rattle.def_hidden.specs.Hidden.{Shut};
 ghost use Rattle.def_machine.specs.Image.{Image};
 ghost use Rattle.def_machine.specs.State.{State, thread};
-ghost use Rattle.def_step.specs.Instructions.{Board, executed, space_of};
+ghost use Rattle.def_step.specs.Instructions.{executed, space_of};
+ghost use Rattle.def_machine.specs.Board.{Board};
 ghost use Rattle.ct_execute.specs.Deciding.{decide, settle};
 ghost use Rattle.ct_execute.specs.Opening.{IsOpen, Runs};
-ghost use Rattle.ct_heaped.specs.Seen.{Seen};
+ghost use Rattle.ct_engine.specs.Seen.{Seen};
 
 /// The written step of a thread is the decision over the thread and what is around it, carried out.
 pub fn executed_decided()

@@ -13,13 +13,12 @@ ghost use Rattle.ct_engine.specs.Seen.{thread, moved_to};
 ghost use Rattle.ct_execute.specs.Deciding.{decision, Stays, WentQuietly};
 ghost use Rattle.ct_execute.specs.Opening.{IsOpen};
 ghost use Rattle.ct_execute.specs.Quiet.{accesses_ram, goes_at, goes_quietly, jump_by, jump_offset, jumps_whole, CarriesQuietly, Says};
-ghost use Rattle.ct_heaped.specs.Seen.{with_threads};
 
 use ct_alu::alu;
 use ct_capstep::derived;
 use ct_decoded::{Decoded, Reading};
+use ct_engine::Engine;
 use ct_flow::takes;
-use ct_heaped::Engine;
 use ct_mem::Memory;
 use def_instr::Instr;
 use def_step::Class;
@@ -39,18 +38,17 @@ pub fn execute_quietly<M: Memory + Drop>(
     t: u32,
     decoded: &mut Decoded,
 ) -> bool
-    requires runs { engine.old.threads.running ≡ Some t }
+    requires runs { engine.old.running ≡ Some t }
     requires opened { IsOpen engine.old t }
-    requires even { engine.old.threads.region.ram % 16 ≡ 0 }
+    requires even { engine.old.region.ram % 16 ≡ 0 }
     ensures when { result
-        ≡ goes_quietly (thread engine.old.threads t) engine.old.threads.region.ram
-        engine.old.threads.granules }
+        ≡ goes_quietly (thread engine.old t) engine.old.region.ram
+        engine.old.granules }
     ensures quiet { result ≡ true → (e : Listed) (k : Bank) (time : ℕ)
-        → WentQuietly (decision e engine.old.threads t k time) t engine.old.threads k
-        engine.new.threads }
-    ensures kept { engine.new ≡ with_threads engine.old engine.new.threads }
+        → WentQuietly (decision e engine.old t k time) t engine.old k
+        engine.new }
     ensures same { result ≡ false → engine.new ≡ engine.old }
-    ensures stays { Stays engine.old.threads engine.new.threads }
+    ensures stays { Stays engine.old engine.new }
 {
     if !engine.fetches(t) {
         return false;
@@ -68,19 +66,18 @@ pub fn execute_quietly<M: Memory + Drop>(
 /// What was read is carried out where it is such an instruction; else `false`, and nothing changes.
 #[inline(always)]
 fn carry<M: Memory + Drop>(engine: &mut Engine<M>, t: u32, reading: &Reading) -> bool
-    requires runs { engine.old.threads.running ≡ Some t }
+    requires runs { engine.old.running ≡ Some t }
     requires opened { IsOpen engine.old t }
-    requires even { engine.old.threads.region.ram % 16 ≡ 0 }
+    requires even { engine.old.region.ram % 16 ≡ 0 }
     requires says { (i : Instr) → reading.now.instruction ≡ Some i → Says reading.now i }
     requires registers { AreRegisters reading.now.operands }
     ensures when { result
-        ≡ goes_at (thread engine.old.threads t) engine.old.threads.region.ram
-        engine.old.threads.granules (next_word reading.now.instruction) }
+        ≡ goes_at (thread engine.old t) engine.old.region.ram
+        engine.old.granules (next_word reading.now.instruction) }
     ensures quiet { result ≡ true → IfSome reading.now.instruction
-        (λ i. CarriesQuietly engine.old.threads t i engine.new.threads) }
-    ensures kept { engine.new ≡ with_threads engine.old engine.new.threads }
+        (λ i. CarriesQuietly engine.old t i engine.new) }
     ensures same { result ≡ false → engine.new ≡ engine.old }
-    ensures stays { Stays engine.old.threads engine.new.threads }
+    ensures stays { Stays engine.old engine.new }
 {
     match &reading.instruction {
         Some(instruction) => match reading.class {
@@ -111,17 +108,16 @@ fn jump<M: Memory + Drop>(
     reading: &Reading,
     instruction: Instr,
 ) -> bool
-    requires runs { engine.old.threads.running ≡ Some t }
+    requires runs { engine.old.running ≡ Some t }
     requires says { Says reading.now instruction }
     requires registers { AreRegisters reading.now.operands }
     ensures when { result
-        ≡ jumps_whole (thread engine.old.threads t).pcc
-        (jump_offset (thread engine.old.threads t) instruction) }
+        ≡ jumps_whole (thread engine.old t).pcc
+        (jump_offset (thread engine.old t) instruction) }
     ensures quiet { result ≡ true
-        → CarriesQuietly engine.old.threads t instruction engine.new.threads }
-    ensures kept { engine.new ≡ with_threads engine.old engine.new.threads }
+        → CarriesQuietly engine.old t instruction engine.new }
     ensures same { result ≡ false → engine.new ≡ engine.old }
-    ensures stays { Stays engine.old.threads engine.new.threads }
+    ensures stays { Stays engine.old engine.new }
 {
     match moved_by(engine, t, reading, instruction) {
         Some(by) => go_by(engine, t, by),
@@ -137,10 +133,10 @@ fn moved_by<M: Memory + Drop>(
     reading: &Reading,
     instruction: Instr,
 ) -> Option<u32>
-    requires runs { engine.now.threads.running ≡ Some t }
+    requires runs { engine.now.running ≡ Some t }
     requires operands { reading.now.operands ≡ operands_of instruction }
     requires registers { AreRegisters reading.now.operands }
-    ensures { result ≡ jump_offset (thread engine.now.threads t) instruction }
+    ensures { result ≡ jump_offset (thread engine.now t) instruction }
 {
     match instruction {
         Instr::Beq { offset, .. }
@@ -163,10 +159,10 @@ fn branch<M: Memory + Drop>(
     instruction: Instr,
     offset: u32,
 ) -> u32
-    requires runs { engine.now.threads.running ≡ Some t }
+    requires runs { engine.now.running ≡ Some t }
     requires operands { reading.now.operands ≡ operands_of instruction }
     requires registers { AreRegisters reading.now.operands }
-    ensures { Some result ≡ jump_by (thread engine.now.threads t) instruction (Some offset) }
+    ensures { Some result ≡ jump_by (thread engine.now t) instruction (Some offset) }
 {
     let x = engine.address_in(t, reading.operands.first);
     let y = engine.address_in(t, reading.operands.second);
@@ -176,10 +172,10 @@ fn branch<M: Memory + Drop>(
 /// The program counter moves by an offset, where that leads to a multiple of 4; else `false`, and nothing changes.
 #[inline(always)]
 fn go_by<M: Memory + Drop>(engine: &mut Engine<M>, t: u32, by: u32) -> bool
-    requires { engine.old.threads.running ≡ Some t }
-    ensures whole { result ≡ (target_at (thread engine.old.threads t).pcc by % 4 == 0) }
-    ensures gone { result ≡ true → engine.new ≡ with_threads engine.old
-        (moved_to engine.old.threads t (target_at (thread engine.old.threads t).pcc by)) }
+    requires { engine.old.running ≡ Some t }
+    ensures whole { result ≡ (target_at (thread engine.old t).pcc by % 4 == 0) }
+    ensures gone { result ≡ true → engine.new
+        ≡ moved_to engine.old t (target_at (thread engine.old t).pcc by) }
     ensures same { result ≡ false → engine.new ≡ engine.old }
 {
     let target = engine.address(t).wrapping_add(by);
@@ -193,19 +189,18 @@ fn go_by<M: Memory + Drop>(engine: &mut Engine<M>, t: u32, by: u32) -> bool
 /// A load or a store, where its checks pass and it lies in RAM; else `false`, and nothing changes.
 #[inline(always)]
 fn access<M: Memory + Drop>(engine: &mut Engine<M>, t: u32, reading: &Reading) -> bool
-    requires runs { engine.old.threads.running ≡ Some t }
+    requires runs { engine.old.running ≡ Some t }
     requires opened { IsOpen engine.old t }
-    requires even { engine.old.threads.region.ram % 16 ≡ 0 }
+    requires even { engine.old.region.ram % 16 ≡ 0 }
     requires says { (i : Instr) × Says reading.now i × (class_of i ≡ kinds.Access) }
     requires registers { AreRegisters reading.now.operands }
     ensures when { result
-        ≡ accesses_ram (thread engine.old.threads t) engine.old.threads.region.ram
-        engine.old.threads.granules reading.now.access reading.now.operands }
+        ≡ accesses_ram (thread engine.old t) engine.old.region.ram
+        engine.old.granules reading.now.access reading.now.operands }
     ensures quiet { result ≡ true → (i : Instr) → Says reading.now i
-        → class_of i ≡ kinds.Access → CarriesQuietly engine.old.threads t i engine.new.threads }
-    ensures kept { engine.new ≡ with_threads engine.old engine.new.threads }
+        → class_of i ≡ kinds.Access → CarriesQuietly engine.old t i engine.new }
     ensures same { result ≡ false → engine.new ≡ engine.old }
-    ensures stays { Stays engine.old.threads engine.new.threads }
+    ensures stays { Stays engine.old engine.new }
 {
     let first = reading.operands.first;
     if !reading.access.loads {
@@ -235,13 +230,12 @@ fn access<M: Memory + Drop>(engine: &mut Engine<M>, t: u32, reading: &Reading) -
 
 /// An instruction of capabilities.
 fn derive<M: Memory + Drop>(engine: &mut Engine<M>, t: u32, reading: &Reading, instruction: Instr)
-    requires runs { engine.old.threads.running ≡ Some t }
+    requires runs { engine.old.running ≡ Some t }
     requires says { Says reading.now instruction }
     requires registers { AreRegisters reading.now.operands }
     requires class { class_of instruction ≡ kinds.Capability }
-    ensures quiet { CarriesQuietly engine.old.threads t instruction engine.new.threads }
-    ensures kept { engine.new ≡ with_threads engine.old engine.new.threads }
-    ensures stays { Stays engine.old.threads engine.new.threads }
+    ensures quiet { CarriesQuietly engine.old t instruction engine.new }
+    ensures stays { Stays engine.old engine.new }
 {
     let value = derived(
         instruction,

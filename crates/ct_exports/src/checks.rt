@@ -36,7 +36,7 @@ fn gate_trap(c: Live) -> Option<Trap>
 }
 
 /// The first check of c2 that fails: it is the thread's stack from its base, at an address up to the frame's top.
-fn stack_trap(base: u32, top: u32, c: Live) -> Option<Trap>
+pub fn stack_trap(base: u32, top: u32, c: Live) -> Option<Trap>
     ensures { result ≡ first_failed (stack_checks base top c) }
 {
     if !c.cap.tag {

@@ -9,7 +9,7 @@ mod exports;
 mod looking;
 mod room;
 
-pub use checks::{first_trap, return_trap};
+pub use checks::{first_trap, return_trap, stack_trap};
 pub use exports::{Export, called, export_of};
 pub use looking::{is_export_of, table_at};
 pub use room::top_below;

@@ -19,14 +19,13 @@ use Rattle.def_step.specs.Devices.{Bank}
 use Rattle.def_step.specs.Switch.{Switched, Trapped, TooDeep, NoStack, Enters, switch_of, frame_top}
 use Rattle.def_step.specs.Routines.{switched_to, switch, code}
 use Rattle.def_step.specs.Instructions.{ran, deed}
-use Rattle.def_step.specs.Events.{MachineRow}
+use Rattle.def_machine.specs.Board.{MachineRow}
 use Rattle.ct_areas.specs.Threads as areas
 use Rattle.ct_sched.specs.Sched.{SchedRow}
 use Rattle.ct_switch.specs.declared.calls.Called.{Called}
 use Rattle.ct_switch.specs.Calls.{told}
 use Rattle.ct_engine.specs.Seen as engine
-use Rattle.ct_engine.specs.Seen.{area_at}
-use Rattle.ct_heaped.specs.Seen.{Seen, with_threads}
+use Rattle.ct_engine.specs.Seen.{area_at, Seen}
 use Rattle.ct_engine.specs.Calls.{HeadStands, switch_at, after_call}
 use Rattle.ct_engine.specs.Written.{Shows, callee_thread}
 use Rattle.ct_engine.proofs.AsWritten.{enters_is}
@@ -41,7 +40,7 @@ use Rattle.ct_machine.proofs.Opened.{placed_at}
 use Rattle.ct_machine.proofs.Resting.{answers_are, register_alike}
 
 module _ (i : Image) (e : Seen) (r : SchedRow) (k : Bank) (pending : Bool) (time : ℕ) (c : Counts) (t : ℕ) (kept : IsKept i e r)
-    (base : (area_at e.threads t).stack ≡ stack_base i t) (most : areas.frames_most (area_at e.threads t) ≡ frames_most i t) where
+    (base : (area_at e t).stack ≡ stack_base i t) (most : areas.frames_most (area_at e t) ≡ frames_most i t) where
   abbrev here : State
   here = state_by e r pending k.states time c
 
@@ -52,20 +51,20 @@ module _ (i : Image) (e : Seen) (r : SchedRow) (k : Bank) (pending : Bool) (time
   abbrev comes : Switched
   comes = switch_of i.entries (stack_base i t) (frame_top (thread here t).frames) (frames_most i t) (thread here t)
 
-  pub comes_is : (entries : Listed) → entries ≡ i.entries → switch_at e.threads entries t ≡ comes
+  pub comes_is : (entries : Listed) → entries ≡ i.entries → switch_at e entries t ≡ comes
   comes_is entries same =
-      ap (λ (es : Listed). switch_at e.threads es t) same
-      ∙ ap (λ n. switch_of i.entries n (frame_top (engine.thread e.threads t).frames) (areas.frames_most (area_at e.threads t)) (engine.thread e.threads t)) base
-      ∙ ap (λ n. switch_of i.entries (stack_base i t) (frame_top (engine.thread e.threads t).frames) n (engine.thread e.threads t)) most
-      ∙ ap (λ (u : Thread). switch_of i.entries (stack_base i t) (frame_top u.frames) (frames_most i t) u) (sym (like_with e.threads.threads r.statuses t Ended))
+      ap (λ (es : Listed). switch_at e es t) same
+      ∙ ap (λ n. switch_of i.entries n (frame_top (engine.thread e t).frames) (areas.frames_most (area_at e t)) (engine.thread e t)) base
+      ∙ ap (λ n. switch_of i.entries (stack_base i t) (frame_top (engine.thread e t).frames) n (engine.thread e t)) most
+      ∙ ap (λ (u : Thread). switch_of i.entries (stack_base i t) (frame_top u.frames) (frames_most i t) u) (sym (like_with e.threads r.statuses t Ended))
 
   -- ---- where it enters
 
   -- the engine's threads as a state's, all else the same
   abbrev twin : State
-  twin = record here { threads = e.threads.threads }
+  twin = record here { threads = e.threads }
 
-  shows : Shows i twin e.threads t
+  shows : Shows i twin e t
   shows = record { ram = ram_is i e r kept; granules = refl; thread = refl; stack = base; frames = most }
 
   abbrev callee : ℕ → ℕ
@@ -75,66 +74,67 @@ module _ (i : Image) (e : Seen) (r : SchedRow) (k : Bank) (pending : Bool) (time
   entered_alike : (export high : ℕ) → threads.with_status (callee_thread i twin t export high) (get_or r.statuses t Ended)
       ≡ entered i (thread here t) (callee export) export high (given i (thread here t) t (callee export) export high)
   entered_alike export high =
-      ap (λ (u : Thread). entered i u (callee export) export high (given i u t (callee export) export high)) (sym (thread_with e.threads.threads r.statuses t kept.statuses))
+      ap (λ (u : Thread). entered i u (callee export) export high (given i u t (callee export) export high)) (sym (thread_with e.threads r.statuses t kept.statuses))
 
-  enters_so : (export high : ℕ) → HeadStands i e.threads t export
-      → state_by (with_threads e (after_call e.threads i.entries t (Enters export high))) r pending k.states time c
-      ≡ frames.switched i here t high (entered i (thread here t) (callee export) export high (given i (thread here t) t (callee export) export high)) e.threads.running
+  enters_so : (export high : ℕ) → HeadStands i e t export
+      → state_by ((after_call e i.entries t (Enters export high))) r pending k.states time c
+      ≡ frames.switched i here t high (entered i (thread here t) (callee export) export high (given i (thread here t) t (callee export) export high)) e.running
   enters_so export high heads =
-      let there : with_statuses (set e.threads.threads t (callee_thread i twin t export high)) r.statuses
-      ≡ set (with_statuses e.threads.threads r.statuses) t (entered i (thread here t) (callee export) export high (given i (thread here t) t (callee export) export high)) =
-      set_with e.threads.threads r.statuses t (callee_thread i twin t export high) kept.statuses
-      ∙ ap (λ (u : Thread). set (with_statuses e.threads.threads r.statuses) t u) (entered_alike export high) in
-      ap (λ (x : engine.Seen). state_by (with_threads e x) r pending k.states time c) (enters_is i twin e.threads t export high shows heads) ∙ rw there refl
+      let there : with_statuses (set e.threads t (callee_thread i twin t export high)) r.statuses
+      ≡ set (with_statuses e.threads r.statuses) t (entered i (thread here t) (callee export) export high (given i (thread here t) t (callee export) export high)) =
+      set_with e.threads r.statuses t (callee_thread i twin t export high) kept.statuses
+      ∙ ap (λ (u : Thread). set (with_statuses e.threads r.statuses) t u) (entered_alike export high) in
+      ap (λ (x : Seen). state_by (x) r pending k.states time c) (enters_is i twin e t export high shows heads) ∙ rw there refl
 
   -- ---- what a call came to
 
-  came_so : (w : Switched) (e' : Seen) (x : Called) → ((export high : ℕ) → w ≡ Enters export high → HeadStands i e.threads t export) → x ≡ told (register (engine.thread e.threads t) 6) w → e' ≡ with_threads e (switched_in e.threads i.entries t w)
+  came_so : (w : Switched) (e' : Seen) (x : Called) → ((export high : ℕ) → w ≡ Enters export high → HeadStands i e t export) → x ≡ told (register (engine.thread e t) 6) w → e' ≡ switched_in e i.entries t w
       → CameTo (machine e) (machine e') t (ran_by_call x) (ran (machine e).board here t (switched_to i here t w))
   came_so (Trapped why) e' x heads told_is now = rw (told_is, now) (record { is = refl; board = refl; counts = refl; unfinished = refl })
   came_so TooDeep e' x heads told_is now = rw (told_is, now, ← answers_are i e r k pending time c t kept (code 12)) (record { is = refl; board = refl; counts = refl; unfinished = tt })
   came_so NoStack e' x heads told_is now = rw (told_is, now, ← answers_are i e r k pending time c t kept (code 11)) (record { is = refl; board = refl; counts = refl; unfinished = tt })
   came_so (Enters export high) e' x heads told_is now =
       let left = enters_so export high (heads export high refl) in
-      let six : (register (engine.thread e.threads t) 6).shadow.root ≡ (register (thread here t) 6).shadow.root = ap (λ (z : Cap). z.shadow.root) (register_alike i e r k pending time c t kept 6) in
+      let six : (register (engine.thread e t) 6).shadow.root ≡ (register (thread here t) 6).shadow.root = ap (λ (z : Cap). z.shadow.root) (register_alike i e r k pending time c t kept 6) in
       rw (told_is, now) (record {
-        is = ap (λ (s : State). (s, Some (deed here t (register (engine.thread e.threads t) 6).shadow.root (Call export)))) left
-            ∙ ap (λ n. (frames.switched i here t high (entered i (thread here t) (callee export) export high (given i (thread here t) t (callee export) export high)) e.threads.running, Some (deed here t n (Call export)))) six;
+        is = ap (λ (s : State). (s, Some (deed here t (register (engine.thread e t) 6).shadow.root (Call export)))) left
+            ∙ ap (λ n. (frames.switched i here t high (entered i (thread here t) (callee export) export high (given i (thread here t) t (callee export) export high)) e.running, Some (deed here t n (Call export)))) six;
         board = refl;
         counts = refl;
         unfinished = tt;
       })
 
-  pub came_call : (entries : Listed) (e' : Seen) (x : Called) → entries ≡ i.entries → ((export high : ℕ) → switch_at e.threads i.entries t ≡ Enters export high → HeadStands i e.threads t export)
-      → x ≡ told (register (engine.thread e.threads t) 6) (switch_at e.threads entries t) → e' ≡ with_threads e (switched_in e.threads entries t (switch_at e.threads entries t))
+  pub came_call : (entries : Listed) (e' : Seen) (x : Called) → entries ≡ i.entries → ((export high : ℕ) → switch_at e i.entries t ≡ Enters export high → HeadStands i e t export)
+      → x ≡ told (register (engine.thread e t) 6) (switch_at e entries t) → e' ≡ switched_in e entries t (switch_at e entries t)
       → CameTo (machine e) (machine e') t (ran_by_call x) (ran (machine e).board here t (switch i here t))
   came_call entries e' x same heads told_is now =
       let is = comes_is entries same in
-      came_so comes e' x (λ export high enters. heads export high (comes_is i.entries refl ∙ enters)) (told_is ∙ ap (told (register (engine.thread e.threads t) 6)) is)
-      (now ∙ ap (λ (w : Switched). with_threads e (switched_in e.threads entries t w)) is ∙ ap (λ (es : Listed). with_threads e (switched_in e.threads es t comes)) same)
+      came_so comes e' x (λ export high enters. heads export high (comes_is i.entries refl ∙ enters)) (told_is ∙ ap (told (register (engine.thread e t) 6)) is)
+      (now ∙ ap (λ (w : Switched). (switched_in e entries t w)) is ∙ ap (λ (es : Listed). (switched_in e es t comes)) same)
 
   -- ---- what it asks, and what is kept
 
-  kept_so_far : (w : Switched) (e' : Seen) → e' ≡ with_threads e (switched_in e.threads i.entries t w) → IsKept i e' r
+  kept_so_far : (w : Switched) (e' : Seen) → e' ≡ switched_in e i.entries t w → IsKept i e' r
   kept_so_far (Trapped why) e' now = subst (λ (x : Seen). IsKept i x r) (sym now) kept
-  kept_so_far TooDeep e' now = subst (λ (x : Seen). IsKept i x r) (sym now) (same_kept i e (answered_in e.threads t (code 12)) r kept refl refl refl (length-set e.threads.threads t _) kept.ready)
-  kept_so_far NoStack e' now = subst (λ (x : Seen). IsKept i x r) (sym now) (same_kept i e (answered_in e.threads t (code 11)) r kept refl refl refl (length-set e.threads.threads t _) kept.ready)
+  kept_so_far TooDeep e' now = subst (λ (x : Seen). IsKept i x r) (sym now) (same_kept i e (answered_in e t (code 12)) r kept refl refl (length-set e.threads t _) kept.ready)
+  kept_so_far NoStack e' now = subst (λ (x : Seen). IsKept i x r) (sym now) (same_kept i e (answered_in e t (code 11)) r kept refl refl (length-set e.threads t _) kept.ready)
   kept_so_far (Enters export high) e' now =
       subst (λ (x : Seen). IsKept i x r) (sym now)
-      (same_kept i e (after_call e.threads i.entries t (Enters export high)) r kept refl refl (zeroed_length (area_at e.threads t).stack high e.threads.region.ram e.threads.granules) (length-set e.threads.threads t _) kept.ready)
+      (same_kept i e (after_call e i.entries t (Enters export high)) r kept refl (zeroed_length (area_at e t).stack high e.region.ram e.granules) (length-set e.threads t _) kept.ready)
 
-  pub call_kept : (entries : Listed) (e' : Seen) → entries ≡ i.entries → e' ≡ with_threads e (switched_in e.threads entries t (switch_at e.threads entries t)) → IsKept i e' r
-  call_kept entries e' same now = kept_so_far (switch_at e.threads entries t) e' (now ∙ ap (λ (es : Listed). with_threads e (switched_in e.threads es t (switch_at e.threads entries t))) same)
+  pub call_kept : (entries : Listed) (e' : Seen) → entries ≡ i.entries → e' ≡ switched_in e entries t (switch_at e entries t) → IsKept i e' r
+  call_kept entries e' same now = kept_so_far (switch_at e entries t) e' (now ∙ ap (λ (es : Listed). (switched_in e es t (switch_at e entries t))) same)
 
 -- what an engine shows of the thread that calls
 pub shows_caller : (i : Image) (e : Seen) (r : SchedRow) (pending : Bool) (devices : List DeviceState) (time : ℕ) (c : Counts) (t : ℕ) → IsKept i e r → IsOfSound i → Confined i (state_by e r pending devices time c)
-    → 0 < length (engine.thread e.threads t).frames → ShowsCaller i (state_by e r pending devices time c) e.threads t
+    → 0 < length (engine.thread e t).frames → ShowsCaller i (state_by e r pending devices time c) e t
 shows_caller i e r pending devices time c t kept sound confined some = record {
   booted = sound;
   confined = confined;
   region = kept.region;
+  heap = kept.heap.base;
   granules = refl;
   placed = placed_at i e r pending devices time c t kept some;
-  registers = ap (λ (u : Thread). u.registers) (sym (like_with e.threads.threads r.statuses t Ended));
-  frames = sym (frames_with e.threads.threads r.statuses t);
+  registers = ap (λ (u : Thread). u.registers) (sym (like_with e.threads r.statuses t Ended));
+  frames = sym (frames_with e.threads r.statuses t);
 }

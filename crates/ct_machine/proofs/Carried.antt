@@ -17,13 +17,13 @@ use Rattle.def_machine.specs.Frames as frames
 use Rattle.def_machine.specs.Frames.{left_with, left_by, answer_by}
 use Rattle.def_step.specs.Devices.{Bank}
 use Rattle.def_step.specs.Accesses.{Space}
-use Rattle.def_step.specs.Instructions.{Board, actor_of, deed, space_of, executed}
-use Rattle.def_step.specs.Events.{MachineRow, noted, with_deed}
+use Rattle.def_step.specs.Instructions.{actor_of, deed, space_of, executed}
+use Rattle.def_machine.specs.Board.{Board, MachineRow}
+use Rattle.def_step.specs.Events.{noted, with_deed}
 use Rattle.ct_sched.specs.Sched as sched
 use Rattle.ct_sched.specs.Sched.{SchedRow}
 use Rattle.ct_engine.specs.Seen as engine
-use Rattle.ct_engine.specs.Seen.{went, with_granules, area_at}
-use Rattle.ct_heaped.specs.Seen.{Seen, with_threads}
+use Rattle.ct_engine.specs.Seen.{went, with_granules, area_at, Seen}
 use Rattle.ct_engine.specs.Steps.{space_in}
 use Rattle.ct_engine.specs.Calls as calls
 use Rattle.ct_execute.specs.declared.ran.Ran.{Ran}
@@ -38,57 +38,57 @@ use Rattle.ct_machine.proofs.Taking.{ram_is, frames_with}
 
 -- the stack stands where the image has it, and the actor is the frame's
 pub record Ends (i : Image) (e : Seen) (s : State) (t actor : ℕ) : Type 0 where
-  pub base : (area_at e.threads t).stack ≡ stack_base i t
-  pub some : 0 < length (engine.thread e.threads t).frames
+  pub base : (area_at e t).stack ≡ stack_base i t
+  pub some : 0 < length (engine.thread e t).frames
   pub acts : actor ≡ actor_of (thread s t).frames
 
 module _ (i : Image) (e : Seen) (r : SchedRow) (pending : Bool) (devices : List DeviceState) (time : ℕ) (c : Counts) (t : ℕ) (kept : IsKept i e r) where
   -- a thread goes on, and RAM and the devices change
   pub went_is : (pcc : Cap) (posture : Posture) (to : ℕ) (value : Cap) (gs : List Granule) (states : List DeviceState)
-      → state_by (with_threads e (with_granules (went e.threads t pcc posture to value) gs)) r pending states time c
+      → state_by ((with_granules (went e t pcc posture to value) gs)) r pending states time c
       ≡ record (state_by e r pending devices time c) {
         granules = gs;
-        threads = set (with_statuses e.threads.threads r.statuses) t (jumped (get_or (with_statuses e.threads.threads r.statuses) t nobody) pcc posture to value);
+        threads = set (with_statuses e.threads r.statuses) t (jumped (get_or (with_statuses e.threads r.statuses) t nobody) pcc posture to value);
         devices = states;
       }
   went_is pcc posture to value gs states =
-      let there : with_statuses (set e.threads.threads t (jumped (get_or e.threads.threads t nobody) pcc posture to value)) r.statuses
-      ≡ set (with_statuses e.threads.threads r.statuses) t (jumped (get_or (with_statuses e.threads.threads r.statuses) t nobody) pcc posture to value) =
-      set_with e.threads.threads r.statuses t (jumped (get_or e.threads.threads t nobody) pcc posture to value) kept.statuses
-      ∙ ap (λ (x : Thread). set (with_statuses e.threads.threads r.statuses) t (jumped x pcc posture to value)) (sym (thread_with e.threads.threads r.statuses t kept.statuses)) in
+      let there : with_statuses (set e.threads t (jumped (get_or e.threads t nobody) pcc posture to value)) r.statuses
+      ≡ set (with_statuses e.threads r.statuses) t (jumped (get_or (with_statuses e.threads r.statuses) t nobody) pcc posture to value) =
+      set_with e.threads r.statuses t (jumped (get_or e.threads t nobody) pcc posture to value) kept.statuses
+      ∙ ap (λ (x : Thread). set (with_statuses e.threads r.statuses) t (jumped x pcc posture to value)) (sym (thread_with e.threads r.statuses t kept.statuses)) in
       rw there refl
 
   -- its last frame ends
-  ended_one : (f : Frame) → (area_at e.threads t).stack ≡ stack_base i t
-      → state_by (with_threads e (calls.switched e.threads t f.top nobody None)) (sched.with_statuses r (slice_set r.statuses t Ended)) pending devices time c
+  ended_one : (f : Frame) → (area_at e t).stack ≡ stack_base i t
+      → state_by (calls.switched e t f.top nobody None) (sched.with_statuses r (slice_set r.statuses t Ended)) pending devices time c
       ≡ frames.switched i (state_by e r pending devices time c) t f.top nobody None
-  ended_one f base = rw (end_with e.threads.threads r.statuses t kept.statuses, base, ram_is i e r kept) refl
+  ended_one f base = rw (end_with e.threads r.statuses t kept.statuses, base, ram_is i e r kept) refl
 
   -- one ends above others
-  ended_more : (f : Frame) (fs : List Frame) (first second : Cap) → (area_at e.threads t).stack ≡ stack_base i t
-      → state_by (with_threads e (calls.switched e.threads t f.top (left_with (filtered_in e.threads.region.ram e.threads.granules) (get_or e.threads.threads t nobody) f fs first second) e.threads.running)) r pending devices time c
-      ≡ frames.switched i (state_by e r pending devices time c) t f.top (left_by i (state_by e r pending devices time c) (get_or (with_statuses e.threads.threads r.statuses) t nobody) f fs first second) e.threads.running
+  ended_more : (f : Frame) (fs : List Frame) (first second : Cap) → (area_at e t).stack ≡ stack_base i t
+      → state_by ((calls.switched e t f.top (left_with (filtered_in e.region.ram e.granules) (get_or e.threads t nobody) f fs first second) e.running)) r pending devices time c
+      ≡ frames.switched i (state_by e r pending devices time c) t f.top (left_by i (state_by e r pending devices time c) (get_or (with_statuses e.threads r.statuses) t nobody) f fs first second) e.running
   ended_more f fs first second base =
-      let there : with_statuses (set e.threads.threads t (left_with (filtered_in e.threads.region.ram e.threads.granules) (get_or e.threads.threads t nobody) f fs first second)) r.statuses
-      ≡ set (with_statuses e.threads.threads r.statuses) t (left_with (filtered_in e.threads.region.ram e.threads.granules) (get_or (with_statuses e.threads.threads r.statuses) t nobody) f fs first second) =
-      set_with e.threads.threads r.statuses t (left_with (filtered_in e.threads.region.ram e.threads.granules) (get_or e.threads.threads t nobody) f fs first second) kept.statuses
-      ∙ ap (λ (x : Thread). set (with_statuses e.threads.threads r.statuses) t (left_with (filtered_in e.threads.region.ram e.threads.granules) x f fs first second)) (sym (thread_with e.threads.threads r.statuses t kept.statuses)) in
+      let there : with_statuses (set e.threads t (left_with (filtered_in e.region.ram e.granules) (get_or e.threads t nobody) f fs first second)) r.statuses
+      ≡ set (with_statuses e.threads r.statuses) t (left_with (filtered_in e.region.ram e.granules) (get_or (with_statuses e.threads r.statuses) t nobody) f fs first second) =
+      set_with e.threads r.statuses t (left_with (filtered_in e.region.ram e.granules) (get_or e.threads t nobody) f fs first second) kept.statuses
+      ∙ ap (λ (x : Thread). set (with_statuses e.threads r.statuses) t (left_with (filtered_in e.region.ram e.granules) x f fs first second)) (sym (thread_with e.threads r.statuses t kept.statuses)) in
       rw (there, base, ram_is i e r kept) refl
 
   -- the return
-  returned_by : (entries : Listed) (fs : List Frame) → entries ≡ i.entries → (area_at e.threads t).stack ≡ stack_base i t → 0 < length fs
-      → state_by (with_threads e (calls.ended_by e.threads t (λ f. answer_by entries (get_or e.threads.threads t nobody) f 10) (λ f. answer_by entries (get_or e.threads.threads t nobody) f 11) fs)) (status_after (nat_lt 1 (length fs)) r t) pending devices time c
+  returned_by : (entries : Listed) (fs : List Frame) → entries ≡ i.entries → (area_at e t).stack ≡ stack_base i t → 0 < length fs
+      → state_by ((calls.ended_by e t (λ f. answer_by entries (get_or e.threads t nobody) f 10) (λ f. answer_by entries (get_or e.threads t nobody) f 11) fs)) (status_after (nat_lt 1 (length fs)) r t) pending devices time c
       ≡ frames.returned i (state_by e r pending devices time c) t fs
   returned_by entries [] same base some = absurd (omega (arith, some))
   returned_by entries (f ∷ []) same base some = ended_one f base
   returned_by entries (f ∷ g ∷ fs) same base some =
-      let alike : (n : ℕ) → answer_by entries (get_or e.threads.threads t nobody) f n ≡ answer_by i.entries (get_or (with_statuses e.threads.threads r.statuses) t nobody) f n =
-      λ n. ap (λ (es : Listed). answer_by es (get_or e.threads.threads t nobody) f n) same ∙ ap (λ (x : Thread). answer_by i.entries x f n) (sym (like_with e.threads.threads r.statuses t Ended)) in
-      rw (two_more (length fs), alike 10, alike 11) (ended_more f (g ∷ fs) (answer_by i.entries (get_or (with_statuses e.threads.threads r.statuses) t nobody) f 10) (answer_by i.entries (get_or (with_statuses e.threads.threads r.statuses) t nobody) f 11) base)
+      let alike : (n : ℕ) → answer_by entries (get_or e.threads t nobody) f n ≡ answer_by i.entries (get_or (with_statuses e.threads r.statuses) t nobody) f n =
+      λ n. ap (λ (es : Listed). answer_by es (get_or e.threads t nobody) f n) same ∙ ap (λ (x : Thread). answer_by i.entries x f n) (sym (like_with e.threads r.statuses t Ended)) in
+      rw (two_more (length fs), alike 10, alike 11) (ended_more f (g ∷ fs) (answer_by i.entries (get_or (with_statuses e.threads r.statuses) t nobody) f 10) (answer_by i.entries (get_or (with_statuses e.threads r.statuses) t nobody) f 11) base)
 
   -- the unwind
-  unwound_by : (fs : List Frame) → (area_at e.threads t).stack ≡ stack_base i t → 0 < length fs
-      → state_by (with_threads e (calls.ended_by e.threads t (λ f. plain UNWOUND) (λ f. plain 0) fs)) (status_after (nat_lt 1 (length fs)) r t) pending devices time c
+  unwound_by : (fs : List Frame) → (area_at e t).stack ≡ stack_base i t → 0 < length fs
+      → state_by ((calls.ended_by e t (λ f. plain UNWOUND) (λ f. plain 0) fs)) (status_after (nat_lt 1 (length fs)) r t) pending devices time c
       ≡ frames.unwound i (state_by e r pending devices time c) t fs
   unwound_by [] base some = absurd (omega (arith, some))
   unwound_by (f ∷ []) base some = ended_one f base
@@ -104,20 +104,20 @@ module _ (i : Image) (entries : Listed) (e : Seen) (r : SchedRow) (k : Bank) (pe
   -- ---- an instruction
 
   -- the scheduler's status is no part of what decides
-  decided_alike : (p : Space) → decide i.entries (get_or (with_statuses e.threads.threads r.statuses) t nobody) p ≡ decide i.entries (get_or e.threads.threads t nobody) p
-  decided_alike p = ap (λ (x : Thread). decide i.entries x p) (like_with e.threads.threads r.statuses t Ended)
+  decided_alike : (p : Space) → decide i.entries (get_or (with_statuses e.threads r.statuses) t nobody) p ≡ decide i.entries (get_or e.threads t nobody) p
+  decided_alike p = ap (λ (x : Thread). decide i.entries x p) (like_with e.threads r.statuses t Ended)
 
-  space_alike : space_in e.threads k time ≡ space_of board here
+  space_alike : space_in e k time ≡ space_of board here
   space_alike = rw (ram_is i e r kept) refl
 
-  decision_is : decision entries e.threads t k time ≡ decide i.entries (thread here t) (space_of board here)
+  decision_is : decision entries e t k time ≡ decide i.entries (thread here t) (space_of board here)
   decision_is =
-      ap (λ (es : Listed). decide es (get_or e.threads.threads t nobody) (space_in e.threads k time)) same
-      ∙ ap (λ (p : Space). decide i.entries (get_or e.threads.threads t nobody) p) space_alike
+      ap (λ (es : Listed). decide es (get_or e.threads t nobody) (space_in e k time)) same
+      ∙ ap (λ (p : Space). decide i.entries (get_or e.threads t nobody) p) space_alike
       ∙ sym (decided_alike (space_of board here))
 
-  settled : (D : Decision) (e' : engine.Seen) (k' : Bank) (ran : Ran) → Decided D t e.threads k e' k' ran
-      → finished board t (actor_of (thread here t).frames) (state_by (with_threads e e') r pending k'.states time c) ran ≡ settle board here t D
+  settled : (D : Decision) (e' : Seen) (k' : Bank) (ran : Ran) → Decided D t e k e' k' ran
+      → finished board t (actor_of (thread here t).frames) (state_by (e') r pending k'.states time c) ran ≡ settle board here t D
   settled (Goes d entry) e' k' ran h =
       let there = went_is i e r pending k.states time c t kept d.pcc d.posture d.to d.value d.granules d.bank.states in
       rw (h.0, h.1, h.2) (ap (λ (x : State). (x, option_map (deed here t entry) d.act)) there)
@@ -125,9 +125,9 @@ module _ (i : Image) (entries : Listed) (e : Seen) (r : SchedRow) (k : Bank) (pe
   settled (Serves number) e' k' ran h = rw (h.0, h.1, h.2) refl
   settled (Traps why) e' k' ran h = rw (h.0, h.1, h.2) refl
 
-  executed_so : (e' : engine.Seen) (k' : Bank) (ran : Ran) → Decided (decision entries e.threads t k time) t e.threads k e' k' ran
-      → finished board t (actor_of (thread here t).frames) (state_by (with_threads e e') r pending k'.states time c) ran ≡ executed board here t
-  executed_so e' k' ran h = settled (decision entries e.threads t k time) e' k' ran h ∙ ap (settle board here t) decision_is ∙ sym (executed_is board here t)
+  executed_so : (e' : Seen) (k' : Bank) (ran : Ran) → Decided (decision entries e t k time) t e k e' k' ran
+      → finished board t (actor_of (thread here t).frames) (state_by (e') r pending k'.states time c) ran ≡ executed board here t
+  executed_so e' k' ran h = settled (decision entries e t k time) e' k' ran h ∙ ap (settle board here t) decision_is ∙ sym (executed_is board here t)
 
   -- a machine of the same image
   abbrev machine : Seen → Bank → MachineRow
@@ -136,10 +136,10 @@ module _ (i : Image) (entries : Listed) (e : Seen) (r : SchedRow) (k : Bank) (pe
   same_machine : (e' : Seen) (k' : Bank) → (e' ≡ e) × (k' ≡ k) → machine e' k' ≡ machine e k
   same_machine e' k' h = rw (h.0, h.1) refl
 
-  pub came : (e' : Seen) (k' : Bank) (ran : Ran) → Decided (decision entries e.threads t k time) t e.threads k e'.threads k' ran → e' ≡ with_threads e e'.threads → k'.bases ≡ k.bases → IfUnfinished ran ((e' ≡ e) × (k' ≡ k))
+  pub came : (e' : Seen) (k' : Bank) (ran : Ran) → Decided (decision entries e t k time) t e k e' k' ran → k'.bases ≡ k.bases → IfUnfinished ran ((e' ≡ e) × (k' ≡ k))
       → CameTo (machine e k) (machine e' k') t ran (executed board here t)
-  came e' k' ran h stays bases waits = record {
-    is = ap (λ (x : Seen). finished board t (actor_of (thread here t).frames) (state_by x r pending k'.states time c) ran) stays ∙ executed_so e'.threads k' ran h;
+  came e' k' ran h bases waits = record {
+    is = executed_so e' k' ran h;
     board = ap (λ (bs : List ℕ). record { image = i; bases = bs }) bases;
     counts = refl;
     unfinished = unfinished_map ran ((e' ≡ e) × (k' ≡ k)) (machine e' k' ≡ machine e k) (same_machine e' k') waits;
@@ -147,22 +147,22 @@ module _ (i : Image) (entries : Listed) (e : Seen) (r : SchedRow) (k : Bank) (pe
 
   -- ---- what is left to do
 
-  module _ (base : (area_at e.threads t).stack ≡ stack_base i t) (some : 0 < length (engine.thread e.threads t).frames) where
-    returns_as : state_by (with_threads e (calls.returned e.threads entries t)) (status_after (nat_lt 1 (length (engine.thread e.threads t).frames)) r t) pending k.states time c
+  module _ (base : (area_at e t).stack ≡ stack_base i t) (some : 0 < length (engine.thread e t).frames) where
+    returns_as : state_by (calls.returned e entries t) (status_after (nat_lt 1 (length (engine.thread e t).frames)) r t) pending k.states time c
         ≡ frames.returned i here t (thread here t).frames
     returns_as =
-        returned_by i e r pending k.states time c t kept entries (engine.thread e.threads t).frames same base some
-        ∙ ap (λ (fs : List Frame). frames.returned i here t fs) (sym (frames_with e.threads.threads r.statuses t))
+        returned_by i e r pending k.states time c t kept entries (engine.thread e t).frames same base some
+        ∙ ap (λ (fs : List Frame). frames.returned i here t fs) (sym (frames_with e.threads r.statuses t))
 
-    unwinds_as : state_by (with_threads e (calls.ended_with e.threads t UNWOUND)) (status_after (nat_lt 1 (length (engine.thread e.threads t).frames)) r t) pending k.states time c
+    unwinds_as : state_by (calls.ended_with e t UNWOUND) (status_after (nat_lt 1 (length (engine.thread e t).frames)) r t) pending k.states time c
         ≡ frames.unwound i here t (thread here t).frames
     unwinds_as =
-        unwound_by i e r pending k.states time c t kept (engine.thread e.threads t).frames base some
-        ∙ ap (λ (fs : List Frame). frames.unwound i here t fs) (sym (frames_with e.threads.threads r.statuses t))
+        unwound_by i e r pending k.states time c t kept (engine.thread e t).frames base some
+        ∙ ap (λ (fs : List Frame). frames.unwound i here t fs) (sym (frames_with e.threads r.statuses t))
 
   abbrev after : ℕ → Ran → State × Option Deed
   after actor ran = (
-    state_by (with_threads e (left_after ran e.threads entries t)) (status_after (goes_after ran e.threads t) r t) pending k.states time (with_deed c (deed_by t actor ran)),
+    state_by (left_after ran e entries t) (status_after (goes_after ran e t) r t) pending k.states time (with_deed c (deed_by t actor ran)),
     deed_by t actor ran,
   )
 
@@ -173,6 +173,6 @@ module _ (i : Image) (entries : Listed) (e : Seen) (r : SchedRow) (k : Bank) (pe
   finishes actor (Trapped why) done h = rw h.acts (ap (λ (x : State). noted (x, deed_by t (actor_of (thread here t).frames) (Trapped why))) (unwinds_as h.base h.some))
 
   pub finished_so : (e'' : Seen) (r'' : SchedRow) (c'' : Counts) (actor : ℕ) (ran : Ran) (d : Option Deed) → IsDone ran → IfUnfinished ran (Ends i e here t actor)
-      → e'' ≡ with_threads e (left_after ran e.threads entries t) → r'' ≡ status_after (goes_after ran e.threads t) r t → d ≡ deed_by t actor ran → c'' ≡ with_deed c d
+      → e'' ≡ left_after ran e entries t → r'' ≡ status_after (goes_after ran e t) r t → d ≡ deed_by t actor ran → c'' ≡ with_deed c d
       → (state_by e'' r'' pending k.states time c'', d) ≡ noted (finished board t actor here ran)
   finished_so e'' r'' c'' actor ran d done h left status deed_is counts = rw (left, status, counts, deed_is) (finishes actor ran done h)

@@ -35,16 +35,16 @@ use Rattle.def_step.specs.Routines.{Leaves, code}
 use Rattle.def_step.specs.Quotas as quotas
 use Rattle.def_step.specs.Quotas.{Allocation, Refused, Made, is_quota_cap, whole_of, allocation}
 use Rattle.def_step.specs.Instructions.{actor_of, deed_told, ran}
-use Rattle.def_step.specs.Events.{MachineRow}
+use Rattle.def_machine.specs.Board.{MachineRow}
 use Rattle.law_jumps.proofs.Moves.{in_rooted}
 use Rattle.ct_sched.specs.Sched.{SchedRow}
 use Rattle.ct_engine.specs.Seen as engine
-use Rattle.ct_engine.specs.Heaps.{sifted}
 use Rattle.ct_execute.specs.declared.ran.Ran.{Ran}
 use Rattle.ct_execute.specs.declared.ran.Ran.TheVariants.{Went}
-use Rattle.ct_heaped.specs.Seen.{Seen, with_threads, limit_at}
-use Rattle.ct_heaped.specs.Grants.{with_object, quarantined, freed}
+use Rattle.ct_engine.specs.Seen.{Seen, limit_at, sifted}
+use Rattle.ct_engine.specs.Grants.{with_object, quarantined, freed}
 use Rattle.ct_services.specs.Granted as granted
+use Rattle.ct_services.specs.Served.{answered_in}
 use Rattle.ct_machine.specs.declared.engine.Engine.TheInside.{Inside}
 use Rattle.ct_machine.specs.Parts.{state_by, IsCounted, IsKept}
 use Rattle.ct_machine.specs.Going.{CameTo, IsDone, MayGoOn, deed_by}
@@ -56,21 +56,21 @@ use Rattle.ct_machine.proofs.Resting.{by_trap, checked_once, answers_are, regist
 
 -- what passed the load filter of the memory that the machine has
 sifted_is : (i : Image) (x : Seen) (r : SchedRow) (k : Bank) (pending : Bool) (time : ℕ) (c : Counts) (t : ℕ) → IsKept i x r
-    → state_by (with_threads x (sifted x.threads t)) r pending k.states time c
+    → state_by (sifted x t) r pending k.states time c
     ≡ record (state_by x r pending k.states time c) {
-      threads = set (with_statuses x.threads.threads r.statuses) t (record (get_or (with_statuses x.threads.threads r.statuses) t nobody) {
-        registers = map (filtered_in i.ram x.threads.granules) (get_or (with_statuses x.threads.threads r.statuses) t nobody).registers;
+      threads = set (with_statuses x.threads r.statuses) t (record (get_or (with_statuses x.threads r.statuses) t nobody) {
+        registers = map (filtered_in i.ram x.granules) (get_or (with_statuses x.threads r.statuses) t nobody).registers;
       });
     }
 sifted_is i x r k pending time c t kept =
-    let new : Thread → Thread = λ u. record u { registers = map (filtered_in x.threads.region.ram x.threads.granules) u.registers } in
-    let there : with_statuses (set x.threads.threads t (new (get_or x.threads.threads t nobody))) r.statuses ≡ set (with_statuses x.threads.threads r.statuses) t (new (get_or (with_statuses x.threads.threads r.statuses) t nobody)) =
-    set_with x.threads.threads r.statuses t (new (get_or x.threads.threads t nobody)) kept.statuses
-    ∙ ap (λ (u : Thread). set (with_statuses x.threads.threads r.statuses) t (new u)) (sym (thread_with x.threads.threads r.statuses t kept.statuses)) in
+    let new : Thread → Thread = λ u. record u { registers = map (filtered_in x.region.ram x.granules) u.registers } in
+    let there : with_statuses (set x.threads t (new (get_or x.threads t nobody))) r.statuses ≡ set (with_statuses x.threads r.statuses) t (new (get_or (with_statuses x.threads r.statuses) t nobody)) =
+    set_with x.threads r.statuses t (new (get_or x.threads t nobody)) kept.statuses
+    ∙ ap (λ (u : Thread). set (with_statuses x.threads r.statuses) t (new u)) (sym (thread_with x.threads r.statuses t kept.statuses)) in
     ap (λ (ts : List Thread). record (state_by x r pending k.states time c) { threads = ts }) there
     ∙ ap (λ n. record (state_by x r pending k.states time c) {
-      threads = set (with_statuses x.threads.threads r.statuses) t (record (get_or (with_statuses x.threads.threads r.statuses) t nobody) {
-        registers = map (filtered_in n x.threads.granules) (get_or (with_statuses x.threads.threads r.statuses) t nobody).registers;
+      threads = set (with_statuses x.threads r.statuses) t (record (get_or (with_statuses x.threads r.statuses) t nobody) {
+        registers = map (filtered_in n x.granules) (get_or (with_statuses x.threads r.statuses) t nobody).registers;
       });
     }) (ram_is i x r kept)
 
@@ -100,17 +100,17 @@ module _ (i : Image) (e : Seen) (r : SchedRow) (k : Bank) (pending : Bool) (time
   went None = Went None 0
   went (Some told) = Went (Some told.1) told.0
 
-  answered_kept : (x : Seen) (v : Cap) → IsKept i x r → IsKept i (granted.answers x t v) r
+  answered_kept : (x : Seen) (v : Cap) → IsKept i x r → IsKept i (answered_in x t v) r
   answered_kept x v held =
-      stays_kept i x (granted.answers x t v) r r.statuses held
-      (record { region = refl; areas = refl; size = refl; threads = length-set x.threads.threads t _; heap_base = refl; heap_end = refl; limits = refl }) refl held.ready
+      stays_kept i x (answered_in x t v) r r.statuses held
+      (record { region = refl; areas = refl; size = refl; threads = length-set x.threads t _; heap_base = refl; heap_end = refl; limits = refl }) refl held.ready
 
   -- an answer of an engine that has become this, of a machine that has become that, where the thread went on and told as much
   serves_went : (most : ℕ) (x : Seen) (s : State) (act : Option Act) (entry : ℕ) (told : Option (ℕ × Act)) (v : Cap) → deed_by t (actor_of (thread here t).frames) (Went act entry) ≡ option_map (deed_told here t) told
-      → IsKept i x r → x.next ≤ most → state_by x r pending k.states time c ≡ s → Serves most (granted.answers x t v, Went act entry) (Leaves (routine.answers s t v) told)
+      → IsKept i x r → x.next ≤ most → state_by x r pending k.states time c ≡ s → Serves most (answered_in x t v, Went act entry) (Leaves (routine.answers s t v) told)
   serves_went most x s act entry told v tells held few is = record {
     came = record {
-      is = ap (λ (d : Option Deed). (state_by (granted.answers x t v) r pending k.states time c, d)) tells
+      is = ap (λ (d : Option Deed). (state_by (answered_in x t v) r pending k.states time c, d)) tells
           ∙ ap (λ (z : State). (z, option_map (deed_told here t) told)) (answers_are i x r k pending time c t held v ∙ ap (λ (z : State). routine.answers z t v) is);
       board = refl;
       counts = refl;
@@ -122,7 +122,7 @@ module _ (i : Image) (e : Seen) (r : SchedRow) (k : Bank) (pending : Bool) (time
   }
 
   serves_as : (most : ℕ) (x : Seen) (s : State) (told : Option (ℕ × Act)) (v : Cap) → IsKept i x r → x.next ≤ most → state_by x r pending k.states time c ≡ s
-      → Serves most (granted.answers x t v, went told) (Leaves (routine.answers s t v) told)
+      → Serves most (answered_in x t v, went told) (Leaves (routine.answers s t v) told)
   serves_as most x s None v held few is = serves_went most x s None 0 None v refl held few is
   serves_as most x s (Some told) v held few is = serves_went most x s (Some told.1) told.0 (Some told) v refl held few is
 
@@ -134,12 +134,12 @@ module _ (i : Image) (e : Seen) (r : SchedRow) (k : Bank) (pending : Bool) (time
   serves_quota most p x few h =
       let one = register_alike i e r k pending time c t kept 1 in
       let ten = register_alike i e r k pending time c t kept 10 in
-      let seen : Cap = register (engine.thread e.threads t) 10 in
+      let seen : Cap = register (engine.thread e t) 10 in
       let after : Cap → routine.Ran = λ z. if is_quota_cap z then x else routine.tells here t (code 1) in
-      let first : Serves most (granted.by_quota e t p) (by_trap (first_failed (return_checks (register (engine.thread e.threads t) 1))) (after seen)) =
-      serves_checked most (first_failed (return_checks (register (engine.thread e.threads t) 1))) (if is_quota_cap seen then p else granted.tells e t (code 1)) (after seen) few
+      let first : Serves most (granted.by_quota e t p) (by_trap (first_failed (return_checks (register (engine.thread e t) 1))) (after seen)) =
+      serves_checked most (first_failed (return_checks (register (engine.thread e t) 1))) (if is_quota_cap seen then p else granted.tells e t (code 1)) (after seen) few
       (serves_if most (is_quota_cap seen) p (granted.tells e t (code 1)) x (routine.tells here t (code 1)) h (serves_told most (code 1) few)) in
-      let alike : by_trap (first_failed (return_checks (register (engine.thread e.threads t) 1))) (after seen) ≡ quotas.by_quota here t x =
+      let alike : by_trap (first_failed (return_checks (register (engine.thread e t) 1))) (after seen) ≡ quotas.by_quota here t x =
       ap (λ (z : Cap). by_trap (first_failed (return_checks z)) (after seen)) one
       ∙ ap (λ (z : Cap). by_trap (first_failed (return_checks (register (thread here t) 1))) (after z)) ten
       ∙ sym (checked_once (return_checks (register (thread here t) 1)) (after (register (thread here t) 10))) in
@@ -171,11 +171,11 @@ module _ (i : Image) (e : Seen) (r : SchedRow) (k : Bank) (pending : Bool) (time
       serves_as (e.next + 1) (with_object e o) (heap.with_object here o) (Some (o.quota, Allocate o.number o.base o.length (charges o.quota (with_object e o).objects))) (heap.object_cap o)
       (stays_kept i e (with_object e o) r r.statuses kept (record { region = refl; areas = refl; size = refl; threads = refl; heap_base = refl; heap_end = refl; limits = refl }) refl kept.ready) (omega arith) refl
 
-  pub serves_allocate : (p : Seen × Ran) → p ≡ granted.by_quota e t (granted.allocated e t (allocation i here (granted.quota_in e t) (cap_address (register (engine.thread e.threads t) 11))))
+  pub serves_allocate : (p : Seen × Ran) → p ≡ granted.by_quota e t (granted.allocated e t (allocation i here (granted.quota_in e t) (cap_address (register (engine.thread e t) 11))))
       → Serves (e.next + 1) p (quotas.allocate i here t)
   serves_allocate p is =
-      let asked : allocation i here (granted.quota_in e t) (cap_address (register (engine.thread e.threads t) 11)) ≡ allocation i here (quotas.quota_in here t) (cap_address (register (thread here t) 11)) =
-      ap (λ q. allocation i here q (cap_address (register (engine.thread e.threads t) 11))) quota_alike
+      let asked : allocation i here (granted.quota_in e t) (cap_address (register (engine.thread e t) 11)) ≡ allocation i here (quotas.quota_in here t) (cap_address (register (thread here t) 11)) =
+      ap (λ q. allocation i here q (cap_address (register (engine.thread e t) 11))) quota_alike
       ∙ ap (λ (z : Cap). allocation i here (quotas.quota_in here t) (cap_address z)) (register_alike i e r k pending time c t kept 11) in
       let a : Allocation = allocation i here (quotas.quota_in here t) (cap_address (register (thread here t) 11)) in
       subst (λ (q : Seen × Ran). Serves (e.next + 1) q (quotas.allocate i here t)) (sym (is ∙ ap (λ (x : Allocation). granted.by_quota e t (granted.allocated e t x)) asked))
@@ -183,10 +183,10 @@ module _ (i : Image) (e : Seen) (r : SchedRow) (k : Bank) (pending : Bool) (time
 
   -- ---- free
 
-  quarantined_size : (o : Object) → length (quarantined e o).threads.granules ≡ length e.threads.granules
+  quarantined_size : (o : Object) → length (quarantined e o).granules ≡ length e.granules
   quarantined_size o =
-      marked_length (o.base - CHUNK_HEAD) (o.base + o.length) true e.threads.region.ram (zeroed_from o.base (o.base + o.length) e.threads.region.ram e.threads.granules)
-      ∙ zeroed_length o.base (o.base + o.length) e.threads.region.ram e.threads.granules
+      marked_length (o.base - CHUNK_HEAD) (o.base + o.length) true e.region.ram (zeroed_from o.base (o.base + o.length) e.region.ram e.granules)
+      ∙ zeroed_length o.base (o.base + o.length) e.region.ram e.granules
 
   quarantined_kept : (o : Object) → IsKept i (quarantined e o) r
   quarantined_kept o =
@@ -195,18 +195,18 @@ module _ (i : Image) (e : Seen) (r : SchedRow) (k : Bank) (pending : Bool) (time
   freed_kept : (o : Object) → IsKept i (freed e t o) r
   freed_kept o =
       stays_kept i e (freed e t o) r r.statuses kept
-      (record { region = refl; areas = refl; size = quarantined_size o; threads = length-set e.threads.threads t _; heap_base = refl; heap_end = refl; limits = refl }) refl kept.ready
+      (record { region = refl; areas = refl; size = quarantined_size o; threads = length-set e.threads t _; heap_base = refl; heap_end = refl; limits = refl }) refl kept.ready
 
   -- the freed object's memory, where RAM begins here
   abbrev emptied : Object → ℕ → List Granule
-  emptied o n = marked_from (o.base - CHUNK_HEAD) (o.base + o.length) true n (zeroed_from o.base (o.base + o.length) n e.threads.granules)
+  emptied o n = marked_from (o.base - CHUNK_HEAD) (o.base + o.length) true n (zeroed_from o.base (o.base + o.length) n e.granules)
 
   abbrev freed_over : Object → ℕ → State
   freed_over o n = record here {
     granules = emptied o n;
     objects = quarantine o.number e.objects;
-    threads = set (with_statuses e.threads.threads r.statuses) t (record (get_or (with_statuses e.threads.threads r.statuses) t nobody) {
-      registers = map (filtered_in i.ram (emptied o n)) (get_or (with_statuses e.threads.threads r.statuses) t nobody).registers;
+    threads = set (with_statuses e.threads r.statuses) t (record (get_or (with_statuses e.threads r.statuses) t nobody) {
+      registers = map (filtered_in i.ram (emptied o n)) (get_or (with_statuses e.threads r.statuses) t nobody).registers;
     });
   }
 
@@ -221,7 +221,7 @@ module _ (i : Image) (e : Seen) (r : SchedRow) (k : Bank) (pending : Bool) (time
   pub serves_free : (p : Seen × Ran) → p ≡ granted.by_quota e t (granted.freed_as e t (granted.object_in e t)) → Serves e.next p (quotas.free i here t)
   serves_free p is =
       let named : granted.object_in e t ≡ whole_of here.objects (quotas.quota_in here t) (register (thread here t) 11) =
-      ap (λ q. whole_of e.objects q (register (engine.thread e.threads t) 11)) quota_alike
+      ap (λ q. whole_of e.objects q (register (engine.thread e t) 11)) quota_alike
       ∙ ap (λ (z : Cap). whole_of e.objects (quotas.quota_in here t) z) (register_alike i e r k pending time c t kept 11) in
       let o : Option Object = whole_of here.objects (quotas.quota_in here t) (register (thread here t) 11) in
       subst (λ (q : Seen × Ran). Serves e.next q (quotas.free i here t)) (sym (is ∙ ap (λ (x : Option Object). granted.by_quota e t (granted.freed_as e t x)) named))
@@ -250,7 +250,7 @@ module _ {M : Type 0} (i : Inside M) (t : ℕ) (held : IsKept i.plan i.threads i
   pub named_in : (m : MachineRow) → whole ≡ m → MayGoOn m → granted.NamesQuota i.threads t
   named_in m is may = names_quota_in i.plan i.threads i.sched i.bus i.pending i.time i.counts t held.0 m is may
 
-  pub allocated_in : (p : Seen × Ran) → p ≡ granted.by_quota i.threads t (granted.allocated i.threads t (allocation i.plan whole.state (granted.quota_in i.threads t) (cap_address (register (engine.thread i.threads.threads t) 11))))
+  pub allocated_in : (p : Seen × Ran) → p ≡ granted.by_quota i.threads t (granted.allocated i.threads t (allocation i.plan whole.state (granted.quota_in i.threads t) (cap_address (register (engine.thread i.threads t) 11))))
       → ServesIn (i.threads.next + 1) p (quotas.allocate i.plan whole.state t)
   allocated_in p is = serves_allocate i.plan i.threads i.sched i.bus i.pending i.time i.counts t held.0 p is
 

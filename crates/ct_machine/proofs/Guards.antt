@@ -7,8 +7,8 @@ use Rattle.def_hidden.specs.Hidden.{Blank}
 use Rattle.def_machine.specs.State.{State}
 use Rattle.def_step.specs.declared.Event.{Event}
 use Rattle.def_step.specs.declared.Event.TheVariants.{Step}
-use Rattle.def_step.specs.Instructions.{Board}
-use Rattle.def_step.specs.Events.{MachineRow, happens}
+use Rattle.def_machine.specs.Board.{Board, MachineRow}
+use Rattle.def_step.specs.Events.{happens}
 use Rattle.def_image.specs.Parts.{PartsRow}
 use Rattle.def_image.specs.Sound.{Sound}
 use Rattle.def_boot.specs.Boot.{booted_machine}

@@ -1,8 +1,8 @@
 -- What is kept beside the state is kept by a step.
-use Rattle.std.proofs.Common.{ℕ, zero, suc, ◌*◌, ◌≡◌, ◌<◌, ◌&&◌, Bool, true, false, inl, inr, nat_lt, map, List, [], ◌∷◌, length, Option, Some, None, refl, sym, ap, ◌∙◌, subst, slice_index_or, arith}
+use Rattle.std.proofs.Common.{ℕ, zero, suc, ◌*◌, ◌≡◌, ◌==◌, ◌<◌, ◌&&◌, Bool, true, false, inl, inr, nat_lt, map, List, [], ◌∷◌, length, Option, Some, None, refl, sym, ap, ◌∙◌, subst, slice_index_or, arith}
 use Rattle.std.proofs.Math.ListN.{set}
 use Rattle.std.proofs.lemmas.List.{length-set, length-map}
-use Rattle.law_lists.proofs.Tests.{lt_tells}
+use Rattle.law_lists.proofs.Tests.{bool_tells, lt_tells}
 use Rattle.law_lists.proofs.Finds.{find_tells}
 use Rattle.ct_entry.specs.Listed.{Listed}
 use Rattle.def_words.specs.declared.Cap.{Cap}
@@ -15,21 +15,23 @@ use Rattle.def_machine.specs.Image.{Image}
 use Rattle.def_machine.specs.State.{State, Thread, Frame, Counts, nobody}
 use Rattle.def_machine.specs.Memory.{filtered_in}
 use Rattle.def_machine.specs.Frames.{left_with}
+use Rattle.def_words.specs.declared.Trap.{Trap}
 use Rattle.def_step.specs.Devices.{Bank}
-use Rattle.def_step.specs.Events.{MachineRow}
+use Rattle.def_step.specs.Switch.{Switched, Trapped as NotMade, TooDeep, NoStack, Enters}
+use Rattle.def_machine.specs.Board.{MachineRow}
 use Rattle.ct_entry.specs.declared.acts.Deed.{Deed}
 use Rattle.ct_areas.specs.declared.thread.Area.{Area}
 use Rattle.ct_sched.specs.Sched.{SchedRow, with_statuses, after_pick}
 use Rattle.ct_engine.specs.Seen as engine
-use Rattle.ct_engine.specs.Seen.{area_at, resumed, with_running}
-use Rattle.ct_heaped.specs.Seen.{Seen, with_threads}
-use Rattle.ct_heaped.specs.Shared.{HasHeap}
+use Rattle.ct_engine.specs.Seen.{area_at, resumed, with_running, Seen}
+use Rattle.ct_engine.specs.Written.{HasHeap}
 use Rattle.ct_engine.specs.Steps.{IsHeapPlaced}
 use Rattle.ct_engine.specs.Calls.{switched, ended_by}
 use Rattle.ct_execute.specs.declared.ran.Ran.{Ran}
 use Rattle.ct_execute.specs.declared.ran.Ran.TheVariants.{Went, Returned, Native, Trapped}
 use Rattle.ct_execute.specs.Deciding.{Decision, Goes, Returns, Serves, Traps, Decided, IfUnfinished, Stays}
-use Rattle.ct_launch.specs.Placed.{ArePlaced}
+use Rattle.ct_services.specs.Served.{unless, waited, switched_in}
+use Rattle.ct_boot.specs.Placed.{ArePlaced}
 use Rattle.ct_machine.specs.Parts.{state_by, IsKept, IsCounted}
 use Rattle.ct_machine.specs.Going.{left_after, goes_after, status_after, CameTo}
 
@@ -42,9 +44,9 @@ two_more n = elim (lt_tells 1 (suc (suc n))) [ inl a ↦ a.0 | inr a ↦ absurd 
 
 -- the running thread is ready
 abbrev pub RunsReady : Seen → List Status → Type 0
-RunsReady e ss = (t : ℕ) → e.threads.running ≡ Some t → status_of ss t ≡ Ready
+RunsReady e ss = (t : ℕ) → e.running ≡ Some t → status_of ss t ≡ Ready
 
-pub none_runs : (e : Seen) (ss : List Status) → e.threads.running ≡ None → RunsReady e ss
+pub none_runs : (e : Seen) (ss : List Status) → e.running ≡ None → RunsReady e ss
 none_runs e ss none t runs = absurd (let clash : None ≡ Some t = sym none ∙ runs in cc)
 
 -- the heap stays where it is, and so do its limits
@@ -57,10 +59,10 @@ heap_stays i e new heap base end limits = record {
 
 -- what never changes of an engine, and how many granules and threads there are
 pub record StaysBeside (e new : Seen) : Type 0 where
-  pub region : new.threads.region ≡ e.threads.region
-  pub areas : new.threads.areas ≡ e.threads.areas
-  pub size : length new.threads.granules ≡ length e.threads.granules
-  pub threads : length new.threads.threads ≡ length e.threads.threads
+  pub region : new.region ≡ e.region
+  pub areas : new.areas ≡ e.areas
+  pub size : length new.granules ≡ length e.granules
+  pub threads : length new.threads ≡ length e.threads
   pub heap_base : new.heap_base ≡ e.heap_base
   pub heap_end : new.heap_end ≡ e.heap_end
   pub limits : new.limits ≡ e.limits
@@ -72,7 +74,7 @@ stays_kept i e new r ss kept stays many ready = record {
   placed = subst (λ (n : ℕ). IsHeapPlaced i.ram i.heap_base n) (sym stays.size) kept.placed;
   heap = heap_stays i e new kept.heap stays.heap_base stays.heap_end stays.limits;
   quotas = λ q is. subst (λ (xs : List ℕ). q < length xs) (sym stays.limits) (kept.quotas q is);
-  areas = subst (λ (n : ℕ). ArePlaced i (8 * n) new.threads.areas) (sym stays.size) (subst (λ (xs : List Area). ArePlaced i (8 * length e.threads.granules) xs) (sym stays.areas) kept.areas);
+  areas = subst (λ (n : ℕ). ArePlaced i (8 * n) new.areas) (sym stays.size) (subst (λ (xs : List Area). ArePlaced i (8 * length e.granules) xs) (sym stays.areas) kept.areas);
   threads = ap length stays.areas ∙ kept.threads ∙ sym stays.threads;
   priorities = kept.priorities;
   statuses = many ∙ kept.statuses ∙ sym stays.threads;
@@ -80,63 +82,104 @@ stays_kept i e new r ss kept stays many ready = record {
   ready = ready;
 }
 
--- where its threads alone change
-pub kept_so : (i : Image) (e : Seen) (new : engine.Seen) (r : SchedRow) (ss : List Status) → IsKept i e r → new.region ≡ e.threads.region → new.areas ≡ e.threads.areas → length new.granules ≡ length e.threads.granules → length new.threads ≡ length e.threads.threads
-    → length ss ≡ length r.statuses → RunsReady (with_threads e new) ss → IsKept i (with_threads e new) (with_statuses r ss)
-kept_so i e new r ss kept region areas size threads many ready =
-    stays_kept i e (with_threads e new) r ss kept (record { region = region; areas = areas; size = size; threads = threads; heap_base = refl; heap_end = refl; limits = refl }) many ready
+-- all else than memory, threads and who runs is as it was
+abbrev pub StaysElse : Seen → Seen → Type 0
+StaysElse e new = new ≡ record e { granules = new.granules; threads = new.threads; running = new.running }
 
-pub same_kept : (i : Image) (e : Seen) (new : engine.Seen) (r : SchedRow) → IsKept i e r → new.region ≡ e.threads.region → new.areas ≡ e.threads.areas → length new.granules ≡ length e.threads.granules → length new.threads ≡ length e.threads.threads
-    → RunsReady (with_threads e new) r.statuses → IsKept i (with_threads e new) r
-same_kept i e new r kept region areas size threads ready = kept_so i e new r r.statuses kept region areas size threads refl ready
+pub kept_so : (i : Image) (e new : Seen) (r : SchedRow) (ss : List Status) → IsKept i e r → StaysElse e new → length new.granules ≡ length e.granules → length new.threads ≡ length e.threads
+    → length ss ≡ length r.statuses → RunsReady new ss → IsKept i new (with_statuses r ss)
+kept_so i e new r ss kept else_ size threads many ready =
+    stays_kept i e new r ss kept (record {
+      region = ap (λ (x : Seen). x.region) else_;
+      areas = ap (λ (x : Seen). x.areas) else_;
+      size = size;
+      threads = threads;
+      heap_base = ap (λ (x : Seen). x.heap_base) else_;
+      heap_end = ap (λ (x : Seen). x.heap_end) else_;
+      limits = ap (λ (x : Seen). x.limits) else_;
+    }) many ready
+
+pub same_kept : (i : Image) (e new : Seen) (r : SchedRow) → IsKept i e r → StaysElse e new → length new.granules ≡ length e.granules → length new.threads ≡ length e.threads
+    → RunsReady new r.statuses → IsKept i new r
+same_kept i e new r kept else_ size threads ready = kept_so i e new r r.statuses kept else_ size threads refl ready
 
 -- where the same thread runs, or none
-pub still_ready : (e new : Seen) (ss : List Status) → RunsReady e ss → new.threads.running ≡ e.threads.running → RunsReady new ss
+pub still_ready : (e new : Seen) (ss : List Status) → RunsReady e ss → new.running ≡ e.running → RunsReady new ss
 still_ready e new ss ready is t runs = ready t (sym is ∙ runs)
 
 -- a thread stops
-pub stopped_so : (i : Image) (e new : Seen) (r : SchedRow) (c : Counts) (time : ℕ) → IsKept i e r × IsCounted c time e.next → new ≡ with_threads e (with_running e.threads None) → IsKept i new r × IsCounted c time new.next
-stopped_so i e new r c time h is = rw is (same_kept i e (with_running e.threads None) r h.0 refl refl refl refl (none_runs (with_threads e (with_running e.threads None)) r.statuses refl), h.1)
+pub stopped_so : (i : Image) (e new : Seen) (r : SchedRow) (c : Counts) (time : ℕ) → IsKept i e r × IsCounted c time e.next → new ≡ with_running e None → IsKept i new r × IsCounted c time new.next
+stopped_so i e new r c time h is = rw is (same_kept i e (with_running e None) r h.0 refl refl refl (none_runs (with_running e None) r.statuses refl), h.1)
 
--- and no object is made
-pub counted_so : (c : Counts) (time : ℕ) (e e' : Seen) (x : engine.Seen) → e' ≡ with_threads e x → IsCounted c time e.next → IsCounted c time e'.next
-counted_so c time e e' x is h = subst (λ (n : ℕ). IsCounted c time n) (sym (ap (λ (y : Seen). y.next) is)) h
+-- ---- and no object is made
+
+pub counted_so : (c : Counts) (time : ℕ) (e e' x : Seen) → e' ≡ x → x.next ≡ e.next → IsCounted c time e.next → IsCounted c time e'.next
+counted_so c time e e' x is same h = subst (λ (n : ℕ). IsCounted c time n) (sym (ap (λ (y : Seen). y.next) is ∙ same)) h
+
+pub unless_next : (o : Option Trap) (e x : Seen) → x.next ≡ e.next → (unless o e x).next ≡ e.next
+unless_next (Some why) e x same = refl
+unless_next None e x same = same
+
+pub waited_next : (e : Seen) (t held wanted : ℕ) → (waited e t held wanted).next ≡ e.next
+waited_next e t held wanted = elim (bool_tells (held == wanted)) [ inl a ↦ rw a refl | inr a ↦ rw a refl ]
+
+pub switched_next : (e : Seen) (entries : Listed) (t : ℕ) (w : Switched) → (switched_in e entries t w).next ≡ e.next
+switched_next e entries t (NotMade why) = refl
+switched_next e entries t TooDeep = refl
+switched_next e entries t NoStack = refl
+switched_next e entries t (Enters export high) = refl
+
+ended_next : (e : Seen) (t : ℕ) (first second : Frame → Cap) (fs : List Frame) → (ended_by e t first second fs).next ≡ e.next
+ended_next e t first second [] = refl
+ended_next e t first second (f ∷ []) = refl
+ended_next e t first second (f ∷ g ∷ fs) = refl
+
+pub left_next : (ran : Ran) (e : Seen) (entries : Listed) (t : ℕ) → (left_after ran e entries t).next ≡ e.next
+left_next (Went act entry) e entries t = refl
+left_next Returned e entries t = ended_next e t _ _ (engine.thread e t).frames
+left_next (Native number) e entries t = refl
+left_next (Trapped why) e entries t = ended_next e t _ _ (engine.thread e t).frames
+
+-- ---- an instruction
 
 -- one instruction leaves as many threads as there were
-as_many : (D : Decision) (t : ℕ) (e new : engine.Seen) (k bank : Bank) (ran : Ran) → Decided D t e k new bank ran → length new.threads ≡ length e.threads
-as_many (Goes d entry) t e new k bank ran h = ap (λ (x : engine.Seen). length x.threads) h.0 ∙ length-set e.threads t _
-as_many Returns t e new k bank ran h = ap (λ (x : engine.Seen). length x.threads) h.0
-as_many (Serves number) t e new k bank ran h = ap (λ (x : engine.Seen). length x.threads) h.0
-as_many (Traps why) t e new k bank ran h = ap (λ (x : engine.Seen). length x.threads) h.0
+as_many : (D : Decision) (t : ℕ) (e new : Seen) (k bank : Bank) (ran : Ran) → Decided D t e k new bank ran → length new.threads ≡ length e.threads
+as_many (Goes d entry) t e new k bank ran h = ap (λ (x : Seen). length x.threads) h.0 ∙ length-set e.threads t _
+as_many Returns t e new k bank ran h = ap (λ (x : Seen). length x.threads) h.0
+as_many (Serves number) t e new k bank ran h = ap (λ (x : Seen). length x.threads) h.0
+as_many (Traps why) t e new k bank ran h = ap (λ (x : Seen). length x.threads) h.0
 
-pub ran_kept : (i : Image) (D : Decision) (t : ℕ) (e new : Seen) (r : SchedRow) (k bank : Bank) (ran : Ran) → IsKept i e r → Decided D t e.threads k new.threads bank ran → new ≡ with_threads e new.threads → Stays e.threads new.threads → IsKept i new r
-ran_kept i D t e new r k bank ran kept h is stays =
-    subst (λ (x : Seen). IsKept i x r) (sym is)
-    (same_kept i e new.threads r kept stays.region stays.areas stays.size (as_many D t e.threads new.threads k bank ran h) (still_ready e new r.statuses kept.ready stays.running))
+pub ran_else : (e new : Seen) → Stays e new → StaysElse e new
+ran_else e new stays =
+    stays.beside ∙ ap (λ (o : Option ℕ). let x : Seen = record e { granules = new.granules; threads = new.threads; running = o } in x) (sym (ap (λ (x : Seen). x.running) stays.beside))
+
+pub ran_kept : (i : Image) (D : Decision) (t : ℕ) (e new : Seen) (r : SchedRow) (k bank : Bank) (ran : Ran) → IsKept i e r → Decided D t e k new bank ran → Stays e new → IsKept i new r
+ran_kept i D t e new r k bank ran kept h stays =
+    same_kept i e new r kept (ran_else e new stays) stays.size (as_many D t e new k bank ran h) (still_ready e new r.statuses kept.ready (ap (λ (x : Seen). x.running) stays.beside))
 
 -- ---- a frame ends
 
 switched_kept : (i : Image) (e : Seen) (r : SchedRow) (t high : ℕ) (x : Thread) (run : Option ℕ) (ss : List Status) → IsKept i e r → length ss ≡ length r.statuses
-    → RunsReady (with_threads e (switched e.threads t high x run)) ss → IsKept i (with_threads e (switched e.threads t high x run)) (with_statuses r ss)
+    → RunsReady (switched e t high x run) ss → IsKept i (switched e t high x run) (with_statuses r ss)
 switched_kept i e r t high x run ss kept many ready =
-    kept_so i e (switched e.threads t high x run) r ss kept refl refl (zeroed_length (area_at e.threads t).stack high e.threads.region.ram e.threads.granules) (length-set e.threads.threads t x) many ready
+    kept_so i e (switched e t high x run) r ss kept refl (zeroed_length (area_at e t).stack high e.region.ram e.granules) (length-set e.threads t x) many ready
 
 -- by how many frames there are
 ended_kept : (i : Image) (e : Seen) (r : SchedRow) (t : ℕ) (first second : Frame → Cap) (fs : List Frame) → IsKept i e r → 0 < length fs
-    → IsKept i (with_threads e (ended_by e.threads t first second fs)) (status_after (nat_lt 1 (length fs)) r t)
+    → IsKept i (ended_by e t first second fs) (status_after (nat_lt 1 (length fs)) r t)
 ended_kept i e r t first second [] kept some = absurd (omega (arith, some))
 ended_kept i e r t first second (f ∷ []) kept some =
-    switched_kept i e r t f.top nobody None (set r.statuses t Ended) kept (length-set r.statuses t Ended) (none_runs (with_threads e (switched e.threads t f.top nobody None)) (set r.statuses t Ended) refl)
+    switched_kept i e r t f.top nobody None (set r.statuses t Ended) kept (length-set r.statuses t Ended) (none_runs (switched e t f.top nobody None) (set r.statuses t Ended) refl)
 ended_kept i e r t first second (f ∷ g ∷ fs) kept some =
     rw (two_more (length fs))
-    (switched_kept i e r t f.top (left_with (filtered_in e.threads.region.ram e.threads.granules) (engine.thread e.threads t) f (g ∷ fs) (first f) (second f)) e.threads.running r.statuses kept refl kept.ready)
+    (switched_kept i e r t f.top (left_with (filtered_in e.region.ram e.granules) (engine.thread e t) f (g ∷ fs) (first f) (second f)) e.running r.statuses kept refl kept.ready)
 
-pub left_kept : (i : Image) (e : Seen) (r : SchedRow) (entries : Listed) (t : ℕ) (ran : Ran) → IsKept i e r → IfUnfinished ran (0 < length (engine.thread e.threads t).frames)
-    → IsKept i (with_threads e (left_after ran e.threads entries t)) (status_after (goes_after ran e.threads t) r t)
+pub left_kept : (i : Image) (e : Seen) (r : SchedRow) (entries : Listed) (t : ℕ) (ran : Ran) → IsKept i e r → IfUnfinished ran (0 < length (engine.thread e t).frames)
+    → IsKept i (left_after ran e entries t) (status_after (goes_after ran e t) r t)
 left_kept i e r entries t (Went act entry) kept some = kept
-left_kept i e r entries t Returned kept some = ended_kept i e r t _ _ (engine.thread e.threads t).frames kept some
+left_kept i e r entries t Returned kept some = ended_kept i e r t _ _ (engine.thread e t).frames kept some
 left_kept i e r entries t (Native number) kept some = kept
-left_kept i e r entries t (Trapped why) kept some = ended_kept i e r t _ _ (engine.thread e.threads t).frames kept some
+left_kept i e r entries t (Trapped why) kept some = ended_kept i e r t _ _ (engine.thread e t).frames kept some
 
 -- ---- of what is to be done, where something is
 
@@ -147,7 +190,7 @@ unfinished_map (Native number) P Q f h = f h
 unfinished_map (Trapped why) P Q f h = f h
 
 -- where the thread has no frame left it has one to end
-pub over_unfinished : (ran : Ran) (e : engine.Seen) (t : ℕ) (P : Type 0) → goes_after ran e t ≡ false → IfUnfinished ran P → P
+pub over_unfinished : (ran : Ran) (e : Seen) (t : ℕ) (P : Type 0) → goes_after ran e t ≡ false → IfUnfinished ran P → P
 over_unfinished (Went act entry) e t P over h = absurd cc
 over_unfinished Returned e t P over h = h
 over_unfinished (Native number) e t P over h = absurd cc
@@ -172,9 +215,9 @@ picked_ready r t is = ready_is (status_of r.statuses t) (both_first (is_ready (s
 same_some : (t u : ℕ) → Some t ≡ Some u → t ≡ u
 same_some t u is = cc
 
-pub picked_kept : (i : Image) (e new : Seen) (r row : SchedRow) (t : ℕ) → IsKept i e r → Some t ≡ pick r.priorities r.statuses r.order → new ≡ with_threads e (resumed e.threads t) → row ≡ after_pick r (Some t) → IsKept i new row
+pub picked_kept : (i : Image) (e new : Seen) (r row : SchedRow) (t : ℕ) → IsKept i e r → Some t ≡ pick r.priorities r.statuses r.order → new ≡ resumed e t → row ≡ after_pick r (Some t) → IsKept i new row
 picked_kept i e new r row t kept is now turn =
-    let k = same_kept i e (resumed e.threads t) r kept refl refl refl (length-set e.threads.threads t _) (λ u runs. ap (λ n. status_of r.statuses n) (sym (same_some t u runs)) ∙ picked_ready r t (sym is)) in
+    let k = same_kept i e (resumed e t) r kept refl refl (length-set e.threads t _) (λ u runs. ap (λ n. status_of r.statuses n) (sym (same_some t u runs)) ∙ picked_ready r t (sym is)) in
     rw (now, turn)
     (record { region = k.region; placed = k.placed; heap = k.heap; quotas = k.quotas; areas = k.areas; threads = k.threads; priorities = k.priorities; statuses = k.statuses; few = k.few; ready = k.ready })
 
@@ -185,7 +228,7 @@ ticked_at (s ∷ ss) (suc t) is = ticked_at ss t is
 
 pub ticked_kept : (i : Image) (e : Seen) (r row : SchedRow) → IsKept i e r → row ≡ with_statuses r (map after_tick r.statuses) → IsKept i e row
 ticked_kept i e r row kept turn =
-    rw turn (kept_so i e e.threads r (map after_tick r.statuses) kept refl refl refl refl (length-map r.statuses after_tick) (λ t runs. ticked_at r.statuses t (kept.ready t runs)))
+    rw turn (kept_so i e e r (map after_tick r.statuses) kept refl refl refl (length-map r.statuses after_tick) (λ t runs. ticked_at r.statuses t (kept.ready t runs)))
 
 -- ---- what a thread came to, of another spelling of the same
 

@@ -8,12 +8,11 @@ use Rattle.def_machine.specs.Image.{Image, stack_base}
 use Rattle.def_machine.specs.State.{Thread, Frame, DeviceState, Counts, thread, nobody}
 use Rattle.ct_sched.specs.Sched.{SchedRow}
 use Rattle.ct_engine.specs.Seen as engine
-use Rattle.ct_engine.specs.Seen.{area_at}
-use Rattle.ct_heaped.specs.Seen.{Seen}
+use Rattle.ct_engine.specs.Seen.{area_at, Seen}
 use Rattle.ct_engine.specs.Calls.{TopLies}
 use Rattle.ct_execute.specs.Opening.{IsOpen}
 use Rattle.ct_execute.proofs.Opens.{running_open}
-use Rattle.ct_launch.specs.Placed.{IsPlaced}
+use Rattle.ct_boot.specs.Placed.{IsPlaced}
 use Rattle.law_callable.proofs.Tops.{top_lies}
 use Rattle.ct_machine.specs.Parts.{state_by, IsKept}
 use Rattle.ct_machine.proofs.Statuses.{like_with}
@@ -25,7 +24,7 @@ some_within (x ∷ ts) zero some = omega arith
 some_within (x ∷ ts) (suc t) some = let rest = some_within ts t some in omega (arith, rest)
 
 module _ (i : Image) (e : Seen) (r : SchedRow) (pending : Bool) (devices : List DeviceState) (time : ℕ) (c : Counts) (t : ℕ) where
-  pub is_open : IsKept i e r → Shut i → Confined i (state_by e r pending devices time c) → e.threads.running ≡ Some t → IsOpen e t
+  pub is_open : IsKept i e r → Shut i → Confined i (state_by e r pending devices time c) → e.running ≡ Some t → IsOpen e t
   is_open kept shut held runs =
       running_open i (state_by e r pending devices time c) e t shut held
       (record {
@@ -34,22 +33,22 @@ module _ (i : Image) (e : Seen) (r : SchedRow) (pending : Bool) (devices : List 
         heap_base = sym kept.heap.base;
         heap_end = sym kept.heap.end;
         objects = refl;
-        registers = sym (ap (λ (u : Thread). u.registers) (like_with e.threads.threads r.statuses t Ready));
-        pcc = sym (ap (λ (u : Thread). u.pcc) (like_with e.threads.threads r.statuses t Ready));
+        registers = sym (ap (λ (u : Thread). u.registers) (like_with e.threads r.statuses t Ready));
+        pcc = sym (ap (λ (u : Thread). u.pcc) (like_with e.threads r.statuses t Ready));
       })
 
-  pub some_seen : 0 < length (thread (state_by e r pending devices time c) t).frames → 0 < length (engine.thread e.threads t).frames
-  some_seen some = subst (λ (fs : List Frame). 0 < length fs) (frames_with e.threads.threads r.statuses t) some
+  pub some_seen : 0 < length (thread (state_by e r pending devices time c) t).frames → 0 < length (engine.thread e t).frames
+  some_seen some = subst (λ (fs : List Frame). 0 < length fs) (frames_with e.threads r.statuses t) some
 
-  pub placed_at : IsKept i e r → 0 < length (engine.thread e.threads t).frames → IsPlaced i (8 * length e.threads.granules) t (area_at e.threads t)
+  pub placed_at : IsKept i e r → 0 < length (engine.thread e t).frames → IsPlaced i (8 * length e.granules) t (area_at e t)
   placed_at kept some =
-      let within : t < length e.threads.threads = some_within e.threads.threads t some in
-      let count : length e.threads.areas ≡ length e.threads.threads = kept.threads in
+      let within : t < length e.threads = some_within e.threads t some in
+      let count : length e.areas ≡ length e.threads = kept.threads in
       kept.areas.each t (omega (arith, within, count))
 
-  pub base_of : IsKept i e r → 0 < length (engine.thread e.threads t).frames → (area_at e.threads t).stack ≡ stack_base i t
+  pub base_of : IsKept i e r → 0 < length (engine.thread e t).frames → (area_at e t).stack ≡ stack_base i t
   base_of kept some = (placed_at kept some).base_is
 
-  pub tops : IsKept i e r → Confined i (state_by e r pending devices time c) → 0 < length (engine.thread e.threads t).frames → TopLies e.threads t
+  pub tops : IsKept i e r → Confined i (state_by e r pending devices time c) → 0 < length (engine.thread e t).frames → TopLies e t
   tops kept held some =
-      top_lies i (state_by e r pending devices time c) e.threads (8 * length e.threads.granules) t held (placed_at kept some) (sym (frames_with e.threads.threads r.statuses t)) some
+      top_lies i (state_by e r pending devices time c) e (8 * length e.granules) t held (placed_at kept some) (sym (frames_with e.threads r.statuses t)) some

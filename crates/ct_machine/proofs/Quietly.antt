@@ -17,11 +17,12 @@ use Rattle.def_step.specs.declared.Event.TheVariants.{Step}
 use Rattle.def_step.specs.declared.Next.{Next}
 use Rattle.def_step.specs.declared.Next.TheVariants.{Returning, Instruction, Native, Nothing}
 use Rattle.def_step.specs.Devices.{Bank}
-use Rattle.def_step.specs.Instructions.{Board, actor_of}
-use Rattle.def_step.specs.Events.{MachineRow, holder_by, holder, begun_since, begun, preempted, scheduled, one_more_step, run_on, told_of, happens}
+use Rattle.def_step.specs.Instructions.{actor_of}
+use Rattle.def_machine.specs.Board.{Board, MachineRow}
+use Rattle.def_step.specs.Events.{holder_by, holder, begun_since, begun, preempted, scheduled, one_more_step, run_on, told_of, happens}
 use Rattle.ct_sched.specs.Sched.{SchedRow}
 use Rattle.ct_engine.specs.Seen as engine
-use Rattle.ct_heaped.specs.Seen.{Seen, with_threads}
+use Rattle.ct_engine.specs.Seen.{Seen}
 use Rattle.ct_execute.specs.declared.ran.Ran.{Ran}
 use Rattle.ct_execute.specs.declared.ran.Ran.TheVariants.{Went}
 use Rattle.ct_execute.specs.Deciding.{Decision, Goes, Returns, Serves, Traps, decision, Decided, Stays, WentQuietly}
@@ -48,7 +49,7 @@ entry_of Returns = 0
 entry_of (Serves number) = 0
 entry_of (Traps why) = 0
 
-quietly_decided : (D : Decision) (t : ℕ) (s : engine.Seen) (k : Bank) (new : engine.Seen) → WentQuietly D t s k new → Decided D t s k new k (Went None (entry_of D))
+quietly_decided : (D : Decision) (t : ℕ) (s : Seen) (k : Bank) (new : Seen) → WentQuietly D t s k new → Decided D t s k new k (Went None (entry_of D))
 quietly_decided (Goes d entry) t s k new h = (h.0, h.1, ap (λ a. Went a entry) (sym h.2))
 quietly_decided Returns t s k new h = absurd h
 quietly_decided (Serves number) t s k new h = absurd h
@@ -59,9 +60,9 @@ set_posture [] t x is = refl
 set_posture (y ∷ ts) zero x is = is
 set_posture (y ∷ ts) (suc t) x is = set_posture ts t x is
 
-same_posture : (D : Decision) (t : ℕ) (s : engine.Seen) (k : Bank) (new : engine.Seen) → WentQuietly D t s k new → (engine.thread new t).posture ≡ (engine.thread s t).posture
+same_posture : (D : Decision) (t : ℕ) (s : Seen) (k : Bank) (new : Seen) → WentQuietly D t s k new → (engine.thread new t).posture ≡ (engine.thread s t).posture
 same_posture (Goes d entry) t s k new h =
-    ap (λ (x : engine.Seen). (engine.thread x t).posture) h.0 ∙ set_posture s.threads t (jumped (get_or s.threads t nobody) d.pcc d.posture d.to d.value) h.3
+    ap (λ (x : Seen). (engine.thread x t).posture) h.0 ∙ set_posture s.threads t (jumped (get_or s.threads t nobody) d.pcc d.posture d.to d.value) h.3
 same_posture Returns t s k new h = absurd h
 same_posture (Serves number) t s k new h = absurd h
 same_posture (Traps why) t s k new h = absurd h
@@ -129,28 +130,28 @@ module _ (i : Image) (e : Seen) (r : SchedRow) (k : Bank) (pending : Bool) (time
   pub when_late : pending ≡ true → false ≡ steps_quietly here
   when_late late = rw late refl
 
-  by_runner : (o : Option ℕ) (b : Bool) → pending ≡ false → o ≡ e.threads.running → b ≡ runner_goes i.ram here.state o → b ≡ steps_quietly here
+  by_runner : (o : Option ℕ) (b : Bool) → pending ≡ false → o ≡ e.running → b ≡ runner_goes i.ram here.state o → b ≡ steps_quietly here
   by_runner o b none runs is = rw (none, ← runs) is
 
-  pub when_idle : pending ≡ false → None ≡ e.threads.running → false ≡ steps_quietly here
+  pub when_idle : pending ≡ false → None ≡ e.running → false ≡ steps_quietly here
   when_idle none idle = by_runner None false none idle refl
 
   -- a thread runs; its status aside, it is the engine's
-  pub when_runs : (t : ℕ) (went : Bool) → IsKept i e r → pending ≡ false → Some t ≡ e.threads.running
-      → went ≡ goes_quietly (engine.thread e.threads t) e.threads.region.ram e.threads.granules → went ≡ steps_quietly here
+  pub when_runs : (t : ℕ) (went : Bool) → IsKept i e r → pending ≡ false → Some t ≡ e.running
+      → went ≡ goes_quietly (engine.thread e t) e.region.ram e.granules → went ≡ steps_quietly here
   when_runs t went kept none runs is =
       by_runner (Some t) went none runs
       (is
-      ∙ sym (goes_alike (engine.thread e.threads t) (get_or r.statuses t Ended) e.threads.region.ram e.threads.granules)
-      ∙ ap (λ (w : Thread). goes_quietly w e.threads.region.ram e.threads.granules) (sym (thread_with e.threads.threads r.statuses t kept.statuses))
-      ∙ ap (λ n. goes_quietly (thread here.state t) n e.threads.granules) (ram_is i e r kept))
+      ∙ sym (goes_alike (engine.thread e t) (get_or r.statuses t Ended) e.region.ram e.granules)
+      ∙ ap (λ (w : Thread). goes_quietly w e.region.ram e.granules) (sym (thread_with e.threads r.statuses t kept.statuses))
+      ∙ ap (λ n. goes_quietly (thread here.state t) n e.granules) (ram_is i e r kept))
 
 -- ---- what the code leaves
 
 module _ (i : Image) (e new : Seen) (r : SchedRow) (k : Bank) (pending : Bool) (time : ℕ) (c : Counts) (t : ℕ)
-    (kept : IsKept i e r) (runs : Some t ≡ e.threads.running)
-    (quiet : WentQuietly (decision i.entries e.threads t k time) t e.threads k new.threads)
-    (is : new ≡ with_threads e new.threads) (stays : Stays e.threads new.threads) where
+    (kept : IsKept i e r) (runs : Some t ≡ e.running)
+    (quiet : WentQuietly (decision i.entries e t k time) t e k new)
+    (stays : Stays e new) where
   abbrev board : Board
   board = record { image = i; bases = k.bases }
 
@@ -159,27 +160,27 @@ module _ (i : Image) (e new : Seen) (r : SchedRow) (k : Bank) (pending : Bool) (
 
   pub quietly_kept : IsCounted c time e.next → IsKept i new r × IsCounted c time new.next
   quietly_kept counted = (
-    ran_kept i (decision i.entries e.threads t k time) t e new r k k (Went None (entry_of (decision i.entries e.threads t k time))) kept
-        (quietly_decided (decision i.entries e.threads t k time) t e.threads k new.threads quiet) is stays,
-    counted_so c time e new new.threads is counted,
+    ran_kept i (decision i.entries e t k time) t e new r k k (Went None (entry_of (decision i.entries e t k time))) kept
+        (quietly_decided (decision i.entries e t k time) t e k new quiet) stays,
+    counted_so c time e new _ stays.beside refl counted,
   )
 
   quietly_run : (state_by new r pending k.states time one_more, None) ≡ run_on board (state_by e r pending k.states time one_more)
   quietly_run =
-      let ran : Ran = Went None (entry_of (decision i.entries e.threads t k time)) in
+      let ran : Ran = Went None (entry_of (decision i.entries e t k time)) in
       let m : MachineRow = record { board = board; state = state_by e r pending k.states time one_more } in
       let n : MachineRow = record { board = board; state = state_by new r pending k.states time one_more } in
       carried_so m n t (actor_of (thread (state_by e r pending k.states time one_more) t).frames) ran (state_by new r pending k.states time one_more) None (sym runs) refl
-      (came i i.entries e r k pending time one_more t kept refl new k ran (quietly_decided (decision i.entries e.threads t k time) t e.threads k new.threads quiet) is refl tt)
+      (came i i.entries e r k pending time one_more t kept refl new k ran (quietly_decided (decision i.entries e t k time) t e k new quiet) refl tt)
       (quietly_left n t (actor_of (thread (state_by e r pending k.states time one_more) t).frames) ran refl)
 
   still_posture : (thread (state_by new r pending k.states time one_more) t).posture ≡ (thread (state_by e r pending k.states time c) t).posture
   still_posture =
-      posture_with new.threads.threads r.statuses t
-      ∙ same_posture (decision i.entries e.threads t k time) t e.threads k new.threads quiet
-      ∙ sym (posture_with e.threads.threads r.statuses t)
+      posture_with new.threads r.statuses t
+      ∙ same_posture (decision i.entries e t k time) t e k new quiet
+      ∙ sym (posture_with e.threads r.statuses t)
 
   pub quietly_is : (after : State) → pending ≡ false → after ≡ one_more_step (state_by new r pending k.states time c) → (after, silence) ≡ happens board (state_by e r pending k.states time c) Step
   quietly_is after none counts =
       ap (λ (s : State). (s, silence)) counts
-      ∙ goes_on_quietly board (state_by e r pending k.states time c) (state_by new r pending k.states time one_more) t none (sym runs) (stays.running ∙ sym runs) still_posture quietly_run
+      ∙ goes_on_quietly board (state_by e r pending k.states time c) (state_by new r pending k.states time one_more) t none (sym runs) (ap (λ (x : Seen). x.running) stays.beside ∙ sym runs) still_posture quietly_run

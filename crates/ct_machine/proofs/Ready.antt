@@ -4,8 +4,8 @@ use Rattle.law_lists.proofs.Tests.{chosen}
 use Rattle.def_board.specs.Guarded.{Guarded}
 use Rattle.def_confined.specs.Holding.{EndsFit}
 use Rattle.def_machine.specs.State.{State, thread}
-use Rattle.def_step.specs.Instructions.{Board}
-use Rattle.def_step.specs.Events.{MachineRow, preempted_from, preempted, scheduled, one_more_step}
+use Rattle.def_machine.specs.Board.{Board, MachineRow}
+use Rattle.def_step.specs.Events.{preempted_from, preempted, scheduled, one_more_step}
 use Rattle.law_events.proofs.Events.{ready_keeps}
 use Rattle.ct_machine.specs.Going.{MayGoOn}
 

@@ -22,14 +22,14 @@ use Rattle.def_step.specs.Checks.{Check, first_failed}
 use Rattle.def_step.specs.Switch.{return_checks}
 use Rattle.def_step.specs.Routines as routine
 use Rattle.def_step.specs.Routines.{Traps, Leaves, checked, answered, answers, code, stops, waits, wakes, word_checks, sleep, wait, wake}
-use Rattle.def_step.specs.Instructions.{Board, ran}
-use Rattle.def_step.specs.Events.{MachineRow}
+use Rattle.def_step.specs.Instructions.{ran}
+use Rattle.def_machine.specs.Board.{Board, MachineRow}
 use Rattle.ct_sched.specs.Sched as sched
 use Rattle.ct_sched.specs.Sched.{SchedRow}
 use Rattle.ct_engine.specs.Seen as engine
-use Rattle.ct_heaped.specs.Seen.{Seen, with_threads}
+use Rattle.ct_engine.specs.Seen.{Seen}
 use Rattle.ct_execute.specs.declared.ran.Ran.{Ran}
-use Rattle.ct_services.specs.Served.{answered_in, rested, waited, with_status, either, unless_in, unless_row}
+use Rattle.ct_services.specs.Served.{answered_in, rested, waited, with_status, either, unless, unless_row}
 use Rattle.ct_machine.specs.Parts.{state_by, IsKept}
 use Rattle.ct_machine.specs.Going.{ran_by_service, rests_for, CameTo}
 use Rattle.ct_machine.proofs.Keeping.{machine_by, RunsReady, kept_so, none_runs}
@@ -88,44 +88,44 @@ module _ (i : Image) (e : Seen) (r : SchedRow) (k : Bank) (pending : Bool) (time
   machine x y = machine_by i x y k pending time c
 
   -- where no check fails the threads become this
-  abbrev left_as : Option Trap → engine.Seen → Seen
-  left_as o after = unless_in o e after
+  abbrev left_as : Option Trap → Seen → Seen
+  left_as o after = unless o e after
 
-  pub register_alike : (n : ℕ) → register (engine.thread e.threads t) n ≡ register (thread here t) n
-  register_alike n = ap (λ (u : Thread). register u n) (sym (like_with e.threads.threads r.statuses t Ended))
+  pub register_alike : (n : ℕ) → register (engine.thread e t) n ≡ register (thread here t) n
+  register_alike n = ap (λ (u : Thread). register u n) (sym (like_with e.threads r.statuses t Ended))
 
   -- ---- what a service came to
 
-  pub came_service : (o : Option Trap) (e' : Seen) (after : engine.Seen) (r' row : SchedRow) (x : routine.Ran) (s : State) → x ≡ by_trap o (Leaves s None) → e' ≡ left_as o after → r' ≡ unless_row o r row
-      → state_by (with_threads e after) row pending k.states time c ≡ s → CameTo (machine e r) (machine e' r') t (ran_by_service o) (ran board here t x)
+  pub came_service : (o : Option Trap) (e' : Seen) (after : Seen) (r' row : SchedRow) (x : routine.Ran) (s : State) → x ≡ by_trap o (Leaves s None) → e' ≡ left_as o after → r' ≡ unless_row o r row
+      → state_by (after) row pending k.states time c ≡ s → CameTo (machine e r) (machine e' r') t (ran_by_service o) (ran board here t x)
   came_service (Some why) e' after r' row x s is now turn left = rw (is, now, turn) (record { is = refl; board = refl; counts = refl; unfinished = refl })
   came_service None e' after r' row x s is now turn left = rw (is, now, turn, sym left) (record { is = refl; board = refl; counts = refl; unfinished = tt })
 
   -- ---- answers
 
-  pub answers_are : (v : Cap) → state_by (with_threads e (answered_in e.threads t v)) r pending k.states time c ≡ answers here t v
+  pub answers_are : (v : Cap) → state_by (answered_in e t v) r pending k.states time c ≡ answers here t v
   answers_are v =
-      let there : with_statuses (set e.threads.threads t (answered (engine.thread e.threads t) v)) r.statuses ≡ set (with_statuses e.threads.threads r.statuses) t (answered (thread here t) v) =
-      set_with e.threads.threads r.statuses t (answered (engine.thread e.threads t) v) kept.statuses
-      ∙ ap (λ (x : Thread). set (with_statuses e.threads.threads r.statuses) t (answered x v)) (sym (thread_with e.threads.threads r.statuses t kept.statuses)) in
+      let there : with_statuses (set e.threads t (answered (engine.thread e t) v)) r.statuses ≡ set (with_statuses e.threads r.statuses) t (answered (thread here t) v) =
+      set_with e.threads r.statuses t (answered (engine.thread e t) v) kept.statuses
+      ∙ ap (λ (x : Thread). set (with_statuses e.threads r.statuses) t (answered x v)) (sym (thread_with e.threads r.statuses t kept.statuses)) in
       rw there refl
 
-  rests : (status : Status) → state_by (with_threads e (rested e.threads t)) (with_status r t status) pending k.states time c
+  rests : (status : Status) → state_by (rested e t) (with_status r t status) pending k.states time c
       ≡ record (registers.with_thread here t (threads.with_status (answered (thread here t) (integer 0)) status)) { running = None }
   rests status =
-      let there : with_statuses (set e.threads.threads t (answered (engine.thread e.threads t) (integer 0))) (set r.statuses t status)
-      ≡ set (with_statuses e.threads.threads r.statuses) t (threads.with_status (answered (thread here t) (integer 0)) status) =
-      set_both e.threads.threads r.statuses t (answered (engine.thread e.threads t) (integer 0)) status kept.statuses
-      ∙ ap (λ (x : Thread). set (with_statuses e.threads.threads r.statuses) t (threads.with_status (answered x (integer 0)) status)) (sym (like_with e.threads.threads r.statuses t status)) in
+      let there : with_statuses (set e.threads t (answered (engine.thread e t) (integer 0))) (set r.statuses t status)
+      ≡ set (with_statuses e.threads r.statuses) t (threads.with_status (answered (thread here t) (integer 0)) status) =
+      set_both e.threads r.statuses t (answered (engine.thread e t) (integer 0)) status kept.statuses
+      ∙ ap (λ (x : Thread). set (with_statuses e.threads r.statuses) t (threads.with_status (answered x (integer 0)) status)) (sym (like_with e.threads r.statuses t status)) in
       rw there refl
 
   -- ---- yield and sleep
 
-  pub came_rest : (ticks : ℕ) (o : Option Trap) (e' : Seen) (r' : SchedRow) → o ≡ first_failed (return_checks (register (engine.thread e.threads t) 1))
-      → e' ≡ left_as o (rested e.threads t) → r' ≡ unless_row o r (with_status r t (asleep ticks))
+  pub came_rest : (ticks : ℕ) (o : Option Trap) (e' : Seen) (r' : SchedRow) → o ≡ first_failed (return_checks (register (engine.thread e t) 1))
+      → e' ≡ left_as o (rested e t) → r' ≡ unless_row o r (with_status r t (asleep ticks))
       → CameTo (machine e r) (machine e' r') t (ran_by_service o) (ran board here t (rests_for here t ticks))
   came_rest ticks o e' r' trap now turn =
-      came_service o e' (rested e.threads t) r' (with_status r t (asleep ticks)) (rests_for here t ticks)
+      came_service o e' (rested e t) r' (with_status r t (asleep ticks)) (rests_for here t ticks)
       (record (registers.with_thread here t (threads.with_status (answered (thread here t) (integer 0)) (asleep ticks))) { running = None })
       (checked_once (return_checks (register (thread here t) 1)) (stops here t (asleep ticks))
       ∙ ap (λ (x : Cap). by_trap (first_failed (return_checks x)) (stops here t (asleep ticks))) (sym (register_alike 1))
@@ -133,7 +133,7 @@ module _ (i : Image) (e : Seen) (r : SchedRow) (k : Bank) (pending : Bool) (time
       now turn (rests (asleep ticks))
 
   -- so many ticks as a register's address says, in the machine that this is
-  pub came_sleep : (m n : MachineRow) (ticks : ℕ) (q : Ran) → machine e r ≡ m → ticks ≡ cap_address (register (engine.thread e.threads t) 10)
+  pub came_sleep : (m n : MachineRow) (ticks : ℕ) (q : Ran) → machine e r ≡ m → ticks ≡ cap_address (register (engine.thread e t) 10)
       → CameTo m n t q (ran m.board m.state t (rests_for m.state t ticks)) → CameTo m n t q (ran m.board m.state t (sleep m.state t))
   came_sleep m n ticks q is ticks_is came =
       let asked : ticks ≡ cap_address (register (thread m.state t) 10) =
@@ -143,114 +143,114 @@ module _ (i : Image) (e : Seen) (r : SchedRow) (k : Bank) (pending : Bool) (time
   -- ---- wait
 
   waited_so : (b : Bool) (address held wanted : ℕ) → (held == wanted) ≡ b → status_of r.statuses t ≡ Ready
-      → waits here t address held wanted ≡ Leaves (state_by (with_threads e (waited e.threads t held wanted)) (with_status r t (awaiting address held wanted)) pending k.states time c) None
+      → waits here t address held wanted ≡ Leaves (state_by (waited e t held wanted) (with_status r t (awaiting address held wanted)) pending k.states time c) None
   waited_so true address held wanted same ready =
       let first : waits here t address held wanted
       ≡ Leaves (record (registers.with_thread here t (threads.with_status (answered (thread here t) (integer 0)) (awaiting address held wanted))) { running = None }) None = rw same refl in
-      let seen : state_by (with_threads e (waited e.threads t held wanted)) (with_status r t (awaiting address held wanted)) pending k.states time c
-      ≡ state_by (with_threads e (rested e.threads t)) (with_status r t (awaiting address held wanted)) pending k.states time c = rw same refl in
+      let seen : state_by (waited e t held wanted) (with_status r t (awaiting address held wanted)) pending k.states time c
+      ≡ state_by (rested e t) (with_status r t (awaiting address held wanted)) pending k.states time c = rw same refl in
       first ∙ ap (λ (s : State). Leaves s None) (sym (seen ∙ rests (awaiting address held wanted)))
   waited_so false address held wanted other ready =
       let first : waits here t address held wanted ≡ Leaves (answers here t (code 21)) None = rw other refl in
-      let seen : state_by (with_threads e (waited e.threads t held wanted)) (with_status r t (awaiting address held wanted)) pending k.states time c
-      ≡ state_by (with_threads e (answered_in e.threads t (code 21))) (sched.with_statuses r (set r.statuses t Ready)) pending k.states time c = rw other refl in
-      let row = ap (λ (ss : List Status). state_by (with_threads e (answered_in e.threads t (code 21))) (sched.with_statuses r ss) pending k.states time c) (set_ready r.statuses t ready) in
+      let seen : state_by (waited e t held wanted) (with_status r t (awaiting address held wanted)) pending k.states time c
+      ≡ state_by ((answered_in e t (code 21))) (sched.with_statuses r (set r.statuses t Ready)) pending k.states time c = rw other refl in
+      let row = ap (λ (ss : List Status). state_by ((answered_in e t (code 21))) (sched.with_statuses r ss) pending k.states time c) (set_ready r.statuses t ready) in
       first ∙ ap (λ (s : State). Leaves s None) (sym (seen ∙ row ∙ answers_are (code 21)))
 
   pub came_wait : (ram : ℕ) (o : Option Trap) (e' : Seen) (r' : SchedRow) → ram ≡ i.ram → status_of r.statuses t ≡ Ready
-      → o ≡ either (first_failed (return_checks (register (engine.thread e.threads t) 1))) (first_failed (word_checks i here (register (engine.thread e.threads t) 10)))
-      → e' ≡ left_as o (waited e.threads t (loaded e.threads.granules (cap_address (register (engine.thread e.threads t) 10) - ram) 4) (cap_address (register (engine.thread e.threads t) 11)))
+      → o ≡ either (first_failed (return_checks (register (engine.thread e t) 1))) (first_failed (word_checks i here (register (engine.thread e t) 10)))
+      → e' ≡ left_as o (waited e t (loaded e.granules (cap_address (register (engine.thread e t) 10) - ram) 4) (cap_address (register (engine.thread e t) 11)))
       → r' ≡ unless_row o r
-      (with_status r t (awaiting (cap_address (register (engine.thread e.threads t) 10)) (loaded e.threads.granules (cap_address (register (engine.thread e.threads t) 10) - ram) 4) (cap_address (register (engine.thread e.threads t) 11))))
+      (with_status r t (awaiting (cap_address (register (engine.thread e t) 10)) (loaded e.granules (cap_address (register (engine.thread e t) 10) - ram) 4) (cap_address (register (engine.thread e t) 11))))
       → CameTo (machine e r) (machine e' r') t (ran_by_service o) (ran board here t (wait i here t))
   came_wait ram o e' r' place ready trap now turn =
       let ten = register_alike 10 in
       let eleven = register_alike 11 in
       let address : ℕ = cap_address (register (thread here t) 10) in
-      let held : ℕ = loaded e.threads.granules (address - i.ram) 4 in
+      let held : ℕ = loaded e.granules (address - i.ram) 4 in
       let wanted : ℕ = cap_address (register (thread here t) 11) in
-      came_service o e' (waited e.threads t held wanted) r' (with_status r t (awaiting address held wanted)) (wait i here t)
-      (state_by (with_threads e (waited e.threads t held wanted)) (with_status r t (awaiting address held wanted)) pending k.states time c)
+      came_service o e' (waited e t held wanted) r' (with_status r t (awaiting address held wanted)) (wait i here t)
+      (state_by (waited e t held wanted) (with_status r t (awaiting address held wanted)) pending k.states time c)
       (checked_twice (return_checks (register (thread here t) 1)) (word_checks i here (register (thread here t) 10)) (waits here t address held wanted)
       ∙ ap (λ (x : Cap). by_trap (either (first_failed (return_checks x)) (first_failed (word_checks i here (register (thread here t) 10)))) (waits here t address held wanted)) (sym (register_alike 1))
-      ∙ ap (λ (x : Cap). by_trap (either (first_failed (return_checks (register (engine.thread e.threads t) 1))) (first_failed (word_checks i here x))) (waits here t address held wanted)) (sym ten)
+      ∙ ap (λ (x : Cap). by_trap (either (first_failed (return_checks (register (engine.thread e t) 1))) (first_failed (word_checks i here x))) (waits here t address held wanted)) (sym ten)
       ∙ ap (λ (p : Option Trap). by_trap p (waits here t address held wanted)) (sym trap)
       ∙ ap (by_trap o) (waited_so (held == wanted) address held wanted refl ready))
       (now
-      ∙ ap (λ (x : Cap). left_as o (waited e.threads t (loaded e.threads.granules (cap_address x - ram) 4) (cap_address (register (engine.thread e.threads t) 11)))) ten
-      ∙ ap (λ n. left_as o (waited e.threads t (loaded e.threads.granules (address - n) 4) (cap_address (register (engine.thread e.threads t) 11)))) place
-      ∙ ap (λ (x : Cap). left_as o (waited e.threads t held (cap_address x))) eleven)
+      ∙ ap (λ (x : Cap). left_as o (waited e t (loaded e.granules (cap_address x - ram) 4) (cap_address (register (engine.thread e t) 11)))) ten
+      ∙ ap (λ n. left_as o (waited e t (loaded e.granules (address - n) 4) (cap_address (register (engine.thread e t) 11)))) place
+      ∙ ap (λ (x : Cap). left_as o (waited e t held (cap_address x))) eleven)
       (turn
-      ∙ ap (λ (x : Cap). unless_row o r (with_status r t (awaiting (cap_address x) (loaded e.threads.granules (cap_address x - ram) 4) (cap_address (register (engine.thread e.threads t) 11))))) ten
-      ∙ ap (λ n. unless_row o r (with_status r t (awaiting address (loaded e.threads.granules (address - n) 4) (cap_address (register (engine.thread e.threads t) 11))))) place
+      ∙ ap (λ (x : Cap). unless_row o r (with_status r t (awaiting (cap_address x) (loaded e.granules (cap_address x - ram) 4) (cap_address (register (engine.thread e t) 11))))) ten
+      ∙ ap (λ n. unless_row o r (with_status r t (awaiting address (loaded e.granules (address - n) 4) (cap_address (register (engine.thread e t) 11))))) place
       ∙ ap (λ (x : Cap). unless_row o r (with_status r t (awaiting address held (cap_address x)))) eleven)
       refl
 
   -- ---- wake
 
   wakes_are : (address most : ℕ) → length (woken address most r.statuses) ≡ length r.statuses
-      → state_by (with_threads e (answered_in e.threads t (integer (woken_count address most r.statuses)))) (sched.with_statuses r (woken address most r.statuses)) pending k.states time c ≡ wakes here t address most
+      → state_by ((answered_in e t (integer (woken_count address most r.statuses)))) (sched.with_statuses r (woken address most r.statuses)) pending k.states time c ≡ wakes here t address most
   wakes_are address most many =
       let v : Cap = integer (woken_count address most r.statuses) in
-      let there : with_statuses (set (with_statuses e.threads.threads r.statuses) t (answered (thread here t) v)) (woken address most r.statuses)
-      ≡ with_statuses (set e.threads.threads t (answered (engine.thread e.threads t) v)) (woken address most r.statuses) =
-      set_over (λ (x : Thread). answered x v) (λ x q s. refl) e.threads.threads r.statuses (woken address most r.statuses) t kept.statuses (many ∙ kept.statuses) in
-      rw (statuses_with e.threads.threads r.statuses kept.statuses, there) refl
+      let there : with_statuses (set (with_statuses e.threads r.statuses) t (answered (thread here t) v)) (woken address most r.statuses)
+      ≡ with_statuses (set e.threads t (answered (engine.thread e t) v)) (woken address most r.statuses) =
+      set_over (λ (x : Thread). answered x v) (λ x q s. refl) e.threads r.statuses (woken address most r.statuses) t kept.statuses (many ∙ kept.statuses) in
+      rw (statuses_with e.threads r.statuses kept.statuses, there) refl
 
   pub came_wake : (o : Option Trap) (e' : Seen) (r' : SchedRow)
       → length (woken (cap_address (register (thread here t) 10)) (cap_address (register (thread here t) 11)) r.statuses) ≡ length r.statuses
-      → o ≡ either (first_failed (return_checks (register (engine.thread e.threads t) 1))) (first_failed (word_checks i here (register (engine.thread e.threads t) 10)))
-      → e' ≡ left_as o (answered_in e.threads t (integer (woken_count (cap_address (register (engine.thread e.threads t) 10)) (cap_address (register (engine.thread e.threads t) 11)) r.statuses)))
-      → r' ≡ unless_row o r (sched.with_statuses r (woken (cap_address (register (engine.thread e.threads t) 10)) (cap_address (register (engine.thread e.threads t) 11)) r.statuses))
+      → o ≡ either (first_failed (return_checks (register (engine.thread e t) 1))) (first_failed (word_checks i here (register (engine.thread e t) 10)))
+      → e' ≡ left_as o (answered_in e t (integer (woken_count (cap_address (register (engine.thread e t) 10)) (cap_address (register (engine.thread e t) 11)) r.statuses)))
+      → r' ≡ unless_row o r (sched.with_statuses r (woken (cap_address (register (engine.thread e t) 10)) (cap_address (register (engine.thread e t) 11)) r.statuses))
       → CameTo (machine e r) (machine e' r') t (ran_by_service o) (ran board here t (wake i here t))
   came_wake o e' r' many trap now turn =
       let ten = register_alike 10 in
       let eleven = register_alike 11 in
       let address : ℕ = cap_address (register (thread here t) 10) in
       let most : ℕ = cap_address (register (thread here t) 11) in
-      came_service o e' (answered_in e.threads t (integer (woken_count address most r.statuses))) r' (sched.with_statuses r (woken address most r.statuses)) (wake i here t) (wakes here t address most)
+      came_service o e' (answered_in e t (integer (woken_count address most r.statuses))) r' (sched.with_statuses r (woken address most r.statuses)) (wake i here t) (wakes here t address most)
       (checked_twice (return_checks (register (thread here t) 1)) (word_checks i here (register (thread here t) 10)) (Leaves (wakes here t address most) None)
       ∙ ap (λ (x : Cap). by_trap (either (first_failed (return_checks x)) (first_failed (word_checks i here (register (thread here t) 10)))) (Leaves (wakes here t address most) None)) (sym (register_alike 1))
-      ∙ ap (λ (x : Cap). by_trap (either (first_failed (return_checks (register (engine.thread e.threads t) 1))) (first_failed (word_checks i here x))) (Leaves (wakes here t address most) None)) (sym ten)
+      ∙ ap (λ (x : Cap). by_trap (either (first_failed (return_checks (register (engine.thread e t) 1))) (first_failed (word_checks i here x))) (Leaves (wakes here t address most) None)) (sym ten)
       ∙ ap (λ (p : Option Trap). by_trap p (Leaves (wakes here t address most) None)) (sym trap))
       (now
-      ∙ ap (λ (x : Cap). left_as o (answered_in e.threads t (integer (woken_count (cap_address x) (cap_address (register (engine.thread e.threads t) 11)) r.statuses)))) ten
-      ∙ ap (λ (x : Cap). left_as o (answered_in e.threads t (integer (woken_count address (cap_address x) r.statuses)))) eleven)
+      ∙ ap (λ (x : Cap). left_as o (answered_in e t (integer (woken_count (cap_address x) (cap_address (register (engine.thread e t) 11)) r.statuses)))) ten
+      ∙ ap (λ (x : Cap). left_as o (answered_in e t (integer (woken_count address (cap_address x) r.statuses)))) eleven)
       (turn
-      ∙ ap (λ (x : Cap). unless_row o r (sched.with_statuses r (woken (cap_address x) (cap_address (register (engine.thread e.threads t) 11)) r.statuses))) ten
+      ∙ ap (λ (x : Cap). unless_row o r (sched.with_statuses r (woken (cap_address x) (cap_address (register (engine.thread e t) 11)) r.statuses))) ten
       ∙ ap (λ (x : Cap). unless_row o r (sched.with_statuses r (woken address (cap_address x) r.statuses))) eleven)
       (wakes_are address most many)
 
   -- ---- what is kept beside the state
 
-  unless_kept : (e' : Seen) (ss : List Status) (o : Option Trap) (after : engine.Seen) (r' : SchedRow) → e' ≡ left_as o after → r' ≡ unless_row o r (sched.with_statuses r ss) → IsKept i (with_threads e after) (sched.with_statuses r ss) → IsKept i e' r'
+  unless_kept : (e' : Seen) (ss : List Status) (o : Option Trap) (after : Seen) (r' : SchedRow) → e' ≡ left_as o after → r' ≡ unless_row o r (sched.with_statuses r ss) → IsKept i (after) (sched.with_statuses r ss) → IsKept i e' r'
   unless_kept e' ss (Some why) after r' now turn h = rw (now, turn) kept
   unless_kept e' ss None after r' now turn h = rw (now, turn) h
 
-  rested_kept : (ss : List Status) → length ss ≡ length r.statuses → IsKept i (with_threads e (rested e.threads t)) (sched.with_statuses r ss)
-  rested_kept ss many = kept_so i e (rested e.threads t) r ss kept refl refl refl (length-set e.threads.threads t _) many (none_runs (with_threads e (rested e.threads t)) ss refl)
+  rested_kept : (ss : List Status) → length ss ≡ length r.statuses → IsKept i (rested e t) (sched.with_statuses r ss)
+  rested_kept ss many = kept_so i e (rested e t) r ss kept refl refl (length-set e.threads t _) many (none_runs (rested e t) ss refl)
 
-  answered_kept : (v : Cap) (ss : List Status) → length ss ≡ length r.statuses → RunsReady e ss → IsKept i (with_threads e (answered_in e.threads t v)) (sched.with_statuses r ss)
-  answered_kept v ss many ready = kept_so i e (answered_in e.threads t v) r ss kept refl refl refl (length-set e.threads.threads t _) many ready
+  answered_kept : (v : Cap) (ss : List Status) → length ss ≡ length r.statuses → RunsReady e ss → IsKept i (answered_in e t v) (sched.with_statuses r ss)
+  answered_kept v ss many ready = kept_so i e (answered_in e t v) r ss kept refl refl (length-set e.threads t _) many ready
 
-  pub kept_rest : (status : Status) (o : Option Trap) (e' : Seen) (r' : SchedRow) → e' ≡ left_as o (rested e.threads t) → r' ≡ unless_row o r (with_status r t status) → IsKept i e' r'
-  kept_rest status o e' r' now turn = unless_kept e' (set r.statuses t status) o (rested e.threads t) r' now turn (rested_kept (set r.statuses t status) (length-set r.statuses t status))
+  pub kept_rest : (status : Status) (o : Option Trap) (e' : Seen) (r' : SchedRow) → e' ≡ left_as o (rested e t) → r' ≡ unless_row o r (with_status r t status) → IsKept i e' r'
+  kept_rest status o e' r' now turn = unless_kept e' (set r.statuses t status) o (rested e t) r' now turn (rested_kept (set r.statuses t status) (length-set r.statuses t status))
 
-  waited_kept : (b : Bool) (address held wanted : ℕ) → (held == wanted) ≡ b → status_of r.statuses t ≡ Ready → IsKept i (with_threads e (waited e.threads t held wanted)) (with_status r t (awaiting address held wanted))
+  waited_kept : (b : Bool) (address held wanted : ℕ) → (held == wanted) ≡ b → status_of r.statuses t ≡ Ready → IsKept i (waited e t held wanted) (with_status r t (awaiting address held wanted))
   waited_kept true address held wanted same ready = rw same (rested_kept (set r.statuses t (Waiting address)) (length-set r.statuses t (Waiting address)))
   waited_kept false address held wanted other ready = rw (other, set_ready r.statuses t ready) (answered_kept (code 21) r.statuses refl kept.ready)
 
   pub kept_wait : (address held wanted : ℕ) (o : Option Trap) (e' : Seen) (r' : SchedRow) → status_of r.statuses t ≡ Ready
-      → e' ≡ left_as o (waited e.threads t held wanted) → r' ≡ unless_row o r (with_status r t (awaiting address held wanted)) → IsKept i e' r'
+      → e' ≡ left_as o (waited e t held wanted) → r' ≡ unless_row o r (with_status r t (awaiting address held wanted)) → IsKept i e' r'
   kept_wait address held wanted o e' r' ready now turn =
-      unless_kept e' (set r.statuses t (awaiting address held wanted)) o (waited e.threads t held wanted) r' now turn (waited_kept (held == wanted) address held wanted refl ready)
+      unless_kept e' (set r.statuses t (awaiting address held wanted)) o (waited e t held wanted) r' now turn (waited_kept (held == wanted) address held wanted refl ready)
 
-  pub kept_wake : (v : Cap) (address most : ℕ) (o : Option Trap) (e' : Seen) (r' : SchedRow) → e' ≡ left_as o (answered_in e.threads t v) → r' ≡ unless_row o r (sched.with_statuses r (woken address most r.statuses)) → IsKept i e' r'
+  pub kept_wake : (v : Cap) (address most : ℕ) (o : Option Trap) (e' : Seen) (r' : SchedRow) → e' ≡ left_as o (answered_in e t v) → r' ≡ unless_row o r (sched.with_statuses r (woken address most r.statuses)) → IsKept i e' r'
   kept_wake v address most o e' r' now turn =
-      unless_kept e' (woken address most r.statuses) o (answered_in e.threads t v) r' now turn
+      unless_kept e' (woken address most r.statuses) o (answered_in e t v) r' now turn
       (answered_kept v (woken address most r.statuses) (woken_many address most r.statuses) (λ u runs. woken_ready address most r.statuses u (kept.ready u runs)))
 
   -- ---- the running thread
 
-  pub runs_ready : e.threads.running ≡ Some t → status_of r.statuses t ≡ Ready
+  pub runs_ready : e.running ≡ Some t → status_of r.statuses t ≡ Ready
   runs_ready runs = kept.ready t runs

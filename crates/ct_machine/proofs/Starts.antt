@@ -11,7 +11,7 @@ use Rattle.def_machine.specs.State.{Thread, no_counts}
 use Rattle.def_machine.specs.Threads.{with_statuses}
 use Rattle.def_sched.specs.declared.Status.TheVariants.{Ready}
 use Rattle.def_step.specs.Devices.{Bank}
-use Rattle.def_step.specs.Events.{MachineRow}
+use Rattle.def_machine.specs.Board.{MachineRow}
 use Rattle.def_image.specs.Parts.{ThreadRow, PartsRow}
 use Rattle.def_image.specs.Sound.{Sound}
 use Rattle.def_boot.specs.Gates.{entries_of}
@@ -19,12 +19,12 @@ use Rattle.def_boot.specs.Entries as listed
 use Rattle.law_listed.proofs.Few.{few_entries}
 use Rattle.def_boot.specs.Boot.{boot_state, booted_machine, first_thread, first_threads, image_of}
 use Rattle.def_boot.specs.Contents.{boot_granules, granules_from, granules_in}
-use Rattle.ct_heaped.specs.Seen.{Seen}
-use Rattle.ct_heaped.specs.Shared.{HasHeap}
+use Rattle.ct_engine.specs.Seen.{Seen}
+use Rattle.ct_engine.specs.Written.{HasHeap}
 use Rattle.ct_engine.specs.Steps.{IsHeapPlaced}
 use Rattle.ct_sched.specs.Sched.{SchedRow}
-use Rattle.ct_launch.specs.Launching.{launched}
-use Rattle.ct_launch.specs.Placed.{ArePlaced}
+use Rattle.ct_boot.specs.Launching.{launched}
+use Rattle.ct_boot.specs.Placed.{ArePlaced}
 use Rattle.ct_machine.specs.Parts.{HasQuotas, IsKept, IsCounted}
 use Rattle.ct_machine.proofs.Keeping.{machine_by}
 use Rattle.ct_machine.specs.Starting.{IsPlan, bank_of, limits_of, rows_of}
@@ -148,7 +148,7 @@ quotas_has p = quota_listed (entries_of p)
 abbrev first : PartsRow → Seen
 first p = launched p (limits_of (entries_of p))
 
-kept : (p : PartsRow) → Sound p → ArePlaced (image_of p) (8 * length (first p).threads.granules) (first p).threads.areas → IsKept (image_of p) (first p) (rows_of p)
+kept : (p : PartsRow) → Sound p → ArePlaced (image_of p) (8 * length (first p).granules) (first p).areas → IsKept (image_of p) (first p) (rows_of p)
 kept p s placed =
     let few = s.few.threads in
     let count = statuses_count p in
@@ -165,13 +165,13 @@ kept p s placed =
       ready = λ t runs. absurd cc;
     }
 
-pub started_kept : (p : PartsRow) (i : Image) (e : Seen) (r : SchedRow) → Sound p → i ≡ image_of p → e ≡ launched p (limits_of (entries_of p)) → ArePlaced (image_of p) (8 * length e.threads.granules) e.threads.areas → r ≡ rows_of p
+pub started_kept : (p : PartsRow) (i : Image) (e : Seen) (r : SchedRow) → Sound p → i ≡ image_of p → e ≡ launched p (limits_of (entries_of p)) → ArePlaced (image_of p) (8 * length e.granules) e.areas → r ≡ rows_of p
     → IsKept i e r × IsCounted no_counts 0 e.next
 started_kept p i e r s image engine placed rows = (
   subst (λ (j : Image). IsKept j e r) (sym image)
       (subst (λ (x : SchedRow). IsKept (image_of p) e x) (sym rows)
       (subst (λ (x : Seen). IsKept (image_of p) x (rows_of p)) (sym engine)
-      (kept p s (subst (λ (x : Seen). ArePlaced (image_of p) (8 * length x.threads.granules) x.threads.areas) engine placed)))),
+      (kept p s (subst (λ (x : Seen). ArePlaced (image_of p) (8 * length x.granules) x.areas) engine placed)))),
   subst (λ (x : Seen). IsCounted no_counts 0 x.next) (sym engine) (record { steps = omega arith; ticks = omega arith; sweeps = omega arith; inputs = omega arith; deeds = omega arith; clock = omega arith; made = omega arith }),
 )
 

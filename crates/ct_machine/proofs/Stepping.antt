@@ -4,11 +4,12 @@ use Rattle.ct_entry.specs.declared.acts.Deed.{Deed}
 use Rattle.def_machine.specs.Image.{Image}
 use Rattle.def_machine.specs.State.{State, Frame, Counts, thread}
 use Rattle.def_step.specs.Devices.{Bank}
-use Rattle.def_step.specs.Instructions.{Board, actor_of, executed}
-use Rattle.def_step.specs.Events.{MachineRow, continued, run_on, noted}
+use Rattle.def_step.specs.Instructions.{actor_of, executed}
+use Rattle.def_machine.specs.Board.{Board, MachineRow}
+use Rattle.def_step.specs.Events.{continued, run_on, noted}
 use Rattle.ct_sched.specs.Sched.{SchedRow}
 use Rattle.ct_engine.specs.Seen as engine
-use Rattle.ct_heaped.specs.Seen.{Seen}
+use Rattle.ct_engine.specs.Seen.{Seen}
 use Rattle.ct_execute.specs.declared.ran.Ran.{Ran}
 use Rattle.ct_execute.specs.declared.ran.Ran.TheVariants.{Went, Returned, Native, Trapped}
 use Rattle.ct_execute.specs.Deciding.{IfUnfinished}
@@ -20,11 +21,11 @@ module _ (i : Image) (e : Seen) (r : SchedRow) (k : Bank) (pending : Bool) (time
   abbrev machine : MachineRow
   machine = machine_by i e r k pending time c
 
-  pub runs_by : e.threads.running ≡ Some t → 0 < length (engine.thread e.threads t).frames → Runs machine t
-  runs_by runs some = record { runs = runs; some = subst (λ (fs : List Frame). 0 < length fs) (sym (frames_with e.threads.threads r.statuses t)) some }
+  pub runs_by : e.running ≡ Some t → 0 < length (engine.thread e t).frames → Runs machine t
+  runs_by runs some = record { runs = runs; some = subst (λ (fs : List Frame). 0 < length fs) (sym (frames_with e.threads r.statuses t)) some }
 
-  pub acts_by : (actor : ℕ) → actor ≡ actor_of (engine.thread e.threads t).frames → actor ≡ actor_of (thread machine.state t).frames
-  acts_by actor is = is ∙ ap actor_of (sym (frames_with e.threads.threads r.statuses t))
+  pub acts_by : (actor : ℕ) → actor ≡ actor_of (engine.thread e t).frames → actor ≡ actor_of (thread machine.state t).frames
+  acts_by actor is = is ∙ ap actor_of (sym (frames_with e.threads r.statuses t))
 
 pub ends_by : (m n : MachineRow) (t actor : ℕ) (ran : Ran) (whole : State × Option Deed) → MayGoOn m → Runs m t → actor ≡ actor_of (thread m.state t).frames → CameTo m n t ran whole → IfUnfinished ran (MayEnd n t actor)
 ends_by m n t actor ran whole may runs acts came =

@@ -14,10 +14,11 @@ use Rattle.def_machine.specs.Image.{Image}
 use Rattle.def_machine.specs.State.{State, Thread, Frame, Object, Counts, thread, nobody}
 use Rattle.def_machine.specs.Objects.{Each, has_quarantined, painted}
 use Rattle.def_machine.specs.Heap as heap
+use Rattle.def_machine.specs.Slices.{kept_threads, marks_cleared}
 use Rattle.def_machine.specs.Threads.{Clockwork, with_status}
 use Rattle.def_step.specs.Devices.{Bank}
-use Rattle.def_step.specs.Instructions.{Board}
-use Rattle.def_step.specs.Events.{MachineRow, happens, holder, holder_by, begun_since, swept_on}
+use Rattle.def_machine.specs.Board.{Board, MachineRow}
+use Rattle.def_step.specs.Events.{happens, holder, holder_by, begun_since, swept_on}
 use Rattle.def_step.specs.declared.Event.TheVariants.{Sweep}
 use Rattle.law_lists.proofs.Tests.{eq_tells}
 use Rattle.law_turns.proofs.Moves.{clock_confined}
@@ -28,13 +29,11 @@ use Rattle.law_heaped.proofs.Slices.{kept_length}
 use Rattle.ct_areas.specs.declared.thread.Area.{Area}
 use Rattle.ct_sched.specs.Sched.{SchedRow}
 use Rattle.ct_engine.specs.Seen as engine
-use Rattle.ct_engine.specs.Heaps.{NoneLeft}
-use Rattle.ct_engine.specs.Sweeps.{kept_threads, passes}
 use Rattle.ct_engine.specs.Written.{HasAreas}
+use Rattle.ct_engine.specs.Seen.{Seen}
+use Rattle.ct_engine.specs.Sweeps.{NoneLeft, passes, area_offset, size_of, began, with_slice, over, ended, slice_end, passed_on, swept_by}
+use Rattle.ct_engine.proofs.Shown.{swept_shown}
 use Rattle.ct_engine.proofs.Sliced.{slice_written}
-use Rattle.ct_heaped.specs.Seen.{Seen}
-use Rattle.ct_heaped.specs.Sweeps.{size_of, began, with_slice, unmarked, over, ended, slice_end, passed_on, swept_by}
-use Rattle.ct_heaped.proofs.Shown.{swept_shown}
 use Rattle.ct_machine.specs.Parts.{state_by, IsKept}
 use Rattle.ct_machine.specs.Going.{MaySweep, one_more_sweep, silence}
 use Rattle.ct_machine.proofs.Statuses.{like_with}
@@ -46,7 +45,7 @@ use Rattle.ct_machine.proofs.Keeping.{StaysBeside, stays_kept, still_ready}
 -- places stay, and as many granules and threads; the same thread runs, and no object is made
 pub record SweepStays (e new : Seen) : Type 0 where
   pub beside : StaysBeside e new
-  pub running : new.threads.running ≡ e.threads.running
+  pub running : new.running ≡ e.running
   pub next : new.next ≡ e.next
 
 same_stays : (e : Seen) → SweepStays e e
@@ -77,18 +76,17 @@ began_stays e None =
     (record { beside = record { region = refl; areas = refl; size = refl; threads = refl; heap_base = refl; heap_end = refl; limits = refl }; running = refl; next = refl })
 began_stays e (Some front) = same_stays e
 
-threads_many : (keep : ℕ → Cap → Cap) (ram : ℕ) (running : Option ℕ) (n : ℕ) (areas : List Area) (ts : List Thread) → length (kept_threads keep ram running n areas ts) ≡ length ts
-threads_many keep ram running n areas [] = refl
-threads_many keep ram running n [] (t ∷ ts) = refl
-threads_many keep ram running n (a ∷ areas) (t ∷ ts) = ap suc (threads_many keep ram running (n + 1) areas ts)
+threads_many : (keep : ℕ → Cap → Cap) (area : ℕ → ℕ) (running : Option ℕ) (n : ℕ) (ts : List Thread) → length (kept_threads keep area running n ts) ≡ length ts
+threads_many keep area running n [] = refl
+threads_many keep area running n (t ∷ ts) = ap suc (threads_many keep area running (n + 1) ts)
 
 slice_stays : (e : Seen) (low high : ℕ) → SweepStays e (with_slice e low high)
 slice_stays e low high = record {
   beside = record {
     region = refl;
     areas = refl;
-    size = kept_length (passes e.threads low high) 0 e.threads.granules;
-    threads = threads_many (passes e.threads low high) e.threads.region.ram e.threads.running 0 e.threads.areas e.threads.threads;
+    size = kept_length (passes e low high) 0 e.granules;
+    threads = threads_many (passes e low high) (area_offset e) e.running 0 e.threads;
     heap_base = refl;
     heap_end = refl;
     limits = refl;
@@ -97,13 +95,13 @@ slice_stays e low high = record {
   next = refl;
 }
 
-unmarked_many : (rs : List Object) (x : ℕ) (gs : List Granule) → length (unmarked rs x gs) ≡ length gs
-unmarked_many rs x [] = refl
-unmarked_many rs x (g ∷ gs) = ap suc (unmarked_many rs (x + 8) gs)
+cleared_many : (rs : List Object) (x : ℕ) (gs : List Granule) → length (marks_cleared rs x gs) ≡ length gs
+cleared_many rs x [] = refl
+cleared_many rs x (g ∷ gs) = ap suc (cleared_many rs (x + 8) gs)
 
 over_stays : (e : Seen) → SweepStays e (over e)
 over_stays e = record {
-  beside = record { region = refl; areas = refl; size = unmarked_many e.objects e.threads.region.ram e.threads.granules; threads = refl; heap_base = refl; heap_end = refl; limits = refl };
+  beside = record { region = refl; areas = refl; size = cleared_many e.objects e.region.ram e.granules; threads = refl; heap_base = refl; heap_end = refl; limits = refl };
   running = refl;
   next = refl;
 }
@@ -137,7 +135,7 @@ module _ (i : Image) (e : Seen) (r : SchedRow) (k : Bank) (pending : Bool) (time
   abbrev state_of : Seen → State
   state_of x = state_by x r pending k.states time c
 
-  pub areas_are : HasAreas i e.threads
+  pub areas_are : HasAreas i e
   areas_are = record { ram = ram_is i e r kept; count = kept.threads; begins = λ t within. (kept.areas.each t within).begin_is }
 
   begun_as : (b : Bool) → cond b (record here { objects = painted e.objects; front = Some 0 }) here ≡ state_of (cond b (record e { objects = painted e.objects; front = Some 0 }) e)
@@ -148,39 +146,36 @@ module _ (i : Image) (e : Seen) (r : SchedRow) (k : Bank) (pending : Bool) (time
   began_as None = begun_as (has_quarantined e.objects)
   began_as (Some front) = refl
 
-  begun_threads : (b : Bool) → (cond b (record e { objects = painted e.objects; front = Some 0 }) e).threads ≡ e.threads
-  begun_threads true = refl
-  begun_threads false = refl
+  begun_areas : (b : Bool) → HasAreas i (cond b (record e { objects = painted e.objects; front = Some 0 }) e)
+  begun_areas true = record { ram = areas_are.ram; count = areas_are.count; begins = areas_are.begins }
+  begun_areas false = areas_are
 
-  began_threads : (o : Option ℕ) → (began e o).threads ≡ e.threads
-  began_threads None = begun_threads (has_quarantined e.objects)
-  began_threads (Some front) = refl
-
-  sliced_as : (x : Seen) (low high : ℕ) → x.threads ≡ e.threads → heap.with_slice i (state_of x) low high ≡ state_of (with_slice x low high)
-  sliced_as x low high same = slice_written i (state_of x) x.threads r.statuses low high (subst (λ (s : engine.Seen). HasAreas i s) (sym same) areas_are)
+  began_areas : (o : Option ℕ) → HasAreas i (began e o)
+  began_areas None = begun_areas (has_quarantined e.objects)
+  began_areas (Some front) = areas_are
 
   -- what the state holds nowhere the engine doesn't either
-  none_in : (x : Seen) → IsClean (state_of x) → NoneLeft x.objects x.threads
+  none_in : (x : Seen) → IsClean (state_of x) → NoneLeft x.objects x
   none_in x h = record {
     granules = h.granules;
-    frames = λ t. subst (λ (fs : List Frame). Each (SavedClean x.objects) fs) (frames_with x.threads.threads r.statuses t) (h.frames t);
+    frames = λ t. subst (λ (fs : List Frame). Each (SavedClean x.objects) fs) (frames_with x.threads r.statuses t) (h.frames t);
     stopped = λ t other.
         let clean = h.stopped t other in
-        let alike = like_with x.threads.threads r.statuses t Ready in
-        let same : StoppedClean x.objects (with_status (engine.thread x.threads t) Ready) =
+        let alike = like_with x.threads r.statuses t Ready in
+        let same : StoppedClean x.objects (with_status (engine.thread x t) Ready) =
         subst (λ (u : Thread). StoppedClean x.objects u) alike (record { pcc = clean.pcc; registers = clean.registers }) in
         record { pcc = same.pcc; registers = same.registers };
   }
 
   pub none_left : (rate : ℕ) → rate ≡ i.sweep → Partitioned i → RootsAway i → Keeps i here → (front : ℕ) → (began e e.front).front ≡ Some front → size_of e ≤ slice_end e rate front
-      → NoneLeft (began e e.front).objects (with_slice (began e e.front) front (slice_end e rate front)).threads
+      → NoneLeft (began e e.front).objects (with_slice (began e e.front) front (slice_end e rate front))
   none_left rate same parts away keeps front runs whole =
       let there : (heap.sweep_began here here.front).front ≡ Some front = ap (λ (s : State). s.front) (began_as e.front) ∙ runs in
       let end : slice_end e rate front ≡ heap.slice_end i here front = ap (λ n. min (front + 8 * n) (size_of e)) same in
       let law = ends_clean i here front parts away keeps there (subst (λ n. size_of e ≤ n) end whole) in
       let seen = ap (λ (s : State). heap.with_slice i s front (heap.slice_end i here front)) (began_as e.front)
-      ∙ sliced_as (began e e.front) front (heap.slice_end i here front) (began_threads e.front) in
-      subst (λ n. NoneLeft (began e e.front).objects (with_slice (began e e.front) front n).threads) (sym end)
+      ∙ slice_written i here (began e e.front) r.statuses front (heap.slice_end i here front) (began_areas e.front) in
+      subst (λ n. NoneLeft (began e e.front).objects (with_slice (began e e.front) front n)) (sym end)
       (none_in (with_slice (began e e.front) front (heap.slice_end i here front)) (subst IsClean seen law))
 
   -- what it leaves is what the written sweep leaves
@@ -212,10 +207,10 @@ record PosturesStay (x y : State) : Type 0 where
   running : y.running ≡ x.running
   postures : (t : ℕ) → (thread y t).posture ≡ (thread x t).posture
 
-sliced_posture : (i : Image) (s : State) (low high n : ℕ) (ts : List Thread) (t : ℕ) → (get_or (heap.sliced_threads i s low high n ts) t nobody).posture ≡ (get_or ts t nobody).posture
-sliced_posture i s low high n [] t = refl
-sliced_posture i s low high n (x ∷ xs) zero = refl
-sliced_posture i s low high n (x ∷ xs) (suc t) = sliced_posture i s low high (n + 1) xs t
+kept_posture : (keep : ℕ → Cap → Cap) (area : ℕ → ℕ) (running : Option ℕ) (n : ℕ) (ts : List Thread) (t : ℕ) → (get_or (kept_threads keep area running n ts) t nobody).posture ≡ (get_or ts t nobody).posture
+kept_posture keep area running n [] t = refl
+kept_posture keep area running n (x ∷ xs) zero = refl
+kept_posture keep area running n (x ∷ xs) (suc t) = kept_posture keep area running (n + 1) xs t
 
 either_stays : (b : Bool) (s x y : State) → PosturesStay s x → PosturesStay s y → PosturesStay s (cond b x y)
 either_stays true s x y h k = h
@@ -230,7 +225,7 @@ on_postures : (i : Image) (s : State) (o : Option ℕ) → PosturesStay s (heap.
 on_postures i s None = record { running = refl; postures = λ t. refl }
 on_postures i s (Some front) =
     let w = heap.with_slice i s front (heap.slice_end i s front) in
-    let sliced : PosturesStay s w = record { running = refl; postures = sliced_posture i s front (heap.slice_end i s front) 0 s.threads } in
+    let sliced : PosturesStay s w = record { running = refl; postures = kept_posture (heap.sliced i s front (heap.slice_end i s front)) (heap.area_offset i) s.running 0 s.threads } in
     either_stays (nat_le (heap.ram_size w) (heap.slice_end i s front)) s (heap.sweep_over i w) w (record { running = refl; postures = sliced.postures }) sliced
 
 swept_postures : (i : Image) (s : State) → PosturesStay s (heap.swept i s)

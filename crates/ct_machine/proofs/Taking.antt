@@ -14,14 +14,14 @@ use Rattle.def_confined.specs.Holding.{EndsFit}
 use Rattle.def_machine.specs.State.{State, Thread, Frame, DeviceState, Counts, thread, nobody}
 use Rattle.def_machine.specs.Threads.{with_statuses, picked_with}
 use Rattle.def_machine.specs.Memory.{filtered_in}
-use Rattle.def_step.specs.Instructions.{Board, actor_of}
+use Rattle.def_step.specs.Instructions.{actor_of}
+use Rattle.def_machine.specs.Board.{Board}
 use Rattle.def_step.specs.Events.{preempted_from, preempted, picked_as, picked_from, scheduled, interrupted, holder_by, holder, is_holder, begun_since, begun, ticked, told_of}
 use Rattle.ct_sched.specs.Sched.{SchedRow, after_pick}
 use Rattle.ct_sched.specs.Sched as sched
 use Rattle.ct_engine.specs.declared.rows.Region.{Region}
 use Rattle.ct_engine.specs.Seen as engine
-use Rattle.ct_engine.specs.Seen.{resumed, with_running}
-use Rattle.ct_heaped.specs.Seen.{Seen, with_threads}
+use Rattle.ct_engine.specs.Seen.{resumed, with_running, Seen}
 use Rattle.ct_machine.specs.Parts.{state_by, IsKept}
 use Rattle.ct_machine.specs.Going.{clock_on, sleepers_on}
 use Rattle.ct_machine.proofs.Statuses.{thread_with, like_with, set_with, statuses_with, timed_with}
@@ -35,7 +35,7 @@ not_false true e = refl
 not_false false e = sym e
 
 -- RAM begins where the image says
-pub ram_is : (i : Image) (e : Seen) (r : SchedRow) → IsKept i e r → e.threads.region.ram ≡ i.ram
+pub ram_is : (i : Image) (e : Seen) (r : SchedRow) → IsKept i e r → e.region.ram ≡ i.ram
 ram_is i e r kept = ap (λ (g : Region). g.ram) kept.region
 
 -- ---- who holds interrupts off
@@ -56,33 +56,33 @@ pub frames_with : (ts : List Thread) (ss : List Status) (t : ℕ) → (get_or (w
 frames_with ts ss t = ap (λ (u : Thread). u.frames) (like_with ts ss t Ready)
 
 module _ (e : Seen) (r : SchedRow) (pending : Bool) (devices : List DeviceState) (time : ℕ) (counts : Counts) where
-  pub posture_is : (t : ℕ) (p : Posture) → p ≡ (engine.thread e.threads t).posture → (thread (state_by e r pending devices time counts) t).posture ≡ p
-  posture_is t p is = posture_with e.threads.threads r.statuses t ∙ sym is
+  pub posture_is : (t : ℕ) (p : Posture) → p ≡ (engine.thread e t).posture → (thread (state_by e r pending devices time counts) t).posture ≡ p
+  posture_is t p is = posture_with e.threads r.statuses t ∙ sym is
 
-  pub holder_then : (t : ℕ) (p : Posture) → Some t ≡ e.threads.running → p ≡ (engine.thread e.threads t).posture → p.off ≡ true → Some (t, p.source) ≡ holder (state_by e r pending devices time counts)
-  holder_then t p runs is on = sym (holder_on (state_by e r pending devices time counts) e.threads.running t p (sym runs) (posture_is t p is) on)
+  pub holder_then : (t : ℕ) (p : Posture) → Some t ≡ e.running → p ≡ (engine.thread e t).posture → p.off ≡ true → Some (t, p.source) ≡ holder (state_by e r pending devices time counts)
+  holder_then t p runs is on = sym (holder_on (state_by e r pending devices time counts) e.running t p (sym runs) (posture_is t p is) on)
 
-  pub holder_else : (t : ℕ) (p : Posture) → Some t ≡ e.threads.running → p ≡ (engine.thread e.threads t).posture → p.off ≡ false → None ≡ holder (state_by e r pending devices time counts)
-  holder_else t p runs is off = sym (holder_off (state_by e r pending devices time counts) e.threads.running t p (sym runs) (posture_is t p is) off)
+  pub holder_else : (t : ℕ) (p : Posture) → Some t ≡ e.running → p ≡ (engine.thread e t).posture → p.off ≡ false → None ≡ holder (state_by e r pending devices time counts)
+  holder_else t p runs is off = sym (holder_off (state_by e r pending devices time counts) e.running t p (sym runs) (posture_is t p is) off)
 
-  pub begun_none : (before : Option (ℕ × ℕ)) → None ≡ e.threads.running → None ≡ begun_since before (state_by e r pending devices time counts) (holder (state_by e r pending devices time counts))
-  begun_none before none = ap (begun_since before (state_by e r pending devices time counts)) (sym (holder_none (state_by e r pending devices time counts) e.threads.running (sym none)))
+  pub begun_none : (before : Option (ℕ × ℕ)) → None ≡ e.running → None ≡ begun_since before (state_by e r pending devices time counts) (holder (state_by e r pending devices time counts))
+  begun_none before none = ap (begun_since before (state_by e r pending devices time counts)) (sym (holder_none (state_by e r pending devices time counts) e.running (sym none)))
 
-  pub begun_off : (before : Option (ℕ × ℕ)) (t : ℕ) (p : Posture) → Some t ≡ e.threads.running → p ≡ (engine.thread e.threads t).posture → p.off ≡ false
+  pub begun_off : (before : Option (ℕ × ℕ)) (t : ℕ) (p : Posture) → Some t ≡ e.running → p ≡ (engine.thread e t).posture → p.off ≡ false
       → None ≡ begun_since before (state_by e r pending devices time counts) (holder (state_by e r pending devices time counts))
   begun_off before t p runs is off = ap (begun_since before (state_by e r pending devices time counts)) (holder_else t p runs is off)
 
-  pub begun_same : (before : Option (ℕ × ℕ)) (t : ℕ) (p : Posture) → Some t ≡ e.threads.running → p ≡ (engine.thread e.threads t).posture → p.off ≡ true → is_holder before t p.source ≡ true
+  pub begun_same : (before : Option (ℕ × ℕ)) (t : ℕ) (p : Posture) → Some t ≡ e.running → p ≡ (engine.thread e t).posture → p.off ≡ true → is_holder before t p.source ≡ true
       → None ≡ begun_since before (state_by e r pending devices time counts) (holder (state_by e r pending devices time counts))
   begun_same before t p runs is on same =
       let here : begun_since before (state_by e r pending devices time counts) (Some (t, p.source)) ≡ None = rw same refl in
       sym here ∙ ap (begun_since before (state_by e r pending devices time counts)) (holder_then t p runs is on)
 
-  pub begun_new : (before : Option (ℕ × ℕ)) (t actor : ℕ) (p : Posture) → Some t ≡ e.threads.running → p ≡ (engine.thread e.threads t).posture → p.off ≡ true → is_holder before t p.source ≡ false
-      → actor ≡ actor_of (engine.thread e.threads t).frames
+  pub begun_new : (before : Option (ℕ × ℕ)) (t actor : ℕ) (p : Posture) → Some t ≡ e.running → p ≡ (engine.thread e t).posture → p.off ≡ true → is_holder before t p.source ≡ false
+      → actor ≡ actor_of (engine.thread e t).frames
       → Some (record { thread = t; actor = actor; export = p.source }) ≡ begun_since before (state_by e r pending devices time counts) (holder (state_by e r pending devices time counts))
   begun_new before t actor p runs is on other who =
-      let frames : actor_of (thread (state_by e r pending devices time counts) t).frames ≡ actor = ap actor_of (frames_with e.threads.threads r.statuses t) ∙ sym who in
+      let frames : actor_of (thread (state_by e r pending devices time counts) t).frames ≡ actor = ap actor_of (frames_with e.threads r.statuses t) ∙ sym who in
       let here : begun_since before (state_by e r pending devices time counts) (Some (t, p.source)) ≡ Some (record { thread = t; actor = actor; export = p.source }) = rw (other, frames) refl in
       sym here ∙ ap (begun_since before (state_by e r pending devices time counts)) (holder_then t p runs is on)
 
@@ -114,23 +114,23 @@ pub on_interrupted : (s : State) (t : ℕ) → s.running ≡ Some t → (thread 
 on_interrupted s t runs on = ap (interrupted s) runs ∙ rw on refl
 
 module _ (e : Seen) (r : SchedRow) (pending : Bool) (devices : List DeviceState) (time : ℕ) (counts : Counts) where
-  off_is : (t : ℕ) (p : Posture) (b : Bool) → p ≡ (engine.thread e.threads t).posture → p.off ≡ b → (thread (state_by e r pending devices time counts) t).posture.off ≡ b
+  off_is : (t : ℕ) (p : Posture) (b : Bool) → p ≡ (engine.thread e t).posture → p.off ≡ b → (thread (state_by e r pending devices time counts) t).posture.off ≡ b
   off_is t p b is off = ap (λ (q : Posture). q.off) (posture_is e r pending devices time counts t p is) ∙ off
 
-  pub stops_preempted : (e' : Seen) (t : ℕ) (p : Posture) → pending ≡ true → Some t ≡ e.threads.running → p ≡ (engine.thread e.threads t).posture → p.off ≡ false → e' ≡ with_threads e (with_running e.threads None)
+  pub stops_preempted : (e' : Seen) (t : ℕ) (p : Posture) → pending ≡ true → Some t ≡ e.running → p ≡ (engine.thread e t).posture → p.off ≡ false → e' ≡ with_running e None
       → state_by e' r false devices time counts ≡ preempted (state_by e r pending devices time counts)
   stops_preempted e' t p late runs is on now = rw now (sym (on_preempted (state_by e r pending devices time counts) t (sym runs) late (off_is t p false is on)))
 
-  pub stays_preempted : (t : ℕ) (p : Posture) → pending ≡ true → Some t ≡ e.threads.running → p ≡ (engine.thread e.threads t).posture → p.off ≡ true
+  pub stays_preempted : (t : ℕ) (p : Posture) → pending ≡ true → Some t ≡ e.running → p ≡ (engine.thread e t).posture → p.off ≡ true
       → state_by e r pending devices time counts ≡ preempted (state_by e r pending devices time counts)
   stays_preempted t p late runs is off = sym (off_preempted (state_by e r pending devices time counts) t (sym runs) late (off_is t p true is off))
 
-  pub waits_interrupted : (t : ℕ) (p : Posture) → Some t ≡ e.threads.running → p ≡ (engine.thread e.threads t).posture → p.off ≡ true
-      → state_by e r true devices time counts ≡ interrupted (state_by e r pending devices time counts) e.threads.running
+  pub waits_interrupted : (t : ℕ) (p : Posture) → Some t ≡ e.running → p ≡ (engine.thread e t).posture → p.off ≡ true
+      → state_by e r true devices time counts ≡ interrupted (state_by e r pending devices time counts) e.running
   waits_interrupted t p runs is off = sym (off_interrupted (state_by e r pending devices time counts) t (sym runs) (off_is t p true is off))
 
-  pub stops_interrupted : (e' : Seen) (t : ℕ) (p : Posture) → Some t ≡ e.threads.running → p ≡ (engine.thread e.threads t).posture → p.off ≡ false → e' ≡ with_threads e (with_running e.threads None)
-      → state_by e' r pending devices time counts ≡ interrupted (state_by e r pending devices time counts) e.threads.running
+  pub stops_interrupted : (e' : Seen) (t : ℕ) (p : Posture) → Some t ≡ e.running → p ≡ (engine.thread e t).posture → p.off ≡ false → e' ≡ with_running e None
+      → state_by e' r pending devices time counts ≡ interrupted (state_by e r pending devices time counts) e.running
   stops_interrupted e' t p runs is on now = rw now (sym (on_interrupted (state_by e r pending devices time counts) t (sym runs) (off_is t p false is on)))
 
 -- ---- a thread is picked
@@ -139,28 +139,28 @@ pub runs_scheduled : (b : Board) (s : State) (t : ℕ) → s.running ≡ Some t 
 runs_scheduled b s t runs = ap (picked_from b s) runs
 
 module _ (b : Board) (e : Seen) (r : SchedRow) (pending : Bool) (devices : List DeviceState) (time : ℕ) (counts : Counts) where
-  pub picks_as : (o : Option ℕ) → IsKept b.image e r → e.threads.running ≡ None → pick r.priorities r.statuses r.order ≡ o
+  pub picks_as : (o : Option ℕ) → IsKept b.image e r → e.running ≡ None → pick r.priorities r.statuses r.order ≡ o
       → scheduled b (state_by e r pending devices time counts) ≡ picked_as b (state_by e r pending devices time counts) o
   picks_as o kept idle is =
       ap (picked_from b (state_by e r pending devices time counts)) idle
-      ∙ ap (λ ss. picked_as b (state_by e r pending devices time counts) (pick b.image.priorities ss r.order)) (statuses_with e.threads.threads r.statuses kept.statuses)
+      ∙ ap (λ ss. picked_as b (state_by e r pending devices time counts) (pick b.image.priorities ss r.order)) (statuses_with e.threads r.statuses kept.statuses)
       ∙ ap (λ ps. picked_as b (state_by e r pending devices time counts) (pick ps r.statuses r.order)) (sym kept.priorities)
       ∙ ap (picked_as b (state_by e r pending devices time counts)) is
 
-  pub picked_is : (t : ℕ) → IsKept b.image e r → e.threads.running ≡ None → pick r.priorities r.statuses r.order ≡ Some t
-      → state_by (with_threads e (resumed e.threads t)) (after_pick r (Some t)) pending devices time counts ≡ scheduled b (state_by e r pending devices time counts)
+  pub picked_is : (t : ℕ) → IsKept b.image e r → e.running ≡ None → pick r.priorities r.statuses r.order ≡ Some t
+      → state_by (resumed e t) (after_pick r (Some t)) pending devices time counts ≡ scheduled b (state_by e r pending devices time counts)
   picked_is t kept idle is =
-      let there : with_statuses (set e.threads.threads t (picked_with (filtered_in e.threads.region.ram e.threads.granules) (get_or e.threads.threads t nobody))) r.statuses
-      ≡ set (with_statuses e.threads.threads r.statuses) t (picked_with (filtered_in e.threads.region.ram e.threads.granules) (get_or (with_statuses e.threads.threads r.statuses) t nobody)) =
-      set_with e.threads.threads r.statuses t (picked_with (filtered_in e.threads.region.ram e.threads.granules) (get_or e.threads.threads t nobody)) kept.statuses
-      ∙ ap (λ (x : Thread). set (with_statuses e.threads.threads r.statuses) t (picked_with (filtered_in e.threads.region.ram e.threads.granules) x)) (sym (thread_with e.threads.threads r.statuses t kept.statuses)) in
+      let there : with_statuses (set e.threads t (picked_with (filtered_in e.region.ram e.granules) (get_or e.threads t nobody))) r.statuses
+      ≡ set (with_statuses e.threads r.statuses) t (picked_with (filtered_in e.region.ram e.granules) (get_or (with_statuses e.threads r.statuses) t nobody)) =
+      set_with e.threads r.statuses t (picked_with (filtered_in e.region.ram e.granules) (get_or e.threads t nobody)) kept.statuses
+      ∙ ap (λ (x : Thread). set (with_statuses e.threads r.statuses) t (picked_with (filtered_in e.region.ram e.granules) x)) (sym (thread_with e.threads r.statuses t kept.statuses)) in
       rw (there, ram_is b.image e r kept) (sym (picks_as (Some t) kept idle is))
 
-  pub none_is : (r' : SchedRow) → IsKept b.image e r → None ≡ e.threads.running → None ≡ pick r.priorities r.statuses r.order → r' ≡ after_pick r None
+  pub none_is : (r' : SchedRow) → IsKept b.image e r → None ≡ e.running → None ≡ pick r.priorities r.statuses r.order → r' ≡ after_pick r None
       → state_by e r' pending devices time counts ≡ scheduled b (state_by e r pending devices time counts)
   none_is r' kept idle is row = ap (λ (x : SchedRow). state_by e x pending devices time counts) row ∙ sym (picks_as None kept (sym idle) (sym is))
 
-  pub some_is : (e' : Seen) (r' : SchedRow) (t : ℕ) → IsKept b.image e r → None ≡ e.threads.running → Some t ≡ pick r.priorities r.statuses r.order → e' ≡ with_threads e (resumed e.threads t) → r' ≡ after_pick r (Some t)
+  pub some_is : (e' : Seen) (r' : SchedRow) (t : ℕ) → IsKept b.image e r → None ≡ e.running → Some t ≡ pick r.priorities r.statuses r.order → e' ≡ resumed e t → r' ≡ after_pick r (Some t)
       → state_by e' r' pending devices time counts ≡ scheduled b (state_by e r pending devices time counts)
   some_is e' r' t kept idle is now row = rw (now, row) (picked_is t kept (sym idle) (sym is))
 
@@ -177,20 +177,20 @@ some_frames : (fs : List Frame) → (fs ≡ [] → ⊥) → 0 < length fs
 some_frames [] some = absurd (some refl)
 some_frames (f ∷ fs) some = omega arith
 
-pub picked_alive : (e : Seen) (r : SchedRow) (pending : Bool) (devices : List DeviceState) (time : ℕ) (counts : Counts) (t : ℕ) → length r.statuses ≡ length e.threads.threads
-    → EndsFit (state_by e r pending devices time counts) → Some t ≡ pick r.priorities r.statuses r.order → 0 < length (engine.thread e.threads t).frames
+pub picked_alive : (e : Seen) (r : SchedRow) (pending : Bool) (devices : List DeviceState) (time : ℕ) (counts : Counts) (t : ℕ) → length r.statuses ≡ length e.threads
+    → EndsFit (state_by e r pending devices time counts) → Some t ≡ pick r.priorities r.statuses r.order → 0 < length (engine.thread e t).frames
 picked_alive e r pending devices time counts t many ends is =
     let ready : is_ready (status_of r.statuses t) ≡ true = first_true (is_ready (status_of r.statuses t)) _ (find_tells (is_foremost r.priorities r.statuses r.order) r.order t (sym is)).passes in
-    let status : (get_or (with_statuses e.threads.threads r.statuses) t nobody).status ≡ get_or r.statuses t Ended = ap (λ (u : Thread). u.status) (thread_with e.threads.threads r.statuses t many) in
-    some_frames (engine.thread e.threads t).frames
-    (λ none. unready (status_of r.statuses t) (sym status ∙ ((ends t).none (frames_with e.threads.threads r.statuses t ∙ none)).0) ready)
+    let status : (get_or (with_statuses e.threads r.statuses) t nobody).status ≡ get_or r.statuses t Ended = ap (λ (u : Thread). u.status) (thread_with e.threads r.statuses t many) in
+    some_frames (engine.thread e t).frames
+    (λ none. unready (status_of r.statuses t) (sym status ∙ ((ends t).none (frames_with e.threads r.statuses t ∙ none)).0) ready)
 
 -- ---- a tick
 
 module _ (e : Seen) (r : SchedRow) (pending : Bool) (devices : List DeviceState) (time : ℕ) (counts : Counts) where
-  pub timed_is : (r' : SchedRow) → length r.statuses ≡ length e.threads.threads → r' ≡ sched.with_statuses r (map after_tick r.statuses)
+  pub timed_is : (r' : SchedRow) → length r.statuses ≡ length e.threads → r' ≡ sched.with_statuses r (map after_tick r.statuses)
       → state_by e r' pending devices time counts ≡ sleepers_on (state_by e r pending devices time counts)
-  timed_is r' many is = rw (is, timed_with e.threads.threads r.statuses many) refl
+  timed_is r' many is = rw (is, timed_with e.threads r.statuses many) refl
 
 pub ticked_as : (s mid new : State) (before : Option (ℕ × ℕ)) (off : Option Owned) → mid ≡ sleepers_on (clock_on s) → new ≡ interrupted mid mid.running → before ≡ holder s → off ≡ begun_since before new (holder new)
     → (new, record { deed = None; off = off }) ≡ told_of s (ticked s, None)

@@ -17,8 +17,8 @@ use Rattle.def_machine.specs.State.{State}
 use Rattle.def_machine.specs.Threads.{timed}
 use Rattle.def_sched.specs.declared.Status.TheVariants.{Ended}
 use Rattle.def_sched.specs.Statuses.{asleep}
-use Rattle.def_step.specs.Events.{MachineRow}
-use Rattle.def_step.specs.Instructions.{Board, actor_of, trapped, served}
+use Rattle.def_machine.specs.Board.{MachineRow, Board}
+use Rattle.def_step.specs.Instructions.{actor_of, trapped, served}
 use Rattle.def_step.specs.Native.{native}
 use Rattle.def_step.specs.Routines as routine
 use Rattle.def_step.specs.Switch.{return_checks}

@@ -7,19 +7,18 @@ use Rattle.def_machine.specs.Image.{Image, root}
 use Rattle.def_machine.specs.State.{State, DeviceState, Counts}
 use Rattle.def_machine.specs.Threads.{with_statuses}
 use Rattle.def_reach.specs.Roots.{is_quota}
-use Rattle.ct_heaped.specs.Seen.{Seen}
-use Rattle.ct_heaped.specs.Shared.{HasHeap}
+use Rattle.ct_engine.specs.Seen.{Seen, region_of}
+use Rattle.ct_engine.specs.Written.{HasHeap}
 use Rattle.ct_engine.specs.Steps.{IsHeapPlaced}
-use Rattle.ct_engine.specs.Seen.{region_of}
-use Rattle.ct_launch.specs.Placed.{ArePlaced}
+use Rattle.ct_boot.specs.Placed.{ArePlaced}
 use Rattle.ct_sched.specs.Sched.{SchedRow}
 
 -- The statuses of threads and the order of their last picks are the scheduler's. There is no token yet.
 abbrev pub state_by : Seen → SchedRow → Bool → List DeviceState → ℕ → Counts → State
 state_by e r pending devices time counts = record {
-  granules = e.threads.granules;
-  threads = with_statuses e.threads.threads r.statuses;
-  running = e.threads.running;
+  granules = e.granules;
+  threads = with_statuses e.threads r.statuses;
+  running = e.running;
   pending = pending;
   objects = e.objects;
   next = e.next;
@@ -38,16 +37,16 @@ HasQuotas i e = (q : ℕ) → is_quota (root i q).origin ≡ true → q < length
 -- What is kept beside the state: where the image has the threads' areas and stacks, RAM and the heap, what each
 -- quota may take, a status and a priority for each thread, and that the running one is ready.
 pub record IsKept (i : Image) (e : Seen) (r : SchedRow) : Type 0 where
-  pub region : e.threads.region ≡ region_of i
-  pub placed : IsHeapPlaced i.ram i.heap_base (length e.threads.granules)
+  pub region : e.region ≡ region_of i
+  pub placed : IsHeapPlaced i.ram i.heap_base (length e.granules)
   pub heap : HasHeap i e
   pub quotas : HasQuotas i e
-  pub areas : ArePlaced i (8 * length e.threads.granules) e.threads.areas
-  pub threads : length e.threads.areas ≡ length e.threads.threads
+  pub areas : ArePlaced i (8 * length e.granules) e.areas
+  pub threads : length e.areas ≡ length e.threads
   pub priorities : r.priorities ≡ i.priorities
-  pub statuses : length r.statuses ≡ length e.threads.threads
+  pub statuses : length r.statuses ≡ length e.threads
   pub few : length r.statuses < 2 ^ 32
-  pub ready : (t : ℕ) → e.threads.running ≡ Some t → status_of r.statuses t ≡ Ready
+  pub ready : (t : ℕ) → e.running ≡ Some t → status_of r.statuses t ≡ Ready
 
 -- ---- counts
 

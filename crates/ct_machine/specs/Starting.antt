@@ -4,7 +4,8 @@ use Rattle.ct_entry.specs.Listed.{Listed, DeviceRow}
 use Rattle.ct_entry.specs.declared.rows.Entry.{Entry}
 use Rattle.def_sched.specs.declared.Status.TheVariants.{Ready}
 use Rattle.def_sched.specs.Picks.{first_order}
-use Rattle.def_step.specs.Devices.{Bank, fresh_device}
+use Rattle.def_step.specs.Devices.{Bank}
+use Rattle.def_machine.specs.State.{fresh_device}
 use Rattle.def_image.specs.Parts.{ThreadRow, PartsRow}
 use Rattle.def_image.specs.Sound.{Sound}
 use Rattle.def_boot.specs.Boot.{image_of}

@@ -9,8 +9,8 @@ use crate::plan::Plan;
 use crate::tally::Tally;
 use ct_bus::Bus;
 use ct_decoded::Decoded;
+use ct_engine::Engine as Threads;
 use ct_entry::{End, Owned, Totals};
-use ct_heaped::Engine as Threads;
 use ct_mem::Memory;
 use ct_sched::{Sched, Status};
 use def_profile::limits::MOST_STEPS;
@@ -34,7 +34,7 @@ pub(crate) struct Engine<M: Memory + Drop> {
 }
 
 impl<M: Memory + Drop> Model for Engine<M> {
-    ghost use Rattle.def_step.specs.Events.{MachineRow};
+    ghost use Rattle.def_machine.specs.Board.{MachineRow};
     ghost use Rattle.ct_machine.specs.Parts.{state_by, IsKept, IsCounted};
 
     ghost Value = { MachineRow };

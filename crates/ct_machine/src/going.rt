@@ -6,15 +6,14 @@ ghost use Rattle.def_step.specs.Instructions.{executed};
 ghost use Rattle.ct_engine.specs.Calls.{TopLies};
 ghost use Rattle.ct_execute.specs.Deciding.{IfUnfinished, RanInRange};
 ghost use Rattle.ct_exports.specs.Exports.{AreSorted};
-ghost use Rattle.ct_heaped.specs.Seen.{with_threads};
 ghost use Rattle.ct_machine.specs.Going.{MayGoOn, Runs, MayEnd, CameTo, IsDone, finished};
 ghost use Rattle.ct_machine.specs.Going.{left_after, goes_after, status_after, deed_by, is_quiet};
 ghost use Rattle.ct_machine.specs.Parts.{deeds_of};
 
 use crate::engine::Engine;
+use ct_engine::Engine as Threads;
 use ct_entry::{Act, Deed, Entries};
 use ct_execute::{Ran, execute};
-use ct_heaped::Engine as Threads;
 use ct_mem::Memory;
 use ct_sched::Sched;
 
@@ -22,11 +21,11 @@ use ct_sched::Sched;
 /// has none left.
 fn leave<M: Memory + Drop>(threads: &mut Threads<M>, t: u32, entries: &Entries, ran: Ran) -> bool
     requires runs { IfUnfinished ran
-        ((threads.old.threads.running ≡ Some t) × TopLies threads.old.threads t) }
+        ((threads.old.running ≡ Some t) × TopLies threads.old t) }
     requires sorted { AreSorted entries.now.gates }
-    ensures result { result ≡ goes_after ran threads.old.threads t }
+    ensures result { result ≡ goes_after ran threads.old t }
     ensures is { threads.new
-        ≡ with_threads threads.old (left_after ran threads.old.threads entries.now t) }
+        ≡ left_after ran threads.old entries.now t }
 {
     match ran {
         Ran::Went { .. } | Ran::Native { .. } => true,

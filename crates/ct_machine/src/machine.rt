@@ -8,13 +8,13 @@ ghost use Rattle.def_machine.specs.Image.{root};
 ghost use Rattle.def_machine.specs.Objects.{charges};
 ghost use Rattle.def_step.specs.declared.Event as events;
 ghost use Rattle.def_step.specs.declared.Event.TheVariants.{Step, Sweep};
-ghost use Rattle.law_history.specs.Accesses.{UsesReach};
-ghost use Rattle.law_history.specs.Clean.{CleanEvent};
-ghost use Rattle.law_history.specs.Each.{EachEvent};
-ghost use Rattle.law_history.specs.Temporal.{AllocatesFresh, UsesLive};
+ghost use Rattle.def_safety.specs.Accesses.{UsesReach};
+ghost use Rattle.def_safety.specs.Calls.{CleanEvent};
+ghost use Rattle.def_safety.specs.Each.{EachEvent};
+ghost use Rattle.def_safety.specs.Temporal.{AllocatesFresh, UsesLive};
 ghost use Rattle.def_step.specs.Events.{told, happens, run, is_lawful, end_of, totals_of};
 ghost use Rattle.law_boot_words.specs.Booting.{empty_granules};
-ghost use Rattle.law_history.specs.Chunks.{SweptBeforeReuse};
+ghost use Rattle.def_safety.specs.Chunks.{SweptBeforeReuse};
 ghost use Rattle.ct_machine.specs.Going.{silence, steps_quietly};
 
 use crate::engine::Engine;
@@ -38,7 +38,7 @@ pub struct Machine<M: Memory + Drop> {
 impl<M: Memory + Drop> Model for Machine<M> {
     ghost use Rattle.def_board.specs.Guarded.{Guarded};
     ghost use Rattle.def_hidden.specs.Hidden.{Blank};
-    ghost use Rattle.def_step.specs.Events.{MachineRow};
+    ghost use Rattle.def_machine.specs.Board.{MachineRow};
 
     ghost Value = { MachineRow };
 

@@ -9,19 +9,19 @@ ghost use Rattle.def_hidden.specs.Hidden.{Blank};
 ghost use Rattle.def_image.specs.Parts.{ThreadRow};
 ghost use Rattle.def_image.specs.Sound.{Sound};
 ghost use Rattle.law_boot_words.specs.Booting.{empty_granules};
-ghost use Rattle.ct_launch.specs.Launching.{launched};
-ghost use Rattle.ct_launch.specs.Placed.{ArePlaced};
+ghost use Rattle.ct_boot.specs.Launching.{launched};
+ghost use Rattle.ct_boot.specs.Placed.{ArePlaced};
 ghost use Rattle.ct_machine.specs.Starting.{bank_of, limits_of, priorities_of, rows_of};
 
 use crate::engine::Engine;
 use crate::plan::Plan;
 use crate::tally::Tally;
+use ct_boot::launch;
 use ct_bus::Bus;
 use ct_decoded::Decoded;
+use ct_engine::Engine as Threads;
 use ct_entry::Entries;
-use ct_heaped::Engine as Threads;
 use ct_image::Image;
-use ct_launch::launch;
 use ct_mem::Memory;
 use ct_parts::{Parts, Thread};
 use ct_sched::Sched;
@@ -83,7 +83,7 @@ fn booted<M: Memory + Drop>(
         (λ t. t ≡ launched image.now (limits_of (entries_of image.now))) }
     ensures placed { IfOk result
         (λ t.
-        ArePlaced (image_of image.now) (8 * length t.threads.granules) t.threads.areas) }
+        ArePlaced (image_of image.now) (8 * length t.granules) t.areas) }
 {
     match limits(alloc, plan.entries()) {
         Ok(limits) => {
@@ -129,8 +129,8 @@ fn put_together<M: Memory + Drop>(
     requires sound { Sound parts.now }
     requires plan { plan ≡ image_of parts.now }
     requires threads { threads ≡ launched parts.now (limits_of (entries_of parts.now)) }
-    requires placed { ArePlaced (image_of parts.now) (8 * length threads.threads.granules)
-        threads.threads.areas }
+    requires placed { ArePlaced (image_of parts.now) (8 * length threads.granules)
+        threads.areas }
     requires bus { bus ≡ bank_of parts.now }
     requires sched { sched ≡ rows_of parts.now }
     ensures { result ≡ booted_machine parts.now }

@@ -1,3 +1,4 @@
+pub mod Added
 mod Files
 mod Parts
 mod Writers

@@ -4,7 +4,7 @@ use Rattle.std.proofs.lemmas.Bool.{eqb-true}
 use Rattle.std.proofs.lemmas.List.{append_assoc, append-nil}
 use Rattle.def_port.specs.Bytes.{Rose, Appends}
 use Rattle.def_port.specs.Writes.{Writes, WriteFails}
-use Rattle.law_lists.proofs.Added.{appends_both}
+use Rattle.ct_port.proofs.Added.{appends_both}
 
 pub both : (old mid new : Option (List ℕ)) (f g h : ℕ) (first second : List ℕ) → Writes old mid f g first → Writes mid new g h second → Writes old new f h (first ++ second)
 both old mid new f g h first second a b = record { added = appends_both old mid new first second a.added b.added; same = b.same ∙ a.same }

@@ -1,9 +1,9 @@
 -- A piece that a writer takes part by part: what the kit says of one write, in the words of sinks.
-use Rattle.std.proofs.Common.{◌≡◌, ℕ, ◌==◌, true, List, [], ◌∷◌, ◌++◌, length, take, drop, Option, Some, None, refl, ◌∙◌, ap, sym, subst}
+use Rattle.std.proofs.Common.{ℕ, List, [], take, drop, Option, Some, None, ◌∙◌, ap, sym, subst}
 use Rattle.std.proofs.lemmas.List.{append-nil, take-append-drop}
 use Rattle.std.specs.Io.KnownBytes as known
-use Rattle.def_port.specs.Bytes.{Appends, AppendsPart, AppendsBefore}
-use Rattle.law_lists.proofs.Added.{goes_on}
+use Rattle.def_port.specs.Bytes.{Appends, AppendsBefore}
+use Rattle.ct_port.proofs.Added.{goes_on}
 
 pub grows : (old new : Option (List ℕ)) (text : List ℕ) → known.Appends old new text → Appends old new text
 grows None new text a = tt

@@ -6,8 +6,7 @@ use Rattle.law_lists.proofs.Tests.{bool_tells, lt_tells}
 use Rattle.ct_entry.specs.Listed.{Listed}
 use Rattle.ct_entry.specs.declared.rows.Entry.{Entry}
 use Rattle.ct_entry.specs.declared.rows.Gate.{Gate}
-use Rattle.def_memory.specs.Granules.{plain, nothing}
-use Rattle.def_areas.specs.Areas.{held}
+use Rattle.def_memory.specs.Granules.{plain, nothing, held}
 use Rattle.def_reach.specs.Roots.{no_gate}
 use Rattle.ct_exports.specs.Exports.{AreSorted, AreTogether, HeadLies, IsCallable, row_at, is_export_of, table_in, callee_of}
 

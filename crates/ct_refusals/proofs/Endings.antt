@@ -1,5 +1,5 @@
 -- From what was read and written to the answer of the call.
-use Rattle.std.proofs.Common.{◌≡◌, ℕ, true, false, List, [], ◌∷◌, ◌++◌, Option, Some, None, Result, Ok, Err, IfOk, MatchResult, refl, sym, subst, inl, inr}
+use Rattle.std.proofs.Common.{◌≡◌, ℕ, true, false, List, [], ◌∷◌, ◌++◌, Option, Some, None, refl, sym, subst, inl, inr}
 use Rattle.def_port.specs.Bytes.{Rose}
 use Rattle.def_program.specs.declared.Status.{Status}
 use Rattle.def_program.specs.declared.Status.TheVariants as status
@@ -107,15 +107,6 @@ pub due_by : (Due Other : Turn → Type 0) (old new : Option (List ℕ)) (faults
 due_by Due Other old new faults now result then (inl s) =
     inl (record { status = s.status; text = s.text; last = s.last; due = then (turn.Ends s.status s.text) s.due; closes = s.closes })
 due_by Due Other old new faults now result then (inr silent) = inr silent
-
--- a text that is built: it closes the call, or memory was wanted for it
-pub built : {A B : Type 0} (bytes_of : A → List ℕ) (text : Result A B) (Due : Turn → Type 0) (s : Status) (line : List ℕ) (old new : Option (List ℕ)) (faults now : ℕ) (result : Status)
-    → IsLast s → Due (turn.Ends s line) → IfOk text (λ t. bytes_of t ≡ line)
-    → MatchResult text (λ t. Closes old new faults now (bytes_of t) s result) (λ _. Silent old new faults now result)
-    → Settles Due old new faults now result
-built bytes_of (Ok t) Due s line old new faults now result last due is closes =
-    ends_with Due s line old new faults now result last due (subst (λ l. Closes old new faults now l s result) is closes)
-built bytes_of (Err e) Due s line old new faults now result last due is silent = inr silent
 
 -- ---- ends after more files
 

@@ -1,3 +1,4 @@
+pub mod Texts
 pub mod Endings
 pub mod Due
 pub mod Answered

@@ -1,18 +1,21 @@
-//! The lines of refusals that hold numbers.
+//! The lines of refusals that hold numbers, and parts of such lines. None of them takes memory.
 
-ghost use Rattle.std.specs.Prelude.{◌≡◌, ◌∷◌, [], IfOk, string_bytes, codes, decimal};
+ghost use Rattle.std.specs.Prelude.{◌≡◌, ◌+◌, ◌≤◌, ◌++◌, ◌∷◌, [], length, decimal};
 ghost use Rattle.def_program.specs.Lines as spec;
-ghost use Rattle.def_program.specs.Lines.{refused, numbered};
 
+use arrayvec::ArrayString;
 use ct_entry::Owner;
 use ct_rows::Desc;
 use def_description::{Fault, PartWord};
-use def_link::LinkFault;
-use std::alloc::{AllocError, Global};
+use itoa::Buffer;
+
+/// A line, or a part of one. None is longer than 128 bytes.
+pub(crate) type Line = ArrayString<128>;
 
 /// The word of a description's part.
 fn part_word(part: PartWord) -> &'static str
-    ensures { result.now ≡ spec.part_word part }
+    ensures word { result.now ≡ spec.part_word part }
+    ensures size { length result.now ≤ 11 }
 {
     match part {
         PartWord::Firmware => "firmware",
@@ -32,44 +35,8 @@ fn part_word(part: PartWord) -> &'static str
     }
 }
 
-/// The line that refuses a description: the fault's number, the part, and its two indexes. An error is
-/// want of memory.
-pub fn description_line(alloc: Global, fault: Fault) -> Result<String, AllocError>
-    ensures { IfOk result (λ s. string_bytes s ≡ spec.description_line fault) }
-{
-    let number = fault.number;
-    let word = part_word(fault.place.part);
-    let index = fault.place.index;
-    let item = fault.place.item;
-    format!(in alloc; "refused 4 description F{number} {word} {index} {item}\n")
-}
-
-/// The line that refuses an image: the fault's number, and its place in bytes. An error is want of
-/// memory.
-pub fn image_line(alloc: Global, number: u32, place: u32) -> Result<String, AllocError>
-    ensures { IfOk result (λ s. string_bytes s ≡ spec.image_line number place) }
-{
-    format!(in alloc; "refused 7 image I{number} {place}\n")
-}
-
-/// The line that refuses a script: the fault's number, and the line that is at fault. An error is want of
-/// memory.
-pub fn script_line(alloc: Global, number: u32, line: u32) -> Result<String, AllocError>
-    ensures { IfOk result (λ s. string_bytes s ≡ spec.script_line number line) }
-{
-    format!(in alloc; "refused 8 script S{number} {line}\n")
-}
-
-/// The line that refuses a policy: the fault's number, and the line that is at fault. An error is want of
-/// memory.
-pub fn policy_line(alloc: Global, number: u32, line: u32) -> Result<String, AllocError>
-    ensures { IfOk result (λ s. string_bytes s ≡ spec.policy_line number line) }
-{
-    format!(in alloc; "refused 13 policy P{number} {line}\n")
-}
-
 /// The name of a compartment or a library of a description; nothing for other owners.
-fn owner_name<'a>(desc: &'a Desc, owner: Owner) -> &'a str
+pub(crate) fn owner_name<'a>(desc: &'a Desc, owner: Owner) -> &'a str
     ensures { result.now ≡ spec.owner_name desc.now owner }
 {
     match owner {
@@ -85,45 +52,78 @@ fn owner_name<'a>(desc: &'a Desc, owner: Owner) -> &'a str
     }
 }
 
-fn owner_line(alloc: Global, rule: &str, owner: &str, n: u32) -> Result<String, AllocError>
-    ensures { IfOk result (λ s. string_bytes s ≡ spec.link_line rule.now owner.now n) }
+/// A number in decimal digits, of at most 64 bits.
+fn add_number(line: &mut Line, number: u64)
+    requires { length line.old.bytes + 20 ≤ 128 }
+    ensures bytes { line.new.bytes ≡ line.old.bytes ++ decimal number }
+    ensures size { length line.new.bytes ≤ length line.old.bytes + 20 }
 {
-    format!(in alloc; "refused 6 link {rule} {owner} {n}\n")
+    let mut buffer = Buffer::new();
+    line.push_str(buffer.format(number));
 }
 
-fn room_line(alloc: Global, needed: u64, has: u64) -> Result<String, AllocError>
-    ensures { IfOk result (λ s. string_bytes s
-        ≡ spec.link_line (codes "L2") (decimal needed) has) }
+/// A number after a text.
+fn add_after(line: &mut Line, text: &str, number: u64)
+    requires { length line.old.bytes + length text.now + 20 ≤ 128 }
+    ensures bytes { line.new.bytes ≡ line.old.bytes ++ (text.now ++ decimal number) }
+    ensures size { length line.new.bytes ≤ length line.old.bytes + length text.now + 20 }
 {
-    format!(in alloc; "refused 6 link L2 {needed} {has}\n")
+    line.push_str(text);
+    add_number(line, number);
 }
 
-fn assembly_line(alloc: Global, owner: &str, number: u32, line: u32) -> Result<String, AllocError>
-    ensures { IfOk result (λ s. string_bytes s ≡ refused (codes "5")
-        (codes "assembly" ∷ numbered (codes "A") number ∷ owner.now ∷ decimal line ∷ [])) }
+/// The end of a line: a number after a space.
+pub(crate) fn line_end(number: u32) -> Line
+    ensures { result.bytes ≡ 32 ∷ (decimal number ++ 10 ∷ []) }
 {
-    format!(in alloc; "refused 5 assembly A{number} {owner} {line}\n")
+    let mut line = Line::new();
+    add_after(&mut line, " ", number as u64);
+    line.push('\n');
+    line
 }
 
-/// The line that refuses a description and its sources; nothing for want of memory. An error is want
-/// of memory too.
-pub fn link_line(alloc: Global, desc: &Desc, fault: LinkFault) -> Result<String, AllocError>
-    ensures { IfOk result (λ s. string_bytes s ≡ spec.link_text desc.now fault) }
+/// The front of a line that goes on after this: a text, a number and a space.
+pub(crate) fn line_front(text: &str, number: u32) -> Line
+    requires { length text.now ≤ 40 }
+    ensures { result.bytes ≡ text.now ++ (decimal number ++ 32 ∷ []) }
 {
-    match fault {
-        LinkFault::Asm {
-            owner,
-            number,
-            line,
-        } => assembly_line(alloc, owner_name(desc, owner), number, line),
-        LinkFault::Export { owner, item } => {
-            owner_line(alloc, "L1", owner_name(desc, owner), item)
-        }
-        LinkFault::NoRoom { needed, has } => room_line(alloc, needed, has),
-        LinkFault::Import { owner, line } => {
-            owner_line(alloc, "L3", owner_name(desc, owner), line)
-        }
-        LinkFault::Initial { owner } => owner_line(alloc, "L4", owner_name(desc, owner), 0),
-        LinkFault::NoMemory => Ok(String::new(alloc)),
-    }
+    let mut line = Line::new();
+    add_after(&mut line, text, number as u64);
+    line.push(' ');
+    line
+}
+
+/// A line of a text and two numbers, the first of them right after it.
+pub(crate) fn line_of_two(text: &str, first: u64, second: u64) -> Line
+    requires { length text.now ≤ 40 }
+    ensures { result.bytes ≡ text.now ++ (decimal first ++ 32 ∷ (decimal second ++ 10 ∷ [])) }
+{
+    let mut line = Line::new();
+    add_after(&mut line, text, first);
+    add_after(&mut line, " ", second);
+    line.push('\n');
+    line
+}
+
+/// The word of a part, after a space.
+fn add_word(line: &mut Line, part: PartWord)
+    requires { length line.old.bytes + 12 ≤ 128 }
+    ensures bytes { line.new.bytes ≡ line.old.bytes ++ 32 ∷ spec.part_word part }
+    ensures size { length line.new.bytes ≤ length line.old.bytes + 12 }
+{
+    line.push(' ');
+    line.push_str(part_word(part));
+}
+
+/// The line that refuses a description: the fault's number, the part, and its two indexes.
+pub(crate) fn description_line(fault: Fault) -> Line
+    ensures { result.bytes ≡ spec.description_line fault }
+{
+    let mut line = Line::new();
+    add_after(&mut line, "refused 4 description F", fault.number as u64);
+    add_word(&mut line, fault.place.part);
+    add_after(&mut line, " ", fault.place.index as u64);
+    add_after(&mut line, " ", fault.place.item as u64);
+    line.push('\n');
+    line
 }

@@ -6,14 +6,15 @@ use Rattle.def_memory.specs.Granules.{granule_at}
 use Rattle.def_memory.specs.Ranges.{Inside, Outside, is_tagged}
 use Rattle.def_machine.specs.Image.{Image}
 use Rattle.def_machine.specs.State.{State}
-use Rattle.def_machine.specs.Heap.{sliced_granules}
+use Rattle.def_machine.specs.Heap.{sliced}
+use Rattle.def_machine.specs.Slices.{kept_granules}
 use Rattle.def_machine.specs.Memory.{filtered_in, is_marked_in}
 
 -- *Heap*'s slice from one offset to another, of every image and state that have this RAM
 abbrev pub SlicesHeap : ℕ → ℕ → ℕ → List Granule → List Granule → Type 0
 SlicesHeap ram low high old new =
     (i : Image) (s : State) → i.ram ≡ ram → s.granules ≡ old
-    → new ≡ sliced_granules i s low high 0 old
+    → new ≡ kept_granules (sliced i s low high) 0 old
 
 -- no tagged granule from one offset to another has its base in a marked one
 abbrev pub CleanFrom : ℕ → ℕ → ℕ → List Granule → Type 0

@@ -8,8 +8,8 @@ use Rattle.def_port.specs.Writes.{Writes, WriteFails}
 use Rattle.def_machine.specs.State.{State}
 use Rattle.def_step.specs.declared.Event.{Event}
 use Rattle.def_step.specs.declared.Event.TheVariants.{Step, Tick, Sweep}
-use Rattle.def_step.specs.Instructions.{Board}
-use Rattle.def_step.specs.Events.{MachineRow, happens, run, told}
+use Rattle.def_machine.specs.Board.{Board, MachineRow}
+use Rattle.def_step.specs.Events.{happens, run, told}
 use Rattle.def_trace.specs.Trace.{trace_line}
 use Rattle.law_counts.specs.Kinds.{Kinds, kinds, all_more}
 use Rattle.law_counts.proofs.Appended.{run_append, told_append}

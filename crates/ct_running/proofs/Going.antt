@@ -8,15 +8,15 @@ use Rattle.def_port.specs.Writes.{Writes, WriteFails}
 use Rattle.def_machine.specs.State.{State}
 use Rattle.def_step.specs.declared.Event.{Event}
 use Rattle.def_step.specs.declared.Event.TheVariants.{Step, Sweep}
-use Rattle.def_step.specs.Instructions.{Board}
-use Rattle.def_step.specs.Events.{MachineRow, run, end_of}
+use Rattle.def_machine.specs.Board.{Board, MachineRow}
+use Rattle.def_step.specs.Events.{run, end_of}
 use Rattle.def_script.specs.declared.Given.{Given}
 use Rattle.def_script.specs.Script.{Due, given_at}
 use Rattle.law_script.specs.Coming.{left_from}
 use Rattle.law_script.proofs.Coming.{come_once, no_more, all_given}
 use Rattle.def_program.specs.Scripts.{IsPlayable}
 use Rattle.def_program.specs.Runs.{round, inputs_before, or_last, last_line, lines_from, run_lines}
-use Rattle.law_lists.proofs.Added as added
+use Rattle.ct_port.proofs.Added as added
 use Rattle.law_counts.specs.Kinds.{IsUncounted}
 use Rattle.ct_running.specs.Rounds.{HasInputs, HasRoom, lines_of, round_of, Came, IsLeft, IsOver}
 use Rattle.ct_running.proofs.Coming.{came_devices, round_inputs, round_steps, round_sweeps, round_ticks}

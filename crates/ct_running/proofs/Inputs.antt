@@ -8,7 +8,8 @@ use Rattle.def_profile.specs.declared.limits.TheConstants.{MOST_STEPS}
 use Rattle.def_port.specs.Writes.{WriteFails}
 use Rattle.def_machine.specs.State.{State}
 use Rattle.def_step.specs.declared.Event.{Event}
-use Rattle.def_step.specs.Events.{MachineRow, is_lawful}
+use Rattle.def_step.specs.Events.{is_lawful}
+use Rattle.def_machine.specs.Board.{MachineRow}
 use Rattle.def_script.specs.declared.Given.{Given}
 use Rattle.def_program.specs.Runs.{input_of}
 use Rattle.law_counts.specs.Kinds.{Kinds}

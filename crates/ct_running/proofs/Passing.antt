@@ -6,8 +6,8 @@ use Rattle.def_profile.specs.declared.limits.TheConstants.{MOST_STEPS}
 use Rattle.def_machine.specs.State.{State}
 use Rattle.def_step.specs.declared.Event.{Event}
 use Rattle.def_step.specs.declared.Event.TheVariants.{Step, Tick, Sweep}
-use Rattle.def_step.specs.Instructions.{Board}
-use Rattle.def_step.specs.Events.{MachineRow, happens, run, end_of, is_lawful}
+use Rattle.def_machine.specs.Board.{Board, MachineRow}
+use Rattle.def_step.specs.Events.{happens, run, end_of, is_lawful}
 use Rattle.def_program.specs.Runs.{round, unless_ended, events_from, events_until, last_line, summary_after}
 use Rattle.law_counts.specs.Kinds.{Kinds, kinds, all_more, IsUncounted}
 use Rattle.law_counts.proofs.Counted.{run_kinds}

@@ -3,7 +3,7 @@ use Rattle.std.proofs.Common.{◌≡◌, ℕ, List, [], ◌++◌, Option, ◌∙
 use Rattle.std.proofs.lemmas.List.{append-nil}
 use Rattle.def_port.specs.Bytes.{Rose, AppendsBefore}
 use Rattle.def_port.specs.Writes.{Writes, WriteFails}
-use Rattle.law_lists.proofs.Added as added
+use Rattle.ct_port.proofs.Added as added
 
 -- what is left of it is written
 pub rest_written : (old mid new : Option (List ℕ)) (f g h : ℕ) (left text : List ℕ) → AppendsBefore old mid left text → g ≡ f → Writes mid new g h left → Writes old new f h text

@@ -7,7 +7,8 @@ use Rattle.def_port.specs.Bytes.{AppendsBefore}
 use Rattle.def_machine.specs.State.{State, Counts}
 use Rattle.def_step.specs.declared.Event.{Event}
 use Rattle.def_step.specs.declared.Event.TheVariants.{Tick, Sweep, Step}
-use Rattle.def_step.specs.Events.{MachineRow, run, told}
+use Rattle.def_step.specs.Events.{run, told}
+use Rattle.def_machine.specs.Board.{MachineRow}
 use Rattle.def_trace.specs.Trace.{trace_line}
 use Rattle.def_script.specs.declared.Given.{Given}
 use Rattle.def_script.specs.Script.{Due}

@@ -9,7 +9,6 @@ use Rattle.def_memory.specs.Granules.{plain}
 use Rattle.def_machine.specs.State.{Thread, nobody, register}
 use Rattle.def_machine.specs.Threads.{jumped}
 use Rattle.ct_engine.specs.Seen.{Seen, thread, went}
-use Rattle.ct_heaped.specs.Seen as heaped
 use Rattle.ct_services.specs.Served.{answered_in}
 
 -- an element is written twice, each time by what stands there
@@ -32,15 +31,3 @@ answers s u r t pcc after value p pcc_is p_is u_is after_is r_is = r_is ∙ rest
         (λ (w : Thread). jumped w (opened (register (thread s t) 1)) (posture_through (thread s t).posture (cap_seal (register (thread s t) 1)) 0 (register (thread s t) 1).shadow.source) 10 value)
         (λ (w : Thread). jumped w w.pcc (posture_through (thread s t).posture (cap_seal (register (thread s t) 1)) 0 (register (thread s t) 1).shadow.source) 11 (plain 0))
         s.threads t))
-
--- the same of an engine with a heap
-pub answers_in : (s u r : heaped.Seen) (t : ℕ) (pcc after value : Cap) (p : Posture)
-    → pcc ≡ opened (register (thread s.threads t) 1)
-    → p ≡ posture_through (thread s.threads t).posture (cap_seal (register (thread s.threads t) 1)) 0 (register (thread s.threads t) 1).shadow.source
-    → u ≡ heaped.with_threads s (went s.threads t pcc p 10 value) → after ≡ (thread u.threads t).pcc
-    → r ≡ heaped.with_threads u (went u.threads t after p 11 (plain 0))
-    → r ≡ heaped.with_threads s (answered_in s.threads t value)
-answers_in s u r t pcc after value p pcc_is p_is u_is after_is r_is =
-    let threads : u.threads ≡ went s.threads t pcc p 10 value = ap (λ (x : heaped.Seen). x.threads) u_is in
-    let inner = answers s.threads u.threads (went u.threads t after p 11 (plain 0)) t pcc after value p pcc_is p_is threads after_is refl in
-    r_is ∙ ap (λ e. heaped.with_threads u e) inner ∙ ap (λ x. heaped.with_threads x (answered_in s.threads t value)) u_is

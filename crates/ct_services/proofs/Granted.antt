@@ -14,10 +14,10 @@ use Rattle.ct_heap.specs.declared.rows.Object as heap
 use Rattle.ct_heap.specs.Lookups.{spans_of}
 use Rattle.ct_execute.specs.declared.ran.Ran.{Ran}
 use Rattle.ct_execute.specs.declared.ran.Ran.TheVariants.{Went}
-use Rattle.ct_engine.specs.Seen.{thread}
-use Rattle.ct_heaped.specs.Seen.{Seen}
-use Rattle.ct_heaped.specs.Grants.{WasWhole, whole_in, freed, freed_by}
-use Rattle.ct_services.specs.Granted.{answers, quota_in, object_in, freed_as, WasNamed}
+use Rattle.ct_engine.specs.Seen.{thread, Seen}
+use Rattle.ct_engine.specs.Grants.{WasWhole, whole_in, freed, freed_by}
+use Rattle.ct_services.specs.Granted.{quota_in, object_in, freed_as, WasNamed}
+use Rattle.ct_services.specs.Served.{answered_in}
 
 -- ---- the object that a capability is the whole of
 
@@ -69,14 +69,14 @@ module _ (s u new : Seen) (t quota : ℕ) (c : Cap) (o : heap.Object) (w : WasNa
       told_alike o.number w.object.number o.base w.object.base o.length w.object.length o.live (charges w.object.quota (freed s t w.object).objects) quota w.object.quota
       w.told.number w.told.base w.told.length (w.told.live ∙ ap (λ (x : Seen). charges w.object.quota x.objects) left) (sym charged)
 
-  same : quota ≡ quota_in s t → c ≡ register (thread s.threads t) 11 → whole_of s.objects quota c ≡ object_in s t
+  same : quota ≡ quota_in s t → c ≡ register (thread s t) 11 → whole_of s.objects quota c ≡ object_in s t
   same named is = ap (λ (q : ℕ). whole_of s.objects q c) named ∙ ap (λ (x : Cap). whole_of s.objects (quota_in s t) x) is
 
-  pub gives : (value : Cap) → quota ≡ quota_in s t → c ≡ register (thread s.threads t) 11 → u ≡ freed_by s t (whole_of s.objects quota c) → value ≡ integer 0 → new ≡ answers u t value
+  pub gives : (value : Cap) → quota ≡ quota_in s t → c ≡ register (thread s t) 11 → u ≡ freed_by s t (whole_of s.objects quota c) → value ≡ integer 0 → new ≡ answered_in u t value
       → ◌≡◌ {A = Seen × Ran} (new, Went (Some (Free o.number o.base o.length o.live)) quota) (freed_as s t (object_in s t))
   gives value named is left value_is now =
-      pair_is new (answers (freed s t w.object) t (integer 0)) (Went (Some (Free o.number o.base o.length o.live)) quota)
+      pair_is new (answered_in (freed s t w.object) t (integer 0)) (Went (Some (Free o.number o.base o.length o.live)) quota)
       (Went (Some (Free w.object.number w.object.base w.object.length (charges w.object.quota (freed s t w.object).objects))) w.object.quota)
-      (now ∙ ap (λ (v : Cap). answers u t v) value_is ∙ ap (λ (x : Seen). answers x t (integer 0)) (freed_is left))
+      (now ∙ ap (λ (v : Cap). answered_in u t v) value_is ∙ ap (λ (x : Seen). answered_in x t (integer 0)) (freed_is left))
       (came (freed_is left))
       ∙ ap (λ (f : Option Object). freed_as s t f) (sym w.is ∙ same named is)

@@ -7,23 +7,23 @@ use Rattle.def_step.specs.Switch.{Switched, Trapped, TooDeep, NoStack, Enters}
 use Rattle.ct_switch.specs.declared.calls.Called.TheVariants as called
 use Rattle.ct_switch.specs.Calls.{told}
 use Rattle.ct_engine.specs.Calls.{after_call}
-use Rattle.ct_heaped.specs.Seen.{Seen, with_threads}
+use Rattle.ct_engine.specs.Seen.{Seen}
 use Rattle.ct_services.specs.Served.{answered_in, switched_in}
 
 -- the thread goes on with the answer of this code
 abbrev answered : Seen → ℕ → ℕ → Seen
-answered u t n = with_threads u (answered_in u.threads t (code n))
+answered u t n = answered_in u t (code n)
 
 module _ (s u : Seen) (e : Listed) (t : ℕ) (import : Cap) where
-  pub too_deep : (new : Seen) (w : Switched) → called.TooDeep ≡ told import w → u ≡ with_threads s (after_call s.threads e t w) → new ≡ with_threads u (answered_in u.threads t (code 12))
-      → new ≡ with_threads s (switched_in s.threads e t w)
+  pub too_deep : (new : Seen) (w : Switched) → called.TooDeep ≡ told import w → u ≡ after_call s e t w → new ≡ answered_in u t (code 12)
+      → new ≡ switched_in s e t w
   too_deep new (Trapped why) told_is is now = absurd cc
   too_deep new TooDeep told_is is now = now ∙ ap (λ (x : Seen). answered x t 12) is
   too_deep new NoStack told_is is now = absurd cc
   too_deep new (Enters export high) told_is is now = absurd cc
 
-  pub no_stack : (new : Seen) (w : Switched) → called.NoStack ≡ told import w → u ≡ with_threads s (after_call s.threads e t w) → new ≡ with_threads u (answered_in u.threads t (code 11))
-      → new ≡ with_threads s (switched_in s.threads e t w)
+  pub no_stack : (new : Seen) (w : Switched) → called.NoStack ≡ told import w → u ≡ after_call s e t w → new ≡ answered_in u t (code 11)
+      → new ≡ switched_in s e t w
   no_stack new (Trapped why) told_is is now = absurd cc
   no_stack new TooDeep told_is is now = absurd cc
   no_stack new NoStack told_is is now = now ∙ ap (λ (x : Seen). answered x t 11) is

@@ -15,23 +15,22 @@ use Rattle.def_step.specs.Switch.{return_checks}
 use Rattle.ct_heap.specs.declared.rows.Object as heap
 use Rattle.ct_heap.specs.declared.rows.HeapRefusal.{HeapRefusal}
 use Rattle.ct_heap.specs.declared.rows.HeapRefusal.TheVariants.{Size, Quota, NoGap}
-use Rattle.ct_engine.specs.Seen.{thread}
+use Rattle.ct_engine.specs.Seen.{thread, Seen, limit_at}
 use Rattle.ct_execute.specs.declared.ran.Ran.{Ran}
 use Rattle.ct_execute.specs.declared.ran.Ran.TheVariants.{Went, Trapped}
-use Rattle.ct_heaped.specs.Seen.{Seen, with_threads, limit_at}
-use Rattle.ct_heaped.specs.Grants.{with_object, freed, IsTold}
+use Rattle.ct_engine.specs.Grants.{with_object, freed, IsTold}
 use Rattle.ct_services.specs.Served.{answered_in}
 
 -- ---- the running thread's arguments
 
 -- the entry of the quota that c10 names
 abbrev pub quota_in : Seen → ℕ → ℕ
-quota_in s t = (register (thread s.threads t) 10).shadow.root
+quota_in s t = (register (thread s t) 10).shadow.root
 
 -- where c10 is a quota's capability, it names one of the heap's quotas
 abbrev pub NamesQuota : Seen → ℕ → Type 0
 NamesQuota s t =
-    is_quota_cap (register (thread s.threads t) 10) ≡ true → quota_in s t < length s.limits
+    is_quota_cap (register (thread s t) 10) ≡ true → quota_in s t < length s.limits
 
 -- the check of c1 that fails; else the quota's entry, where c10 is a quota
 abbrev pub named_by : Option Trap → Bool → ℕ → Result (Option ℕ) Trap
@@ -40,13 +39,9 @@ named_by None is quota = Ok (if is then Some quota else None)
 
 -- ---- what is left, and what the routine came to
 
--- the running thread goes on where c1 leads, with an answer
-abbrev pub answers : Seen → ℕ → Cap → Seen
-answers s t value = with_threads s (answered_in s.threads t value)
-
 -- nothing else happened
 abbrev pub tells : Seen → ℕ → Cap → Seen × Ran
-tells s t value = (answers s t value, Went None 0)
+tells s t value = (answered_in s t value, Went None 0)
 
 -- where a check fails nothing changes
 abbrev pub checked : Option Trap → Seen → Seen × Ran → Seen × Ran
@@ -56,8 +51,8 @@ checked None s ran = ran
 -- of a thread whose c1 leads back: -1 where c10 is no quota
 abbrev pub by_quota : Seen → ℕ → Seen × Ran → Seen × Ran
 by_quota s t ran =
-    checked (first_failed (return_checks (register (thread s.threads t) 1))) s
-    (if is_quota_cap (register (thread s.threads t) 10) then ran else tells s t (code NO_QUOTA))
+    checked (first_failed (return_checks (register (thread s t) 1))) s
+    (if is_quota_cap (register (thread s t) 10) then ran else tells s t (code NO_QUOTA))
 
 -- ---- allocate
 
@@ -69,7 +64,7 @@ refusal_code NoGap waits = if waits then 5 else 3
 
 abbrev pub hands_out : Seen → ℕ → Object → Seen × Ran
 hands_out s t r = (
-  answers (with_object s r) t (object_cap r),
+  answered_in (with_object s r) t (object_cap r),
   Went (Some (Allocate r.number r.base r.length (charges r.quota (with_object s r).objects)))
       r.quota,
 )
@@ -82,7 +77,7 @@ allocated s t (Made r) = hands_out s t r
 
 abbrev pub gives_back : Seen → ℕ → Object → Seen × Ran
 gives_back s t r = (
-  answers (freed s t r) t (integer 0),
+  answered_in (freed s t r) t (integer 0),
   Went (Some (Free r.number r.base r.length (charges r.quota (freed s t r).objects))) r.quota,
 )
 
@@ -98,7 +93,7 @@ pub record WasNamed (s new : Seen) (quota : ℕ) (c : Cap) (o : heap.Object) : T
 
 -- the object that c11 is the whole capability of, live and charged to the quota
 abbrev pub object_in : Seen → ℕ → Option Object
-object_in s t = whole_of s.objects (quota_in s t) (register (thread s.threads t) 11)
+object_in s t = whole_of s.objects (quota_in s t) (register (thread s t) 11)
 
 -- ---- remaining
 

@@ -16,7 +16,6 @@ use Rattle.def_step.specs.Routines.{answered, code, word_checks}
 use Rattle.def_step.specs.Switch.{Switched, Trapped, TooDeep, NoStack, Enters, return_checks}
 use Rattle.ct_engine.specs.Calls.{after_call}
 use Rattle.ct_engine.specs.Seen.{Seen, thread, with_thread, with_running}
-use Rattle.ct_heaped.specs.Seen as heaped
 use Rattle.ct_sched.specs.Sched.{SchedRow, with_statuses}
 
 -- the running thread goes on where c1 leads, with an answer
@@ -52,10 +51,6 @@ either None later = later
 abbrev pub unless : Option Trap → Seen → Seen → Seen
 unless (Some why) old new = old
 unless None old new = new
-
--- of an engine with a heap, whose threads alone change
-abbrev pub unless_in : Option Trap → heaped.Seen → Seen → heaped.Seen
-unless_in o s new = heaped.with_threads s (unless o s.threads new)
 
 abbrev pub unless_row : Option Trap → SchedRow → SchedRow → SchedRow
 unless_row (Some why) old new = old

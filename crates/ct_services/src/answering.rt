@@ -2,20 +2,19 @@
 
 ghost use Rattle.std.specs.Prelude.{◌≡◌, ◌<◌, Some};
 ghost use Rattle.def_step.specs.Routines.{code};
-ghost use Rattle.ct_heaped.specs.Seen.{with_threads};
 ghost use Rattle.ct_services.specs.Served.{answered_in};
 
 use ct_cap::{Live, open};
+use ct_engine::Engine;
 use ct_flow::posture_through;
-use ct_heaped::Engine;
 use ct_mem::Memory;
 
 /// The running thread goes on where its c1 leads, by the posture of that return sentry, with a value in
 /// c10 and 0 in c11.
-#[tactic(auto, using(crate::proofs::Answers::answers_in))]
+#[tactic(auto, using(crate::proofs::Answers::answers))]
 pub fn answer<M: Memory + Drop>(engine: &mut Engine<M>, t: u32, value: Live)
-    requires { engine.old.threads.running ≡ Some t }
-    ensures { engine.new ≡ with_threads engine.old (answered_in engine.old.threads t value) }
+    requires { engine.old.running ≡ Some t }
+    ensures { engine.new ≡ answered_in engine.old t value }
 {
     let link = engine.register(t, 1);
     let posture = posture_through(engine.posture(t), link.seal, 0, link.cap.shadow.source);

@@ -5,13 +5,12 @@ ghost use Rattle.def_machine.specs.State.{register};
 ghost use Rattle.ct_engine.specs.Calls.{switch_at};
 ghost use Rattle.ct_engine.specs.Seen.{thread};
 ghost use Rattle.ct_switch.specs.Calls.{told};
-ghost use Rattle.ct_heaped.specs.Calls.{MayCall};
-ghost use Rattle.ct_heaped.specs.Seen.{with_threads};
+ghost use Rattle.ct_engine.specs.Calls.{MayCall};
 ghost use Rattle.ct_services.specs.Served.{switched_in};
 
 use crate::answering::{answer, code};
+use ct_engine::{Called, Engine};
 use ct_entry::Entries;
-use ct_heaped::{Called, Engine};
 use ct_mem::Memory;
 use def_profile::answers::{NO_STACK, TOO_DEEP};
 
@@ -20,13 +19,12 @@ use def_profile::answers::{NO_STACK, TOO_DEEP};
 /// Where it has as many frames as it may have, it goes on where c1 leads with -12 in c10; where the callee's
 /// stack has too little room, with -11. Where a check fails nothing changes.
 pub fn switch<M: Memory + Drop>(engine: &mut Engine<M>, t: u32, e: &Entries) -> Called
-    requires runs { engine.old.threads.running ≡ Some t }
+    requires runs { engine.old.running ≡ Some t }
     requires may { MayCall engine.old t e.now }
     ensures result { result
-        ≡ told (register (thread engine.old.threads t) 6) (switch_at engine.old.threads e.now t) }
+        ≡ told (register (thread engine.old t) 6) (switch_at engine.old e.now t) }
     ensures engine { engine.new
-        ≡ with_threads engine.old
-        (switched_in engine.old.threads e.now t (switch_at engine.old.threads e.now t)) }
+        ≡ switched_in engine.old e.now t (switch_at engine.old e.now t) }
 {
     let called = engine.call(t, e);
     match called {

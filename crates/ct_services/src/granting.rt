@@ -12,16 +12,16 @@ ghost use Rattle.def_step.specs.Checks.{first_failed};
 ghost use Rattle.def_step.specs.Quotas.{allocation, is_quota_cap, whole_of};
 ghost use Rattle.def_step.specs.Switch.{return_checks};
 ghost use Rattle.ct_engine.specs.Seen.{thread};
-ghost use Rattle.ct_heaped.specs.Grants.{freed_by};
-ghost use Rattle.ct_heaped.specs.Shared.{HasHeap, SharesObjects};
+ghost use Rattle.ct_engine.specs.Grants.{freed_by};
+ghost use Rattle.ct_engine.specs.Written.{HasHeap, SharesObjects};
 ghost use Rattle.ct_services.specs.Granted.{NamesQuota, quota_in, object_in, left_in, named_by, by_quota, allocated, freed_as, tells, refusal_code, WasNamed};
 
 use crate::answering::{answer, code};
 use ct_cap::{Live, Shadow, Trap, derive};
+use ct_engine::{Engine, HeapRefusal, NotWhole, Object};
 use ct_entry::Act;
 use ct_execute::Ran;
 use ct_exports::return_trap;
-use ct_heaped::{Engine, HeapRefusal, NotWhole, Object};
 use ct_mem::Memory;
 use def_profile::answers::{NO_OBJECT, NO_PLACE, NO_PLACE_YET, NO_QUOTA, NO_SIZE, PAST_LIMIT};
 use def_profile::rights::{HEAP_RIGHTS, MEMORY_ROOT};
@@ -39,10 +39,10 @@ fn quota_of(c: Live) -> Option<u32>
 
 /// The quota's entry that c10 names, or none where c10 is no quota. The error is the check of c1 that fails.
 fn quota_named<M: Memory + Drop>(engine: &Engine<M>, t: u32) -> Result<Option<u32>, Trap>
-    requires { engine.now.threads.running ≡ Some t }
+    requires { engine.now.running ≡ Some t }
     ensures { result
-        ≡ named_by (first_failed (return_checks (register (thread engine.now.threads t) 1)))
-        (is_quota_cap (register (thread engine.now.threads t) 10)) (quota_in engine.now t) }
+        ≡ named_by (first_failed (return_checks (register (thread engine.now t) 1)))
+        (is_quota_cap (register (thread engine.now t) 10)) (quota_in engine.now t) }
 {
     if let Some(trap) = return_trap(engine.register(t, 1)) {
         return Err(trap);
@@ -73,7 +73,7 @@ fn capability(quota: u32, object: Object) -> Live
 
 /// The running thread goes on with an answer, and nothing else happened.
 fn tell<M: Memory + Drop>(engine: &mut Engine<M>, t: u32, value: Live) -> Ran
-    requires { engine.old.threads.running ≡ Some t }
+    requires { engine.old.running ≡ Some t }
     ensures { (engine.new, result) ≡ tells engine.old t value }
 {
     answer(engine, t, value);
@@ -96,13 +96,13 @@ fn refused(why: HeapRefusal, waits: bool) -> u32
 
 /// An object of as many bytes as c11's address says is charged to a quota.
 fn grant<M: Memory + Drop>(engine: &mut Engine<M>, t: u32, quota: u32) -> Ran
-    requires runs { engine.old.threads.running ≡ Some t }
+    requires runs { engine.old.running ≡ Some t }
     requires quota { quota < length engine.old.limits }
     requires few { engine.old.next ≤ MOST_STEPS }
     ensures { (i : Image) (m : State) → HasHeap i engine.old → SharesObjects m engine.old
         → (engine.new, result)
         ≡ allocated engine.old t
-        (allocation i m quota (cap_address (register (thread engine.old.threads t) 11))) }
+        (allocation i m quota (cap_address (register (thread engine.old t) 11))) }
 {
     let size = engine.register(t, 11).address();
     match engine.allocate(quota, size) {
@@ -132,7 +132,7 @@ fn grant<M: Memory + Drop>(engine: &mut Engine<M>, t: u32, quota: u32) -> Ran
 /// else with -2 where the quota's limit would be passed; else, where no place is lawful, with -5 where an object is
 /// quarantined and with -3 where none is. The trap is the check of c1 that fails; then nothing changes.
 pub fn allocate<M: Memory + Drop>(engine: &mut Engine<M>, t: u32) -> Ran
-    requires runs { engine.old.threads.running ≡ Some t }
+    requires runs { engine.old.running ≡ Some t }
     requires quota { NamesQuota engine.old t }
     requires few { engine.old.next ≤ MOST_STEPS }
     ensures { (i : Image) (m : State) → HasHeap i engine.old → SharesObjects m engine.old
@@ -140,7 +140,7 @@ pub fn allocate<M: Memory + Drop>(engine: &mut Engine<M>, t: u32) -> Ran
         ≡ by_quota engine.old t
         (allocated engine.old t
         (allocation i m (quota_in engine.old t)
-        (cap_address (register (thread engine.old.threads t) 11)))) }
+        (cap_address (register (thread engine.old t) 11)))) }
 {
     match quota_named(engine, t) {
         Err(trap) => Ran::Trapped { trap },
@@ -164,7 +164,7 @@ fn give_back<M: Memory + Drop>(
     quota: u32,
     c: Live,
 ) -> Result<Object, NotWhole>
-    requires runs { engine.old.threads.running ≡ Some t }
+    requires runs { engine.old.running ≡ Some t }
     requires quota { quota < length engine.old.limits }
     ensures is { engine.new ≡ freed_by engine.old t (whole_of engine.old.objects quota c) }
     ensures told { MatchResult result
@@ -179,7 +179,7 @@ fn give_back<M: Memory + Drop>(
 
 /// The object that c11 names is freed.
 fn take_back<M: Memory + Drop>(engine: &mut Engine<M>, t: u32, quota: u32) -> Ran
-    requires runs { engine.old.threads.running ≡ Some t }
+    requires runs { engine.old.running ≡ Some t }
     requires quota { quota < length engine.old.limits }
     requires named { quota ≡ quota_in engine.old t }
     ensures { (engine.new, result) ≡ freed_as engine.old t (object_in engine.old t) }
@@ -208,7 +208,7 @@ fn take_back<M: Memory + Drop>(engine: &mut Engine<M>, t: u32, quota: u32) -> Ra
 /// It goes on with -1 exactly where c10 is no quota; else with -6 where there is no such object. The trap is the check
 /// of c1 that fails; then nothing changes.
 pub fn free<M: Memory + Drop>(engine: &mut Engine<M>, t: u32) -> Ran
-    requires runs { engine.old.threads.running ≡ Some t }
+    requires runs { engine.old.running ≡ Some t }
     requires quota { NamesQuota engine.old t }
     ensures { (engine.new, result)
         ≡ by_quota engine.old t (freed_as engine.old t (object_in engine.old t)) }
@@ -223,7 +223,7 @@ pub fn free<M: Memory + Drop>(engine: &mut Engine<M>, t: u32) -> Ran
 /// Remaining: the running thread goes on with what the quota that c10 names may still take, in bytes, or with -1
 /// exactly where c10 is no quota. The trap is the check of c1 that fails; then nothing changes.
 pub fn remaining<M: Memory + Drop>(engine: &mut Engine<M>, t: u32) -> Ran
-    requires runs { engine.old.threads.running ≡ Some t }
+    requires runs { engine.old.running ≡ Some t }
     requires quota { NamesQuota engine.old t }
     ensures { (engine.new, result)
         ≡ by_quota engine.old t (tells engine.old t (integer (left_in engine.old t))) }

@@ -15,6 +15,6 @@ mod words;
 
 pub use answering::answer;
 pub use calling::switch;
-pub use ct_heaped::Called;
+pub use ct_engine::Called;
 pub use granting::{allocate, free, remaining};
 pub use resting::{rest, wait, wake};

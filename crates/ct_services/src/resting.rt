@@ -9,25 +9,24 @@ ghost use Rattle.def_step.specs.Checks.{first_failed};
 ghost use Rattle.def_step.specs.Switch.{return_checks};
 ghost use Rattle.ct_engine.specs.Seen.{thread};
 ghost use Rattle.ct_execute.specs.Opening.{IsOpen};
-ghost use Rattle.ct_heaped.specs.Seen.{with_threads};
 ghost use Rattle.ct_sched.specs.Sched.{with_statuses};
-ghost use Rattle.ct_services.specs.Served.{address_in, answered_in, rested, waited, with_status, word_held, unless_in, unless_row};
+ghost use Rattle.ct_services.specs.Served.{address_in, answered_in, rested, waited, with_status, word_held, unless, unless_row};
 ghost use Rattle.ct_services.specs.Served.{IfPasses, IsWord, IsWordTrap};
 
 use crate::answering::{answer, code};
 use crate::words::word_trap;
 use ct_cap::{Live, Trap};
+use ct_engine::Engine;
 use ct_exports::return_trap;
-use ct_heaped::Engine;
 use ct_mem::Memory;
 use ct_sched::Sched;
 use def_profile::answers::DIFFERS;
 
 /// The running thread stops, to be ready after so many ticks.
 fn stop_for<M: Memory + Drop>(engine: &mut Engine<M>, sched: &mut Sched, t: u32, ticks: u32)
-    requires runs { engine.old.threads.running ≡ Some t }
+    requires runs { engine.old.running ≡ Some t }
     requires ready { status_of sched.old.statuses t ≡ Ready }
-    ensures engine { engine.new ≡ with_threads engine.old (rested engine.old.threads t) }
+    ensures engine { engine.new ≡ rested engine.old t }
     ensures sched { sched.new ≡ with_status sched.old t (asleep ticks) }
 {
     answer(engine, t, Live::integer(0));
@@ -43,11 +42,11 @@ pub fn rest<M: Memory + Drop>(
     t: u32,
     ticks: u32,
 ) -> Option<Trap>
-    requires runs { engine.old.threads.running ≡ Some t }
+    requires runs { engine.old.running ≡ Some t }
     requires ready { status_of sched.old.statuses t ≡ Ready }
     ensures trap { result
-        ≡ first_failed (return_checks (register (thread engine.old.threads t) 1)) }
-    ensures engine { engine.new ≡ unless_in result engine.old (rested engine.old.threads t) }
+        ≡ first_failed (return_checks (register (thread engine.old t) 1)) }
+    ensures engine { engine.new ≡ unless result engine.old (rested engine.old t) }
     ensures sched { sched.new
         ≡ unless_row result sched.old (with_status sched.old t (asleep ticks)) }
 {
@@ -61,11 +60,11 @@ pub fn rest<M: Memory + Drop>(
 
 /// The first check that fails of c1, then of c10 as a word of RAM.
 fn first_trap<M: Memory + Drop>(engine: &Engine<M>, t: u32, ram: u32) -> Option<Trap>
-    requires runs { engine.now.threads.running ≡ Some t }
-    ensures is { IsWordTrap ram engine.now.threads t result }
+    requires runs { engine.now.running ≡ Some t }
+    ensures is { IsWordTrap ram engine.now t result }
     ensures passes { IfPasses result
-        (IsWord ram (8 * length engine.now.threads.granules)
-        (register (thread engine.now.threads t) 10)) }
+        (IsWord ram (8 * length engine.now.granules)
+        (register (thread engine.now t) 10)) }
 {
     let link = engine.register(t, 1);
     if let Some(trap) = return_trap(link) {
@@ -77,13 +76,13 @@ fn first_trap<M: Memory + Drop>(engine: &Engine<M>, t: u32, ram: u32) -> Option<
 /// What the word holds that c10 names.
 #[tactic(auto, using(crate::proofs::Held::word_low, crate::proofs::Held::word_accessed, crate::proofs::Held::word_seen))]
 fn held<M: Memory + Drop>(engine: &Engine<M>, t: u32, ram: u32) -> u32
-    requires runs { engine.now.threads.running ≡ Some t }
+    requires runs { engine.now.running ≡ Some t }
     requires opens { IsOpen engine.now t }
-    requires ram { ram ≡ engine.now.threads.region.ram }
+    requires ram { ram ≡ engine.now.region.ram }
     requires even { ram % 16 ≡ 0 }
-    requires word { IsWord ram (8 * length engine.now.threads.granules)
-        (register (thread engine.now.threads t) 10) }
-    ensures { result ≡ word_held ram engine.now.threads t }
+    requires word { IsWord ram (8 * length engine.now.granules)
+        (register (thread engine.now t) 10) }
+    ensures { result ≡ word_held ram engine.now t }
 {
     let address = engine.register(t, 10).address();
     engine.load(address - ram, 4)
@@ -98,10 +97,10 @@ fn wait_for<M: Memory + Drop>(
     held: u32,
     wanted: u32,
 )
-    requires runs { engine.old.threads.running ≡ Some t }
+    requires runs { engine.old.running ≡ Some t }
     requires ready { status_of sched.old.statuses t ≡ Ready }
     ensures engine { engine.new
-        ≡ with_threads engine.old (waited engine.old.threads t held wanted) }
+        ≡ waited engine.old t held wanted }
     ensures sched { sched.new ≡ with_status sched.old t (awaiting address held wanted) }
 {
     if sched.wait(t, address, held, wanted) {
@@ -123,21 +122,21 @@ pub fn wait<M: Memory + Drop>(
     t: u32,
     ram: u32,
 ) -> Option<Trap>
-    requires runs { engine.old.threads.running ≡ Some t }
+    requires runs { engine.old.running ≡ Some t }
     requires ready { status_of sched.old.statuses t ≡ Ready }
     requires opens { IsOpen engine.old t }
-    requires ram { ram ≡ engine.old.threads.region.ram }
+    requires ram { ram ≡ engine.old.region.ram }
     requires even { ram % 16 ≡ 0 }
-    ensures trap { IsWordTrap ram engine.old.threads t result }
+    ensures trap { IsWordTrap ram engine.old t result }
     ensures engine { engine.new
-        ≡ unless_in result engine.old
-        (waited engine.old.threads t (word_held ram engine.old.threads t)
-        (address_in engine.old.threads t 11)) }
+        ≡ unless result engine.old
+        (waited engine.old t (word_held ram engine.old t)
+        (address_in engine.old t 11)) }
     ensures sched { sched.new
         ≡ unless_row result sched.old
         (with_status sched.old t
-        (awaiting (address_in engine.old.threads t 10) (word_held ram engine.old.threads t)
-        (address_in engine.old.threads t 11))) }
+        (awaiting (address_in engine.old t 10) (word_held ram engine.old t)
+        (address_in engine.old t 11))) }
 {
     if let Some(trap) = first_trap(engine, t, ram) {
         return Some(trap);
@@ -158,18 +157,18 @@ pub fn wake<M: Memory + Drop>(
     t: u32,
     ram: u32,
 ) -> Option<Trap>
-    requires runs { engine.old.threads.running ≡ Some t }
-    ensures trap { IsWordTrap ram engine.old.threads t result }
+    requires runs { engine.old.running ≡ Some t }
+    ensures trap { IsWordTrap ram engine.old t result }
     ensures engine { engine.new
-        ≡ unless_in result engine.old
-        (answered_in engine.old.threads t
+        ≡ unless result engine.old
+        (answered_in engine.old t
         (integer
-        (woken_count (address_in engine.old.threads t 10)
-        (address_in engine.old.threads t 11) sched.old.statuses))) }
+        (woken_count (address_in engine.old t 10)
+        (address_in engine.old t 11) sched.old.statuses))) }
     ensures sched { sched.new
         ≡ unless_row result sched.old
         (with_statuses sched.old
-        (woken (address_in engine.old.threads t 10) (address_in engine.old.threads t 11)
+        (woken (address_in engine.old t 10) (address_in engine.old t 11)
         sched.old.statuses)) }
 {
     if let Some(trap) = first_trap(engine, t, ram) {

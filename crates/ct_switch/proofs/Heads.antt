@@ -10,7 +10,7 @@ use Rattle.def_boot.specs.Made.{return_sentry}
 use Rattle.def_machine.specs.Image.{Image, made_cap, code_entry, globals_entry, stack_base}
 use Rattle.def_machine.specs.State.{Thread}
 use Rattle.def_machine.specs.Frames.{Given, given}
-use Rattle.def_areas.specs.Areas.{held}
+use Rattle.def_memory.specs.Granules.{held}
 use Rattle.ct_areas.specs.declared.thread.Thread as row
 use Rattle.ct_areas.specs.Threads.{thread_of}
 use Rattle.ct_areas.specs.Parts.{register_in}

@@ -12,7 +12,7 @@ use Rattle.def_words.specs.Derive.{derive, memory_root}
 use Rattle.def_words.specs.Jumped.{opened}
 use Rattle.def_words.specs.Seals.{cap_seal, posture_through}
 use Rattle.def_memory.specs.declared.Granule.{Granule}
-use Rattle.def_memory.specs.Granules.{plain}
+use Rattle.def_memory.specs.Granules.{plain, held}
 use Rattle.def_memory.specs.Ranges.{zeroed_from}
 use Rattle.def_boot.specs.Made.{return_sentry}
 use Rattle.def_machine.specs.Image.{Image, made_cap, code_entry, globals_entry, stack_base}
@@ -21,7 +21,6 @@ use Rattle.def_machine.specs.Frames.{Given, pushed_frame, entered_by, left_with,
 use Rattle.def_machine.specs.Memory.{filtered_in}
 use Rattle.def_step.specs.Checks.{first_failed}
 use Rattle.def_step.specs.Switch.{Switched, Trapped, TooDeep, NoStack, Enters, return_checks, gate_checks, stack_checks, switch_of, new_top}
-use Rattle.def_areas.specs.Areas.{held}
 use Rattle.ct_areas.specs.declared.thread.Thread as row
 use Rattle.ct_areas.specs.declared.thread.Area.{Area}
 use Rattle.ct_areas.specs.Threads.{frames_most, thread_of}

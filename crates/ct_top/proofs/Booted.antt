@@ -8,11 +8,10 @@ use Rattle.def_image.specs.Accepted.{IsFaultless}
 use Rattle.def_image.specs.Parts.{PartsRow}
 use Rattle.def_memory.specs.declared.Granule.{Granule}
 use Rattle.def_memory.specs.Granules.{nothing}
-use Rattle.def_machine.specs.State.{State}
-use Rattle.def_step.specs.Events.{MachineRow}
+use Rattle.def_machine.specs.State.{State, fresh_device}
+use Rattle.def_machine.specs.Board.{MachineRow}
 use Rattle.def_boot.specs.Boot.{boot_state, booted_machine}
 use Rattle.def_lines.specs.Report.{report_line}
-use Rattle.def_step.specs.Devices.{fresh_device}
 use Rattle.def_script.specs.Script.{Due, Reads}
 use Rattle.def_program.specs.Runs.{demo_text, run_lines, run_text, summary_after}
 use Rattle.def_program.specs.declared.TheConstants.{DEMO_STEPS}

@@ -6,7 +6,6 @@ ghost use Rattle.def_program.specs.declared.Status.TheVariants as status;
 ghost use Rattle.def_program.specs.Answers.{Answers};
 ghost use Rattle.def_program.specs.Commands.{form_of, generated_by};
 ghost use Rattle.def_program.specs.Ends.{ends};
-ghost use Rattle.def_program.specs.Lines.{link_text, link_status};
 ghost use Rattle.def_program.specs.Turns.{OfImage, OfLinked, OfNumber};
 ghost use Rattle.ct_objects.specs.Objects.{IsLinkable};
 ghost use Rattle.ct_refusals.specs.Ended.{EndsBy};
@@ -22,7 +21,7 @@ use ct_image::ImageFault;
 use ct_link::{LinkFault, Sources, link};
 use ct_port::{Folder, Sink};
 use ct_reading::{read_file, read_sources};
-use ct_refusals::{close_text, description_line, image_line, link_line, refuse_file};
+use ct_refusals::refuse_file;
 use ct_rows::Desc;
 use ct_words::{Form, Task};
 use def_description::{Fault, Place};
@@ -30,7 +29,7 @@ use def_program::Status;
 use std::alloc::{AllocError, Global};
 
 /// Writes the line of bytes that are no description.
-fn refuse_description<S: Sink>(alloc: Global, fault: DescFault, sink: &mut S) -> Status
+fn refuse_description<S: Sink>(fault: DescFault, sink: &mut S) -> Status
     ensures { Settles (Faulty fault)
         (S.bytes sink.old) (S.bytes sink.new) (S.faults sink.old) (S.faults sink.new) result }
 {
@@ -42,34 +41,20 @@ fn refuse_description<S: Sink>(alloc: Global, fault: DescFault, sink: &mut S) ->
             item,
         } => {
             let place = Place { part, index, item };
-            let line = description_line(alloc, Fault { number, place });
-            close_text(line, Status::Description, sink)
+            ct_refusals::refuse_description(Fault { number, place }, sink)
         }
         DescFault::NoMemory => Status::NoMemory,
     }
 }
 
 /// Writes the line of bytes that are no image.
-fn refuse_image<S: Sink>(alloc: Global, fault: ImageFault, sink: &mut S) -> Status
+fn refuse_image<S: Sink>(fault: ImageFault, sink: &mut S) -> Status
     ensures { Settles (Flawed fault)
         (S.bytes sink.old) (S.bytes sink.new) (S.faults sink.old) (S.faults sink.new) result }
 {
     match fault {
-        ImageFault::At { number, place } => {
-            close_text(image_line(alloc, number, place), Status::Image, sink)
-        }
+        ImageFault::At { number, place } => ct_refusals::refuse_image(number, place, sink),
         ImageFault::NoMemory => Status::NoMemory,
-    }
-}
-
-/// The status of a fault of linking.
-fn status_of(fault: LinkFault) -> Status
-    ensures { result ≡ link_status fault }
-{
-    match fault {
-        LinkFault::Asm { .. } => Status::Assembly,
-        LinkFault::NoMemory => Status::NoMemory,
-        _ => Status::Link,
     }
 }
 
@@ -84,14 +69,14 @@ fn wants_memory(fault: LinkFault) -> bool
 }
 
 /// Writes the line of a description and sources that don't link.
-fn refuse_link<S: Sink>(alloc: Global, desc: &Desc, fault: LinkFault, sink: &mut S) -> Status
+fn refuse_link<S: Sink>(desc: &Desc, fault: LinkFault, sink: &mut S) -> Status
     ensures { Settles (Unlinked desc.now fault)
         (S.bytes sink.old) (S.bytes sink.new) (S.faults sink.old) (S.faults sink.new) result }
 {
     if wants_memory(fault) {
         return Status::NoMemory;
     }
-    close_text(link_line(alloc, desc, fault), status_of(fault), sink)
+    ct_refusals::refuse_link(desc, fault, sink)
 }
 
 /// What follows after an image's bytes.
@@ -111,7 +96,7 @@ fn of_image<F: Folder, S: Sink>(
 {
     match ct_image::accept(alloc, bytes) {
         Ok(image) => finish(alloc, task, &image, folder, sink),
-        Err(fault) => refuse_image(alloc, fault, sink),
+        Err(fault) => refuse_image(fault, sink),
     }
 }
 
@@ -133,7 +118,7 @@ fn of_sources<F: Folder, S: Sink>(
 {
     match link(alloc, desc, sources) {
         Ok(image) => finish(alloc, task, &image, folder, sink),
-        Err(fault) => refuse_link(alloc, desc, fault, sink),
+        Err(fault) => refuse_link(desc, fault, sink),
     }
 }
 
@@ -218,7 +203,7 @@ fn of_files<F: Folder, S: Sink>(alloc: Global, form: &Form, folder: &mut F, sink
     }
     let desc = match ct_description::read(alloc, bytes.as_slice()) {
         Ok(desc) => desc,
-        Err(fault) => return refuse_description(alloc, fault, sink),
+        Err(fault) => return refuse_description(fault, sink),
     };
     let texts = match read_sources(alloc, &desc, folder) {
         Ok(texts) => texts,

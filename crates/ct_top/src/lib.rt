@@ -14,8 +14,8 @@ ghost use Rattle.def_program.specs.Answers.{Answers};
 ghost use Rattle.def_program.specs.Commands.{Command, form_of as form_in};
 ghost use Rattle.def_program.specs.Ends.{ends};
 ghost use Rattle.def_program.specs.Licences.{IsLicensedCommand, StandFor};
-ghost use Rattle.law_commands.specs.Safe.{IsSafeCommand};
-ghost use Rattle.law_program.specs.Completing.{Completes, CompletesDemo, RefusesMisuse};
+ghost use Rattle.def_program.specs.Safe.{IsSafeCommand};
+ghost use Rattle.def_program.specs.Completing.{Completes, CompletesDemo, RefusesMisuse};
 
 use ct_port::{Folder, Sink};
 use ct_refusals::refuse_usage;

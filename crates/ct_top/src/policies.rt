@@ -10,19 +10,17 @@ use ct_graph::Graph;
 use ct_image::Image;
 use ct_policy::{PolicyFault, Rules, broken, read};
 use ct_port::{NoMemory, Sink};
-use ct_refusals::{close, close_text, policy_line};
+use ct_refusals::close;
 use def_program::Status;
 use std::alloc::Global;
 
 /// Writes the line of a text that is no policy.
-fn refuse_policy<S: Sink>(alloc: Global, fault: PolicyFault, sink: &mut S) -> Status
+fn refuse_policy<S: Sink>(fault: PolicyFault, sink: &mut S) -> Status
     ensures { Settles (Unruly fault)
         (S.bytes sink.old) (S.bytes sink.new) (S.faults sink.old) (S.faults sink.new) result }
 {
     match fault {
-        PolicyFault::At { number, line } => {
-            close_text(policy_line(alloc, number, line), Status::Policy, sink)
-        }
+        PolicyFault::At { number, line } => ct_refusals::refuse_policy(number, line, sink),
         PolicyFault::NoMemory => Status::NoMemory,
     }
 }
@@ -56,7 +54,7 @@ pub fn judge<S: Sink>(alloc: Global, image: &Image, text: &[u8], sink: &mut S) -
 {
     let rules = match read(alloc, text, image) {
         Ok(rules) => rules,
-        Err(fault) => return refuse_policy(alloc, fault, sink),
+        Err(fault) => return refuse_policy(fault, sink),
     };
     match denials_of(alloc, &rules, image) {
         Ok(lines) => write_verdict(lines.as_bytes(), sink),

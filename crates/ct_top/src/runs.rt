@@ -20,7 +20,7 @@ use ct_image::Image;
 use ct_planes::Planes;
 use ct_port::{Folder, NoMemory, Sink};
 use ct_reading::read_file;
-use ct_refusals::{close_text, refuse_file, script_line};
+use ct_refusals::refuse_file;
 use ct_running::{Machine, write_run, write_summary};
 use ct_script::{Script, ScriptFault, read};
 use def_program::{DEMO_STEPS, Status};
@@ -59,14 +59,12 @@ fn play<S: Sink>(
 }
 
 /// Writes the line of a text that is no script.
-fn refuse_script<S: Sink>(alloc: Global, fault: ScriptFault, sink: &mut S) -> Status
+fn refuse_script<S: Sink>(fault: ScriptFault, sink: &mut S) -> Status
     ensures { Settles (Amiss fault)
         (S.bytes sink.old) (S.bytes sink.new) (S.faults sink.old) (S.faults sink.new) result }
 {
     match fault {
-        ScriptFault::At { number, line } => {
-            close_text(script_line(alloc, number, line), Status::Script, sink)
-        }
+        ScriptFault::At { number, line } => ct_refusals::refuse_script(number, line, sink),
         ScriptFault::NoMemory => Status::NoMemory,
     }
 }
@@ -90,7 +88,7 @@ fn play_text<S: Sink>(
 {
     match read(alloc, text, image.parts().devices.as_slice()) {
         Ok(script) => play(image, report, machine, &script, limit, sink),
-        Err(fault) => refuse_script(alloc, fault, sink),
+        Err(fault) => refuse_script(fault, sink),
     }
 }
 

@@ -1,32 +1,12 @@
 -- What stands in a thread's area of the trusted region. All places count granules from RAM's begin. An area begins with
 -- the program counter capability and registers c1 to c15 of a thread that isn't running; its frames stand after its
 -- head, the outermost first.
-use Rattle.std.specs.Prelude.{ℕ, zero, suc, ◌+◌, ◌*◌, ◌/◌, ◌%◌, ◌^◌, ◌==◌, ◌++◌, Bool, true, false, List, [], ◌∷◌, slice_set}
+use Rattle.std.specs.Prelude.{ℕ, zero, suc, ◌+◌, ◌*◌, ◌/◌, ◌%◌, ◌^◌, ◌==◌, ◌++◌, Bool, true, false, List, [], ◌∷◌}
 use Rattle.def_profile.specs.declared.layout.TheConstants.{GRANULE, AREA_HEAD, FRAME_SIZE}
 use Rattle.def_words.specs.declared.Cap.{Cap}
 use Rattle.def_memory.specs.declared.Granule.{Granule}
-use Rattle.def_memory.specs.Granules.{plain, granule_at}
+use Rattle.def_memory.specs.Granules.{plain, held}
 use Rattle.def_machine.specs.State.{Frame}
-
--- ---- granules one by one
-
--- what a granule holds
-abbrev pub held : List Granule → ℕ → Cap
-held gs k = (granule_at gs k).cap
-
--- so many granules from k on
-abbrev pub held_from : List Granule → ℕ → ℕ → List Cap
-held_from gs k zero = []
-held_from gs k (suc n) = held gs k ∷ held_from gs (k + 1) n
-
--- the granule holds this; its mark stays
-abbrev pub holding : List Granule → ℕ → Cap → List Granule
-holding gs k c = slice_set gs k (record { cap = c; mark = (granule_at gs k).mark })
-
--- the granules from k on hold these
-abbrev pub holding_all : List Granule → ℕ → List Cap → List Granule
-holding_all gs k [] = gs
-holding_all gs k (c ∷ cs) = holding_all (holding gs k c) (k + 1) cs
 
 -- the two words of a granule
 abbrev pub low_word : Cap → ℕ

@@ -6,7 +6,7 @@ use Rattle.def_confined.specs.Partitioned.{Partitioned}
 use Rattle.def_confined.specs.Settled.{Settled}
 use Rattle.def_facts.specs.Facts.{Facts}
 use Rattle.def_hidden.specs.Hidden.{Shut}
-use Rattle.def_step.specs.Events.{MachineRow}
+use Rattle.def_machine.specs.Board.{MachineRow}
 use Rattle.def_board.specs.Wired.{Wired}
 
 pub record Guarded (m : MachineRow) : Type 0 where

@@ -6,7 +6,8 @@ use Rattle.ct_entry.specs.declared.rows.Kind.TheVariants.{Device, Export}
 use Rattle.def_reach.specs.Roots.{Listing, is_native}
 use Rattle.def_machine.specs.Image.{root, made_cap}
 use Rattle.def_step.specs.Devices.{found}
-use Rattle.def_step.specs.Instructions.{Board, is_native_entry}
+use Rattle.def_step.specs.Instructions.{is_native_entry}
+use Rattle.def_machine.specs.Board.{Board}
 
 -- All x are addresses. A capability of a native routine stands at a native entry, so that no instruction is
 -- fetched through it. What an entry that may load or store reaches of a device, it reaches as an import of a

@@ -8,13 +8,11 @@ use Rattle.def_memory.specs.Granules.{plain}
 use Rattle.def_reach.specs.Roots.{is_disabled}
 use Rattle.def_machine.specs.Image.{Image}
 use Rattle.def_machine.specs.State as st
-use Rattle.def_machine.specs.State.{State, Frame, interrupts_on, outermost, at_rest}
+use Rattle.def_machine.specs.State.{State, Frame, interrupts_on, outermost, at_rest, fresh_device}
 use Rattle.def_profile.specs.declared.layout.TheConstants.{TRUSTED_HEAD}
 use Rattle.def_sched.specs.declared.Status.TheVariants.{Ready}
 use Rattle.def_sched.specs.Picks.{first_order}
-use Rattle.def_step.specs.Devices.{fresh_device}
-use Rattle.def_step.specs.Instructions.{Board}
-use Rattle.def_step.specs.Events.{MachineRow}
+use Rattle.def_machine.specs.Board.{Board, MachineRow}
 use Rattle.def_image.specs.Parts.{GateRow, ThreadRow, PartsRow}
 use Rattle.def_image.specs.Members.{compartment, text_base, code_number, globals_number, stack_number, gate_number, handler_number}
 use Rattle.def_boot.specs.Gates.{entries_of}

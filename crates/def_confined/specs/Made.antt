@@ -1,7 +1,7 @@
 -- What the laws of the moves take of newly made capabilities. Each holds under the new one's tag, and each is
 -- proved of the capabilities that the written operations make.
 use Rattle.std.specs.Prelude.{ℕ, ◌≡◌, ◌+◌, ◌≤◌, ◌⊎◌, true}
-use Rattle.def_profile.specs.declared.seals.TheConstants.{FIRST_KEY_TYPE, RETURN_ENABLE}
+use Rattle.def_profile.specs.declared.seals.TheConstants.{TOKEN_TYPE, RETURN_ENABLE}
 use Rattle.def_words.specs.declared.Cap.{Cap}
 use Rattle.def_words.specs.declared.Posture.{Posture}
 use Rattle.def_words.specs.Authority.{cap_address, cap_base, cap_top}
@@ -14,9 +14,9 @@ use Rattle.def_machine.specs.Image.{Image, root, stack_entry}
 use Rattle.def_machine.specs.State.{Object}
 use Rattle.def_confined.specs.Capabilities.{Rooted, heap_cap}
 
--- unsealed, or sealed by a key
+-- unsealed, or sealed by a key or as a token
 abbrev pub Loose : ℕ → Type 0
-Loose n = (n ≡ 0) ⊎ (FIRST_KEY_TYPE ≤ n)
+Loose n = (n ≡ 0) ⊎ (TOKEN_TYPE ≤ n)
 
 -- d is a result of an operation on c: within c's authority and rights, and either sealed or opened by a key,
 -- or sealed as c is

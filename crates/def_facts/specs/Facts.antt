@@ -11,7 +11,7 @@ use Rattle.def_words.specs.LeastBounds.{rounded_of}
 use Rattle.def_words.specs.Permissions.{bit, load_data, store_data, execute}
 use Rattle.def_words.specs.Seals.{cap_seal}
 use Rattle.def_reach.specs.Roots.{Root, Listing, is_root, is_native, gate_for}
-use Rattle.def_machine.specs.Image.{Image, root, made_cap, code_entry}
+use Rattle.def_machine.specs.Image.{Image, root, made_cap, code_entry, handler_entry}
 
 -- ---- what is named
 
@@ -54,6 +54,13 @@ pub record GateFits (i : Image) (n : ℕ) : Type 0 where
   pub begins : (b : ℕ) → (root i n).owner ≡ Compartment b
       → (with_address (made_cap i (code_entry i b)) (gate_code i n)).tag ≡ true
   pub library : (l : ℕ) → (root i n).owner ≡ Library l → IsInside (root i n) (gate_code i n)
+
+-- ---- error handlers
+
+-- the error handler of compartment b is an export of its own
+pub record HandlerFits (i : Image) (b : ℕ) : Type 0 where
+  pub kind_is : (root i (handler_entry i b)).origin ≡ Listing kind.Export
+  pub owner_is : (root i (handler_entry i b)).owner ≡ Compartment b
 
 -- ---- what boot makes
 
@@ -106,5 +113,7 @@ pub record Facts (i : Image) : Type 0 where
       → (x < i.heap_base) ⊎ (i.heap_end ≤ x)
   -- allocations: a new object is covered by no capability
   pub away : RootsAway i
+  -- traps: an error handler begins at a word of its compartment's own code
+  pub handlers : (b : ℕ) → (handler_entry i b ≡ 0 → ⊥) → HandlerFits i b
   -- calls: what the switcher hands out is settled
   pub settled : MadeSettled i

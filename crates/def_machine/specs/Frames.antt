@@ -134,10 +134,14 @@ returned i s t (f ∷ g ∷ gs) =
     (left_by i s (thread s t) f (g ∷ gs) (answer i (thread s t) f 10) (answer i (thread s t) f 11))
     s.running
 
--- the unwind: the return with -1 and 0
-abbrev pub unwound : Image → State → ℕ → List Frame → State
-unwound i s t [] = s
-unwound i s t (f ∷ []) = switched i s t f.top nobody Option.None
-unwound i s t (f ∷ g ∷ gs) =
-    switched i s t f.top (left_by i s (thread s t) f (g ∷ gs) (plain UNWOUND) (plain 0))
+-- the end with a value: the return with it and 0
+abbrev pub ended_with : Image → State → ℕ → ℕ → List Frame → State
+ended_with i s t value [] = s
+ended_with i s t value (f ∷ []) = switched i s t f.top nobody Option.None
+ended_with i s t value (f ∷ g ∷ gs) =
+    switched i s t f.top (left_by i s (thread s t) f (g ∷ gs) (plain value) (plain 0))
     s.running
+
+-- the unwind: the end with -1
+abbrev pub unwound : Image → State → ℕ → List Frame → State
+unwound i s t fs = ended_with i s t UNWOUND fs

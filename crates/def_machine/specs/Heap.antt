@@ -1,19 +1,18 @@
 -- *Heap*: places, allocation, free and the sweep.
-use Rattle.std.specs.Prelude.{ℕ, ◌+◌, ◌-◌, ◌*◌, ◌/◌, ◌%◌, ◌≡◌, ◌≤◌, ◌<◌, ◌==◌, ◌&&◌, ◌||◌, Bool, true, false, cond, nat_le, List, [], ◌∷◌, map, length, min, nat_lt, find, Option, Some, None}
+use Rattle.std.specs.Prelude.{ℕ, ◌+◌, ◌-◌, ◌*◌, ◌/◌, ◌%◌, ◌≡◌, ◌≤◌, ◌<◌, ◌==◌, ◌&&◌, ◌||◌, Bool, true, cond, nat_le, List, map, length, min, find, Option, Some, None}
 use Rattle.std.specs.List.{range_with_len, list_all}
-use Rattle.def_profile.specs.Areas.{frame_after}
 use Rattle.def_profile.specs.declared.layout.TheConstants.{CHUNK_HEAD}
 use Rattle.def_profile.specs.declared.rights.TheConstants.{HEAP_RIGHTS}
 use Rattle.def_words.specs.declared.Cap.{Cap}
 use Rattle.def_words.specs.LeastBounds.{round_length_of, alignment_of}
 use Rattle.def_words.specs.Derive.{derive, memory_root}
 use Rattle.def_memory.specs.Ranges.{zeroed_from, marked_from}
-use Rattle.def_memory.specs.declared.Granule.{Granule}
 use Rattle.def_machine.specs.Image.{Image, area_of}
-use Rattle.def_machine.specs.State.{State, Thread, Frame, Object, thread}
+use Rattle.def_machine.specs.State.{State, Object, thread}
 use Rattle.def_machine.specs.Memory.{filtered}
 use Rattle.def_machine.specs.Registers.{with_registers}
-use Rattle.def_machine.specs.Objects.{Each, ApartFrom, live_object, quarantine, placed_among, has_quarantined, painted, unpainted, is_painted_at}
+use Rattle.def_machine.specs.Objects.{Each, ApartFrom, live_object, quarantine, placed_among, has_quarantined, painted, unpainted}
+use Rattle.def_machine.specs.Slices.{filtered_between, kept_granules, kept_threads, marks_cleared}
 
 -- the length of an object of this size, and what it takes from its quota
 abbrev pub length_for : ℕ → ℕ
@@ -81,59 +80,18 @@ freed i s t r =
 
 -- ---- the sweep, a slice at a time
 
-abbrev pub is_number : Option ℕ → ℕ → Bool
-is_number None t = false
-is_number (Some u) t = nat_le u t && nat_le t u
-
 -- what stands at an offset, where the slice from one offset to another has it
 abbrev pub sliced : Image → State → ℕ → ℕ → ℕ → Cap → Cap
-sliced i s low high offset c = cond (nat_le low offset && nat_lt offset high) (filtered i s c) c
+sliced i s = filtered_between i.ram s.granules
 
-abbrev pub sliced_granules : Image → State → ℕ → ℕ → ℕ → List Granule → List Granule
-sliced_granules i s low high offset [] = []
-sliced_granules i s low high offset (g ∷ gs) =
-    record g { cap = sliced i s low high offset g.cap }
-    ∷ sliced_granules i s low high (offset + 8) gs
-
--- the capabilities that a frame saved, which begins at an offset
-abbrev pub sliced_frame : Image → State → ℕ → ℕ → ℕ → Frame → Frame
-sliced_frame i s low high at f = record f {
-  c1 = sliced i s low high at f.c1;
-  c2 = sliced i s low high (at + 8) f.c2;
-  c3 = sliced i s low high (at + 16) f.c3;
-  c8 = sliced i s low high (at + 24) f.c8;
-  c9 = sliced i s low high (at + 32) f.c9;
-}
-
--- a frame stands over those that it was pushed on
-abbrev pub sliced_frames : Image → State → ℕ → ℕ → ℕ → List Frame → List Frame
-sliced_frames i s low high area [] = []
-sliced_frames i s low high area (f ∷ fs) =
-    sliced_frame i s low high (frame_after area (length fs)) f ∷ sliced_frames i s low high area fs
-
-abbrev pub sliced_registers : Image → State → ℕ → ℕ → ℕ → List Cap → List Cap
-sliced_registers i s low high at [] = []
-sliced_registers i s low high at (c ∷ cs) =
-    sliced i s low high at c ∷ sliced_registers i s low high (at + 8) cs
-
--- registers and program counter of the running thread have no place: its area begins with where they would stand
-abbrev pub sliced_thread : Image → State → ℕ → ℕ → ℕ → Bool → Thread → Thread
-sliced_thread i s low high area runs t = record t {
-  pcc = cond runs t.pcc (sliced i s low high area t.pcc);
-  registers = cond runs t.registers (sliced_registers i s low high area t.registers);
-  frames = sliced_frames i s low high area t.frames;
-}
-
-abbrev pub sliced_threads : Image → State → ℕ → ℕ → ℕ → List Thread → List Thread
-sliced_threads i s low high t [] = []
-sliced_threads i s low high t (x ∷ xs) =
-    sliced_thread i s low high (area_of i t - i.ram) (is_number s.running t) x
-    ∷ sliced_threads i s low high (t + 1) xs
+-- the offset at which a thread's area begins
+abbrev pub area_offset : Image → ℕ → ℕ
+area_offset i t = area_of i t - i.ram
 
 abbrev pub with_slice : Image → State → ℕ → ℕ → State
 with_slice i s low high = record s {
-  granules = sliced_granules i s low high 0 s.granules;
-  threads = sliced_threads i s low high 0 s.threads;
+  granules = kept_granules (sliced i s low high) 0 s.granules;
+  threads = kept_threads (sliced i s low high) (area_offset i) s.running 0 s.threads;
   front = Some high;
 }
 
@@ -147,15 +105,10 @@ sweep_began s None = begun_sweep s
 sweep_began s (Some front) = s
 
 -- the painted leave, and their marks are cleared
-abbrev pub unmarked : Image → List Object → ℕ → List Granule → List Granule
-unmarked i rs x [] = []
-unmarked i rs x (g ∷ gs) =
-    record g { mark = cond (is_painted_at rs x) false g.mark } ∷ unmarked i rs (x + 8) gs
-
 abbrev pub sweep_over : Image → State → State
 sweep_over i s =
     record s {
-      granules = unmarked i s.objects i.ram s.granules;
+      granules = marks_cleared s.objects i.ram s.granules;
       objects = unpainted s.objects;
       front = None;
     }

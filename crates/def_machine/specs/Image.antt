@@ -58,6 +58,10 @@ code_entry i b = slice_index_or i.codes b 0
 abbrev pub globals_entry : Image → ℕ → ℕ
 globals_entry i b = slice_index_or i.globals b 0
 
+-- of a compartment's error handler, its export; 0 where it has none
+abbrev pub handler_entry : Image → ℕ → ℕ
+handler_entry i b = slice_index_or i.handlers b 0
+
 abbrev pub stack_entry : Image → ℕ → ℕ
 stack_entry i t = slice_index_or i.stacks t 0
 

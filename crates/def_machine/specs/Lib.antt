@@ -5,4 +5,6 @@ pub mod Registers
 pub mod Threads
 pub mod Frames
 pub mod Objects
+pub mod Slices
 pub mod Heap
+pub mod Board

@@ -3,12 +3,12 @@ use Rattle.std.specs.Prelude.{ℕ, ◌+◌, ◌-◌, ◌*◌, ◌/◌, ◌&&◌,
 use Rattle.def_words.specs.declared.Cap.{Cap}
 use Rattle.def_words.specs.Authority.{cap_base}
 use Rattle.def_words.specs.Capability.{untagged}
-use Rattle.def_words.specs.Loaded.{attenuated, stored_through}
+use Rattle.def_words.specs.Loaded.{stored_through}
 use Rattle.def_memory.specs.declared.Granule.{Granule}
 use Rattle.def_memory.specs.Granules.{granule_at}
 use Rattle.def_memory.specs.Accesses.{stored, stored_cap}
-use Rattle.def_machine.specs.Image.{Image, granule_of}
-use Rattle.def_machine.specs.State.{State, granule}
+use Rattle.def_machine.specs.Image.{Image}
+use Rattle.def_machine.specs.State.{State}
 
 -- so many bytes at an address lie in the memory that begins at `ram`
 abbrev pub lies_in : ℕ → List Granule → ℕ → ℕ → Bool
@@ -38,7 +38,3 @@ is_marked i s = is_marked_in i.ram s.granules
 
 abbrev pub filtered : Image → State → Cap → Cap
 filtered i s = filtered_in i.ram s.granules
-
--- what a load through `by` gives of the capability in an address's granule
-abbrev pub loaded_through : Image → State → Cap → ℕ → Cap
-loaded_through i s by x = filtered i s (attenuated by (granule s (granule_of i x)).cap)

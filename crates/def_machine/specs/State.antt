@@ -1,5 +1,7 @@
 -- *State*: everything that an event may change.
 use Rattle.std.specs.Prelude.{ℕ, Bool, false, List, [], Option, None, slice_index_or}
+use Rattle.ct_entry.specs.declared.hardware.DeviceKind.{DeviceKind}
+use Rattle.ct_entry.specs.declared.hardware.DeviceKind.TheVariants.{Uart, Timer, Gpio}
 use Rattle.def_words.specs.declared.Cap.{Cap}
 use Rattle.def_words.specs.declared.Posture.{Posture}
 pub use Rattle.def_sched.specs.declared.Status.{Status}
@@ -48,6 +50,12 @@ pub data DeviceState : Type 0 where
   Clock : DeviceState
   Pins : ℕ → ℕ → DeviceState
 
+-- a device as it boots
+abbrev pub fresh_device : DeviceKind → DeviceState
+fresh_device Uart = Serial []
+fresh_device Timer = Clock
+fresh_device Gpio = Pins 0 0
+
 -- events and deeds so far, but allocations
 pub record Counts : Type 0 where
   pub steps : ℕ
@@ -65,8 +73,8 @@ pub record Token : Type 0 where
   pub number : ℕ
   pub key : Option ℕ
 
--- `objects` stand by their bases; `next` is the number of the next allocation, one more than there were;
--- `picks` are the threads in the order of their last picks, those never picked first; `front` is how far the
+-- `objects` stand by their bases, `tokens` by their numbers; `next` is the number of the next allocation, one more than
+-- there were; `picks` are the threads in the order of their last picks, those never picked first; `front` is how far the
 -- running sweep has come, an offset in RAM
 pub record State : Type 0 where
   pub granules : List Granule

@@ -8,3 +8,6 @@ pub mod Paths
 pub mod Turns
 pub mod Answers
 pub mod Licences
+pub mod Within
+pub mod Safe
+pub mod Completing

@@ -2,7 +2,8 @@
 -- parts the files of a command stand for.
 use Rattle.std.specs.Prelude.{ℕ, ◌≡◌, List, [], ◌∷◌, length, Bool, true, false, Option, Some, None, Ok}
 use Rattle.def_confined.specs.Telling.{AllLicensed}
-use Rattle.def_step.specs.Events.{MachineRow, told}
+use Rattle.def_step.specs.Events.{told}
+use Rattle.def_machine.specs.Board.{MachineRow}
 use Rattle.def_image.specs.Parts.{PartsRow}
 use Rattle.def_image.specs.Accepted.{IsImage}
 use Rattle.def_boot.specs.Boot.{booted_machine}

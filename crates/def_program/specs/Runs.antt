@@ -7,8 +7,8 @@ use Rattle.ct_entry.specs.declared.acts.End.TheVariants.{Limit}
 use Rattle.def_machine.specs.State.{State}
 use Rattle.def_step.specs.declared.Event.{Event}
 use Rattle.def_step.specs.declared.Event.TheVariants.{Step, Tick, Sweep, Input}
-use Rattle.def_step.specs.Instructions.{Board}
-use Rattle.def_step.specs.Events.{MachineRow, run, told, end_of, totals_of}
+use Rattle.def_machine.specs.Board.{Board, MachineRow}
+use Rattle.def_step.specs.Events.{run, told, end_of, totals_of}
 use Rattle.def_trace.specs.Trace.{trace_line, summary_line}
 use Rattle.def_image.specs.Parts.{PartsRow}
 use Rattle.def_boot.specs.Boot.{booted_machine}

@@ -1,5 +1,5 @@
 -- *Instruction step*: an instruction has a list of checks, and the trap is that of the first that fails.
-use Rattle.std.specs.Prelude.{ℕ, Bool, List, [], ◌∷◌, Option, Some, None, if◌then◌else◌}
+use Rattle.std.specs.Prelude.{Bool, List, [], ◌∷◌, Option, Some, None, if◌then◌else◌}
 use Rattle.def_words.specs.declared.Trap.{Trap}
 
 -- what has to hold, and the trap where it doesn't

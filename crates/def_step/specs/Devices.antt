@@ -1,17 +1,9 @@
 -- Devices: 16 bytes of four 32-bit registers each. Registers that aren't named read 0 and ignore writes.
 use Rattle.std.specs.Prelude.{ℕ, ◌+◌, ◌-◌, ◌*◌, ◌/◌, ◌%◌, ◌^◌, ◌==◌, ◌≡◌, ◌⊎◌, ◌&&◌, Bool, nat_le, nat_lt, List, [], ◌∷◌, ◌++◌, length, drop, slice_set, slice_index_or, Option, Some, None, if◌then◌else◌}
 use Rattle.def_profile.specs.declared.layout.TheConstants.{DEVICE_SIZE}
-use Rattle.ct_entry.specs.declared.hardware.DeviceKind.{DeviceKind}
-use Rattle.ct_entry.specs.declared.hardware.DeviceKind.TheVariants.{Uart, Timer, Gpio}
 use Rattle.def_machine.specs.State.{DeviceState, Serial, Clock, Pins}
 
 -- ---- one device
-
--- as it boots
-abbrev pub fresh_device : DeviceKind → DeviceState
-fresh_device Uart = Serial []
-fresh_device Timer = Clock
-fresh_device Gpio = Pins 0 0
 
 -- register 0, 1, 2 or 3 of a device at a time. A serial port has the oldest byte of its queue, and how many
 -- there are; a timer the two halves of the time; a gpio its output, and the last byte that came.

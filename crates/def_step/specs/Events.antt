@@ -17,12 +17,8 @@ use Rattle.def_step.specs.declared.Event.{Event}
 use Rattle.def_step.specs.declared.Event.TheVariants.{Step, Tick, Sweep, Input}
 use Rattle.def_machine.specs.Heap.{swept}
 use Rattle.def_step.specs.Devices.{device, after_input}
-use Rattle.def_step.specs.Instructions.{Board, executed, actor_of}
-
--- a machine as contracts see it
-pub record MachineRow : Type 0 where
-  pub board : Board
-  pub state : State
+use Rattle.def_step.specs.Instructions.{executed, actor_of}
+use Rattle.def_machine.specs.Board.{Board}
 
 -- ---- counts
 

@@ -18,9 +18,9 @@ use Rattle.def_instr.specs.Reading.{instruction_in}
 use Rattle.def_instr.specs.Results.{integer_result}
 use Rattle.def_capstep.specs.Results.{capability_result}
 use Rattle.def_machine.specs.Image.{Image, root}
+use Rattle.def_machine.specs.Board.{Board}
 use Rattle.def_machine.specs.State.{State, Frame, register, thread}
 use Rattle.def_machine.specs.Threads.{jumped}
-use Rattle.def_machine.specs.Frames.{returned, unwound}
 use Rattle.def_step.specs.declared.Class.{Class}
 use Rattle.def_step.specs.declared.Class.TheVariants as class
 use Rattle.def_step.specs.declared.Next.{Next}
@@ -36,11 +36,7 @@ use Rattle.def_step.specs.Jumps.{Flowed, flow_result}
 use Rattle.def_step.specs.Operands.{operands_of, class_of}
 use Rattle.def_step.specs.Routines.{Ran, Traps, Leaves}
 use Rattle.def_step.specs.Native.{native}
-
--- what never changes: the image, and where each device stands
-pub record Board : Type 0 where
-  pub image : Image
-  pub bases : List ℕ
+use Rattle.def_step.specs.Handlers.{return_taken, trap_taken}
 
 -- ---- what an instruction that passes its checks does
 
@@ -191,10 +187,10 @@ deed s t entry act = record {
   act = act;
 }
 
--- a trap unwinds, in the same step
+-- a trap enters an error handler, or unwinds, in the same step
 abbrev pub trapped : Board → State → ℕ → trap_words.Trap → State × Option Deed
 trapped b s t why = (
-  unwound b.image s t (thread s t).frames,
+  trap_taken b.image s t why (thread s t).frames,
   Some
       (deed s t 0 (Trap why.cause why.code why.register)),
 )
@@ -239,7 +235,7 @@ served b s t None = trapped b s t (plain_trap ILLEGAL_INSTRUCTION)
 served b s t (Some r) = ran b s t r
 
 abbrev pub goes_on : Board → State → ℕ → Next → State × Option Deed
-goes_on b s t Returning = (returned b.image s t (thread s t).frames, None)
+goes_on b s t Returning = (return_taken b.image s t (thread s t).frames, None)
 goes_on b s t (Instruction i) = instructed b s t i
 goes_on b s t (Native number) = served b s t (native b.image s t number)
 goes_on b s t Nothing = trapped b s t (plain_trap ILLEGAL_INSTRUCTION)

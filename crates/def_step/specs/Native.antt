@@ -3,8 +3,7 @@ use Rattle.std.specs.Prelude.{ℕ, ◌+◌, ◌*◌, ◌==◌, Option, Some, Non
 use Rattle.def_profile.specs.declared.native.TheConstants.{NATIVE_BASE, NATIVE_UNIT, SWITCH, RETURN, YIELD, SLEEP, WAIT, WAKE, ALLOCATE, FREE, REMAINING, TOKEN_KEY, TOKEN_NEW, TOKEN_OPEN, TOKEN_FREE}
 use Rattle.def_machine.specs.Image.{Image}
 use Rattle.def_machine.specs.State.{State, thread}
-use Rattle.def_machine.specs.Frames.{returned}
-use Rattle.def_step.specs.Routines.{Ran, Traps, Leaves, switch, yield, sleep, wait, wake}
+use Rattle.def_step.specs.Routines.{Ran, Leaves, switch, yield, sleep, wait, wake}
 use Rattle.def_step.specs.Quotas.{allocate, free, remaining}
 use Rattle.def_step.specs.Tokens.{token_key, token_new, token_open, token_free}
 use Rattle.def_step.specs.Handlers.{return_taken}
@@ -14,7 +13,7 @@ entry_address number = NATIVE_BASE + NATIVE_UNIT * number
 
 abbrev pub native_return : Image → State → ℕ → Ran
 native_return i s t =
-    Leaves (return_taken i s t (thread s t).frames (returned i s t (thread s t).frames)) None
+    Leaves (return_taken i s t (thread s t).frames) None
 
 -- what a routine does that thread t runs, by its number; none has another
 abbrev pub native : Image → State → ℕ → ℕ → Option Ran

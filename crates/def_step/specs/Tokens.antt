@@ -1,6 +1,6 @@
 -- *Tokens*: keys that firmware makes, and the objects that they open. A key and a token are objects of the heap whose
 -- capabilities are sealed with a type that no key of an import table opens.
-use Rattle.std.specs.Prelude.{ℕ, ◌+◌, ◌==◌, ◌&&◌, ◌++◌, ◌∷◌, [], Bool, false, find, List, Option, Some, None, if◌then◌else◌}
+use Rattle.std.specs.Prelude.{ℕ, ◌+◌, ◌==◌, ◌&&◌, ◌∷◌, [], Bool, false, cond, find, nat_lt, List, Option, Some, None, if◌then◌else◌}
 use Rattle.std.specs.List.{list_any}
 use Rattle.def_profile.specs.declared.answers.TheConstants.{NO_OBJECT, NO_KEY, NO_TOKEN}
 use Rattle.def_profile.specs.declared.seals.TheConstants.{TOKEN_TYPE}
@@ -13,7 +13,7 @@ use Rattle.def_machine.specs.Image.{Image}
 use Rattle.def_machine.specs.State.{State, Object, Token, thread, register}
 use Rattle.def_machine.specs.Heap.{object_cap}
 use Rattle.def_step.specs.Switch.{return_checks}
-use Rattle.def_step.specs.Routines.{Ran, Leaves, tells, checked, code}
+use Rattle.def_step.specs.Routines.{Ran, tells, checked, code}
 use Rattle.def_step.specs.Quotas.{Allocation, Refused, Made, allocation, by_quota, quota_in, hands_out, gives_back}
 
 -- ---- rows
@@ -66,9 +66,15 @@ token_of s key c = as_token s.tokens key (sealed_object s.objects c)
 
 -- ---- 9 and 10, a key and a token
 
+-- a row among those that stand by their numbers
+abbrev pub row_among : Token → List Token → List Token
+row_among k [] = k ∷ []
+row_among k (q ∷ qs) = cond (nat_lt k.number q.number) (k ∷ q ∷ qs) (q ∷ row_among k qs)
+
 -- a new object with a row: a key's has none, a token's its key
 abbrev pub with_row : State → Object → Option ℕ → State
-with_row s r key = record s { tokens = s.tokens ++ record { number = r.number; key = key } ∷ [] }
+with_row s r key =
+    record s { tokens = row_among (record { number = r.number; key = key }) s.tokens }
 
 abbrev pub made_token : State → ℕ → Option ℕ → Allocation → Ran
 made_token s t key (Refused n) = tells s t (code n)

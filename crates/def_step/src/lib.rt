@@ -1,6 +1,6 @@
 //! What an event does to the machine: the checks of each instruction in order, its effect, devices,
-//! traps, ticks, inputs and runs; what firmware is lawful, the image that it stands for and its
-//! state at boot. Definitions alone, in specs/; docs/use/machine.md tells the same in prose.
+//! traps, ticks, inputs and runs. Definitions alone, in specs/; docs/use/machine.md tells the same in
+//! prose.
 #![tactic(auto)]
 
 use def_instr::Instr;
@@ -9,6 +9,12 @@ use def_profile::native::REMAINING;
 /// The greatest number of a native routine that the machine carries out. Of those after it each is
 /// nothing that is carried out.
 pub const LAST_ROUTINE: u32 = REMAINING;
+
+/// Whether the machine enters error handlers. As long as it doesn't, each trap unwinds.
+pub const SERVES_HANDLERS: bool = false;
+
+/// The bytes of the record of a trap that an error handler finds on its stack: twenty words.
+pub const TRAP_RECORD: u32 = 80;
 
 /// What happens at the machine, one at a time.
 #[derive(Clone, Copy, PartialEq, Eq, Drop)]

@@ -23,12 +23,12 @@ use Rattle.law_events.proofs.Running.{run_keeps, told_licensed}
 use Rattle.law_started.proofs.Whole.{keeps}
 use Rattle.law_started.proofs.Shutting.{shut}
 use Rattle.law_started.proofs.Blanking.{blank}
-use Rattle.law_reuse.specs.Reuse.{SweepsWhole}
-use Rattle.law_history.specs.Each.{EachEvent}
-use Rattle.law_history.specs.Accesses.{UsesReach}
-use Rattle.law_history.specs.Clean.{CleanEvent}
-use Rattle.law_history.specs.Temporal.{UsesLive, AllocatesFresh}
-use Rattle.law_history.specs.Chunks.{ChunksMeet}
+use Rattle.def_safety.specs.Reuse.{SweepsWhole}
+use Rattle.def_safety.specs.Each.{EachEvent}
+use Rattle.def_safety.specs.Accesses.{UsesReach}
+use Rattle.def_safety.specs.Calls.{CleanEvent}
+use Rattle.def_safety.specs.Temporal.{UsesLive, AllocatesFresh}
+use Rattle.def_safety.specs.Chunks.{ChunksMeet}
 use Rattle.law_history.proofs.Running.{run_clean, run_uses_reach, run_uses_live, run_charges, run_fresh, run_reuses}
 
 pub partitioned : (p : PartsRow) → IsFaultless p → Partitioned (image_of p)

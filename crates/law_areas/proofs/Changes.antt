@@ -4,10 +4,9 @@ use Rattle.std.proofs.lemmas.List.{length-set, ext_get_or}
 use Rattle.law_granules.proofs.Lists.{store_rest, store_marks, cap_rest, cap_marks, zeroed_length, zeroed_at}
 use Rattle.def_words.specs.declared.Cap.{Cap}
 use Rattle.def_memory.specs.declared.Granule.{Granule}
-use Rattle.def_memory.specs.Granules.{nothing, granule_at}
+use Rattle.def_memory.specs.Granules.{nothing, granule_at, holding_all}
 use Rattle.def_memory.specs.Accesses.{stored, stored_cap}
 use Rattle.def_memory.specs.Ranges.{IsZeroed, zeroed_from}
-use Rattle.def_areas.specs.Areas.{holding_all}
 use Rattle.def_areas.specs.Touches.{Touches}
 use Rattle.law_areas.proofs.Writes.{all_length, all_mark, all_other}
 

@@ -2,8 +2,8 @@
 use Rattle.std.proofs.Common.{ℕ, zero, suc, ◌≡◌, ◌+◌, ◌*◌, ◌/◌, ◌%◌, ◌^◌, ◌==◌, ◌<◌, ◌≤◌, inl, Bool, true, false, List, [], ◌∷◌, length, refl, ap, ◌∙◌, arith}
 use Rattle.def_words.specs.declared.Cap.{Cap}
 use Rattle.def_memory.specs.declared.Granule.{Granule}
-use Rattle.def_memory.specs.Granules.{plain}
-use Rattle.def_areas.specs.Areas.{held, holding_all, low_word, high_word, frame_place, frame_at, frames_from, frames_in, frame_words, mark_word, caller_actor, caller_top, caller_handling}
+use Rattle.def_memory.specs.Granules.{plain, held, holding_all}
+use Rattle.def_areas.specs.Areas.{low_word, high_word, frame_place, frame_at, frames_from, frames_in, frame_words, mark_word, caller_actor, caller_top, caller_handling}
 use Rattle.law_areas.proofs.Writes.{all_at, all_other}
 
 from_same : (gs hs : List Granule) (a actor top : ℕ) (handling : Bool) (depth : ℕ)

@@ -5,8 +5,7 @@ use Rattle.std.proofs.lemmas.List.{get_or-set_same, get_or-set_other, length-set
 use Rattle.law_lists.proofs.Sets.{after_set_at}
 use Rattle.def_words.specs.declared.Cap.{Cap}
 use Rattle.def_memory.specs.declared.Granule.{Granule}
-use Rattle.def_memory.specs.Granules.{plain, nothing, granule_at}
-use Rattle.def_areas.specs.Areas.{held, held_from, holding, holding_all}
+use Rattle.def_memory.specs.Granules.{plain, nothing, granule_at, held, held_from, holding, holding_all}
 
 pub put_same : (gs : List Granule) (k : ℕ) (c : Cap) → k < length gs → held (holding gs k c) k ≡ c
 put_same gs k c lt =

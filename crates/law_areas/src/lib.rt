@@ -8,7 +8,8 @@ ghost use Rattle.def_words.specs.declared.Cap.{Cap};
 ghost use Rattle.def_memory.specs.declared.Granule.{Granule};
 ghost use Rattle.def_memory.specs.Accesses.{stored, stored_cap};
 ghost use Rattle.def_memory.specs.Ranges.{zeroed_from};
-ghost use Rattle.def_areas.specs.Areas.{held, held_from, holding_all, frame_place, frame_words, frames_in};
+ghost use Rattle.def_areas.specs.Areas.{frame_place, frame_words, frames_in};
+ghost use Rattle.def_memory.specs.Granules.{held, held_from, holding_all};
 ghost use Rattle.def_areas.specs.Touches.{Touches};
 
 /// Frames that stand in the same granules are the same; a frame that is written above others is the innermost, and

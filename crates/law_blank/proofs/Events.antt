@@ -1,39 +1,38 @@
 -- Every event leaves what is hidden zero.
-use Rattle.std.proofs.Common.{ℕ, zero, suc, ◌≡◌, ◌+◌, ◌*◌, ◌&&◌, true, false, not, nat_le, nat_lt, List, [], ◌∷◌, map, Option, Some, None, Result, Ok, Err, refl, ap, ◌∙◌}
+use Rattle.std.proofs.Common.{ℕ, zero, suc, ◌≡◌, ◌≤◌, ◌<◌, ◌+◌, ◌-◌, ◌*◌, ◌/◌, ◌&&◌, inl, inr, sym, subst, arith, true, false, not, nat_le, nat_lt, List, [], ◌∷◌, map, Option, Some, None, Result, Ok, Err, refl, ap, ◌∙◌}
 use Rattle.std.proofs.Math.ListN.{get_or}
-use Rattle.law_lists.proofs.Tests.{chosen}
+use Rattle.law_lists.proofs.Tests.{chosen, lt_tells}
 use Rattle.law_granules.proofs.Lists.{zeroed_at}
 use Rattle.def_words.specs.declared.Cap.{Cap}
 use Rattle.def_words.specs.declared.Trap.{Trap}
-use Rattle.def_words.specs.Authority.{cap_address}
 use Rattle.def_memory.specs.declared.Granule.{Granule}
 use Rattle.def_memory.specs.Granules.{plain, nothing, granule_at}
 use Rattle.def_memory.specs.Ranges.{zeroed_from}
 use Rattle.def_sched.specs.Picks.{pick}
 use Rattle.def_instr.specs.declared.Instr.{Instr}
-use Rattle.def_machine.specs.Image.{Image, address_of, stack_base}
+use Rattle.def_machine.specs.Image.{Image, root, address_of, granule_of, stack_entry, stack_base, stack_top}
 use Rattle.def_machine.specs.State.{State, Frame, Object, thread, register}
 use Rattle.def_machine.specs.Objects.{Each, has_quarantined, painted, unpainted}
 use Rattle.def_machine.specs.Threads.{timed, statuses_of}
-use Rattle.def_machine.specs.Frames.{returned, unwound}
+use Rattle.def_machine.specs.Frames.{returned, ended_with}
 use Rattle.def_machine.specs.Memory.{filtered}
-use Rattle.def_machine.specs.Heap.{with_object, quarantined, freed, sliced, with_slice, slice_end, unmarked, sweep_over, ram_size, ended_sweep, sweep_began, sweep_on}
+use Rattle.def_machine.specs.Heap.{with_object, quarantined, freed, sliced, with_slice, slice_end, sweep_over, ram_size, ended_sweep, sweep_began, sweep_on}
+use Rattle.def_machine.specs.Slices.{marks_cleared}
 use Rattle.def_confined.specs.Changes.{Frees}
 use Rattle.def_confined.specs.Confined.{Confined, ObjectFits}
 use Rattle.def_confined.specs.Keeps.{Keeps}
 use Rattle.def_confined.specs.Partitioned.{Partitioned}
-use Rattle.def_hidden.specs.Hidden.{Shut, Blank, is_hidden}
+use Rattle.def_hidden.specs.Hidden.{MayReach, Shut, Blank, is_hidden}
 use Rattle.def_board.specs.Wired.{Wired}
 use Rattle.def_step.specs.declared.Class.{Class}
 use Rattle.def_step.specs.declared.Class.TheVariants as class
-use Rattle.def_step.specs.declared.Next.{Next}
 use Rattle.def_step.specs.declared.Event.{Event}
 use Rattle.def_step.specs.declared.Event.TheVariants.{Step, Tick, Sweep, Input}
-use Rattle.def_step.specs.Checks.{first_failed}
 use Rattle.def_step.specs.Accesses.{Accessed}
 use Rattle.def_step.specs.Jumps.{Flowed}
 use Rattle.def_step.specs.Operands.{operands_of, class_of}
-use Rattle.def_step.specs.Instructions.{Board, Done, carried_out, named_by, flows, accesses, around, space_of, ends, operand, goes_on, after_fetch, executed, fetch_checks, next_at}
+use Rattle.def_step.specs.Instructions.{Done, carried_out, named_by, flows, accesses, around, operand, executed}
+use Rattle.def_machine.specs.Board.{Board}
 use Rattle.def_step.specs.Events.{preempted_from, preempted, picked_as, picked_from, scheduled, continued, one_more_step, stepped, interrupted, happens, run}
 use Rattle.law_places.proofs.Rows.{each_map}
 use Rattle.law_heap.proofs.Quarantines.{one_there}
@@ -41,10 +40,16 @@ use Rattle.law_heap.proofs.Frees.{freed_cap}
 use Rattle.law_sweeps.proofs.Slices.{granule_at_slice}
 use Rattle.law_events.proofs.Events.{ready_kept, event_keeps}
 use Rattle.def_facts.specs.Facts.{Facts}
-use Rattle.def_step.specs.Quotas.{quota_in}
-use Rattle.law_routines.proofs.Cases.{by_next}
-use Rattle.law_routines.proofs.Objects.{whole_found}
-use Rattle.law_routines.proofs.Leaving.{Moves, served_left}
+use Rattle.law_routines.proofs.Leaving.{Moves}
+use Rattle.law_routines.proofs.Stepping.{Steps, IfDone, carried, executed_left}
+use Rattle.def_step.specs.declared.TheConstants.{TRAP_RECORD}
+use Rattle.def_step.specs.Handlers.{record_end, record_words, is_handled, handler_entered}
+use Rattle.law_handlers.proofs.Entered.{says, lies}
+use Rattle.law_handlers.proofs.Begins.{words_rest}
+use Rattle.law_handlers.proofs.Whole.{stack_in_ram, stack_stores}
+use Rattle.law_shut.proofs.Seeing.{away_seen}
+use Rattle.def_reach.specs.Roots.{Listing}
+use Rattle.ct_entry.specs.declared.rows.Kind.TheVariants as kind
 use Rattle.law_blank.proofs.Rows.{hidden_as, among_live, quarantine_live, painted_live, left_live}
 use Rattle.law_blank.proofs.Stores.{BlankIn, Reaching, IfBlank, result_blank}
 
@@ -68,30 +73,54 @@ returned_blank i s t [] h = h
 returned_blank i s t (f ∷ []) h = zeroed_blank i s t f.top h
 returned_blank i s t (f ∷ g ∷ gs) h = zeroed_blank i s t f.top h
 
-unwound_blank : (i : Image) (s : State) (t : ℕ) (fs : List Frame) → Blank i s → Blank i (unwound i s t fs)
-unwound_blank i s t [] h = h
-unwound_blank i s t (f ∷ []) h = zeroed_blank i s t f.top h
-unwound_blank i s t (f ∷ g ∷ gs) h = zeroed_blank i s t f.top h
+ended_blank : (i : Image) (s : State) (t value : ℕ) (fs : List Frame) → Blank i s → Blank i (ended_with i s t value fs)
+ended_blank i s t value [] h = h
+ended_blank i s t value (f ∷ []) h = zeroed_blank i s t f.top h
+ended_blank i s t value (f ∷ g ∷ gs) h = zeroed_blank i s t f.top h
+
+-- ---- an error handler
+
+-- a stack isn't hidden
+stack_seen : (i : Image) (s : State) (t k : ℕ) → Partitioned i → Shut i → (root i (stack_entry i t)).origin ≡ Listing kind.Stack → i.ram ≤ stack_base i t → stack_base i t ≤ address_of i k → address_of i k < stack_top i t → is_hidden i s.objects k ≡ false
+stack_seen i s t k p shut stack above low high =
+    let may = subst (λ r. MayReach r) (sym (p.stacks_are (stack_entry i t) stack).0) (inr (inl stack_stores)) in
+    let back : granule_of i (address_of i k) ≡ k = omega arith in
+    subst (λ n. is_hidden i s.objects n ≡ false) back (away_seen i s.objects (address_of i k) shut (omega arith) (shut.trusted (stack_entry i t) (address_of i k) may low high) (shut.heap (stack_entry i t) (address_of i k) may low high))
+
+handler_blank : (i : Image) (s : State) (t : ℕ) (why : Trap) (f : Frame) (fs : List Frame) → Partitioned i → Shut i → Confined i s → (thread s t).frames ≡ f ∷ fs → is_handled i (stack_base i t) (thread s t) f ≡ true → Blank i s → Blank i (handler_entered i s t why f fs)
+handler_blank i s t why f fs p shut h frames is blank k hidden =
+    let say = says i s t f is in
+    let above = stack_in_ram i s t f fs p h frames say in
+    let l = lies i s t f fs p above h frames say in
+    let low = l.low in
+    let high = l.high in
+    elim (lt_tells k ((record_end (register (thread s t) 2) - TRAP_RECORD - i.ram) / 8)) [
+      | inl before ↦ ap (λ (g : Granule). g.cap) (words_rest s.granules ((record_end (register (thread s t) 2) - TRAP_RECORD - i.ram) / 8) (record_words (thread s t) why) k (inl before.1)) ∙ blank k hidden
+      | inr from ↦ elim (lt_tells k ((record_end (register (thread s t) 2) - TRAP_RECORD - i.ram) / 8 + 10)) [
+        | inl inside ↦ (let at_least = from.1 in let less = inside.1 in absurd (let clash : true ≡ false = sym hidden ∙ stack_seen i s t k p shut l.stack above (omega (arith, low, at_least)) (omega (arith, high, less)) in cc))
+        | inr past ↦ ap (λ (g : Granule). g.cap) (words_rest s.granules ((record_end (register (thread s t) 2) - TRAP_RECORD - i.ram) / 8) (record_words (thread s t) why) k (inr past.1)) ∙ blank k hidden
+      ]
+    ]
 
 -- ---- an instruction
 
-abbrev IfDone : Board → State → Result Done Trap → Type 0
-IfDone b s (Err w) = Unit {0}
-IfDone b s (Ok d) = BlankIn b s d.granules
+abbrev IfLeft : Board → State → Result Done Trap → Type 0
+IfLeft b s (Err w) = Unit {0}
+IfLeft b s (Ok d) = BlankIn b s d.granules
 
-ends_blank : (b : Board) (s : State) (t : ℕ) (x : Cap) (r : Result Done Trap) → Blank b.image s → IfDone b s r → Blank b.image (ends b s t x r).0
-ends_blank b s t x (Err why) h done = unwound_blank b.image s t (thread s t).frames h
-ends_blank b s t x (Ok d) h done = done
+done_blank : (b : Board) (s : State) (t : ℕ) (r : Result Done Trap) → IfLeft b s r → IfDone (Blank b.image) s t r
+done_blank b s t (Err why) done = tt
+done_blank b s t (Ok d) done = done
 
-flows_blank : (b : Board) (s : State) (t to : ℕ) (r : Result Flowed Trap) → Blank b.image s → IfDone b s (flows (around b s t) to r)
+flows_blank : (b : Board) (s : State) (t to : ℕ) (r : Result Flowed Trap) → Blank b.image s → IfLeft b s (flows (around b s t) to r)
 flows_blank b s t to (Err w) h = tt
 flows_blank b s t to (Ok j) h = h
 
-accesses_blank : (b : Board) (s : State) (t to : ℕ) (r : Result Accessed Trap) → IfBlank b s r → IfDone b s (accesses (around b s t) to r)
+accesses_blank : (b : Board) (s : State) (t to : ℕ) (r : Result Accessed Trap) → IfBlank b s r → IfLeft b s (accesses (around b s t) to r)
 accesses_blank b s t to (Err w) h = tt
 accesses_blank b s t to (Ok m) h = h
 
-class_blank : (b : Board) (s : State) (t : ℕ) (c : Class) (k : Instr) (to m n : ℕ) → Reaching b s t → IfDone b s (carried_out c k to (operand s t m) (operand s t n) (named_by b.image (operand s t m)) (around b s t))
+class_blank : (b : Board) (s : State) (t : ℕ) (c : Class) (k : Instr) (to m n : ℕ) → Reaching b s t → IfLeft b s (carried_out c k to (operand s t m) (operand s t n) (named_by b.image (operand s t m)) (around b s t))
 class_blank b s t class.Integer k to m n r = r.blank
 class_blank b s t class.Capability k to m n r = r.blank
 class_blank b s t class.System k to m n r = tt
@@ -109,23 +138,22 @@ moves_blank b s t r = record {
   stops = λ status. r.blank;
   wakes = λ address most. r.blank;
   hands = λ size o is. object_blank b.image s o r.blank;
-  gives = λ o is. (let f = whole_found s.objects (quota_in s t) (register (thread s t) 11) o is in freed_blank b.image s t o r.held (record { running = r.runs; there = f.there; live = f.live }) r.blank);
+  gives = λ o c f. freed_blank b.image s t o r.held (record { running = r.runs; there = f.there; live = f.live }) r.blank;
+  seals = λ size key o is k. object_blank b.image s o r.blank;
+  opens = λ key o is. r.blank;
 }
 
-next_blank : (b : Board) (s : State) (t : ℕ) → Reaching b s t → Blank b.image (goes_on b s t (next_at (space_of b s) (cap_address (thread s t).pcc))).0
-next_blank b s t r = by_next (λ (n : Next). Blank b.image (goes_on b s t n).0) (space_of b s) (cap_address (thread s t).pcc)
-    (returned_blank b.image s t (thread s t).frames r.blank)
-    (λ k away read. ends_blank b s t (operand s t (operands_of k).first) (carried_out (class_of k) k (operands_of k).to (operand s t (operands_of k).first) (operand s t (operands_of k).second) (named_by b.image (operand s t (operands_of k).first)) (around b s t)) r.blank (class_blank b s t (class_of k) k (operands_of k).to (operands_of k).first (operands_of k).second r))
-    (λ n few other. served_left (Blank b.image) b s t n few other (unwound_blank b.image s t (thread s t).frames r.blank) (moves_blank b s t r))
-    (unwound_blank b.image s t (thread s t).frames r.blank)
+steps_blank : (b : Board) (s : State) (t : ℕ) → Partitioned b.image → Reaching b s t → Steps (Blank b.image) b s t
+steps_blank b s t parts r = record {
+  handles = λ why f fs frames is. handler_blank b.image s t why f fs parts r.shut r.held frames is r.blank;
+  ends = λ value. ended_blank b.image s t value (thread s t).frames r.blank;
+  back = λ unmarked. returned_blank b.image s t (thread s t).frames r.blank;
+  done = λ k. done_blank b s t (carried b s t k) (class_blank b s t (class_of k) k (operands_of k).to (operands_of k).first (operands_of k).second r);
+  moves = moves_blank b s t r;
+}
 
-fetch_blank : (b : Board) (s : State) (t : ℕ) (o : Option Trap) → Reaching b s t → Blank b.image (after_fetch b s t o).0
-fetch_blank b s t (Some why) r = unwound_blank b.image s t (thread s t).frames r.blank
-fetch_blank b s t None r = next_blank b s t r
-
-executed_blank : (b : Board) (s : State) (t : ℕ) → Reaching b s t → Blank b.image (executed b s t).0
-unfolding executed
-executed_blank b s t r = fetch_blank b s t (first_failed (fetch_checks (thread s t).pcc)) r
+executed_blank : (b : Board) (s : State) (t : ℕ) → Partitioned b.image → Reaching b s t → Blank b.image (executed b s t).0
+executed_blank b s t parts r = executed_left (Blank b.image) b s t (steps_blank b s t parts r)
 
 -- ---- a step
 
@@ -141,9 +169,9 @@ scheduled_blank : (b : Board) (s : State) (o : Option ℕ) → Blank b.image s �
 scheduled_blank b s (Some t) h = h
 scheduled_blank b s None h = picked_blank b s (pick b.image.priorities (statuses_of s.threads) s.picks) h
 
-continued_blank : (b : Board) (s : State) (o : Option ℕ) → s.running ≡ o → Shut b.image → Confined b.image s → Blank b.image s → Blank b.image (continued b s o).0
-continued_blank b s None runs shut held h = h
-continued_blank b s (Some t) runs shut held h = executed_blank b s t (record { shut = shut; held = held; runs = runs; blank = h })
+continued_blank : (b : Board) (s : State) (o : Option ℕ) → s.running ≡ o → Partitioned b.image → Shut b.image → Confined b.image s → Blank b.image s → Blank b.image (continued b s o).0
+continued_blank b s None runs parts shut held h = h
+continued_blank b s (Some t) runs parts shut held h = executed_blank b s t parts (record { shut = shut; held = held; runs = runs; blank = h })
 
 pub ready_blank : (b : Board) (s : State) → Blank b.image s → Blank b.image (scheduled b (preempted (one_more_step s)))
 ready_blank b s h =
@@ -152,7 +180,7 @@ ready_blank b s h =
 
 stepped_blank : (b : Board) (s : State) → Partitioned b.image → Shut b.image → Confined b.image s → Blank b.image s → Blank b.image (stepped b s).0
 stepped_blank b s parts shut held h =
-    continued_blank b (scheduled b (preempted (one_more_step s))) (scheduled b (preempted (one_more_step s))).running refl shut (ready_kept b s parts held).confined (ready_blank b s h)
+    continued_blank b (scheduled b (preempted (one_more_step s))) (scheduled b (preempted (one_more_step s))).running refl parts shut (ready_kept b s parts held).confined (ready_blank b s h)
 
 -- ---- a tick
 
@@ -168,7 +196,7 @@ sliced_zero i s low high offset = chosen (λ z. z ≡ plain 0) (nat_le low offse
 slice_blank : (i : Image) (s : State) (low high : ℕ) → Blank i s → Blank i (with_slice i s low high)
 slice_blank i s low high h k hidden = granule_at_slice (λ (g : Granule). g.cap ≡ plain 0) i s low high 0 s.granules k refl (ap (sliced i s low high (0 + 8 * k)) (h k hidden) ∙ sliced_zero i s low high (0 + 8 * k))
 
-unmarked_cap : (i : Image) (rows : List Object) (x : ℕ) (gs : List Granule) (k : ℕ) → (get_or (unmarked i rows x gs) k nothing).cap ≡ (get_or gs k nothing).cap
+unmarked_cap : (i : Image) (rows : List Object) (x : ℕ) (gs : List Granule) (k : ℕ) → (get_or (marks_cleared rows x gs) k nothing).cap ≡ (get_or gs k nothing).cap
 unmarked_cap i rows x [] k = refl
 unmarked_cap i rows x (g ∷ gs) zero = refl
 unmarked_cap i rows x (g ∷ gs) (suc k) = unmarked_cap i rows (x + 8) gs k
@@ -176,8 +204,8 @@ unmarked_cap i rows x (g ∷ gs) (suc k) = unmarked_cap i rows (x + 8) gs k
 over_blank : (i : Image) (s : State) → Each (λ (r : Object). r.live ≡ true → r.painted ≡ false) s.objects → Blank i s → Blank i (sweep_over i s)
 over_blank i s fits h k hidden = unmarked_cap i s.objects i.ram s.granules k ∙ h k (hidden_as i s.objects (unpainted s.objects) k (λ lives. left_live s.objects (address_of i k) fits ∙ lives) hidden)
 
-ended_blank : (i : Image) (s : State) (front : ℕ) → Each (λ (r : Object). r.live ≡ true → r.painted ≡ false) s.objects → Blank i s → Blank i (ended_sweep i s front)
-ended_blank i s front fits h = chosen (Blank i) (nat_le (ram_size s) front) (sweep_over i s) s (λ is. over_blank i s fits h) (λ not. h)
+over_at : (i : Image) (s : State) (front : ℕ) → Each (λ (r : Object). r.live ≡ true → r.painted ≡ false) s.objects → Blank i s → Blank i (ended_sweep i s front)
+over_at i s front fits h = chosen (Blank i) (nat_le (ram_size s) front) (sweep_over i s) s (λ is. over_blank i s fits h) (λ not. h)
 
 pub record Sound (i : Image) (s : State) : Type 0 where
   pub fits : Each (λ (r : Object). r.live ≡ true → r.painted ≡ false) s.objects
@@ -198,7 +226,7 @@ began_sound i s (Some front) h = h
 
 swept_blank : (i : Image) (s : State) (o : Option ℕ) → Sound i s → Blank i (sweep_on i s o)
 swept_blank i s None h = h.blank
-swept_blank i s (Some front) h = ended_blank i (with_slice i s front (slice_end i s front)) (slice_end i s front) h.fits (slice_blank i s front (slice_end i s front) h.blank)
+swept_blank i s (Some front) h = over_at i (with_slice i s front (slice_end i s front)) (slice_end i s front) h.fits (slice_blank i s front (slice_end i s front) h.blank)
 
 -- ---- whole
 

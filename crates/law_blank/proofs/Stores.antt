@@ -17,7 +17,8 @@ use Rattle.def_step.specs.declared.Access.{Access}
 use Rattle.def_step.specs.Checks.{first_failed}
 use Rattle.law_routines.proofs.Accesses.{ram_begins, by_access}
 use Rattle.def_step.specs.Accesses.{Accessed, access_of, access_checks, load_checks, store_checks, access_address, access_result, accessed, ram_stored, unless}
-use Rattle.def_step.specs.Instructions.{Board, space_of}
+use Rattle.def_step.specs.Instructions.{space_of}
+use Rattle.def_machine.specs.Board.{Board}
 use Rattle.def_confined.specs.Confined.{Confined}
 use Rattle.def_hidden.specs.Hidden.{Shut, Blank, is_hidden}
 use Rattle.law_shut.proofs.Seeing.{register_sees}

@@ -16,7 +16,7 @@ ghost use Rattle.def_machine.specs.State.{State, Object, granule};
 ghost use Rattle.def_memory.specs.Granules.{plain};
 ghost use Rattle.def_step.specs.declared.Event.{Event};
 ghost use Rattle.def_step.specs.Events.{happens, run};
-ghost use Rattle.def_step.specs.Instructions.{Board};
+ghost use Rattle.def_machine.specs.Board.{Board};
 
 /// Every event, lawful or not, leaves what is hidden zero.
 pub fn events_blank()

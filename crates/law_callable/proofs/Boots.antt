@@ -3,8 +3,7 @@ use Rattle.std.proofs.Common.{ℕ, ◌≡◌, ◌+◌, ◌-◌, ◌*◌, ◌/◌
 use Rattle.law_lists.proofs.Tests.{bool_tells}
 use Rattle.def_words.specs.declared.Cap.{Cap}
 use Rattle.def_memory.specs.declared.Granule.{Granule}
-use Rattle.def_memory.specs.Granules.{plain}
-use Rattle.def_areas.specs.Areas.{held}
+use Rattle.def_memory.specs.Granules.{plain, held}
 use Rattle.def_image.specs.Parts.{PartsRow}
 use Rattle.def_image.specs.Sound.{Sound}
 use Rattle.def_boot.specs.Boot.{image_of, boot_state}
@@ -19,11 +18,9 @@ use Rattle.law_booted.proofs.Contents.{booted_in}
 use Rattle.law_laid.proofs.Granules.{in_ram}
 use Rattle.law_started.proofs.Granules.{same_granule}
 use Rattle.law_started.proofs.Tags.{tagged_fixed}
-use Rattle.ct_engine.specs.Seen.{hides}
-use Rattle.ct_engine.specs.Seen.{region_of}
-use Rattle.ct_launch.specs.Launching.{fresh_of}
-use Rattle.ct_launch.proofs.Placing.{ram_is}
-use Rattle.ct_launch.proofs.Starting.{may_start}
+use Rattle.ct_engine.specs.Seen.{region_hides, region_of}
+use Rattle.ct_boot.proofs.Placing.{ram_is}
+use Rattle.ct_boot.proofs.Launched.{region_clear}
 
 -- the granule with this number is one of RAM, begins there, and holds this at boot
 record PutsIn (p : PartsRow) (k x : ℕ) (d : Cap) : Type 0 where
@@ -46,11 +43,11 @@ puts_in p x d s puts =
 
 module _ (p : PartsRow) (x : ℕ) (d : Cap) (s : Sound p) (puts : Puts p x d) (tagged : d.tag ≡ true) where
   -- what is tagged isn't hidden
-  pub open_at : hides (region_of (image_of p)) ((x - p.ram) / 8) ≡ false
-  open_at = elim (bool_tells (hides (region_of (image_of p)) ((x - p.ram) / 8))) [
+  pub open_at : region_hides (region_of (image_of p)) ((x - p.ram) / 8) ≡ false
+  open_at = elim (bool_tells (region_hides (region_of (image_of p)) ((x - p.ram) / 8))) [
     | inl hidden ↦
         let k : ℕ = (x - p.ram) / 8 in
-        let zero_it : held (boot_state p).granules k ≡ plain 0 = (may_start p s (boot_state p).granules (region_of (image_of p)) (fresh_of p) refl refl refl).clear k hidden in
+        let zero_it : held (boot_state p).granules k ≡ plain 0 = region_clear p s k hidden in
         let stands : held (boot_state p).granules k ≡ d = ap (λ (g : Granule). g.cap) (same_granule p s k) ∙ (puts_in p x d s puts).is in
         absurd (let clash : true ≡ false = sym tagged ∙ ap (λ (c : Cap). c.tag) (sym stands ∙ zero_it) in cc)
     | inr open_ ↦ open_

@@ -19,11 +19,10 @@ use Rattle.law_jumps.proofs.Moves.{in_rooted}
 use Rattle.law_grants.proofs.Imports.{named}
 use Rattle.ct_areas.specs.Threads.{frames_most}
 use Rattle.ct_switch.proofs.Failing.{checks_passed}
-use Rattle.ct_engine.specs.Seen.{Seen, thread, area_at}
+use Rattle.ct_engine.specs.Seen.{Seen, region_of, thread, area_at}
 use Rattle.ct_engine.specs.Calls.{MayCall, HeadStands, switch_at}
 use Rattle.ct_engine.proofs.Entering.{enters_by}
-use Rattle.ct_engine.specs.Seen.{region_of}
-use Rattle.ct_launch.specs.Placed.{IsPlaced}
+use Rattle.ct_boot.specs.Placed.{IsPlaced}
 use Rattle.law_callable.specs.Showing.{IsOfSound, ShowsCaller}
 use Rattle.law_callable.proofs.Rising.{image_sorted}
 use Rattle.law_callable.proofs.Tops.{top_lies}
@@ -53,7 +52,7 @@ caller_asks p m s t sound shows some = record {
       let n : ℕ = (register (thread s t) 6).shadow.root in
       let is = import_is (image_of p) m s t shows.confined shows.registers tagged sealed in
       let size = subst (λ (gs : List Granule). p.size ≤ 8 * length gs) (sym shows.granules) (size_in p m shows.confined) in
-      enterable p (root (image_of p) n).of sound ((named p sound n).call is) s shows.region size;
+      enterable p (root (image_of p) n).of sound ((named p sound n).call is) s shows.region size shows.heap;
 }
 
 head_stands : (p : PartsRow) (m : State) (s : Seen) (size t n : ℕ) → Sound p → Confined (image_of p) m → IsPlaced (image_of p) size t (area_at s t)

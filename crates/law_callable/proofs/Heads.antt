@@ -1,10 +1,11 @@
 -- The head of an export's table: it isn't hidden, and stands as boot made it.
-use Rattle.std.proofs.Common.{ℕ, ◌≡◌, ◌+◌, ◌-◌, ◌*◌, ◌/◌, ◌%◌, ◌≤◌, ◌<◌, false, List, length, refl, sym, ap, ◌∙◌, arith, subst}
+use Rattle.std.proofs.Common.{ℕ, ◌≡◌, ◌+◌, ◌-◌, ◌*◌, ◌/◌, ◌%◌, ◌≤◌, ◌<◌, inl, inr, false, List, length, refl, sym, ap, ◌∙◌, arith, subst}
 use Rattle.std.proofs.lemmas.Option.{slice_get_within}
+use Rattle.law_lists.proofs.Tests.{le_tells}
 use Rattle.ct_entry.specs.Listed.{Listed}
 use Rattle.def_words.specs.declared.Cap.{Cap}
 use Rattle.def_memory.specs.declared.Granule.{Granule}
-use Rattle.def_areas.specs.Areas.{held}
+use Rattle.def_memory.specs.Granules.{held}
 use Rattle.def_reach.specs.Roots.{Root, compartment_of}
 use Rattle.def_image.specs.Parts.{PartsRow}
 use Rattle.def_image.specs.Members.{code_number, globals_number}
@@ -25,11 +26,10 @@ use Rattle.law_grants.proofs.Making.{length_above}
 use Rattle.law_grants.proofs.Own.{code_stands, globals_stand, code_entry_is, globals_entry_is}
 use Rattle.ct_exports.specs.Exports.{IsCallable, callee_of, table_of}
 use Rattle.ct_engine.specs.declared.rows.Region.{Region}
-use Rattle.ct_engine.specs.Seen.{Seen, hides, area_at}
+use Rattle.ct_engine.specs.Seen.{Seen, region_hides, hides, region_of, area_at}
 use Rattle.ct_engine.specs.Calls.{IsEnterable, HeadStands, head_at}
-use Rattle.ct_engine.specs.Seen.{region_of}
-use Rattle.ct_launch.specs.Placed.{IsPlaced}
-use Rattle.ct_launch.proofs.Placing.{ram_is}
+use Rattle.ct_boot.specs.Placed.{IsPlaced}
+use Rattle.ct_boot.proofs.Placing.{heap_is, ram_is}
 use Rattle.law_callable.proofs.Rows.{table_is, callable}
 use Rattle.law_callable.proofs.Boots.{open_at, stands_at}
 
@@ -54,6 +54,13 @@ wider e ram size more n le may = record {
   head = record { low = may.head.low; even = may.head.even; high = (let high = may.head.high in omega (arith, high, le)) };
 }
 
+-- what lies below the heap isn't hidden by it
+below_seen : (s : Seen) (k : ℕ) → region_hides s.region k ≡ false → s.region.ram + 8 * k < s.heap_base → hides s k ≡ false
+below_seen s k open_ below = elim (le_tells s.heap_base (s.region.ram + 8 * k)) [
+  | inl above ↦ absurd (let le = above.1 in omega (arith, le, below))
+  | inr under ↦ rw (open_, under.0) refl
+]
+
 module _ (p : PartsRow) (n : ℕ) (s : Sound p) (x : ExportAt p n) where
   callee_is : callee_of (entries_of p) n ≡ x.index
   callee_is = ap (λ (r : Root). compartment_of r.owner) x.row.root_is
@@ -76,23 +83,11 @@ module _ (p : PartsRow) (n : ℕ) (s : Sound p) (x : ExportAt p n) where
     head_is : head_at v (entries_of p) n ≡ (x.compartment.table - p.ram) / 8
     head_is = ap (λ k. (k - v.region.ram) / 8) table_there ∙ ap (λ k. (x.compartment.table - k) / 8) ram_there
 
-    shown : (k j : ℕ) → k ≡ j → hides (region_of (image_of p)) j ≡ false → hides v.region k ≡ false
-    shown k j same open_ = ap (λ k. hides v.region k) same ∙ ap (λ (g : Region). hides g j) region ∙ open_
-
-    -- an export that a call import names is open to an engine of the image's region, in RAM of the image's size
-    pub enterable : p.size ≤ 8 * length v.granules → IsEnterable v (image_of p).entries n
-    enterable size =
-        let may : IsCallable (entries_of p) p.ram (8 * length v.granules) n = wider (entries_of p) p.ram p.size (8 * length v.granules) n size (callable p n s x) in
-        let code = open_at p x.compartment.table _ s (puts_code p s x.index x.compartment x.owner) (code_stands p s x.index x.compartment x.owner).made.tagged in
-        let globals = open_at p (x.compartment.table + 8) _ s (puts_globals p s x.index x.compartment x.owner) (globals_stand p s x.index x.compartment x.owner).made.tagged in
-        subst (λ (e : Listed). IsEnterable v e n) (sym (entries_are p)) (record {
-          callable = subst (λ k. IsCallable (entries_of p) k (8 * length v.granules) n) (sym ram_there) may;
-          code = shown (head_at v (entries_of p) n) ((x.compartment.table - p.ram) / 8) head_is code;
-          globals = shown (head_at v (entries_of p) n + 1) ((x.compartment.table + 8 - p.ram) / 8) (ap (λ k. k + 1) head_is ∙ sym second) globals;
-        })
+    shown : (k j : ℕ) → k ≡ j → region_hides (region_of (image_of p)) j ≡ false → region_hides v.region k ≡ false
+    shown k j same open_ = ap (λ k. region_hides v.region k) same ∙ ap (λ (g : Region). region_hides g j) region ∙ open_
 
     -- both of its granules lie below the heap
-    pub under_heap : v.region.ram + 8 * (head_at v (image_of p).entries n + 1) < p.heap
+    under_heap : v.region.ram + 8 * (head_at v (image_of p).entries n + 1) < p.heap
     under_heap =
         let lies = (own_there p s x.index x.compartment x.owner).table in
         let low = lies.low in
@@ -107,6 +102,20 @@ module _ (p : PartsRow) (n : ℕ) (s : Sound p) (x : ExportAt p n) where
       where
         below : (table size ram own head heap : ℕ) → head ≡ (table - ram) / 8 → own ≡ ram → (table - ram) % 8 ≡ 0 → ram ≤ table → 16 ≤ size → table + size ≤ heap → own + 8 * (head + 1) < heap
         below table size ram own head heap is same even low long high = omega (arith, is, same, even, low, long, high)
+
+    -- an export that a call import names is open to an engine of the image's region and heap, in RAM of the image's size
+    pub enterable : p.size ≤ 8 * length v.granules → (image_of p).heap_base ≡ v.heap_base → IsEnterable v (image_of p).entries n
+    enterable size heap =
+        let may : IsCallable (entries_of p) p.ram (8 * length v.granules) n = wider (entries_of p) p.ram p.size (8 * length v.granules) n size (callable p n s x) in
+        let code = open_at p x.compartment.table _ s (puts_code p s x.index x.compartment x.owner) (code_stands p s x.index x.compartment x.owner).made.tagged in
+        let globals = open_at p (x.compartment.table + 8) _ s (puts_globals p s x.index x.compartment x.owner) (globals_stand p s x.index x.compartment x.owner).made.tagged in
+        let under : v.region.ram + 8 * (head_at v (entries_of p) n + 1) < v.heap_base =
+        subst (λ (e : Listed). v.region.ram + 8 * (head_at v e n + 1) < v.heap_base) (entries_are p) (let below = under_heap in let base = heap_is p in omega (arith, below, base, heap)) in
+        subst (λ (e : Listed). IsEnterable v e n) (sym (entries_are p)) (record {
+          callable = subst (λ k. IsCallable (entries_of p) k (8 * length v.granules) n) (sym ram_there) may;
+          code = below_seen v (head_at v (entries_of p) n) (shown (head_at v (entries_of p) n) ((x.compartment.table - p.ram) / 8) head_is code) (omega (arith, under));
+          globals = below_seen v (head_at v (entries_of p) n + 1) (shown (head_at v (entries_of p) n + 1) ((x.compartment.table + 8 - p.ram) / 8) (ap (λ k. k + 1) head_is ∙ sym second) globals) under;
+        })
 
     -- ---- in a confined state whose RAM it shows
 

@@ -4,4 +4,3 @@ pub mod Rows
 pub mod Boots
 pub mod Heads
 pub mod Calls
-pub mod Open

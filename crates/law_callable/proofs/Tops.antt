@@ -7,7 +7,7 @@ use Rattle.def_confined.specs.Confined.{FrameHolds, FramesHold, Confined}
 use Rattle.def_step.specs.Switch.{frame_top}
 use Rattle.ct_engine.specs.Seen.{Seen, thread, area_at}
 use Rattle.ct_engine.specs.Calls.{TopLies}
-use Rattle.ct_launch.specs.Placed.{IsPlaced}
+use Rattle.ct_boot.specs.Placed.{IsPlaced}
 
 lies_by : (i : Image) (objects : List Object) (s : Seen) (t : ℕ) (fs : List Frame) → (thread s t).frames ≡ fs → 0 < length fs → FramesHold i objects t fs
     → (area_at s t).stack ≡ stack_base i t → (area_at s t).stack + (area_at s t).stack_length ≡ stack_top i t → TopLies s t

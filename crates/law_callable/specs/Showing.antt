@@ -7,21 +7,21 @@ use Rattle.def_machine.specs.Image.{Image}
 use Rattle.def_machine.specs.State.{State}
 use Rattle.def_machine.specs.State as state
 use Rattle.def_confined.specs.Confined.{Confined}
-use Rattle.ct_engine.specs.Seen.{Seen, thread, area_at}
-use Rattle.ct_engine.specs.Seen.{region_of}
-use Rattle.ct_launch.specs.Placed.{IsPlaced}
+use Rattle.ct_engine.specs.Seen.{Seen, region_of, thread, area_at}
+use Rattle.ct_boot.specs.Placed.{IsPlaced}
 
 pub record IsOfSound (i : Image) : Type 0 where
   pub parts : PartsRow
   pub sound : Sound parts
   pub is : i ≡ image_of parts
 
--- RAM and its region, and of thread t its area and its stack, its registers and its frames are seen as image and state
+-- RAM, its region and where the heap begins, and of thread t its area and its stack, its registers and its frames are seen as image and state
 -- have them. Of its status nothing is said: that is the scheduler's.
 pub record ShowsCaller (i : Image) (m : State) (s : Seen) (t : ℕ) : Type 0 where
   pub booted : IsOfSound i
   pub confined : Confined i m
   pub region : s.region ≡ region_of i
+  pub heap : i.heap_base ≡ s.heap_base
   pub granules : s.granules ≡ m.granules
   pub placed : IsPlaced i (8 * length s.granules) t (area_at s t)
   pub registers : (thread s t).registers ≡ (state.thread m t).registers

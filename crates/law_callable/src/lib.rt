@@ -17,12 +17,9 @@ ghost use Rattle.def_machine.specs.State as state;
 ghost use Rattle.def_reach.specs.Roots.{Listing};
 ghost use Rattle.def_step.specs.Switch.{Enters};
 ghost use Rattle.ct_exports.specs.Exports.{AreSorted, IsCallable};
-ghost use Rattle.ct_engine.specs.Seen.{Seen, thread, area_at};
+ghost use Rattle.ct_engine.specs.Seen.{Seen, region_of, thread, area_at};
 ghost use Rattle.ct_engine.specs.Calls.{TopLies, MayCall, HeadStands, switch_at};
-ghost use Rattle.ct_heaped.specs.Calls as heaped;
-ghost use Rattle.ct_heaped.specs.Seen as heaped_seen;
-ghost use Rattle.ct_engine.specs.Seen.{region_of};
-ghost use Rattle.ct_launch.specs.Placed.{IsPlaced};
+ghost use Rattle.ct_boot.specs.Placed.{IsPlaced};
 ghost use Rattle.law_callable.specs.Showing.{IsOfSound, ShowsCaller};
 
 /// The gates of an image stand by the numbers of their exports.
@@ -61,15 +58,6 @@ pub fn calls_asked()
     ensures { (i : Image) (m : State) (s : Seen) (t : ℕ)
         → ShowsCaller i m s t → 0 < length (thread s t).frames
         → MayCall s t i.entries }
-{}
-
-/// And so it may where an engine with a heap shows it: the heap, where it begins where the image's does, doesn't hide
-/// the head of an export table.
-pub fn calls_open()
-    ensures { (i : Image) (m : State) (s : heaped_seen.Seen) (t : ℕ)
-        → ShowsCaller i m s.threads t → i.heap_base ≡ s.heap_base
-        → 0 < length (thread s.threads t).frames
-        → heaped.MayCall s t i.entries }
 {}
 
 /// And the head of the export table is as boot made it, of the export that its call import names, if c6 is one, and of

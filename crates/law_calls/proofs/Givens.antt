@@ -1,5 +1,5 @@
 -- What the switcher gives a callee may stand in its registers.
-use Rattle.std.proofs.Common.{ℕ, ◌≡◌, inl, inr, ◌&&◌, true, false, not, nat_eq, List, ◌∷◌, refl, sym, ap, ◌∙◌, subst, arith}
+use Rattle.std.proofs.Common.{ℕ, ◌≡◌, inl, inr, true, false, List, ◌∷◌, refl, sym, ap, ◌∙◌, subst, arith}
 use Rattle.def_words.specs.declared.Cap.{Cap}
 use Rattle.def_words.specs.Authority.{cap_top}
 use Rattle.ct_entry.specs.declared.rows.Owner.{Owner}
@@ -8,7 +8,7 @@ use Rattle.def_reach.specs.Roots.{Origin, TrustedPart, Listing, is_quota, is_sta
 use Rattle.def_reach.specs.Sharing.{Reaches}
 use Rattle.def_machine.specs.Image.{Image, root}
 use Rattle.def_machine.specs.State.{Frame, Object}
-use Rattle.def_confined.specs.Capabilities.{Kept, heap_cap, stack_cap}
+use Rattle.def_confined.specs.Capabilities.{Kept, stack_cap}
 use Rattle.def_confined.specs.Places.{Placed, OwnStack, HasLive}
 use Rattle.def_confined.specs.Made.{IsOwn, IsReturnSentry, IsStackUpTo}
 use Rattle.law_reach.proofs.Joins.{joined_is, reaches_own}

@@ -1,26 +1,22 @@
 -- A return, an unwind, and the end of a thread.
-use Rattle.std.proofs.Common.{ℕ, ◌≡◌, ◌+◌, ◌*◌, ◌%◌, ◌^◌, ◌≤◌, inl, inr, true, false, List, [], ◌∷◌, Some, None, refl, sym, ap, ◌∙◌, subst, arith}
-use Rattle.std.proofs.lemmas.Nat.{mod-mul-add, mod_below, pow_pos}
+use Rattle.std.proofs.Common.{ℕ, ◌≡◌, ◌≤◌, inl, inr, true, false, List, [], ◌∷◌, Some, None, refl, sym, ap, ◌∙◌, subst, arith}
 use Rattle.def_profile.specs.declared.answers.TheConstants.{UNWOUND}
 use Rattle.law_lists.proofs.Tests.{lt_tells}
 use Rattle.def_words.specs.declared.Cap.{Cap}
-use Rattle.def_words.specs.Authority.{cap_high}
-use Rattle.def_words.specs.Capability.{untagged, with_seal_field}
+use Rattle.def_words.specs.Capability.{untagged}
 use Rattle.def_words.specs.Permissions.{has, execute}
 use Rattle.def_words.specs.Jumped.{opened}
 use Rattle.def_words.specs.Seals.{cap_seal, posture_through}
-use Rattle.law_words.proofs.Passing.{opened_is}
 use Rattle.def_memory.specs.Granules.{plain}
 use Rattle.def_machine.specs.Image.{Image, root}
 use Rattle.def_machine.specs.State.{State, Thread, Frame, Object, thread, register, nobody}
 use Rattle.def_machine.specs.Memory.{filtered}
 use Rattle.def_machine.specs.Objects.{Each}
-use Rattle.def_machine.specs.Frames.{switched, answer, left_by, returned, unwound}
+use Rattle.def_machine.specs.Frames.{switched, answer, left_by, returned, ended_with, unwound}
 use Rattle.def_confined.specs.Capabilities.{Rooted, Kept, heap_cap}
 use Rattle.def_confined.specs.Places.{InFrames, HasLive, outer}
 use Rattle.def_confined.specs.Confined.{Confined, FramesHold, SavedKept}
 use Rattle.def_confined.specs.Partitioned.{Partitioned}
-use Rattle.def_confined.specs.Made.{Opens}
 use Rattle.law_places.proofs.Places.{carry, Joins, plain_in, within_head, all_of}
 use Rattle.law_places.proofs.Puts.{plain_kept}
 use Rattle.law_places.proofs.Switches.{switched_confined}
@@ -169,12 +165,12 @@ return_confined i s t f g gs p h frames =
       second_live = λ runs. answer_live runs 11;
     })
 
-pub unwind_confined : (i : Image) (s : State) (t : ℕ) (f g : Frame) (gs : List Frame) → Partitioned i → Confined i s → (thread s t).frames ≡ f ∷ g ∷ gs
-    → Confined i (switched i s t f.top (left_by i s (thread s t) f (g ∷ gs) (plain UNWOUND) (plain 0)) s.running)
-unwind_confined i s t f g gs p h frames = left_confined i s t f g gs (plain UNWOUND) (plain 0) p h frames (record {
-  first_in = plain_in i s.objects t (g ∷ gs) (plain UNWOUND) refl;
+pub value_confined : (i : Image) (s : State) (t value : ℕ) (f g : Frame) (gs : List Frame) → Partitioned i → Confined i s → (thread s t).frames ≡ f ∷ g ∷ gs
+    → Confined i (switched i s t f.top (left_by i s (thread s t) f (g ∷ gs) (plain value) (plain 0)) s.running)
+value_confined i s t value f g gs p h frames = left_confined i s t f g gs (plain value) (plain 0) p h frames (record {
+  first_in = plain_in i s.objects t (g ∷ gs) (plain value) refl;
   second_in = plain_in i s.objects t (g ∷ gs) (plain 0) refl;
-  first_kept = plain_kept i (plain UNWOUND) refl;
+  first_kept = plain_kept i (plain value) refl;
   second_kept = plain_kept i (plain 0) refl;
   first_live = λ runs tagged. absurd (let clash : false ≡ true = tagged in cc);
   second_live = λ runs tagged. absurd (let clash : false ≡ true = tagged in cc);
@@ -203,7 +199,10 @@ returned_confined i s t [] p h frames = h
 returned_confined i s t (f ∷ []) p h frames = end_confined i s t f p h frames
 returned_confined i s t (f ∷ g ∷ gs) p h frames = return_confined i s t f g gs p h frames
 
+pub ended_confined : (i : Image) (s : State) (t value : ℕ) (fs : List Frame) → Partitioned i → Confined i s → (thread s t).frames ≡ fs → Confined i (ended_with i s t value fs)
+ended_confined i s t value [] p h frames = h
+ended_confined i s t value (f ∷ []) p h frames = end_confined i s t f p h frames
+ended_confined i s t value (f ∷ g ∷ gs) p h frames = value_confined i s t value f g gs p h frames
+
 pub unwound_confined : (i : Image) (s : State) (t : ℕ) (fs : List Frame) → Partitioned i → Confined i s → (thread s t).frames ≡ fs → Confined i (unwound i s t fs)
-unwound_confined i s t [] p h frames = h
-unwound_confined i s t (f ∷ []) p h frames = end_confined i s t f p h frames
-unwound_confined i s t (f ∷ g ∷ gs) p h frames = unwind_confined i s t f g gs p h frames
+unwound_confined i s t fs p h frames = ended_confined i s t UNWOUND fs p h frames

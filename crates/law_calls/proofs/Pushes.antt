@@ -1,6 +1,5 @@
 -- A call that enters its callee, whole.
-use Rattle.std.proofs.Common.{ℕ, zero, suc, ◌≡◌, ◌+◌, ◌≤◌, inl, inr, true, false, nat_lt, List, [], ◌∷◌, Some, refl, sym, ap, subst, arith}
-use Rattle.std.proofs.Math.ListN.{get_or}
+use Rattle.std.proofs.Common.{ℕ, ◌≡◌, ◌+◌, ◌≤◌, inl, inr, true, false, nat_lt, List, ◌∷◌, Some, refl, sym, ap, subst, arith}
 use Rattle.law_lists.proofs.Tests.{chosen, lt_tells}
 use Rattle.def_words.specs.declared.Cap.{Cap}
 use Rattle.def_words.specs.declared.Posture.{Posture}
@@ -13,7 +12,6 @@ use Rattle.def_reach.specs.Roots.{TrustedPart, Listing, is_owned, gate_for}
 use Rattle.def_reach.specs.Sharing.{Calls, Joined, Reaches}
 use Rattle.def_machine.specs.Image.{Image, root}
 use Rattle.def_machine.specs.State.{State, Thread, Frame, Object, thread, register, interrupts_on}
-use Rattle.def_machine.specs.Objects.{Each}
 use Rattle.def_machine.specs.Frames.{switched, Given, pushed_frame, passed, argument, posture_of_call, entered}
 use Rattle.def_confined.specs.Capabilities.{Kept}
 use Rattle.def_confined.specs.Places.{Placed, InFrames, OwnStack, HasLive, outer}

@@ -7,11 +7,12 @@ ghost use Rattle.std.specs.Prelude.{◌≡◌, ◌≤◌, ◌<◌, ℕ, List, Op
 ghost use Rattle.def_memory.specs.Granules.{blank};
 ghost use Rattle.def_machine.specs.Image.{Image, root, address_of, stack_base};
 ghost use Rattle.def_machine.specs.State.{State, Thread, Frame, register, granule, thread};
-ghost use Rattle.def_machine.specs.Frames.{switched, Given, entered, returned, unwound};
+ghost use Rattle.def_machine.specs.Frames.{switched, Given, entered, ended_with, returned, unwound};
 ghost use Rattle.def_confined.specs.Confined.{Confined};
 ghost use Rattle.def_confined.specs.Partitioned.{Partitioned};
 ghost use Rattle.def_confined.specs.Changes.{Enters};
-ghost use Rattle.law_calls.specs.Cleans.{IsGiven, IsSaved, back_from, unwound_from};
+ghost use Rattle.law_calls.specs.Cleans.{back_from, unwound_from, valued_from};
+ghost use Rattle.def_safety.specs.Clean.{IsGiven, IsSaved};
 
 /// A call whose checks passed enters its callee.
 pub fn push_move()
@@ -21,11 +22,14 @@ pub fn push_move()
         → Confined i (switched i s t high (entered i (thread s t) callee export high w) s.running) }
 {}
 
-/// A return and an unwind of a thread with these frames; at its last frame the thread ends.
+/// A return of a thread with these frames, an end with a value and an unwind; at its last frame the thread ends.
 pub fn pop_moves()
     ensures back { (i : Image) (s : State) (t : ℕ) (fs : List Frame)
         → Partitioned i → Confined i s → (thread s t).frames ≡ fs
         → Confined i (returned i s t fs) }
+    ensures value { (i : Image) (s : State) (t value : ℕ) (fs : List Frame)
+        → Partitioned i → Confined i s → (thread s t).frames ≡ fs
+        → Confined i (ended_with i s t value fs) }
     ensures unwind { (i : Image) (s : State) (t : ℕ) (fs : List Frame)
         → Partitioned i → Confined i s → (thread s t).frames ≡ fs
         → Confined i (unwound i s t fs) }
@@ -33,9 +37,9 @@ pub fn pop_moves()
 
 /// On entry through an export that passes plain values no register is tagged but the return sentry, the
 /// stack and the globals that the switcher gives. On its return no result is tagged, and no other
-/// register but what the caller had saved, through the load filter; the same holds of an unwind through
-/// any export, whose results are plain. The stack up to the new top, or up to the ending frame's, is
-/// zero and untagged.
+/// register but what the caller had saved, through the load filter; the same holds of an end with a value
+/// and of an unwind through any export, whose results are plain. The stack up to the new top, or up to the
+/// ending frame's, is zero and untagged.
 pub fn clean_calls()
     ensures entry { (i : Image) (old : Thread) (callee export high : ℕ) (w : Given)
         → (root i export).passes ≡ false → (n : ℕ)
@@ -45,6 +49,9 @@ pub fn clean_calls()
         → (root i f.export).passes ≡ false → (n : ℕ)
         → (register (back_from i s old f fs) n).tag ≡ true
         → IsSaved i s f n (register (back_from i s old f fs) n) }
+    ensures value { (i : Image) (s : State) (old : Thread) (value : ℕ) (f : Frame) (fs : List Frame) (n : ℕ)
+        → (register (valued_from i s old value f fs) n).tag ≡ true
+        → IsSaved i s f n (register (valued_from i s old value f fs) n) }
     ensures unwind { (i : Image) (s : State) (old : Thread) (f : Frame) (fs : List Frame) (n : ℕ)
         → (register (unwound_from i s old f fs) n).tag ≡ true
         → IsSaved i s f n (register (unwound_from i s old f fs) n) }

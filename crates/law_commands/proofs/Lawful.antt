@@ -7,8 +7,8 @@ use Rattle.def_profile.specs.declared.limits.TheConstants.{MOST_STEPS}
 use Rattle.def_machine.specs.State.{State}
 use Rattle.def_step.specs.declared.Event.{Event}
 use Rattle.def_step.specs.declared.Event.TheVariants.{Tick, Sweep}
-use Rattle.def_step.specs.Instructions.{Board}
-use Rattle.def_step.specs.Events.{happens, run, end_of, AreLawful, MachineRow}
+use Rattle.def_machine.specs.Board.{Board, MachineRow}
+use Rattle.def_step.specs.Events.{happens, run, end_of, AreLawful}
 use Rattle.def_image.specs.Parts.{PartsRow}
 use Rattle.def_boot.specs.Boot.{booted_machine, boot_state}
 use Rattle.def_script.specs.declared.Given.{Given}

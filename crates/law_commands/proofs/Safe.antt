@@ -9,7 +9,7 @@ use Rattle.def_program.specs.declared.TheConstants.{DEMO_STEPS}
 use Rattle.def_program.specs.Runs.{events_until}
 use Rattle.def_step.specs.declared.Event.{Event}
 use Rattle.law_accepted.proofs.Running as running
-use Rattle.law_commands.specs.Safe.{IsSafeRun, IsSafeCommand, RunsSafely}
+use Rattle.def_program.specs.Safe.{IsSafeRun, IsSafeCommand, RunsSafely}
 use Rattle.law_commands.proofs.Licences.{stands_faultless}
 
 safe : (p : PartsRow) (es : List Event) → IsFaultless p → IsSafeRun p es

@@ -6,8 +6,8 @@ use Rattle.ct_entry.specs.declared.acts.End.{End}
 use Rattle.def_machine.specs.State.{State}
 use Rattle.def_step.specs.declared.Event.{Event}
 use Rattle.def_step.specs.declared.Event.TheVariants.{Step, Tick, Sweep}
-use Rattle.def_step.specs.Instructions.{Board}
-use Rattle.def_step.specs.Events.{happens, run, told, end_of, MachineRow}
+use Rattle.def_machine.specs.Board.{Board, MachineRow}
+use Rattle.def_step.specs.Events.{happens, run, told, end_of}
 use Rattle.def_trace.specs.Trace.{trace_line}
 use Rattle.def_script.specs.declared.Given.{Given}
 use Rattle.def_script.specs.Script.{Due, given_at}

@@ -12,8 +12,9 @@ ghost use Rattle.def_program.specs.Licences.{IsLicensedCommand, StandFor};
 ghost use Rattle.def_program.specs.Runs.{events_until, last_line, run_lines};
 ghost use Rattle.def_program.specs.Scripts.{IsPlayable};
 ghost use Rattle.def_script.specs.Script.{Due};
-ghost use Rattle.def_step.specs.Events.{AreLawful, MachineRow, run, told};
-ghost use Rattle.law_commands.specs.Safe.{IsSafeCommand};
+ghost use Rattle.def_step.specs.Events.{AreLawful, run, told};
+ghost use Rattle.def_machine.specs.Board.{MachineRow};
+ghost use Rattle.def_program.specs.Safe.{IsSafeCommand};
 ghost use Rattle.law_commands.specs.Telling.{event_lines};
 ghost use Rattle.law_counts.specs.Kinds.{IsUncounted};
 

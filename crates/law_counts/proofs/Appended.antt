@@ -2,7 +2,7 @@
 use Rattle.std.proofs.Common.{◌≡◌, List, [], ◌∷◌, ◌++◌, refl, ap}
 use Rattle.def_machine.specs.State.{State}
 use Rattle.def_step.specs.declared.Event.{Event}
-use Rattle.def_step.specs.Instructions.{Board}
+use Rattle.def_machine.specs.Board.{Board}
 use Rattle.def_step.specs.Events.{happens, run, told}
 
 pub run_append : (b : Board) (s : State) (es fs : List Event) → run b s (es ++ fs) ≡ run b (run b s es) fs

@@ -3,63 +3,50 @@ use Rattle.std.proofs.Common.{◌≡◌, ℕ, ◌+◌, ◌&&◌, not, nat_le, Li
 use Rattle.ct_entry.specs.declared.acts.Act.{Act}
 use Rattle.ct_entry.specs.declared.acts.Act.TheVariants.{Call, Load, Store, Allocate, Free, Trap}
 use Rattle.ct_entry.specs.declared.acts.Deed.{Deed}
-use Rattle.def_words.specs.declared.Cap.{Cap}
 use Rattle.def_words.specs.declared.Trap as trap_words
-use Rattle.def_words.specs.Authority.{cap_address}
 use Rattle.def_machine.specs.Image.{Image}
 use Rattle.def_machine.specs.State.{State, Frame, Counts, thread}
-use Rattle.def_machine.specs.Frames.{returned, unwound}
+use Rattle.def_machine.specs.Frames.{returned, ended_with}
 use Rattle.def_machine.specs.Heap.{swept, sweep_on, sweep_began, with_slice, slice_end, ram_size}
 use Rattle.def_machine.specs.Objects.{has_quarantined}
 use Rattle.def_machine.specs.Threads.{statuses_of, timed}
 use Rattle.def_sched.specs.Picks.{pick}
 use Rattle.def_step.specs.declared.Event.{Event}
 use Rattle.def_step.specs.declared.Event.TheVariants.{Step, Tick, Sweep, Input}
-use Rattle.def_step.specs.declared.Next.{Next}
-use Rattle.def_step.specs.Checks.{first_failed}
-use Rattle.def_step.specs.Operands.{operands_of, class_of}
-use Rattle.def_step.specs.Instructions.{Board, Done, executed, after_fetch, goes_on, ends, fetch_checks, next_at, space_of, operand, carried_out, named_by, around}
+use Rattle.def_step.specs.Instructions.{Done, executed}
+use Rattle.def_machine.specs.Board.{Board}
 use Rattle.def_step.specs.Events.{happens, stepped, continued, with_deed, with_act, scheduled, picked_as, picked_from, preempted, preempted_from, one_more_step, interrupted, run}
 use Rattle.law_lists.proofs.Tests.{chosen}
-use Rattle.law_routines.proofs.Cases.{by_next}
-use Rattle.law_routines.proofs.Leaving.{Moves, served_left}
+use Rattle.law_routines.proofs.Stepping.{Steps, IfDone, carried, executed_left}
 use Rattle.law_counts.specs.Kinds.{kinds, one_more, all_more}
 
 -- ---- one instruction counts nothing
 
-unwound_counts : (i : Image) (s : State) (t : ℕ) (fs : List Frame) → (unwound i s t fs).counts ≡ s.counts
-unwound_counts i s t [] = refl
-unwound_counts i s t (f ∷ []) = refl
-unwound_counts i s t (f ∷ g ∷ fs) = refl
+ended_counts : (i : Image) (s : State) (t value : ℕ) (fs : List Frame) → (ended_with i s t value fs).counts ≡ s.counts
+ended_counts i s t value [] = refl
+ended_counts i s t value (f ∷ []) = refl
+ended_counts i s t value (f ∷ g ∷ fs) = refl
 
 returned_counts : (i : Image) (s : State) (t : ℕ) (fs : List Frame) → (returned i s t fs).counts ≡ s.counts
 returned_counts i s t [] = refl
 returned_counts i s t (f ∷ []) = refl
 returned_counts i s t (f ∷ g ∷ fs) = refl
 
-ends_counts : (b : Board) (s : State) (t : ℕ) (x : Cap) (r : Result Done trap_words.Trap) → (ends b s t x r).0.counts ≡ s.counts
-ends_counts b s t x (Err why) = unwound_counts b.image s t (thread s t).frames
-ends_counts b s t x (Ok d) = refl
+done_counts : (s : State) (t : ℕ) (r : Result Done trap_words.Trap) → IfDone (λ z. z.counts ≡ s.counts) s t r
+done_counts s t (Err why) = tt
+done_counts s t (Ok d) = refl
 
--- a routine counts nothing
-moves_count : (i : Image) (s : State) (t : ℕ) → Moves (λ z told. z.counts ≡ s.counts) i s t
-moves_count i s t = record { tells = λ n. refl; enters = λ high. refl; stops = λ status. refl; wakes = λ address most. refl; hands = λ size r is. refl; gives = λ r is. refl }
-
-next_counts : (b : Board) (s : State) (t : ℕ) → (goes_on b s t (next_at (space_of b s) (cap_address (thread s t).pcc))).0.counts ≡ s.counts
-next_counts b s t = by_next (λ (n : Next). (goes_on b s t n).0.counts ≡ s.counts) (space_of b s) (cap_address (thread s t).pcc)
-    (returned_counts b.image s t (thread s t).frames)
-    (λ i away read. ends_counts b s t (operand s t (operands_of i).first)
-    (carried_out (class_of i) i (operands_of i).to (operand s t (operands_of i).first) (operand s t (operands_of i).second) (named_by b.image (operand s t (operands_of i).first)) (around b s t)))
-    (λ n few other. served_left (λ z. z.counts ≡ s.counts) b s t n few other (unwound_counts b.image s t (thread s t).frames) (moves_count b.image s t))
-    (unwound_counts b.image s t (thread s t).frames)
-
-fetched_counts : (b : Board) (s : State) (t : ℕ) (o : Option trap_words.Trap) → (after_fetch b s t o).0.counts ≡ s.counts
-fetched_counts b s t (Some why) = unwound_counts b.image s t (thread s t).frames
-fetched_counts b s t None = next_counts b s t
+steps_count : (b : Board) (s : State) (t : ℕ) → Steps (λ z. z.counts ≡ s.counts) b s t
+steps_count b s t = record {
+  handles = λ why f fs frames is. refl;
+  ends = λ value. ended_counts b.image s t value (thread s t).frames;
+  back = λ plain_one. returned_counts b.image s t (thread s t).frames;
+  done = λ k. done_counts s t (carried b s t k);
+  moves = record { tells = λ n. refl; enters = λ high. refl; stops = λ status. refl; wakes = λ address most. refl; hands = λ size r is. refl; gives = λ r c is. refl; seals = λ size key r is k. refl; opens = λ key r is. refl };
+}
 
 executed_counts : (b : Board) (s : State) (t : ℕ) → (executed b s t).0.counts ≡ s.counts
-unfolding executed
-executed_counts b s t = fetched_counts b s t (first_failed (fetch_checks (thread s t).pcc))
+executed_counts b s t = executed_left (λ z. z.counts ≡ s.counts) b s t (steps_count b s t)
 
 -- ---- deeds are counted apart from events
 

@@ -3,11 +3,10 @@ use Rattle.std.proofs.Common.{◌≡◌, ℕ, ◌+◌, ◌-◌, ◌&&◌, not, n
 use Rattle.std.proofs.lemmas.List.{length-set}
 use Rattle.def_words.specs.declared.Cap.{Cap}
 use Rattle.def_words.specs.declared.Trap as trap_words
-use Rattle.def_words.specs.Authority.{cap_address}
 use Rattle.def_instr.specs.declared.Instr.{Instr}
 use Rattle.def_machine.specs.Image.{Image}
 use Rattle.def_machine.specs.State.{State, Frame, thread}
-use Rattle.def_machine.specs.Frames.{returned, unwound}
+use Rattle.def_machine.specs.Frames.{returned, ended_with}
 use Rattle.def_machine.specs.Heap.{swept, sweep_on, sweep_began, with_slice, slice_end, ram_size}
 use Rattle.def_machine.specs.Objects.{has_quarantined}
 use Rattle.def_machine.specs.Threads.{statuses_of, timed}
@@ -17,18 +16,17 @@ use Rattle.def_step.specs.declared.Class.{Class}
 use Rattle.def_step.specs.declared.Class.TheVariants as class
 use Rattle.def_step.specs.declared.Event.{Event}
 use Rattle.def_step.specs.declared.Event.TheVariants.{Step, Tick, Sweep, Input}
-use Rattle.def_step.specs.declared.Next.{Next}
 use Rattle.law_routines.proofs.Accesses.{by_access}
 use Rattle.def_step.specs.Accesses.{Space, Accessed, access_of, access_checks, access_address, access_result, accessed, stored_value, unless}
 use Rattle.def_step.specs.Checks.{first_failed}
 use Rattle.def_step.specs.Devices.{Bank, found, bank_read_at, bank_written_at, left_by_read, left_by_write, device, base_of, after_input}
 use Rattle.def_step.specs.Jumps.{Flowed, flow_result}
 use Rattle.def_step.specs.Operands.{operands_of, class_of}
-use Rattle.def_step.specs.Instructions.{Board, Done, Around, accesses, flows, executed, after_fetch, goes_on, ends, fetch_checks, next_at, space_of, operand, carried_out, named_by, around}
+use Rattle.def_step.specs.Instructions.{Done, Around, accesses, flows, executed, operand, carried_out, named_by, around}
+use Rattle.def_machine.specs.Board.{Board}
 use Rattle.def_step.specs.Events.{happens, stepped, continued, scheduled, picked_as, picked_from, preempted, preempted_from, one_more_step, interrupted, run}
 use Rattle.law_lists.proofs.Tests.{chosen}
-use Rattle.law_routines.proofs.Cases.{by_next}
-use Rattle.law_routines.proofs.Leaving.{Moves, served_left}
+use Rattle.law_routines.proofs.Stepping.{Steps, IfDone, carried, executed_left}
 
 -- ---- an access
 
@@ -88,39 +86,32 @@ carried_keeps class.Break i to x y named a = tt
 abbrev Same : State → State → Type 0
 Same s z = length z.devices ≡ length s.devices
 
-unwound_keeps : (i : Image) (s : State) (t : ℕ) (fs : List Frame) → Same s (unwound i s t fs)
-unwound_keeps i s t [] = refl
-unwound_keeps i s t (f ∷ []) = refl
-unwound_keeps i s t (f ∷ g ∷ fs) = refl
+ended_keeps : (i : Image) (s : State) (t value : ℕ) (fs : List Frame) → Same s (ended_with i s t value fs)
+ended_keeps i s t value [] = refl
+ended_keeps i s t value (f ∷ []) = refl
+ended_keeps i s t value (f ∷ g ∷ fs) = refl
 
 returned_keeps : (i : Image) (s : State) (t : ℕ) (fs : List Frame) → Same s (returned i s t fs)
 returned_keeps i s t [] = refl
 returned_keeps i s t (f ∷ []) = refl
 returned_keeps i s t (f ∷ g ∷ fs) = refl
 
-ends_keeps : (b : Board) (s : State) (t : ℕ) (x : Cap) (r : Result Done trap_words.Trap) → KeepsIfDone (length s.devices) r → Same s (ends b s t x r).0
-ends_keeps b s t x (Err why) k = unwound_keeps b.image s t (thread s t).frames
-ends_keeps b s t x (Ok d) k = k
+done_keeps : (s : State) (t : ℕ) (r : Result Done trap_words.Trap) → KeepsIfDone (length s.devices) r → IfDone (Same s) s t r
+done_keeps s t (Err why) k = tt
+done_keeps s t (Ok d) k = k
 
-moves_keep : (i : Image) (s : State) (t : ℕ) → Moves (λ z told. Same s z) i s t
-moves_keep i s t = record { tells = λ n. refl; enters = λ high. refl; stops = λ status. refl; wakes = λ address most. refl; hands = λ size r is. refl; gives = λ r is. refl }
-
-next_keeps : (b : Board) (s : State) (t : ℕ) → Same s (goes_on b s t (next_at (space_of b s) (cap_address (thread s t).pcc))).0
-next_keeps b s t = by_next (λ (n : Next). Same s (goes_on b s t n).0) (space_of b s) (cap_address (thread s t).pcc)
-    (returned_keeps b.image s t (thread s t).frames)
-    (λ i away read. ends_keeps b s t (operand s t (operands_of i).first)
-    (carried_out (class_of i) i (operands_of i).to (operand s t (operands_of i).first) (operand s t (operands_of i).second) (named_by b.image (operand s t (operands_of i).first)) (around b s t))
-    (carried_keeps (class_of i) i (operands_of i).to (operand s t (operands_of i).first) (operand s t (operands_of i).second) (named_by b.image (operand s t (operands_of i).first)) (around b s t)))
-    (λ n few other. served_left (Same s) b s t n few other (unwound_keeps b.image s t (thread s t).frames) (moves_keep b.image s t))
-    (unwound_keeps b.image s t (thread s t).frames)
-
-fetched_keeps : (b : Board) (s : State) (t : ℕ) (o : Option trap_words.Trap) → Same s (after_fetch b s t o).0
-fetched_keeps b s t (Some why) = unwound_keeps b.image s t (thread s t).frames
-fetched_keeps b s t None = next_keeps b s t
+steps_keep : (b : Board) (s : State) (t : ℕ) → Steps (Same s) b s t
+steps_keep b s t = record {
+  handles = λ why f fs frames is. refl;
+  ends = λ value. ended_keeps b.image s t value (thread s t).frames;
+  back = λ plain_one. returned_keeps b.image s t (thread s t).frames;
+  done = λ k. done_keeps s t (carried b s t k)
+      (carried_keeps (class_of k) k (operands_of k).to (operand s t (operands_of k).first) (operand s t (operands_of k).second) (named_by b.image (operand s t (operands_of k).first)) (around b s t));
+  moves = record { tells = λ n. refl; enters = λ high. refl; stops = λ status. refl; wakes = λ address most. refl; hands = λ size r is. refl; gives = λ r c is. refl; seals = λ size key r is k. refl; opens = λ key r is. refl };
+}
 
 executed_keeps : (b : Board) (s : State) (t : ℕ) → Same s (executed b s t).0
-unfolding executed
-executed_keeps b s t = fetched_keeps b s t (first_failed (fetch_checks (thread s t).pcc))
+executed_keeps b s t = executed_left (Same s) b s t (steps_keep b s t)
 
 continued_keeps : (b : Board) (s : State) (o : Option ℕ) → Same s (continued b s o).0
 continued_keeps b s None = refl

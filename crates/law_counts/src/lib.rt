@@ -5,7 +5,7 @@
 ghost use Rattle.std.specs.Prelude.{◌≡◌, List, length};
 ghost use Rattle.def_machine.specs.State.{State};
 ghost use Rattle.def_step.specs.declared.Event.{Event};
-ghost use Rattle.def_step.specs.Instructions.{Board};
+ghost use Rattle.def_machine.specs.Board.{Board};
 ghost use Rattle.def_step.specs.Events.{happens, run};
 ghost use Rattle.law_counts.specs.Kinds.{all_more, kinds, one_more};
 

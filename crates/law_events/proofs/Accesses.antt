@@ -32,7 +32,8 @@ use Rattle.def_step.specs.Checks.{first_failed}
 use Rattle.def_step.specs.Devices.{Bank, found, bank_value, bank_read, bank_written}
 use Rattle.def_machine.specs.Memory.{filtered_in}
 use Rattle.def_step.specs.Accesses.{Accessed, access_of, access_checks, load_checks, store_checks, access_address, access_result, accessed, ram_value, ram_stored, device_value, stored_value, widened, deed_at, unless}
-use Rattle.def_step.specs.Instructions.{Board, Done, Around, accesses, around, space_of, bank_of, deed, put_done, operand, carried_out, named_by, actor_of}
+use Rattle.def_step.specs.Instructions.{Done, Around, accesses, around, space_of, bank_of, deed, put_done, operand, carried_out, named_by, actor_of}
+use Rattle.def_machine.specs.Board.{Board}
 use Rattle.def_board.specs.Wired.{Wired}
 use Rattle.def_confined.specs.Confined.{Confined}
 use Rattle.def_confined.specs.Licensed.{Licensed}
@@ -175,7 +176,7 @@ ram_puts b s t n m a at w loads inside =
 stored_confined : (b : Board) (s : State) (t to : ℕ) (gs : List Granule) → Fetching b.image s t → Confined b.image (record s { granules = gs })
     → Confined b.image (put_done s t (done_of (around b s t) to (record { value = None; act = None; granules = gs; bank = bank_of b s })))
 stored_confined b s t to gs f held =
-    plain_confined b (record s { granules = gs }) t to (bank_of b s) None (record { parts = f.parts; held = held; fetched = f.fetched; other = f.other })
+    plain_confined b (record s { granules = gs }) t to (bank_of b s) None (record { parts = f.parts; facts = f.facts; held = held; fetched = f.fetched; other = f.other })
 
 store_confined : (b : Board) (s : State) (t n m to : ℕ) (a : Access) (at : ℕ) → Accessing b s t n m a at → a.loads ≡ false → b.image.ram ≤ at
     → Confined b.image (put_done s t (done_of (around b s t) to (record { value = None; act = None; granules = ram_stored a (register (thread s t) n) (register (thread s t) m) at b.image.ram s.granules; bank = bank_of b s })))

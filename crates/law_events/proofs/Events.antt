@@ -11,7 +11,8 @@ use Rattle.def_sched.specs.Picks.{pick, moved_last}
 use Rattle.def_machine.specs.Threads.{Clockwork, picked, timed, statuses_of}
 use Rattle.def_step.specs.declared.Event.{Event}
 use Rattle.def_step.specs.declared.Event.TheVariants.{Step, Tick, Sweep, Input}
-use Rattle.def_step.specs.Instructions.{Board, executed, actor_of}
+use Rattle.def_step.specs.Instructions.{executed, actor_of}
+use Rattle.def_machine.specs.Board.{Board}
 use Rattle.def_step.specs.Devices.{device, after_input}
 use Rattle.def_step.specs.Events.{noted, with_deed, preempted_from, preempted, picked_as, picked_from, scheduled, continued, one_more_step, stepped, interrupted, ticked, swept_on, received, holder_by, holder, is_holder, begun_since, begun, happens}
 use Rattle.def_facts.specs.Facts.{Facts}

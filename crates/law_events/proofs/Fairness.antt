@@ -5,18 +5,23 @@ use Rattle.def_words.specs.declared.Trap.{Trap}
 use Rattle.def_words.specs.declared.Posture.{Posture}
 use Rattle.ct_entry.specs.declared.acts.Act.TheVariants as acts
 use Rattle.ct_entry.specs.declared.acts.Deed.{Deed}
-use Rattle.def_machine.specs.Image.{Image}
+use Rattle.def_machine.specs.Image.{Image, stack_base}
 use Rattle.def_machine.specs.State.{State, Frame, Object, thread}
-use Rattle.def_machine.specs.Frames.{returned}
+use Rattle.def_step.specs.Handlers.{handler_value, return_taken}
+use Rattle.def_facts.specs.Facts.{Facts}
+use Rattle.law_routines.proofs.Stepping.{handled_where, trap_case, return_case}
+use Rattle.law_handlers.proofs.Entered.{entered_beside}
+use Rattle.law_handlers.proofs.Whole.{handler_confined}
 use Rattle.def_machine.specs.Threads.{jumped}
-use Rattle.def_step.specs.Instructions.{Board, Done, bank_of, deed, trapped, put_done}
+use Rattle.def_step.specs.Instructions.{Done, bank_of, deed, trapped, put_done}
+use Rattle.def_machine.specs.Board.{Board}
 use Rattle.def_confined.specs.Places.{InFrames}
 use Rattle.def_confined.specs.Confined.{Confined}
 use Rattle.def_confined.specs.Partitioned.{Partitioned}
 use Rattle.def_confined.specs.Licensed.{Licensed}
 use Rattle.law_places.proofs.Turns.{clock_of}
-use Rattle.law_calls.proofs.Pops.{returned_confined, unwound_confined}
-use Rattle.law_moves.proofs.Pops.{returned_beside, unwound_beside}
+use Rattle.law_calls.proofs.Pops.{returned_confined, ended_confined, unwound_confined}
+use Rattle.law_moves.proofs.Pops.{returned_beside, ended_beside, unwound_beside}
 use Rattle.law_moves.proofs.Threads.{written_length}
 use Rattle.def_confined.specs.Changes.{Jumps}
 use Rattle.law_jumps.proofs.Moves.{jumps_confined}
@@ -37,18 +42,22 @@ some_same P x y e h = let same : x ≡ y = cc in subst P same h
 pub none_licensed : (b : Board) (d : Deed) → None ≡ Some d → Licensed b.image.entries d
 none_licensed b d e = absurd (let clash : None ≡ Some d = e in cc)
 
-pub trapped_fair : (b : Board) (s : State) (t : ℕ) (why : Trap) → s.running ≡ Some t → Partitioned b.image → Confined b.image s → MayTell why → Fair b s (trapped b s t why)
-trapped_fair b s t why runs parts h tells = record {
-  confined = unwound_confined b.image s t (thread s t).frames parts h refl;
+pub trapped_fair : (b : Board) (s : State) (t : ℕ) (why : Trap) → s.running ≡ Some t → Partitioned b.image → Facts b.image → Confined b.image s → MayTell why → Fair b s (trapped b s t why)
+trapped_fair b s t why runs parts facts h tells = record {
+  confined = trap_case (Confined b.image) b.image s t why (thread s t).frames (λ f fs frames is. handler_confined b.image s t why f fs parts facts h runs frames (handled_where b.image (stack_base b.image t) (thread s t) f is))
+      (unwound_confined b.image s t (thread s t).frames parts h refl);
   licensed = λ d e. some_same (Licensed b.image.entries) (deed s t 0 (acts.Trap why.cause why.code why.register)) d e (refl, tells);
-  beside = unwound_beside b.image s t (thread s t).frames refl runs;
+  beside = λ beside. trap_case (Beside b.image) b.image s t why (thread s t).frames (λ f fs frames is. entered_beside b.image s t why f fs runs frames beside)
+      (unwound_beside b.image s t (thread s t).frames refl runs beside);
 }
 
-pub returned_fair : (b : Board) (s : State) (t : ℕ) → s.running ≡ Some t → Partitioned b.image → Confined b.image s → Fair b s (returned b.image s t (thread s t).frames, None)
+pub returned_fair : (b : Board) (s : State) (t : ℕ) → s.running ≡ Some t → Partitioned b.image → Confined b.image s → Fair b s (return_taken b.image s t (thread s t).frames, None)
 returned_fair b s t runs parts h = record {
-  confined = returned_confined b.image s t (thread s t).frames parts h refl;
+  confined = return_case (Confined b.image) b.image s t (thread s t).frames (λ f fs frames is. ended_confined b.image s t (handler_value (thread s t)) (thread s t).frames parts h refl)
+      (λ unmarked. returned_confined b.image s t (thread s t).frames parts h refl);
   licensed = none_licensed b;
-  beside = returned_beside b.image s t (thread s t).frames refl runs;
+  beside = λ beside. return_case (Beside b.image) b.image s t (thread s t).frames (λ f fs frames is. ended_beside b.image s t (handler_value (thread s t)) (thread s t).frames refl runs beside)
+      (λ unmarked. returned_beside b.image s t (thread s t).frames refl runs beside);
 }
 
 -- ---- a register and the program counter change

@@ -15,7 +15,8 @@ use Rattle.def_profile.specs.declared.traps.TheConstants.{MISALIGNED_FETCH}
 use Rattle.def_step.specs.Accesses.{unless}
 use Rattle.def_step.specs.Jumps.{target_at, target_checks, jumped_to, passed_over, branched, is_taken, flow_result}
 use Rattle.def_step.specs.Operands.{operands_of}
-use Rattle.def_step.specs.Instructions.{Board, operand, named_by}
+use Rattle.def_step.specs.Instructions.{operand, named_by}
+use Rattle.def_machine.specs.Board.{Board}
 use Rattle.def_board.specs.Wired.{Wired}
 use Rattle.law_made.proofs.Results.{address_derived, address_runs}
 use Rattle.def_confined.specs.Changes.{Puts}

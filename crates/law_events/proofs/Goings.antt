@@ -12,6 +12,7 @@ use Rattle.def_machine.specs.State.{State, thread}
 use Rattle.def_step.specs.Jumps.{Flowed}
 use Rattle.def_confined.specs.Confined.{Confined}
 use Rattle.def_confined.specs.Partitioned.{Partitioned}
+use Rattle.def_facts.specs.Facts.{Facts}
 use Rattle.def_confined.specs.Made.{Derived}
 use Rattle.law_jumps.specs.Jumping.{IsRunnable}
 use Rattle.law_jumps.proofs.Moves.{onward_jumps, link_puts}
@@ -28,6 +29,7 @@ FlowFits i s t (Ok f) = Jumps i s t f.pcc f.posture (unwrap_or f.link (plain 0))
 -- what the running thread has when its fetch passed, away from native entries
 pub record Fetching (i : Image) (s : State) (t : ℕ) : Type 0 where
   pub parts : Partitioned i
+  pub facts : Facts i
   pub held : Confined i s
   pub fetched : Fetched (thread s t).pcc
   pub other : is_native (root i (thread s t).pcc.shadow.root).origin ≡ false

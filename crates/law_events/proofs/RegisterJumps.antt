@@ -22,7 +22,8 @@ use Rattle.def_profile.specs.declared.native.TheConstants.{NATIVE_BASE, NATIVE_U
 use Rattle.def_profile.specs.declared.seals.TheConstants.{SENTRY_INHERIT, SENTRY_ENABLE, RETURN_DISABLE, RETURN_ENABLE}
 use Rattle.def_step.specs.Accesses.{unless}
 use Rattle.def_step.specs.Jumps.{register_target, register_jump_checks, register_jumped}
-use Rattle.def_step.specs.Instructions.{Board, is_native_entry, named_by}
+use Rattle.def_step.specs.Instructions.{is_native_entry, named_by}
+use Rattle.def_machine.specs.Board.{Board}
 use Rattle.def_board.specs.Wired.{Wired}
 use Rattle.def_confined.specs.Capabilities.{IsReturnType, Kept}
 use Rattle.def_confined.specs.Confined.{Confined, PostureFits}

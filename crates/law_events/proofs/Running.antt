@@ -2,7 +2,7 @@
 use Rattle.std.proofs.Common.{List, [], ◌∷◌}
 use Rattle.def_machine.specs.State.{State}
 use Rattle.def_step.specs.declared.Event.{Event}
-use Rattle.def_step.specs.Instructions.{Board}
+use Rattle.def_machine.specs.Board.{Board}
 use Rattle.def_step.specs.Events.{happens, run, told}
 use Rattle.def_facts.specs.Facts.{Facts}
 use Rattle.def_board.specs.Wired.{Wired}

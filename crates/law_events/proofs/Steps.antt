@@ -28,9 +28,11 @@ use Rattle.def_profile.specs.declared.native.TheConstants.{RETURN}
 use Rattle.def_step.specs.declared.TheConstants.{LAST_ROUTINE}
 use Rattle.def_step.specs.Routines.{Ran, Traps, Leaves, switch, yield, sleep, wait, wake}
 use Rattle.def_step.specs.Quotas.{allocate, free, remaining}
+use Rattle.def_step.specs.Tokens.{token_key, token_new, token_open, token_free}
 use Rattle.def_facts.specs.Facts.{Facts}
 use Rattle.def_confined.specs.Keeps.{Keeps}
-use Rattle.def_step.specs.Instructions.{Board, Done, Around, carried_out, named_by, flows, accesses, around, space_of, deed, put_done, ends, operand, goes_on, after_fetch, executed, fetch_checks, fetched, next_at, is_native_entry, deed_told, ran, served}
+use Rattle.def_step.specs.Instructions.{Done, Around, carried_out, named_by, flows, accesses, around, space_of, deed, put_done, ends, operand, goes_on, after_fetch, executed, fetch_checks, fetched, next_at, is_native_entry, deed_told, ran, served}
+use Rattle.def_machine.specs.Board.{Board}
 use Rattle.def_board.specs.Wired.{Wired}
 use Rattle.def_confined.specs.Confined.{Confined}
 use Rattle.def_confined.specs.Partitioned.{Partitioned}
@@ -51,6 +53,7 @@ use Rattle.law_natives.proofs.Serving.{switch_stands, rests_stands}
 use Rattle.law_natives.proofs.Waiting.{wait_stands, wake_stands}
 use Rattle.law_natives.proofs.Charging.{allocate_stands, remaining_stands}
 use Rattle.law_natives.proofs.Freeing.{free_stands}
+use Rattle.law_natives.proofs.Sealing.{token_key_stands, token_new_stands, token_open_stands, token_free_stands}
 use Rattle.law_events.proofs.Flows.{flow_fits}
 use Rattle.law_events.proofs.Fairness.{Fair, some_same, none_licensed, trapped_fair, returned_fair, has_frames, put_beside, moved_on, jumps_fair}
 
@@ -60,7 +63,7 @@ gives_fair : (b : Board) (s : State) (t to : ℕ) (value : Cap) → s.running �
 gives_fair b s t to value runs f puts = jumps_fair b s t to value (raised (thread s t).pcc 4) (thread s t).posture runs f.fetched.tagged (going.goes_on b.image s t value f puts)
 
 flow_fair : (b : Board) (s : State) (t to : ℕ) (x : Cap) (r : Result Flowed Trap) → s.running ≡ Some t → Fetching b.image s t → FlowFits b.image s t r → Fair b s (ends b s t x (flows (around b s t) to r))
-flow_fair b s t to x (Err w) runs f fits = trapped_fair b s t w runs f.parts f.held fits
+flow_fair b s t to x (Err w) runs f fits = trapped_fair b s t w runs f.parts f.facts f.held fits
 flow_fair b s t to x (Ok j) runs f fits = jumps_fair b s t to (unwrap_or j.link (plain 0)) j.pcc j.posture runs f.fetched.tagged fits
 
 -- ---- accesses
@@ -87,7 +90,7 @@ act_licensed b s t entry (Some a) h d e = some_same (Licensed b.image.entries) (
 
 access_fair : (b : Board) (s : State) (t : ℕ) (k : Instr) (r : Result Done Trap) → Fetching b.image s t → Wired b → s.running ≡ Some t
     → carried_out class.Access k (operands_of k).to (operand s t (operands_of k).first) (operand s t (operands_of k).second) (named_by b.image (operand s t (operands_of k).first)) (around b s t) ≡ r → ErrTells r → Fair b s (ends b s t (operand s t (operands_of k).first) r)
-access_fair b s t k (Err w) f wired runs e tells = trapped_fair b s t w runs f.parts f.held tells
+access_fair b s t k (Err w) f wired runs e tells = trapped_fair b s t w runs f.parts f.facts f.held tells
 access_fair b s t k (Ok d) f wired runs e tells =
     let laws = access_laws b s t k wired f runs in
     record {
@@ -105,7 +108,7 @@ class_fair b s t k class.Integer e wired runs f small =
 class_fair b s t k class.Capability e wired runs f small =
     gives_fair b s t (operands_of k).to (capability_result k (operand s t (operands_of k).first) (operand s t (operands_of k).second) (thread s t).pcc) runs f
     (result_puts b.image s t (operands_of k).first (operands_of k).second k f.parts f.held runs f.other)
-class_fair b s t k class.System e wired runs f small = trapped_fair b s t _ runs f.parts f.held (counter_tells SYSTEM_REGISTER_CODE (inr (inr (inr (inr refl)))))
+class_fair b s t k class.System e wired runs f small = trapped_fair b s t _ runs f.parts f.facts f.held (counter_tells SYSTEM_REGISTER_CODE (inr (inr (inr (inr refl)))))
 class_fair b s t k class.Jump e wired runs f small =
     flow_fair b s t (operands_of k).to (operand s t (operands_of k).first) (flow_result k (operand s t (operands_of k).first) (operand s t (operands_of k).second) (thread s t).pcc (thread s t).posture (named_by b.image (operand s t (operands_of k).first))) runs f
     (flow_fits b s t k wired f small)
@@ -114,8 +117,8 @@ class_fair b s t k class.Access e wired runs f small =
     (accesses_tell (around b s t) (operands_of k).to (access_result k (operand s t (operands_of k).first) (operand s t (operands_of k).second) (space_of b s))
     (result_tells k (operand s t (operands_of k).first) (operand s t (operands_of k).second) (space_of b s) (by_small k small)))
 class_fair b s t k class.Fence e wired runs f small = gives_fair b s t 0 (plain 0) runs f (untagged_puts b.image s t (plain 0) refl)
-class_fair b s t k class.Call e wired runs f small = trapped_fair b s t _ runs f.parts f.held (plain_tells ENVIRONMENT_CALL (inr (inr (inr (inr (inr refl))))))
-class_fair b s t k class.Break e wired runs f small = trapped_fair b s t _ runs f.parts f.held (plain_tells BREAKPOINT (inr (inr (inl refl))))
+class_fair b s t k class.Call e wired runs f small = trapped_fair b s t _ runs f.parts f.facts f.held (plain_tells ENVIRONMENT_CALL (inr (inr (inr (inr (inr refl))))))
+class_fair b s t k class.Break e wired runs f small = trapped_fair b s t _ runs f.parts f.facts f.held (plain_tells BREAKPOINT (inr (inr (inl refl))))
 
 -- ---- what stands at the program counter
 
@@ -129,16 +132,16 @@ not_native b s t wired h tagged away = elim (bool_tells (is_native (root b.image
   | inr other ↦ other
 ]
 
-instruction_fair : (b : Board) (s : State) (t : ℕ) (k : Instr) → is_native_entry (cap_address (thread s t).pcc) ≡ false → instruction_in (fetched (space_of b s) (cap_address (thread s t).pcc)) ≡ Some k → Partitioned b.image → Wired b → Confined b.image s → s.running ≡ Some t → Fetched (thread s t).pcc → Fair b s (goes_on b s t (Instruction k))
-instruction_fair b s t k away read parts wired h runs f =
+instruction_fair : (b : Board) (s : State) (t : ℕ) (k : Instr) → is_native_entry (cap_address (thread s t).pcc) ≡ false → instruction_in (fetched (space_of b s) (cap_address (thread s t).pcc)) ≡ Some k → Partitioned b.image → Facts b.image → Wired b → Confined b.image s → s.running ≡ Some t → Fetched (thread s t).pcc → Fair b s (goes_on b s t (Instruction k))
+instruction_fair b s t k away read parts facts wired h runs f =
     let other = not_native b s t wired h f.tagged away in
     let small : IsSmall (Some k) = subst IsSmall read (read_small (fetched (space_of b s) (cap_address (thread s t).pcc))) in
-    class_fair b s t k (class_of k) refl wired runs (record { parts = parts; held = h; fetched = f; other = other }) small
+    class_fair b s t k (class_of k) refl wired runs (record { parts = parts; facts = facts; held = h; fetched = f; other = other }) small
 
 -- what a routine comes to that stands
-ran_fair : (b : Board) (s : State) (t : ℕ) (r : Ran) → Partitioned b.image → Confined b.image s → s.running ≡ Some t → Stands b.image s t r → Fair b s (ran b s t r)
-ran_fair b s t (Traps why) parts h runs tells = trapped_fair b s t why runs parts h tells
-ran_fair b s t (Leaves after told) parts h runs stands = record { confined = stands.0.confined; licensed = told_licensed told stands.1; beside = λ e. stands.0.beside }
+ran_fair : (b : Board) (s : State) (t : ℕ) (r : Ran) → Partitioned b.image → Facts b.image → Confined b.image s → s.running ≡ Some t → Stands b.image s t r → Fair b s (ran b s t r)
+ran_fair b s t (Traps why) parts facts h runs tells = trapped_fair b s t why runs parts facts h tells
+ran_fair b s t (Leaves after told) parts facts h runs stands = record { confined = stands.0.confined; licensed = told_licensed told stands.1; beside = λ e. stands.0.beside }
   where
     told_licensed : (o : Option (ℕ × Act)) → TellsLicensed b.image s t o → (d : Deed) → option_map (deed_told s t) o ≡ Some d → Licensed b.image.entries d
     told_licensed None h d e = none_licensed b d e
@@ -154,22 +157,26 @@ routine_fair b s t n few other parts facts k runs = by_routine (λ (o : Option R
   allocate = stands (allocate b.image s t) (allocate_stands b.image s t parts facts k runs);
   free = stands (free b.image s t) (free_stands b.image s t parts facts k runs);
   remaining = stands (remaining b.image s t) (remaining_stands b.image s t parts facts k runs);
+  token_key = stands (token_key b.image s t) (token_key_stands b.image s t parts facts k runs);
+  token_new = stands (token_new b.image s t) (token_new_stands b.image s t parts facts k runs);
+  token_open = stands (token_open s t) (token_open_stands b.image s t parts k runs);
+  token_free = stands (token_free b.image s t) (token_free_stands b.image s t parts facts k runs);
 })
   where
     stands : (r : Ran) → Stands b.image s t r → Fair b s (ran b s t r)
-    stands r h = ran_fair b s t r parts k.confined runs h
+    stands r h = ran_fair b s t r parts facts k.confined runs h
 
 next_fair : (b : Board) (s : State) (t : ℕ) → Partitioned b.image → Facts b.image → Wired b → Keeps b.image s → s.running ≡ Some t → Fetched (thread s t).pcc → Fair b s (goes_on b s t (next_at (space_of b s) (cap_address (thread s t).pcc)))
 next_fair b s t parts facts wired k runs f = by_next (λ (n : Next). Fair b s (goes_on b s t n)) (space_of b s) (cap_address (thread s t).pcc)
     (returned_fair b s t runs parts k.confined)
-    (λ i away read. instruction_fair b s t i away read parts wired k.confined runs f)
+    (λ i away read. instruction_fair b s t i away read parts facts wired k.confined runs f)
     (λ n few other. routine_fair b s t n few other parts facts k runs)
-    (trapped_fair b s t _ runs parts k.confined (plain_tells ILLEGAL_INSTRUCTION (inr (inl refl))))
+    (trapped_fair b s t _ runs parts facts k.confined (plain_tells ILLEGAL_INSTRUCTION (inr (inl refl))))
 
 pub executed_fair : (b : Board) (s : State) (t : ℕ) → Partitioned b.image → Facts b.image → Wired b → Keeps b.image s → s.running ≡ Some t → Fair b s (executed b s t)
 unfolding executed
 executed_fair b s t parts facts wired k runs = by_checks (λ o. Fair b s (after_fetch b s t o))
     (fetch_checks (thread s t).pcc)
     (fetch_tells (thread s t).pcc)
-    (λ w tells. trapped_fair b s t w runs parts k.confined tells)
+    (λ w tells. trapped_fair b s t w runs parts facts k.confined tells)
     (λ passes. next_fair b s t parts facts wired k runs (fetch_passes (thread s t).pcc passes))

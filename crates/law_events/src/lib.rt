@@ -8,7 +8,7 @@ ghost use Rattle.ct_entry.specs.declared.acts.Deed.{Deed};
 ghost use Rattle.ct_entry.specs.declared.acts.Owned.{Owned};
 ghost use Rattle.def_machine.specs.State.{State};
 ghost use Rattle.def_step.specs.declared.Event.{Event};
-ghost use Rattle.def_step.specs.Instructions.{Board};
+ghost use Rattle.def_machine.specs.Board.{Board};
 ghost use Rattle.def_step.specs.Events.{happens, one_more_step, preempted, run, scheduled, told};
 ghost use Rattle.def_board.specs.Wired.{Wired};
 ghost use Rattle.def_facts.specs.Facts.{Facts};

@@ -16,7 +16,8 @@ use Rattle.law_places.proofs.Puts.{plain_kept}
 use Rattle.law_places.proofs.Places.{all_of}
 use Rattle.law_example.specs.Small.{small, made_0, made_2, made_18}
 use Rattle.law_example.specs.Starting.{starting, first_pcc, first_frame, first_thread}
-use Rattle.law_example.proofs.Cases.{by_test, not_so, past_end}
+use Rattle.law_lists.proofs.Tests.{by_test}
+use Rattle.law_example.proofs.Cases.{not_so, past_end}
 use Rattle.law_example.proofs.Placing.{kept_by, boot_caps}
 use Rattle.law_example.proofs.Mades.{is_first, is_0, is_2, is_18}
 use Rattle.law_example.proofs.Rooting.{entry_placed, rooted_0, rooted_2, rooted_18, rooted_first}

@@ -1,6 +1,5 @@
 -- Every entry, every granule of a range, one after another or by a test.
-use Rattle.std.proofs.Common.{ℕ, zero, suc, ◌≡◌, ◌+◌, ◌-◌, ◌*◌, ◌/◌, ◌≤◌, ◌<◌, ◌&&◌, ◌||◌, Bool, true, false, not, List, [], ◌∷◌, ◌++◌, replicate, get_or, refl, sym, subst, arith}
-use Rattle.law_lists.proofs.Tests.{both_left, both_right}
+use Rattle.std.proofs.Common.{ℕ, zero, suc, ◌≡◌, ◌+◌, ◌-◌, ◌*◌, ◌/◌, ◌≤◌, ◌<◌, Bool, true, false, not, List, [], ◌∷◌, ◌++◌, replicate, get_or, refl, sym, subst, arith}
 use Rattle.ct_entry.specs.Kinds.{is_compartment, is_library}
 use Rattle.ct_entry.specs.declared.rows.Owner.{Owner}
 use Rattle.ct_entry.specs.declared.rows.Owner.TheVariants.{Trusted, Compartment, Library, Thread}
@@ -31,26 +30,6 @@ by_entry P p0 p1 p2 p3 p4 p5 p6 p7 p8 p9 p10 p11 p12 p13 p14 p15 p16 p17 p18 res
 by_entry P p0 p1 p2 p3 p4 p5 p6 p7 p8 p9 p10 p11 p12 p13 p14 p15 p16 p17 p18 rest (suc (suc (suc (suc (suc (suc (suc (suc (suc (suc (suc (suc (suc (suc (suc (suc (suc zero))))))))))))))))) = p17
 by_entry P p0 p1 p2 p3 p4 p5 p6 p7 p8 p9 p10 p11 p12 p13 p14 p15 p16 p17 p18 rest (suc (suc (suc (suc (suc (suc (suc (suc (suc (suc (suc (suc (suc (suc (suc (suc (suc (suc zero)))))))))))))))))) = p18
 by_entry P p0 p1 p2 p3 p4 p5 p6 p7 p8 p9 p10 p11 p12 p13 p14 p15 p16 p17 p18 rest (suc (suc (suc (suc (suc (suc (suc (suc (suc (suc (suc (suc (suc (suc (suc (suc (suc (suc (suc n))))))))))))))))))) = rest n
-
--- what a test says of each number below n, and of those after, it says of all
-abbrev pub all_below : (ℕ → Bool) → ℕ → Bool
-all_below f zero = true
-all_below f (suc n) = f 0 && all_below (λ j. f (suc j)) n
-
--- the number that is so far past another
-abbrev pub past : ℕ → ℕ → ℕ
-past zero j = j
-past (suc n) j = suc (past n j)
-
-pub by_test : (f : ℕ → Bool) (n : ℕ) → all_below f n ≡ true → ((j : ℕ) → f (past n j) ≡ true) → (k : ℕ) → f k ≡ true
-by_test f zero below rest k = rest k
-by_test f (suc n) below rest zero = both_left (f 0) (all_below (λ j. f (suc j)) n) below
-by_test f (suc n) below rest (suc k) = by_test (λ j. f (suc j)) n (both_right (f 0) (all_below (λ j. f (suc j)) n) below) rest k
-
--- what a test asks under another
-pub implied : (a b : Bool) → (not a || b) ≡ true → a ≡ true → b ≡ true
-implied true b h is = h
-implied false b h is = absurd (let clash : false ≡ true = is in cc)
 
 pub not_so : (b : Bool) → not b ≡ true → b ≡ false
 not_so true h = absurd (let clash : false ≡ true = h in cc)

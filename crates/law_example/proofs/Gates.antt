@@ -6,7 +6,8 @@ use Rattle.def_reach.specs.Roots.{Origin, Listing, root_of, gate_for}
 use Rattle.def_machine.specs.Image.{root}
 use Rattle.law_licensed.specs.Uses.{GatesOfExports}
 use Rattle.law_example.specs.Small.{small}
-use Rattle.law_example.proofs.Cases.{by_test, implied, of_kind}
+use Rattle.law_lists.proofs.Tests.{by_test, implied}
+use Rattle.law_example.proofs.Cases.{of_kind}
 
 export_of : (o : Origin) → of_kind is_export o ≡ true → o ≡ Listing Export
 export_of (Listing Export) h = refl

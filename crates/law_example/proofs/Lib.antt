@@ -6,3 +6,4 @@ pub mod Whole
 pub mod Booting
 pub mod Gates
 pub mod Placing
+pub mod Away

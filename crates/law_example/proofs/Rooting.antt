@@ -23,7 +23,8 @@ use Rattle.law_made.proofs.Boots.{as_boot, no_object, no_source}
 use Rattle.law_made.proofs.Makes.{made_rooted}
 use Rattle.law_example.specs.Starting.{first_pcc}
 use Rattle.law_example.specs.Small.{small, made_0, made_1, made_2, made_3, made_4, made_5, made_6, made_7, made_8, made_9, made_11, made_12, made_13, made_14, made_18}
-use Rattle.law_example.proofs.Cases.{implied, not_so, of_kind}
+use Rattle.law_lists.proofs.Tests.{implied}
+use Rattle.law_example.proofs.Cases.{not_so, of_kind}
 use Rattle.law_example.proofs.Mades.{is_first, is_0, is_1, is_2, is_3, is_4, is_5, is_6, is_7, is_8, is_9, is_11, is_12, is_13, is_14, is_18}
 
 -- what the image says of an entry's capability, as a test

@@ -26,7 +26,8 @@ use Rattle.def_confined.specs.Capabilities.{Rooted, heap_cap}
 use Rattle.def_confined.specs.Partitioned.{Partitioned, Open, Carries, Loads, AwayFromHeap, BootHeld, BootMade, IsOwnEntry}
 use Rattle.law_made.proofs.Boots.{no_source}
 use Rattle.law_example.specs.Small.{small, made_1, made_3, made_4, made_5, made_6, made_7, made_8, made_9, made_11, made_13, made_14, gate}
-use Rattle.law_example.proofs.Cases.{by_entry, by_test, implied, of_kind, compartment_is, library_is, upto_2, upto_4, upto_8, span, span_of}
+use Rattle.law_lists.proofs.Tests.{by_test, implied}
+use Rattle.law_example.proofs.Cases.{by_entry, of_kind, compartment_is, library_is, upto_2, upto_4, upto_8, span, span_of}
 use Rattle.law_example.proofs.Placing.{boot_caps}
 use Rattle.law_example.proofs.Mades.{plain_seal, is_0, is_1, is_2, is_3, is_4, is_5, is_6, is_7, is_8, is_9, is_11, is_12, is_13, is_14, is_18}
 use Rattle.law_example.proofs.Rooting.{boot_0, boot_1, boot_2, boot_3, boot_4, boot_5, boot_6, boot_7, boot_8, boot_9, boot_11, boot_12, boot_13, boot_14, boot_18}

@@ -5,6 +5,7 @@
 
 ghost use Rattle.def_confined.specs.Confined.{Confined};
 ghost use Rattle.def_confined.specs.Partitioned.{Partitioned};
+ghost use Rattle.def_facts.specs.Facts.{RootsAway};
 ghost use Rattle.law_licensed.specs.Uses.{GatesOfExports};
 ghost use Rattle.law_example.specs.Small.{small};
 ghost use Rattle.law_example.specs.Starting.{starting};
@@ -14,4 +15,9 @@ pub fn small_firmware()
     ensures partitioned { Partitioned small }
     ensures gates { GatesOfExports small }
     ensures confined { Confined small starting }
+{}
+
+/// The small firmware's roots are away from its heap.
+pub fn small_roots_away()
+    ensures { RootsAway small }
 {}

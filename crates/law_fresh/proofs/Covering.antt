@@ -18,7 +18,7 @@ use Rattle.law_jumps.proofs.Moves.{in_rooted}
 use Rattle.law_heap.proofs.Allocates.{taken_there}
 use Rattle.law_heap.proofs.Holding.{granule_object, register_object, pcc_object}
 use Rattle.def_facts.specs.Facts.{RootsAway}
-use Rattle.law_fresh.specs.Fresh.{Misses, SavedMiss}
+use Rattle.def_safety.specs.Fresh.{Misses, SavedMiss}
 
 misses : (i : Image) (s : State) (r : Object) (c : Cap) → RootsAway i → NewObject i s r → (c.tag ≡ true → Rooted i c × HasObject i s.objects c) → Misses r c
 misses i s r c away n h tagged some = elim (bool_tells (heap_cap i c)) [

@@ -9,9 +9,8 @@ ghost use Rattle.def_machine.specs.Objects.{Each};
 ghost use Rattle.def_confined.specs.Confined.{Confined};
 ghost use Rattle.def_confined.specs.Partitioned.{Partitioned};
 ghost use Rattle.def_confined.specs.Changes.{NewObject};
-ghost use Rattle.law_example.specs.Small.{small};
 ghost use Rattle.def_facts.specs.Facts.{RootsAway};
-ghost use Rattle.law_fresh.specs.Fresh.{Misses, SavedMiss};
+ghost use Rattle.def_safety.specs.Fresh.{Misses, SavedMiss};
 
 /// A new object is covered by nothing: no granule's capability, no register's, no program counter, nothing
 /// saved. Its granules are untagged.
@@ -28,9 +27,4 @@ pub fn fresh_objects()
     ensures untagged { (i : Image) (s : State) (r : Object) (k : ℕ)
         → Partitioned i → Confined i s → NewObject i s r → r.base ≤ address_of i k
         → address_of i k < r.base + r.length → (granule s k).cap.tag ≡ false }
-{}
-
-/// The small firmware's roots are away from its heap.
-pub fn small_roots_away()
-    ensures { RootsAway small }
 {}

@@ -40,6 +40,7 @@ use Rattle.law_grants.proofs.Imports.{named, library_low, library_high}
 use Rattle.law_grants.proofs.Clauses.{told_at, away_of, roots_away, call_sealed, quota_sealed}
 use Rattle.law_grants.proofs.Own.{code_entry_is}
 use Rattle.law_grants.proofs.Settling.{settled as made_settled}
+use Rattle.law_grants.proofs.Handling.{handler_fits}
 
 -- ---- what has a capability
 
@@ -253,6 +254,7 @@ module _ (p : PartsRow) (s : Sound p) where
     called = called;
     imported = imported;
     gates = gates;
+    handlers = handler_fits p;
     stacks = stacks;
     natives = natives;
     heap = heap_away;

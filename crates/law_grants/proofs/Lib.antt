@@ -9,4 +9,5 @@ pub mod Clauses
 pub mod Booted
 pub mod Own
 pub mod Wiring
+pub mod Handling
 pub mod Holding

@@ -13,13 +13,12 @@ use Rattle.def_words.specs.declared.Cap.{Cap}
 use Rattle.def_words.specs.Permissions.{bit, has, execute}
 use Rattle.def_words.specs.Seals.{cap_seal}
 use Rattle.def_reach.specs.Roots.{Root, TrustedPart, Listing, root_of, gate_for, is_stack}
-use Rattle.def_machine.specs.Image.{root, made_cap, code_entry, globals_entry, stack_entry}
+use Rattle.def_machine.specs.Image.{root, made_cap, code_entry, globals_entry, stack_entry, handler_entry}
 use Rattle.def_confined.specs.Partitioned.{IsOwnEntry}
-use Rattle.def_image.specs.declared.SlotKind.TheVariants as slot
 use Rattle.def_image.specs.Parts.{SlotRow, CodeRow, CompartmentRow, ThreadRow, PartsRow}
-use Rattle.def_image.specs.Members.{number_in, text_base, code_number, globals_number, stack_number, first_stack}
+use Rattle.def_image.specs.Members.{number_in, text_base, code_number, globals_number, stack_number, first_stack, handler_number}
 use Rattle.def_image.specs.Sound.{Sound}
-use Rattle.def_boot.specs.Entries.{slot_row, code_row, globals_row, stack_row}
+use Rattle.def_boot.specs.Entries.{code_row, globals_row, stack_row}
 use Rattle.def_boot.specs.Gates.{gates_of, entries_of}
 use Rattle.def_boot.specs.Made.{made_caps}
 use Rattle.def_boot.specs.Boot.{image_of, numbered_from}
@@ -95,6 +94,15 @@ code_entry_is p b lt = numbered_there (code_number p) 0 (length p.compartments) 
 pub globals_entry_is : (p : PartsRow) (b : ℕ) → b < length p.compartments → globals_entry (image_of p) b ≡ globals_number p b
 unfolding image_of
 globals_entry_is p b lt = numbered_there (globals_number p) 0 (length p.compartments) b lt ∙ ap (λ k. globals_number p k) (let same : 0 + b ≡ b = omega arith in same)
+
+pub handler_entry_is : (p : PartsRow) (b : ℕ) → b < length p.compartments → handler_entry (image_of p) b ≡ handler_number p b
+unfolding image_of
+handler_entry_is p b lt = numbered_there (handler_number p) 0 (length p.compartments) b lt ∙ ap (λ k. handler_number p k) (let same : 0 + b ≡ b = omega arith in same)
+
+-- a compartment that isn't there has none
+pub no_handler_entry : (p : PartsRow) (b : ℕ) → length p.compartments ≤ b → handler_entry (image_of p) b ≡ 0
+unfolding image_of
+no_handler_entry p b past = numbered_past (handler_number p) 0 (length p.compartments) b past
 
 pub stack_entry_is : (p : PartsRow) (t : ℕ) → t < length p.threads → stack_entry (image_of p) t ≡ stack_number p t
 unfolding image_of

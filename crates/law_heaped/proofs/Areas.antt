@@ -5,12 +5,12 @@ use Rattle.law_lists.proofs.Tests.{bool_tells}
 use Rattle.def_words.specs.declared.Cap.{Cap}
 use Rattle.def_words.specs.Capability.{untagged}
 use Rattle.def_memory.specs.declared.Granule.{Granule}
-use Rattle.def_memory.specs.Granules.{plain, nothing, granule_at}
+use Rattle.def_memory.specs.Granules.{plain, nothing, granule_at, held, held_from}
 use Rattle.def_machine.specs.State.{Frame}
 use Rattle.def_machine.specs.Memory.{filtered_in, is_marked_in}
 use Rattle.def_words.specs.Authority.{cap_base}
-use Rattle.def_areas.specs.Areas.{held, held_from, low_word, high_word, frame_place, frame_at, frame_export, caller_actor, caller_top, caller_handling, frames_from}
-use Rattle.law_heaped.specs.Slices.{passed, kept_granules, kept_frame, kept_frames, kept_registers, KeepsWords}
+use Rattle.def_areas.specs.Areas.{low_word, high_word, frame_place, frame_at, frame_export, caller_actor, caller_top, caller_handling, frames_from}
+use Rattle.def_machine.specs.Slices.{filtered_between, kept_granules, kept_frame, kept_frames, kept_registers, KeepsWords}
 use Rattle.law_heaped.proofs.Slices.{zero_passes}
 
 kept_at : (f : ℕ → Cap → Cap) → KeepsWords f → (n : ℕ) (gs : List Granule) (k : ℕ) → (granule_at (kept_granules f n gs) k).cap ≡ f (n + 8 * k) (granule_at gs k).cap
@@ -75,16 +75,16 @@ frames_kept f z gs area actor top handling (suc j) =
 filtered_word : (ram : ℕ) (gs : List Granule) (c : Cap) → (filtered_in ram gs c).word ≡ c.word
 filtered_word ram gs c = elim (bool_tells (c.tag && is_marked_in ram gs (cap_base c))) [ inl e ↦ rw e refl | inr e ↦ rw e refl ]
 
-passed_word : (ram : ℕ) (gs : List Granule) (low high n : ℕ) (c : Cap) → (passed ram gs low high n c).word ≡ c.word
+passed_word : (ram : ℕ) (gs : List Granule) (low high n : ℕ) (c : Cap) → (filtered_between ram gs low high n c).word ≡ c.word
 passed_word ram gs low high n c = elim (bool_tells (nat_le low n && nat_lt n high)) [ inl e ↦ rw e (filtered_word ram gs c) | inr e ↦ rw e refl ]
 
-pub passed_keeps : (ram : ℕ) (gs : List Granule) (low high : ℕ) → KeepsWords (λ n c. passed ram gs low high n c)
+pub passed_keeps : (ram : ℕ) (gs : List Granule) (low high : ℕ) → KeepsWords (λ n c. filtered_between ram gs low high n c)
 passed_keeps ram gs low high = record { zero_is = λ n. zero_passes ram gs low high n; word_is = λ n c. passed_word ram gs low high n c }
 
 pub slice_frames : (ram : ℕ) (gs : List Granule) (low high area actor top : ℕ) (handling : Bool) (j : ℕ)
-    → frames_from (kept_granules (λ n c. passed ram gs low high n c) 0 gs) area actor top handling j ≡ kept_frames (λ n c. passed ram gs low high n c) (8 * area) (frames_from gs area actor top handling j)
-slice_frames ram gs low high area actor top handling j = frames_kept (λ n c. passed ram gs low high n c) (passed_keeps ram gs low high) gs area actor top handling j
+    → frames_from (kept_granules (λ n c. filtered_between ram gs low high n c) 0 gs) area actor top handling j ≡ kept_frames (λ n c. filtered_between ram gs low high n c) (8 * area) (frames_from gs area actor top handling j)
+slice_frames ram gs low high area actor top handling j = frames_kept (λ n c. filtered_between ram gs low high n c) (passed_keeps ram gs low high) gs area actor top handling j
 
 pub slice_registers : (ram : ℕ) (gs : List Granule) (low high k n : ℕ)
-    → held_from (kept_granules (λ n c. passed ram gs low high n c) 0 gs) k n ≡ kept_registers (λ n c. passed ram gs low high n c) (8 * k) (held_from gs k n)
-slice_registers ram gs low high k n = registers_kept (λ n c. passed ram gs low high n c) (passed_keeps ram gs low high) gs k n
+    → held_from (kept_granules (λ n c. filtered_between ram gs low high n c) 0 gs) k n ≡ kept_registers (λ n c. filtered_between ram gs low high n c) (8 * k) (held_from gs k n)
+slice_registers ram gs low high k n = registers_kept (λ n c. filtered_between ram gs low high n c) (passed_keeps ram gs low high) gs k n

@@ -1,5 +1,4 @@
 pub mod Shown
 pub mod Slices
 pub mod Objects
-pub mod Effects
 pub mod Areas

@@ -1,41 +1,16 @@
--- A heap behind a veil: another's veil leaves it as it is, and what stays hidden behind its own leaves its objects.
+-- A heap behind its veil: what stays hidden leaves its objects.
 use Rattle.std.proofs.Common.{ℕ, ◌≡◌, ◌+◌, ◌-◌, ◌*◌, ◌/◌, ◌%◌, ◌<◌, ◌≤◌, inl, inr, ◌&&◌, Bool, true, false, not, nat_le, nat_lt, List, length, refl, sym, ap, ◌∙◌, arith}
 use Rattle.law_lists.proofs.Tests.{le_tells, lt_tells}
 use Rattle.def_words.specs.declared.Cap.{Cap}
 use Rattle.def_memory.specs.declared.Granule.{Granule}
 use Rattle.def_memory.specs.Granules.{granule_at}
-use Rattle.def_veil.specs.Veil.{veiled}
-use Rattle.law_veil.proofs.Granules.{veiled_length, load_cap_seen}
 use Rattle.def_hidden.specs.Hidden.{is_live_at}
-use Rattle.def_chunks.specs.Chunks.{Starts, head_at}
+use Rattle.def_chunks.specs.Chunks.{Starts}
 use Rattle.def_chunks.specs.Tiles.{chunks}
 use Rattle.def_chunks.specs.Heaps.{HeapRow, objects_of, Laid}
 use Rattle.law_chunks.specs.Kept.{KeepsHeap}
-use Rattle.law_chunks.proofs.Kept.{HeadAt, head_there, heads_kept, head_not_live}
-use Rattle.law_heaped.specs.Heaped.{hides_heap, heap_hides, IsOpenFrom}
-
--- ---- another's veil
-
--- a head is read through it
-head_shown : (h : HeapRow) (v : ℕ → Bool) (gs : List Granule) (p n : ℕ) → IsOpenFrom v h.range.ram h.range.base → HeadAt h.range n p
-    → head_at (veiled v gs) h.range.ram p ≡ head_at gs h.range.ram p
-head_shown h v gs p n open_ k =
-    let low = k.low in
-    let over = k.over in
-    let even = k.even in
-    load_cap_seen v gs (p - h.range.ram) (open_ ((p - h.range.ram) / 8) (omega (arith, low, over, even)))
-
-pub shown_laid : (h : HeapRow) (v : ℕ → Bool) (gs : List Granule) → IsOpenFrom v h.range.ram h.range.base → Laid h gs → KeepsHeap h gs (veiled v gs)
-shown_laid h v gs open_ l =
-    heads_kept h gs (veiled v gs) l (veiled_length v gs)
-    (λ p s. head_shown h v gs p (length gs) open_ (head_there h.range gs p l.settled.tiled s))
-
-pub laid_shown : (h : HeapRow) (v : ℕ → Bool) (gs : List Granule) → IsOpenFrom v h.range.ram h.range.base → Laid h (veiled v gs) → KeepsHeap h (veiled v gs) gs
-laid_shown h v gs open_ l =
-    heads_kept h (veiled v gs) gs l (sym (veiled_length v gs))
-    (λ p s. sym (head_shown h v gs p (length (veiled v gs)) open_ (head_there h.range (veiled v gs) p l.settled.tiled s)))
-
--- ---- its own
+use Rattle.law_chunks.proofs.Kept.{head_there, heads_kept, head_not_live}
+use Rattle.law_heaped.specs.Heaped.{hides_heap, heap_hides}
 
 -- a head is hidden
 pub head_hidden : (h : HeapRow) (gs : List Granule) (p : ℕ) → Laid h gs → Starts p h.range.base (chunks h.range gs) → heap_hides h gs ((p - h.range.ram) / 8) ≡ true

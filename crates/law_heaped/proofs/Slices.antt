@@ -7,7 +7,7 @@ use Rattle.def_memory.specs.Granules.{plain, blank}
 use Rattle.def_machine.specs.Memory.{filtered_in}
 use Rattle.def_veil.specs.Veil.{veil, veiled, veiled_from}
 use Rattle.law_veil.proofs.Steps.{filtered_same}
-use Rattle.law_heaped.specs.Slices.{passed, kept_granules}
+use Rattle.def_machine.specs.Slices.{filtered_between, kept_granules}
 
 -- the same is kept where the same stands
 pub kept_same : (f k : ℕ → Cap → Cap) → ((n : ℕ) (c : Cap) → f n c ≡ k n c) → (n : ℕ) (gs : List Granule) → kept_granules f n gs ≡ kept_granules k n gs
@@ -19,11 +19,11 @@ kept_length f n [] = refl
 kept_length f n (g ∷ gs) = ap (λ m. suc m) (kept_length f (n + 8) gs)
 
 -- the filter sees marks alone, which are seen
-pub passed_same : (v : ℕ → Bool) (ram : ℕ) (gs : List Granule) (low high n : ℕ) (c : Cap) → passed ram (veiled v gs) low high n c ≡ passed ram gs low high n c
+pub passed_same : (v : ℕ → Bool) (ram : ℕ) (gs : List Granule) (low high n : ℕ) (c : Cap) → filtered_between ram (veiled v gs) low high n c ≡ filtered_between ram gs low high n c
 passed_same v ram gs low high n c = ap (λ x. cond (nat_le low n && nat_lt n high) x c) (filtered_same v ram gs c)
 
 -- zero passes
-pub zero_passes : (ram : ℕ) (gs : List Granule) (low high n : ℕ) → passed ram gs low high n (plain 0) ≡ plain 0
+pub zero_passes : (ram : ℕ) (gs : List Granule) (low high n : ℕ) → filtered_between ram gs low high n (plain 0) ≡ plain 0
 zero_passes ram gs low high n = elim (bool_tells (nat_le low n && nat_lt n high)) [ inl e ↦ rw e refl | inr e ↦ rw e refl ]
 
 swaps : (f : Cap → Cap) → f (plain 0) ≡ plain 0 → (b : Bool) (g : Granule) → (let x : Granule = record (veil b g) { cap = f (veil b g).cap } in x) ≡ veil b (record g { cap = f g.cap })
@@ -38,8 +38,8 @@ kept_veiled_from f zero_ v n k (g ∷ gs) =
     ∙ ap (λ xs. veil (v k) (record g { cap = f n g.cap }) ∷ xs) (kept_veiled_from f zero_ v (n + 8) (k + 1) gs)
 
 pub slice_veiled : (v : ℕ → Bool) (ram : ℕ) (gs : List Granule) (low high : ℕ)
-    → kept_granules (λ n c. passed ram (veiled v gs) low high n c) 0 (veiled v gs) ≡ veiled v (kept_granules (λ n c. passed ram gs low high n c) 0 gs)
+    → kept_granules (λ n c. filtered_between ram (veiled v gs) low high n c) 0 (veiled v gs) ≡ veiled v (kept_granules (λ n c. filtered_between ram gs low high n c) 0 gs)
 unfolding veiled
 slice_veiled v ram gs low high =
-    kept_same (λ n c. passed ram (veiled v gs) low high n c) (λ n c. passed ram gs low high n c) (λ n c. passed_same v ram gs low high n c) 0 (veiled_from v 0 gs)
-    ∙ kept_veiled_from (λ n c. passed ram gs low high n c) (λ n. zero_passes ram gs low high n) v 0 0 gs
+    kept_same (λ n c. filtered_between ram (veiled v gs) low high n c) (λ n c. filtered_between ram gs low high n c) (λ n c. passed_same v ram gs low high n c) 0 (veiled_from v 0 gs)
+    ∙ kept_veiled_from (λ n c. filtered_between ram gs low high n c) (λ n. zero_passes ram gs low high n) v 0 0 gs

@@ -1,5 +1,5 @@
--- The heap outside live objects, as what is hidden; and what else may be hidden so that the heap is seen.
-use Rattle.std.specs.Prelude.{ℕ, ◌+◌, ◌*◌, ◌≡◌, ◌≤◌, ◌&&◌, Bool, false, not, nat_le, nat_lt, List}
+-- The heap outside live objects, as what is hidden.
+use Rattle.std.specs.Prelude.{ℕ, ◌+◌, ◌*◌, ◌&&◌, Bool, not, nat_le, nat_lt, List}
 use Rattle.def_profile.specs.declared.layout.TheConstants.{GRANULE}
 use Rattle.def_memory.specs.declared.Granule.{Granule}
 use Rattle.def_machine.specs.State.{Object}
@@ -17,7 +17,3 @@ hides_heap ram base end objects k =
 abbrev pub heap_hides : HeapRow → List Granule → ℕ → Bool
 heap_hides h gs =
     hides_heap h.range.ram h.range.base (h.range.base + h.range.length) (objects_of h gs)
-
--- nothing is hidden from an address on
-abbrev pub IsOpenFrom : (ℕ → Bool) → ℕ → ℕ → Type 0
-IsOpenFrom hides ram from = (k : ℕ) → from ≤ ram + 8 * k → hides k ≡ false

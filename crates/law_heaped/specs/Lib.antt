@@ -1,3 +1,2 @@
 pub mod Heaped
-pub mod Slices
 pub mod Objects

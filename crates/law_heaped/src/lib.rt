@@ -1,54 +1,20 @@
-//! Laws of a heap behind veils, over definitions alone: a veil that hides nothing of it leaves it
-//! as it is; what the heap's own veil hides tells where its heads are; and a slice of a sweep is
-//! the same before a veil and behind it.
+//! Laws of a heap behind a veil over what lies outside its live objects, over definitions alone: what stays hidden keeps
+//! its objects, an object that comes or goes changes what is seen by itself alone, and a slice of a sweep is the same
+//! before a veil and behind it.
 #![tactic(auto)]
 
 ghost use Rattle.std.specs.Prelude.{◌≡◌, ◌-◌, ◌*◌, ℕ, Bool, List, true, length};
 ghost use Rattle.def_memory.specs.declared.Granule.{Granule};
-ghost use Rattle.def_memory.specs.Granules.{granule_at};
+ghost use Rattle.def_memory.specs.Granules.{granule_at, held_from};
 ghost use Rattle.def_memory.specs.Ranges.{zeroed_from, marked_from};
 ghost use Rattle.def_machine.specs.State.{Object};
-ghost use Rattle.def_areas.specs.Areas.{held_from, frames_from};
+ghost use Rattle.def_areas.specs.Areas.{frames_from};
 ghost use Rattle.def_veil.specs.Veil.{veiled};
 ghost use Rattle.def_chunks.specs.Heaps.{HeapRow, Laid};
 ghost use Rattle.law_chunks.specs.Kept.{KeepsHeap};
-ghost use Rattle.law_heaped.specs.Heaped.{hides_heap, heap_hides, IsOpenFrom};
-ghost use Rattle.ct_heap.specs.declared.rows.HeapRefusal.{HeapRefusal};
-ghost use Rattle.ct_heap.specs.Effects.{Allocates, Refuses, Frees, Paints, Flushes};
+ghost use Rattle.law_heaped.specs.Heaped.{hides_heap, heap_hides};
 ghost use Rattle.law_heaped.specs.Objects.{Appears, Vanishes};
-ghost use Rattle.law_heaped.specs.Slices.{passed, kept_granules, kept_frames, kept_registers};
-
-/// A heap lies the same in memory and in what is seen of it, where nothing from the heap on is
-/// hidden.
-pub fn heap_shown()
-    ensures behind { (h : HeapRow) (v : ℕ → Bool) (gs : List Granule)
-        → IsOpenFrom v h.range.ram h.range.base → Laid h gs → KeepsHeap h gs (veiled v gs) }
-    ensures before { (h : HeapRow) (v : ℕ → Bool) (gs : List Granule)
-        → IsOpenFrom v h.range.ram h.range.base → Laid h (veiled v gs)
-        → KeepsHeap h (veiled v gs) gs }
-{}
-
-/// What a heap's calls do to memory they do to what is seen of it.
-pub fn effects_shown()
-    ensures allocates { (v : ℕ → Bool) (h n : HeapRow) (gs hs : List Granule)
-        (q size number base long live : ℕ) → IsOpenFrom v h.range.ram h.range.base
-        → Laid h gs → Laid n hs → Allocates h n gs hs q size number base long live
-        → Allocates h n (veiled v gs) (veiled v hs) q size number base long live }
-    ensures refuses { (v : ℕ → Bool) (h : HeapRow) (gs : List Granule)
-        (q size : ℕ) (e : HeapRefusal) → IsOpenFrom v h.range.ram h.range.base
-        → Laid h gs → Refuses h gs q size e
-        → Refuses h (veiled v gs) q size e }
-    ensures frees { (v : ℕ → Bool) (h n : HeapRow) (gs hs : List Granule)
-        (q base top number place long live : ℕ) → IsOpenFrom v h.range.ram h.range.base
-        → Laid h gs → Laid n hs → Frees h n gs hs q base top number place long live
-        → Frees h n (veiled v gs) (veiled v hs) q base top number place long live }
-    ensures paints { (v : ℕ → Bool) (h : HeapRow) (gs hs : List Granule)
-        → IsOpenFrom v h.range.ram h.range.base → Laid h gs → Laid h hs → Paints h gs hs
-        → Paints h (veiled v gs) (veiled v hs) }
-    ensures flushes { (v : ℕ → Bool) (h n : HeapRow) (gs hs : List Granule)
-        → IsOpenFrom v h.range.ram h.range.base → Laid h gs → Laid n hs → Flushes h n gs hs
-        → Flushes h n (veiled v gs) (veiled v hs) }
-{}
+ghost use Rattle.def_machine.specs.Slices.{filtered_between, kept_granules, kept_frames, kept_registers};
 
 /// Where what the heap's own veil hides holds what it held, the heap stands for the same objects.
 pub fn hidden_keeps_heap()
@@ -75,8 +41,8 @@ pub fn objects_veiled()
 /// A slice behind a veil is the veil of the slice.
 pub fn slice_behind()
     ensures { (v : ℕ → Bool) (ram : ℕ) (gs : List Granule) (low high : ℕ)
-        → kept_granules (λ n c. passed ram (veiled v gs) low high n c) 0 (veiled v gs)
-        ≡ veiled v (kept_granules (λ n c. passed ram gs low high n c) 0 gs) }
+        → kept_granules (λ n c. filtered_between ram (veiled v gs) low high n c) 0 (veiled v gs)
+        ≡ veiled v (kept_granules (λ n c. filtered_between ram gs low high n c) 0 gs) }
 {}
 
 /// A slice over memory is the slice over the frames and the registers that stand in a thread's
@@ -84,11 +50,11 @@ pub fn slice_behind()
 pub fn areas_sliced()
     ensures frames { (ram : ℕ) (gs : List Granule) (low high area actor top : ℕ)
         (handling : Bool) (j : ℕ)
-        → frames_from (kept_granules (λ n c. passed ram gs low high n c) 0 gs)
+        → frames_from (kept_granules (λ n c. filtered_between ram gs low high n c) 0 gs)
         area actor top handling j
-        ≡ kept_frames (λ n c. passed ram gs low high n c) (8 * area)
+        ≡ kept_frames (λ n c. filtered_between ram gs low high n c) (8 * area)
         (frames_from gs area actor top handling j) }
     ensures registers { (ram : ℕ) (gs : List Granule) (low high k n : ℕ)
-        → held_from (kept_granules (λ n c. passed ram gs low high n c) 0 gs) k n
-        ≡ kept_registers (λ n c. passed ram gs low high n c) (8 * k) (held_from gs k n) }
+        → held_from (kept_granules (λ n c. filtered_between ram gs low high n c) 0 gs) k n
+        ≡ kept_registers (λ n c. filtered_between ram gs low high n c) (8 * k) (held_from gs k n) }
 {}

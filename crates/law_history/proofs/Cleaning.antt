@@ -1,9 +1,14 @@
 -- *Clean calls*, of one event.
-use Rattle.std.proofs.Common.{ℕ, ◌≡◌, false, List, ◌∷◌, Option, Some, None, sym, ◌∙◌, subst}
+use Rattle.std.proofs.Common.{ℕ, ◌≡◌, true, false, List, ◌∷◌, Option, Some, None, refl, sym, ◌∙◌, subst}
+use Rattle.law_lists.proofs.Tests.{chosen}
 use Rattle.ct_entry.specs.declared.acts.Act.{Act}
 use Rattle.ct_entry.specs.declared.acts.Act.TheVariants as acts
 use Rattle.ct_entry.specs.declared.acts.Deed.{Deed}
-use Rattle.def_machine.specs.Image.{Image, root}
+use Rattle.def_machine.specs.Image.{Image, root, stack_base}
+use Rattle.def_words.specs.declared.Trap.{Trap}
+use Rattle.def_step.specs.Handlers.{is_entered, handler_entered, trap_taken}
+use Rattle.def_safety.specs.Handlers.{HandlerBegins}
+use Rattle.law_handlers.proofs.Whole.{handler_begins}
 use Rattle.def_machine.specs.State.{State, Frame, Counts, thread}
 use Rattle.def_machine.specs.Frames.{unwound}
 use Rattle.def_confined.specs.Keeps.{Keeps}
@@ -12,15 +17,17 @@ use Rattle.def_facts.specs.Facts.{Facts}
 use Rattle.def_step.specs.declared.Event.{Event}
 use Rattle.def_step.specs.declared.Event.TheVariants.{Step, Tick, Sweep, Input}
 use Rattle.def_step.specs.Events.{noted, with_deed, stepped}
-use Rattle.def_step.specs.Instructions.{Board, executed}
-use Rattle.law_natives.specs.Clean.{CleanEntry, CleanReturn}
-use Rattle.law_natives.proofs.Cleans.{enters_clean}
+use Rattle.def_step.specs.Instructions.{executed}
+use Rattle.def_machine.specs.Board.{Board}
+use Rattle.def_safety.specs.Clean.{CleanEntry, CleanReturn}
+use Rattle.law_natives.proofs.Cleans.{enters_clean, unwind_clean}
+use Rattle.law_routines.proofs.Stepping.{handled_where}
 use Rattle.law_events.proofs.Events.{ready_keeps}
-use Rattle.law_history.specs.Each.{ready}
-use Rattle.law_history.specs.Clean.{CleanEvent}
+use Rattle.def_safety.specs.Each.{ready}
+use Rattle.def_safety.specs.Calls.{CleanEvent, HandsPlain, enters_handler}
 use Rattle.law_history.proofs.Steps.{none_told, step_case}
 use Rattle.law_history.proofs.Telling.{ToldBy, Tells, executed_tells}
-use Rattle.law_history.proofs.Ending.{executed_ends, unwound_is_clean}
+use Rattle.law_history.proofs.Ending.{executed_ends}
 
 -- counts don't matter
 counted_entry : (i : Image) (s : State) (t export : ℕ) (z : State) (c : Counts) → CleanEntry i s t export z → CleanEntry i s t export (record z { counts = c })
@@ -43,7 +50,7 @@ step_enters b s d export parts facts k act plain_one = step_case (λ (r : State 
         counted_entry b.image (ready b s) d.thread export (executed b (ready b s) t).0 (with_deed (executed b (ready b s) t).0.counts (executed b (ready b s) t).1)
         (subst (λ u. CleanEntry b.image (ready b s) u export (executed b (ready b s) t).0) (sym told.thread) clean)
 
-step_leaves : (b : Board) (s : State) (t : ℕ) (f g : Frame) (gs : List Frame) → (ready b s).running ≡ Some t → (thread (ready b s) t).frames ≡ f ∷ g ∷ gs → (root b.image f.export).passes ≡ false → (thread (stepped b s).0 t).frames ≡ g ∷ gs → CleanReturn b.image (ready b s) t f (stepped b s).0
+step_leaves : (b : Board) (s : State) (t : ℕ) (f g : Frame) (gs : List Frame) → (ready b s).running ≡ Some t → (thread (ready b s) t).frames ≡ f ∷ g ∷ gs → HandsPlain b f → (thread (stepped b s).0 t).frames ≡ g ∷ gs → CleanReturn b.image (ready b s) t f (stepped b s).0
 step_leaves b s t f g gs runs before plain_one = step_case (λ (r : State × Option Deed). (thread r.0 t).frames ≡ g ∷ gs → CleanReturn b.image (ready b s) t f r.0) b s
     (λ idle after. absurd (let clash : None ≡ Some t = sym idle ∙ runs in cc))
     (λ u is. (let both : Some t ≡ Some u = sym runs ∙ is in let same : t ≡ u = cc in subst (λ n. (thread (noted (executed b (ready b s) n)).0 t).frames ≡ g ∷ gs → CleanReturn b.image (ready b s) t f (noted (executed b (ready b s) n)).0) same own))
@@ -51,18 +58,45 @@ step_leaves b s t f g gs runs before plain_one = step_case (λ (r : State × Opt
     own : (thread (noted (executed b (ready b s) t)).0 t).frames ≡ g ∷ gs → CleanReturn b.image (ready b s) t f (noted (executed b (ready b s) t)).0
     own after = counted_return b.image (ready b s) t f (executed b (ready b s) t).0 (with_deed (executed b (ready b s) t).0.counts (executed b (ready b s) t).1) (executed_ends b (ready b s) t f g gs before after plain_one)
 
-step_unwinds : (b : Board) (s : State) (d : Deed) (cause code register : ℕ) (f g : Frame) (gs : List Frame) → d.act ≡ acts.Trap cause code register → (thread (ready b s) d.thread).frames ≡ f ∷ g ∷ gs → (stepped b s).1 ≡ Some d → CleanReturn b.image (ready b s) d.thread f (stepped b s).0
-step_unwinds b s d cause code register f g gs act frames = step_case (λ (r : State × Option Deed). r.1 ≡ Some d → CleanReturn b.image (ready b s) d.thread f r.0) b s
+-- a trap's state, by whether it enters a handler
+unwound_case : (i : Image) (s : State) (t : ℕ) (why : Trap) (f : Frame) (fs : List Frame) → is_entered i (stack_base i t) (thread s t) f ≡ false → trap_taken i s t why (f ∷ fs) ≡ unwound i s t (f ∷ fs)
+unwound_case i s t why f fs not = chosen (λ z. z ≡ unwound i s t (f ∷ fs)) (is_entered i (stack_base i t) (thread s t) f) (handler_entered i s t why f fs) (unwound i s t (f ∷ fs))
+    (λ is. absurd (let clash : true ≡ false = sym is ∙ not in cc)) (λ no. refl)
+
+entered_case : (i : Image) (s : State) (t : ℕ) (why : Trap) (f : Frame) (fs : List Frame) → is_entered i (stack_base i t) (thread s t) f ≡ true → trap_taken i s t why (f ∷ fs) ≡ handler_entered i s t why f fs
+entered_case i s t why f fs is = chosen (λ z. z ≡ handler_entered i s t why f fs) (is_entered i (stack_base i t) (thread s t) f) (handler_entered i s t why f fs) (unwound i s t (f ∷ fs))
+    (λ yes. refl) (λ no. absurd (let clash : true ≡ false = sym is ∙ no in cc))
+
+counted_begin : (i : Image) (s : State) (t : ℕ) (f : Frame) (fs : List Frame) (z : State) (c : Counts) → HandlerBegins i s t f fs z → HandlerBegins i s t f fs (record z { counts = c })
+counted_begin i s t f fs z c h = record { pcc = h.pcc; tagged = h.tagged; registers = h.registers; posture = h.posture; frames = h.frames; untagged = h.untagged; marks = h.marks; rest = h.rest }
+
+-- what is so of the state that a trap led to is so of what the step left
+step_trap : (P : State → Type 0) (b : Board) (s : State) (d : Deed) (cause code register : ℕ) → d.act ≡ acts.Trap cause code register → (stepped b s).1 ≡ Some d
+    → ((z : State) (c : Counts) → P z → P (record z { counts = c }))
+    → P (trap_taken b.image (ready b s) d.thread (record { cause = cause; code = code; register = register }) (thread (ready b s) d.thread).frames) → P (stepped b s).0
+step_trap P b s d cause code register act told counted h = step_case (λ (r : State × Option Deed). r.1 ≡ Some d → P r.0) b s
     (λ idle e. none_told d e)
     (λ t runs e. at t (executed_tells b (ready b s) t d e))
+    told
   where
-    at : (t : ℕ) → Tells b (ready b s) t (executed b (ready b s) t).0 d → CleanReturn b.image (ready b s) d.thread f (noted (executed b (ready b s) t)).0
-    at t told =
-        let by : (executed b (ready b s) t).0 ≡ unwound b.image (ready b s) t (thread (ready b s) t).frames = subst (λ (a : Act). ToldBy b.image (ready b s) t (executed b (ready b s) t).0 d.entry a) act told.by in
-        let own : CleanReturn b.image (ready b s) d.thread f (unwound b.image (ready b s) d.thread (thread (ready b s) d.thread).frames) = unwound_is_clean b.image (ready b s) d.thread f g gs frames in
-        let moved : CleanReturn b.image (ready b s) d.thread f (unwound b.image (ready b s) t (thread (ready b s) t).frames) = subst (λ u. CleanReturn b.image (ready b s) d.thread f (unwound b.image (ready b s) u (thread (ready b s) u).frames)) told.thread own in
-        counted_return b.image (ready b s) d.thread f (executed b (ready b s) t).0 (with_deed (executed b (ready b s) t).0.counts (executed b (ready b s) t).1)
-        (subst (λ (z : State). CleanReturn b.image (ready b s) d.thread f z) (sym by) moved)
+    at : (t : ℕ) → Tells b (ready b s) t (executed b (ready b s) t).0 d → P (noted (executed b (ready b s) t)).0
+    at t tells =
+        let by : (executed b (ready b s) t).0 ≡ trap_taken b.image (ready b s) t (record { cause = cause; code = code; register = register }) (thread (ready b s) t).frames = subst (λ (a : Act). ToldBy b.image (ready b s) t (executed b (ready b s) t).0 d.entry a) act tells.by in
+        let here : P (trap_taken b.image (ready b s) t (record { cause = cause; code = code; register = register }) (thread (ready b s) t).frames) = subst (λ u. P (trap_taken b.image (ready b s) u (record { cause = cause; code = code; register = register }) (thread (ready b s) u).frames)) tells.thread h in
+        counted (executed b (ready b s) t).0 (with_deed (executed b (ready b s) t).0.counts (executed b (ready b s) t).1) (subst (λ (z : State). P z) (sym by) here)
+
+step_unwinds : (b : Board) (s : State) (d : Deed) (cause code register : ℕ) (f g : Frame) (gs : List Frame) → d.act ≡ acts.Trap cause code register → (thread (ready b s) d.thread).frames ≡ f ∷ g ∷ gs → enters_handler b (ready b s) d.thread f ≡ false → (stepped b s).1 ≡ Some d → CleanReturn b.image (ready b s) d.thread f (stepped b s).0
+step_unwinds b s d cause code register f g gs act frames not told = step_trap (CleanReturn b.image (ready b s) d.thread f) b s d cause code register act told (counted_return b.image (ready b s) d.thread f)
+    (let why : Trap = record { cause = cause; code = code; register = register } in
+    subst (λ (fs : List Frame). CleanReturn b.image (ready b s) d.thread f (trap_taken b.image (ready b s) d.thread (record { cause = cause; code = code; register = register }) fs)) (sym frames)
+    (subst (λ (z : State). CleanReturn b.image (ready b s) d.thread f z) (sym (unwound_case b.image (ready b s) d.thread (record { cause = cause; code = code; register = register }) f (g ∷ gs) not))
+    (unwind_clean b.image (ready b s) d.thread f g gs frames)))
+
+step_handles : (b : Board) (s : State) (d : Deed) (cause code register : ℕ) (f : Frame) (fs : List Frame) → Partitioned b.image → Facts b.image → Keeps b.image s → d.act ≡ acts.Trap cause code register → (thread (ready b s) d.thread).frames ≡ f ∷ fs → enters_handler b (ready b s) d.thread f ≡ true → (stepped b s).1 ≡ Some d → HandlerBegins b.image (ready b s) d.thread f fs (stepped b s).0
+step_handles b s d cause code register f fs parts facts k act frames is told = step_trap (HandlerBegins b.image (ready b s) d.thread f fs) b s d cause code register act told (counted_begin b.image (ready b s) d.thread f fs)
+    (subst (λ (gs : List Frame). HandlerBegins b.image (ready b s) d.thread f fs (trap_taken b.image (ready b s) d.thread (record { cause = cause; code = code; register = register }) gs)) (sym frames)
+    (subst (λ (z : State). HandlerBegins b.image (ready b s) d.thread f fs z) (sym (entered_case b.image (ready b s) d.thread (record { cause = cause; code = code; register = register }) f fs is))
+    (handler_begins b.image (ready b s) d.thread (record { cause = cause; code = code; register = register }) f fs parts facts (ready_keeps b s parts k) frames (handled_where b.image (stack_base b.image d.thread) (thread (ready b s) d.thread) f is))))
 
 -- ---- an event
 
@@ -70,20 +104,24 @@ pub clean_event : (b : Board) (s : State) (e : Event) → Partitioned b.image �
 clean_event b s Step parts facts k = record {
   enters = λ d export is act plain_one. step_enters b s d export parts facts k act plain_one is;
   leaves = λ t f g gs step runs before after plain_one. step_leaves b s t f g gs runs before plain_one after;
-  unwinds = λ d cause code register f g gs is act frames. step_unwinds b s d cause code register f g gs act frames is;
+  unwinds = λ d cause code register f g gs is act frames not. step_unwinds b s d cause code register f g gs act frames not is;
+  handles = λ d cause code register f fs is act frames enters. step_handles b s d cause code register f fs parts facts k act frames enters is;
 }
 clean_event b s Tick parts facts k = record {
   enters = λ d export is act plain_one. none_told d is;
   leaves = λ t f g gs step. absurd (let clash : Tick ≡ Step = step in cc);
-  unwinds = λ d cause code register f g gs is act frames. none_told d is;
+  unwinds = λ d cause code register f g gs is act frames not. none_told d is;
+  handles = λ d cause code register f fs is act frames enters. none_told d is;
 }
 clean_event b s Sweep parts facts k = record {
   enters = λ d export is act plain_one. none_told d is;
   leaves = λ t f g gs step. absurd (let clash : Sweep ≡ Step = step in cc);
-  unwinds = λ d cause code register f g gs is act frames. none_told d is;
+  unwinds = λ d cause code register f g gs is act frames not. none_told d is;
+  handles = λ d cause code register f fs is act frames enters. none_told d is;
 }
 clean_event b s (Input n byte) parts facts k = record {
   enters = λ d export is act plain_one. none_told d is;
   leaves = λ t f g gs step. absurd (let clash : Input n byte ≡ Step = step in cc);
-  unwinds = λ d cause code register f g gs is act frames. none_told d is;
+  unwinds = λ d cause code register f g gs is act frames not. none_told d is;
+  handles = λ d cause code register f fs is act frames enters. none_told d is;
 }

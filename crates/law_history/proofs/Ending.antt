@@ -1,28 +1,28 @@
 -- Which frames a step ends: by a return or an unwind alone, and then its caller goes on clean.
-use Rattle.std.proofs.Common.{ℕ, zero, suc, ◌≡◌, ◌≤◌, false, List, [], ◌∷◌, length, map, Option, Some, None, Result, Ok, Err, sym, ap, subst, arith, slice_set}
+use Rattle.std.proofs.Common.{ℕ, zero, suc, ◌≡◌, ◌≤◌, ◌&&◌, true, false, inl, inr, ◌∙◌, List, [], ◌∷◌, length, map, Result, Ok, Err, sym, ap, subst, arith, slice_set}
 use Rattle.std.proofs.Math.ListN.{get_or}
 use Rattle.law_lists.proofs.Sets.{after_set}
-use Rattle.def_words.specs.declared.Cap.{Cap}
 use Rattle.def_words.specs.declared.Trap.{Trap}
-use Rattle.def_words.specs.Authority.{cap_address}
 use Rattle.def_sched.specs.declared.Status.{Status}
-use Rattle.def_machine.specs.Image.{Image, root}
+use Rattle.def_machine.specs.Image.{Image}
 use Rattle.def_words.specs.Capability.{integer}
 use Rattle.def_machine.specs.Memory.{filtered}
 use Rattle.def_machine.specs.State.{State, Thread, Frame, Object, thread, nobody}
-use Rattle.def_machine.specs.Frames.{returned, unwound}
+use Rattle.def_machine.specs.Frames.{returned, ended_with, unwound}
 use Rattle.def_machine.specs.Threads.{jumped, with_statuses}
 use Rattle.def_machine.specs.Heap.{with_object, quarantined}
-use Rattle.def_step.specs.declared.Next.{Next}
-use Rattle.def_step.specs.Checks.{first_failed}
-use Rattle.def_step.specs.Operands.{operands_of, class_of}
-use Rattle.def_step.specs.Instructions.{Board, Done, carried_out, named_by, around, space_of, put_done, ends, operand, goes_on, after_fetch, executed, fetch_checks, next_at}
+use Rattle.def_step.specs.Instructions.{Done, put_done, executed}
+use Rattle.def_machine.specs.Board.{Board}
 use Rattle.def_step.specs.Quotas.{let_go}
+use Rattle.def_step.specs.Tokens.{with_row}
 use Rattle.def_step.specs.Routines.{answers}
-use Rattle.law_routines.proofs.Cases.{by_next}
-use Rattle.law_routines.proofs.Leaving.{Moves, served_left}
-use Rattle.law_natives.specs.Clean.{CleanReturn}
-use Rattle.law_natives.proofs.Cleans.{back_clean, unwind_clean}
+use Rattle.law_routines.proofs.Leaving.{Moves}
+use Rattle.law_routines.proofs.Stepping.{Steps, IfDone, carried, executed_left}
+use Rattle.def_step.specs.declared.TheConstants.{SERVES_HANDLERS}
+use Rattle.def_step.specs.Handlers.{handled, handler_entered}
+use Rattle.def_safety.specs.Calls.{HandsPlain}
+use Rattle.def_safety.specs.Clean.{CleanReturn}
+use Rattle.law_natives.proofs.Cleans.{back_clean, value_clean, unwind_clean}
 
 -- the thread has at least so many frames
 abbrev pub Deep : ℕ → ℕ → State → Type 0
@@ -45,7 +45,9 @@ moves_deep i s t = record {
   stops = λ status. set_deep s t _ (omega arith);
   wakes = λ address most. given_deep (length (thread s t).frames) _ _ t (set_deep s t _ (omega arith));
   hands = λ size r is. set_deep (with_object s r) t _ (omega arith);
-  gives = λ r is. gone_deep r;
+  gives = λ r c is. gone_deep r;
+  seals = λ size key r is k. set_deep (with_object (with_row s r key) r) t _ (omega arith);
+  opens = λ key r is. set_deep s t _ (omega arith);
 }
   where
     gone_deep : (r : Object) → Deep (length (thread s t).frames) t (answers (let_go i s t r) t (integer 0))
@@ -60,7 +62,7 @@ record Ended (s : State) (t : ℕ) (f g : Frame) (gs : List Frame) (z : State) :
   pub after : (thread z t).frames ≡ g ∷ gs
 
 abbrev EndsClean : Board → State → ℕ → State → Type 0
-EndsClean b s t z = (f g : Frame) (gs : List Frame) → Ended s t f g gs z → (root b.image f.export).passes ≡ false → CleanReturn b.image s t f z
+EndsClean b s t z = (f g : Frame) (gs : List Frame) → Ended s t f g gs z → HandsPlain b f → CleanReturn b.image s t f z
 
 -- none ended
 deep_ends : (b : Board) (s : State) (t : ℕ) (z : State) → Deep (length (thread s t).frames) t z → EndsClean b s t z
@@ -72,39 +74,40 @@ deep_ends b s t z deep f g gs ended plain_one =
 pub unwound_is_clean : (i : Image) (s : State) (t : ℕ) (f g : Frame) (gs : List Frame) → (thread s t).frames ≡ f ∷ g ∷ gs → CleanReturn i s t f (unwound i s t (thread s t).frames)
 unwound_is_clean i s t f g gs frames = subst (λ (fs : List Frame). CleanReturn i s t f (unwound i s t fs)) (sym frames) (unwind_clean i s t f g gs frames)
 
-unwound_ends : (b : Board) (s : State) (t : ℕ) → EndsClean b s t (unwound b.image s t (thread s t).frames)
-unwound_ends b s t f g gs ended plain_one = unwound_is_clean b.image s t f g gs ended.before
+ended_ends : (b : Board) (s : State) (t value : ℕ) → EndsClean b s t (ended_with b.image s t value (thread s t).frames)
+ended_ends b s t value f g gs ended plain_one = subst (λ (fs : List Frame). CleanReturn b.image s t f (ended_with b.image s t value fs)) (sym ended.before) (value_clean b.image s t value f g gs ended.before)
 
-returned_ends : (b : Board) (s : State) (t : ℕ) → EndsClean b s t (returned b.image s t (thread s t).frames)
-returned_ends b s t f g gs ended plain_one = subst (λ (fs : List Frame). CleanReturn b.image s t f (returned b.image s t fs)) (sym ended.before) (back_clean b.image s t f g gs ended.before plain_one)
+returned_ends : (b : Board) (s : State) (t : ℕ) → ((f : Frame) (fs : List Frame) → (thread s t).frames ≡ f ∷ fs → (SERVES_HANDLERS && f.handling) ≡ false) → EndsClean b s t (returned b.image s t (thread s t).frames)
+returned_ends b s t unmarked f g gs ended (inl plain_one) = subst (λ (fs : List Frame). CleanReturn b.image s t f (returned b.image s t fs)) (sym ended.before) (back_clean b.image s t f g gs ended.before plain_one)
+returned_ends b s t unmarked f g gs ended (inr marked) = absurd (let clash : true ≡ false = sym marked ∙ unmarked f (g ∷ gs) ended.before in cc)
 
-done_ends : (b : Board) (s : State) (t : ℕ) (x : Cap) (r : Result Done Trap) → EndsClean b s t (ends b s t x r).0
-done_ends b s t x (Err why) = unwound_ends b s t
-done_ends b s t x (Ok d) = deep_ends b s t (put_done s t d) (set_deep s t (jumped (thread s t) d.pcc d.posture d.to d.value) (omega arith))
+done_ends : (b : Board) (s : State) (t : ℕ) (r : Result Done Trap) → IfDone (EndsClean b s t) s t r
+done_ends b s t (Err why) = tt
+done_ends b s t (Ok d) = deep_ends b s t (put_done s t d) (set_deep s t (jumped (thread s t) d.pcc d.posture d.to d.value) (omega arith))
 
-next_ends : (b : Board) (s : State) (t : ℕ) → EndsClean b s t (goes_on b s t (next_at (space_of b s) (cap_address (thread s t).pcc))).0
-next_ends b s t = by_next (λ (n : Next). EndsClean b s t (goes_on b s t n).0) (space_of b s) (cap_address (thread s t).pcc)
-    (returned_ends b s t)
-    (λ k away read. done_ends b s t (operand s t (operands_of k).first) (carried_out (class_of k) k (operands_of k).to (operand s t (operands_of k).first) (operand s t (operands_of k).second) (named_by b.image (operand s t (operands_of k).first)) (around b s t)))
-    (λ n few other. served_left (EndsClean b s t) b s t n few other (unwound_ends b s t) (moves_end b s t))
-    (unwound_ends b s t)
-  where
-    moves_end : (b : Board) (s : State) (t : ℕ) → Moves (λ z told. EndsClean b s t z) b.image s t
-    moves_end b s t =
-        let m = moves_deep b.image s t in
-        record {
-          tells = λ n. deep_ends b s t _ (m.tells n);
-          enters = λ high. deep_ends b s t _ (m.enters high);
-          stops = λ status. deep_ends b s t _ (m.stops status);
-          wakes = λ address most. deep_ends b s t _ (m.wakes address most);
-          hands = λ size r is. deep_ends b s t _ (m.hands size r is);
-          gives = λ r is. deep_ends b s t _ (m.gives r is);
-        }
+-- a handler that is entered ends no frame
+handles_deep : (i : Image) (s : State) (t : ℕ) (why : Trap) (f : Frame) (fs : List Frame) → (thread s t).frames ≡ f ∷ fs → Deep (length (thread s t).frames) t (handler_entered i s t why f fs)
+handles_deep i s t why f fs frames = let many = ap (λ (gs : List Frame). length gs) frames in set_deep s t (handled i (thread s t) why f fs) (omega (arith, many))
 
-pub executed_ends : (b : Board) (s : State) (t : ℕ) (f g : Frame) (gs : List Frame) → (thread s t).frames ≡ f ∷ g ∷ gs → (thread (executed b s t).0 t).frames ≡ g ∷ gs → (root b.image f.export).passes ≡ false → CleanReturn b.image s t f (executed b s t).0
-unfolding executed
-executed_ends b s t f g gs before after = by (first_failed (fetch_checks (thread s t).pcc)) f g gs (record { before = before; after = after })
-  where
-    by : (o : Option Trap) → EndsClean b s t (after_fetch b s t o).0
-    by (Some why) = unwound_ends b s t
-    by None = next_ends b s t
+steps_end : (b : Board) (s : State) (t : ℕ) → Steps (EndsClean b s t) b s t
+steps_end b s t =
+    let m = moves_deep b.image s t in
+    record {
+      handles = λ why f fs frames is. deep_ends b s t (handler_entered b.image s t why f fs) (handles_deep b.image s t why f fs frames);
+      ends = λ value. ended_ends b s t value;
+      back = λ unmarked. returned_ends b s t unmarked;
+      done = λ k. done_ends b s t (carried b s t k);
+      moves = record {
+        tells = λ n. deep_ends b s t _ (m.tells n);
+        enters = λ high. deep_ends b s t _ (m.enters high);
+        stops = λ status. deep_ends b s t _ (m.stops status);
+        wakes = λ address most. deep_ends b s t _ (m.wakes address most);
+        hands = λ size r is. deep_ends b s t _ (m.hands size r is);
+        gives = λ r c is. deep_ends b s t _ (m.gives r c is);
+        seals = λ size key r is k. deep_ends b s t _ (m.seals size key r is k);
+        opens = λ key r is. deep_ends b s t _ (m.opens key r is);
+      };
+    }
+
+pub executed_ends : (b : Board) (s : State) (t : ℕ) (f g : Frame) (gs : List Frame) → (thread s t).frames ≡ f ∷ g ∷ gs → (thread (executed b s t).0 t).frames ≡ g ∷ gs → HandsPlain b f → CleanReturn b.image s t f (executed b s t).0
+executed_ends b s t f g gs before after = executed_left (EndsClean b s t) b s t (steps_end b s t) f g gs (record { before = before; after = after })

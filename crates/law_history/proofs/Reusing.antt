@@ -3,8 +3,10 @@ use Rattle.std.proofs.Common.{ℕ, ◌≡◌, inl, inr, true, List, Option, Some
 use Rattle.ct_entry.specs.declared.acts.Act.{Act}
 use Rattle.ct_entry.specs.declared.acts.Act.TheVariants as acts
 use Rattle.ct_entry.specs.declared.acts.Deed.{Deed}
+use Rattle.def_words.specs.declared.Cap.{Cap}
+use Rattle.def_words.specs.Capability.{integer}
 use Rattle.def_machine.specs.Image.{Image}
-use Rattle.def_machine.specs.State.{State, Object, register, thread}
+use Rattle.def_machine.specs.State.{State, Object}
 use Rattle.def_machine.specs.Objects.{Any}
 use Rattle.def_confined.specs.Confined.{Apart, Confined, ObjectFits}
 use Rattle.def_confined.specs.Keeps.{Keeps}
@@ -15,22 +17,24 @@ use Rattle.def_hidden.specs.Hidden.{Shut, Blank}
 use Rattle.def_step.specs.declared.Event.{Event}
 use Rattle.def_step.specs.declared.Event.TheVariants.{Step}
 use Rattle.def_step.specs.Events.{noted, happens, run, stepped}
-use Rattle.def_step.specs.Instructions.{Board, executed}
-use Rattle.def_step.specs.Quotas.{quota_in, free}
-use Rattle.def_step.specs.Routines.{Ran, Leaves}
+use Rattle.def_step.specs.Instructions.{executed}
+use Rattle.def_machine.specs.Board.{Board}
+use Rattle.def_step.specs.Quotas.{quota_in, let_go, free}
+use Rattle.def_step.specs.Routines.{Ran, Leaves, answers}
+use Rattle.def_step.specs.Tokens.{token_free}
 use Rattle.law_places.proofs.Rows.{each_any, each_take}
 use Rattle.law_routines.specs.Leaving.{Left}
-use Rattle.law_routines.proofs.Leaving.{free_left}
-use Rattle.law_routines.proofs.Objects.{whole_found}
-use Rattle.law_natives.specs.Fresh.{HandsOut}
-use Rattle.law_reuse.specs.Reuse.{IsRow, Waits, SweepsWhole}
+use Rattle.law_routines.proofs.Leaving.{free_told, free_left, token_free_left}
+use Rattle.law_routines.proofs.Objects.{Found}
+use Rattle.def_safety.specs.Fresh.{HandsOut, AsHanded}
+use Rattle.def_safety.specs.Reuse.{IsRow, Waits, SweepsWhole}
 use Rattle.law_reuse.proofs.Same.{Same, quarantined_stays, ready_same}
 use Rattle.law_reuse.proofs.Waiting.{waiting}
 use Rattle.law_events.proofs.Events.{ready_keeps}
 use Rattle.law_events.proofs.Running.{run_keeps}
 use Rattle.law_blank.proofs.Events.{run_blank}
-use Rattle.law_history.specs.Each.{ready}
-use Rattle.law_history.specs.Chunks.{ChunksMeet, chunk_at}
+use Rattle.def_safety.specs.Each.{ready}
+use Rattle.def_safety.specs.Chunks.{ChunksMeet, chunk_at}
 use Rattle.law_history.proofs.Steps.{none_told, step_case}
 use Rattle.law_history.proofs.Telling.{ToldBy, Tells, executed_tells}
 use Rattle.law_history.proofs.Safety.{step_allocates}
@@ -63,15 +67,22 @@ object_waits i s r number base long h there live n b l = each_any (ObjectFits i 
     ((ap (λ (z : Object). z.number) same ∙ n, ap (λ (z : Object). z.base) same ∙ b, ap (λ (z : Object). z.length) same ∙ l), fits.unpainted (ap (λ (z : Object). z.live) same ∙ live)))
     h.fits there
 
-free_waits : (i : Image) (s : State) (t : ℕ) → Confined i s → Left FreeWaits (free i s t)
-free_waits i s t h = free_left FreeWaits i s t
-    (λ n entry number base long live e. absurd (let clash : None ≡ Some (entry, acts.Free number base long live) = e in cc))
-    (λ r is entry number base long live e.
-    let f = whole_found s.objects (quota_in s t) (register (thread s t) 11) r is in
+-- an object that is given back waits
+gives_waits : (i : Image) (s : State) (t : ℕ) (r : Object) (c : Cap) → Confined i s → Found (quota_in s t) c s.objects r → FreeWaits (answers (let_go i s t r) t (integer 0)) (Some (free_told i s t r))
+gives_waits i s t r c h f entry number base long live e =
     let same : acts.Free r.number r.base r.length _ ≡ acts.Free number base long live = ap (act_in (acts.Free 0 0 0 0)) e in
     let waits = object_waits i s r number base long h f.there f.live (ap number_in same) (ap base_in same) (ap length_in same) in
     let stays = quarantined_stays i s r in
-    stays.waits (chunk_at number base long) waits)
+    stays.waits (chunk_at number base long) waits
+
+none_waits : (s : State) (t n : ℕ) → FreeWaits (answers s t (integer n)) None
+none_waits s t n entry number base long live e = absurd (let clash : None ≡ Some (entry, acts.Free number base long live) = e in cc)
+
+free_waits : (i : Image) (s : State) (t : ℕ) → Confined i s → Left FreeWaits (free i s t)
+free_waits i s t h = free_left FreeWaits i s t (none_waits s t) (λ r c f. gives_waits i s t r c h f)
+
+token_free_waits : (i : Image) (s : State) (t : ℕ) → Confined i s → Left FreeWaits (token_free i s t)
+token_free_waits i s t h = token_free_left FreeWaits i s t (none_waits s t) (λ r c f. gives_waits i s t r c h f)
 
 left_by : (Q : State → Option (ℕ × Act) → Type 0) (r : Ran) (z : State) (told : Option (ℕ × Act)) → r ≡ Leaves z told → Left Q r → Q z told
 left_by Q r z told is h = subst (Left Q) is h
@@ -85,8 +96,10 @@ step_frees b s d number base long live parts k act = step_case (λ (r : State ×
     at t told =
         let by : ToldBy b.image (ready b s) t (executed b (ready b s) t).0 d.entry (acts.Free number base long live) = subst (λ (a : Act). ToldBy b.image (ready b s) t (executed b (ready b s) t).0 d.entry a) act told.by in
         let held = (ready_keeps b s parts k).confined in
-        let left = left_by FreeWaits (free b.image (ready b s) t) (executed b (ready b s) t).0 (Some (d.entry, acts.Free number base long live)) by (free_waits b.image (ready b s) t held) in
-        left d.entry number base long live refl
+        elim by [
+          | inl plain ↦ left_by FreeWaits (free b.image (ready b s) t) (executed b (ready b s) t).0 (Some (d.entry, acts.Free number base long live)) plain (free_waits b.image (ready b s) t held) d.entry number base long live refl
+          | inr token ↦ left_by FreeWaits (token_free b.image (ready b s) t) (executed b (ready b s) t).0 (Some (d.entry, acts.Free number base long live)) token (token_free_waits b.image (ready b s) t held) d.entry number base long live refl
+        ]
 
 -- ---- an allocation that meets it
 
@@ -106,7 +119,7 @@ waits_whole b s es n base long d number from size live x waits is act meets = el
   | inl there ↦
       let keeps = run_keeps b s es x.parts x.facts x.wired x.keeps in
       let blank = run_blank b s es x.parts x.facts x.wired x.shut x.keeps x.blank in
-      let out : HandsOut b.image (ready b (run b s es)) d.thread number from size (executed b (ready b (run b s es)) d.thread).0 = step_allocates b (run b s es) d number from size live x.parts x.facts keeps blank act is in
+      let out : HandsOut b.image (ready b (run b s es)) number from size (AsHanded (ready b (run b s es)) d.thread (executed b (ready b (run b s es)) d.thread).0) = step_allocates b (run b s es) d number from size live x.parts x.facts keeps blank act is in
       let same : Same (run b s es) (ready b (run b s es)) = ready_same b (run b s es) in
       let here : Any (IsRow (chunk_at n base long)) (ready b (run b s es)).objects = subst (Any (IsRow (chunk_at n base long))) (sym same.objects) there in
       let starts = out.told.1 in

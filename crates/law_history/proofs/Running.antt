@@ -13,16 +13,16 @@ use Rattle.def_hidden.specs.Hidden.{Shut, Blank}
 use Rattle.def_step.specs.declared.Event.{Event}
 use Rattle.def_step.specs.declared.Event.TheVariants.{Step}
 use Rattle.def_step.specs.Events.{happens, run}
-use Rattle.def_step.specs.Instructions.{Board}
+use Rattle.def_machine.specs.Board.{Board}
 use Rattle.law_events.proofs.Events.{event_keeps}
 use Rattle.law_events.proofs.Running.{run_keeps}
 use Rattle.law_blank.proofs.Events.{event_blank, run_blank}
-use Rattle.law_reuse.specs.Reuse.{SweepsWhole}
-use Rattle.law_history.specs.Each.{EachEvent}
-use Rattle.law_history.specs.Clean.{CleanEvent}
-use Rattle.law_history.specs.Accesses.{UsesReach}
-use Rattle.law_history.specs.Temporal.{UsesLive, AllocatesFresh}
-use Rattle.law_history.specs.Chunks.{ChunksMeet, SweptBeforeReuse}
+use Rattle.def_safety.specs.Reuse.{SweepsWhole}
+use Rattle.def_safety.specs.Each.{EachEvent}
+use Rattle.def_safety.specs.Calls.{CleanEvent}
+use Rattle.def_safety.specs.Accesses.{UsesReach}
+use Rattle.def_safety.specs.Temporal.{UsesLive, AllocatesFresh}
+use Rattle.def_safety.specs.Chunks.{ChunksMeet, SweptBeforeReuse}
 use Rattle.law_history.proofs.Steps.{each_event}
 use Rattle.law_history.proofs.Cleaning.{clean_event}
 use Rattle.law_history.proofs.Safety.{uses_live, uses_reach, allocates_fresh}

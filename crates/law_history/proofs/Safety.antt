@@ -1,5 +1,5 @@
 -- *Licensed accesses* and *Temporal safety*, of one event.
-use Rattle.std.proofs.Common.{ℕ, ◌≡◌, ◌+◌, ◌<◌, ◌&&◌, true, nat_le, List, Option, Some, sym, subst, arith}
+use Rattle.std.proofs.Common.{ℕ, ◌≡◌, ◌+◌, ◌<◌, ◌&&◌, true, inl, inr, nat_le, List, Option, Some, sym, subst, arith}
 use Rattle.std.proofs.lemmas.Bool.{leb-true, and_parts}
 use Rattle.law_lists.proofs.Tests.{chosen}
 use Rattle.ct_entry.specs.declared.acts.Act.{Act}
@@ -9,7 +9,7 @@ use Rattle.def_words.specs.declared.Cap.{Cap}
 use Rattle.def_words.specs.Authority.{cap_address, cap_base, cap_top}
 use Rattle.def_words.specs.Capability.{is_range_inside}
 use Rattle.def_machine.specs.Image.{Image}
-use Rattle.def_machine.specs.State.{State, register, thread}
+use Rattle.def_machine.specs.State.{State, Object, register, thread}
 use Rattle.def_confined.specs.Keeps.{Keeps}
 use Rattle.def_confined.specs.Partitioned.{Partitioned}
 use Rattle.def_facts.specs.Facts.{Facts}
@@ -20,7 +20,8 @@ use Rattle.def_step.specs.declared.Event.TheVariants.{Step, Tick, Sweep, Input}
 use Rattle.def_step.specs.Accesses.{access_of, access_checks, load_checks, store_checks, access_address}
 use Rattle.def_step.specs.Checks.{Check}
 use Rattle.def_step.specs.Events.{stepped}
-use Rattle.def_step.specs.Instructions.{Board, executed, operand}
+use Rattle.def_step.specs.Instructions.{executed, operand}
+use Rattle.def_machine.specs.Board.{Board}
 use Rattle.def_step.specs.Operands.{operands_of}
 use Rattle.def_step.specs.Routines.{word_checks, lies_in_ram}
 use Rattle.law_licensed.proofs.Checks.{AllPass, all_pass}
@@ -28,11 +29,11 @@ use Rattle.law_licensed.proofs.Deeds.{register_used, pcc_used}
 use Rattle.law_events.proofs.Accesses.{load_passes, store_passes, width_of}
 use Rattle.law_events.proofs.Events.{ready_keeps}
 use Rattle.law_blank.proofs.Events.{ready_blank}
-use Rattle.law_natives.specs.Fresh.{HandsOut}
-use Rattle.law_natives.proofs.Handing.{hands_fresh}
-use Rattle.law_history.specs.Each.{ready}
-use Rattle.law_history.specs.Accesses.{UsesReach}
-use Rattle.law_history.specs.Temporal.{OfLive, UsesLive, AllocatesFresh}
+use Rattle.def_safety.specs.Fresh.{HandsOut, AsHanded}
+use Rattle.law_natives.proofs.Handing.{hands_fresh, key_fresh, token_fresh}
+use Rattle.def_safety.specs.Each.{ready}
+use Rattle.def_safety.specs.Accesses.{UsesReach}
+use Rattle.def_safety.specs.Temporal.{OfLive, UsesLive, AllocatesFresh}
 use Rattle.law_history.proofs.Steps.{none_told, step_case}
 use Rattle.law_history.proofs.Telling.{ToldBy, Tells, executed_tells}
 
@@ -71,17 +72,29 @@ uses_reach b s parts k = record {
 
 -- ---- what is handed out
 
+-- an object is handed out by one of three routines
+handed_as : {P R : Object → Type 0} (i : Image) (s : State) (number base long : ℕ) → ((r : Object) → P r → R r) → HandsOut i s number base long P → HandsOut i s number base long R
+handed_as i s number base long wider out = record { object = out.object; told = out.told; fresh = out.fresh; after_is = wider out.object out.after_is }
+
 pub step_allocates : (b : Board) (s : State) (d : Deed) (number base long live : ℕ) → Partitioned b.image → Facts b.image → Keeps b.image s → Blank b.image s → d.act ≡ acts.Allocate number base long live → (stepped b s).1 ≡ Some d
-    → HandsOut b.image (ready b s) d.thread number base long (executed b (ready b s) d.thread).0
-step_allocates b s d number base long live parts facts k blank act = step_case (λ (r : State × Option Deed). r.1 ≡ Some d → HandsOut b.image (ready b s) d.thread number base long (executed b (ready b s) d.thread).0) b s
+    → HandsOut b.image (ready b s) number base long (AsHanded (ready b s) d.thread (executed b (ready b s) d.thread).0)
+step_allocates b s d number base long live parts facts k blank act = step_case (λ (r : State × Option Deed). r.1 ≡ Some d → HandsOut b.image (ready b s) number base long (AsHanded (ready b s) d.thread (executed b (ready b s) d.thread).0)) b s
     (λ idle e. none_told d e)
     (λ t runs e. at t (executed_tells b (ready b s) t d e))
   where
-    at : (t : ℕ) → Tells b (ready b s) t (executed b (ready b s) t).0 d → HandsOut b.image (ready b s) d.thread number base long (executed b (ready b s) d.thread).0
+    at : (t : ℕ) → Tells b (ready b s) t (executed b (ready b s) t).0 d → HandsOut b.image (ready b s) number base long (AsHanded (ready b s) d.thread (executed b (ready b s) d.thread).0)
     at t told =
         let by : ToldBy b.image (ready b s) t (executed b (ready b s) t).0 d.entry (acts.Allocate number base long live) = subst (λ (a : Act). ToldBy b.image (ready b s) t (executed b (ready b s) t).0 d.entry a) act told.by in
-        subst (λ u. HandsOut b.image (ready b s) u number base long (executed b (ready b s) u).0) (sym told.thread)
-        (hands_fresh b.image (ready b s) (executed b (ready b s) t).0 t d.entry number base long live parts facts.away (ready_keeps b s parts k) (ready_blank b s blank) by)
+        let keeps = ready_keeps b s parts k in
+        let zero = ready_blank b s blank in
+        subst (λ u. HandsOut b.image (ready b s) number base long (AsHanded (ready b s) u (executed b (ready b s) u).0)) (sym told.thread)
+        (elim by [
+          | inl plain ↦ handed_as b.image (ready b s) number base long (λ r is. inl is) (hands_fresh b.image (ready b s) (executed b (ready b s) t).0 t d.entry number base long live parts facts.away keeps zero plain)
+          | inr sealed ↦ elim sealed [
+            | inl key ↦ handed_as b.image (ready b s) number base long (λ r is. inr (inl is)) (key_fresh b.image (ready b s) (executed b (ready b s) t).0 t d.entry number base long live parts facts.away keeps zero key)
+            | inr token ↦ handed_as b.image (ready b s) number base long (λ r is. inr (inr is)) (token_fresh b.image (ready b s) (executed b (ready b s) t).0 t d.entry number base long live parts facts.away keeps zero token)
+          ]
+        ])
 
 pub allocates_fresh : (b : Board) (s : State) (e : Event) → Partitioned b.image → Facts b.image → Keeps b.image s → Blank b.image s → AllocatesFresh b s e
 allocates_fresh b s Step parts facts k blank d number base long live is act = step_allocates b s d number base long live parts facts k blank act is

@@ -4,8 +4,9 @@ use Rattle.ct_entry.specs.declared.acts.Deed.{Deed}
 use Rattle.def_machine.specs.State.{State}
 use Rattle.def_step.specs.declared.Event.{Event}
 use Rattle.def_step.specs.Events.{noted, continued, happens, stepped}
-use Rattle.def_step.specs.Instructions.{Board, executed}
-use Rattle.law_history.specs.Each.{ready, EachEvent}
+use Rattle.def_step.specs.Instructions.{executed}
+use Rattle.def_machine.specs.Board.{Board}
+use Rattle.def_safety.specs.Each.{ready, EachEvent}
 
 -- what no event told
 pub none_told : {G : Type 0} (d : Deed) → None ≡ Some d → G

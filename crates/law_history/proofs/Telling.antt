@@ -1,5 +1,5 @@
 -- What told the deed of a step: a routine, an access or a trap.
-use Rattle.std.proofs.Common.{ℕ, ◌≡◌, ◌≤◌, Option, Some, None, Result, Ok, Err, refl, option_map}
+use Rattle.std.proofs.Common.{ℕ, ◌≡◌, ◌≤◌, ◌⊎◌, inl, inr, Option, Some, None, Result, Ok, Err, refl, option_map}
 use Rattle.std.specs.Prelude.{is_some}
 use Rattle.law_lists.proofs.Tests.{chosen}
 use Rattle.ct_entry.specs.declared.acts.Act.{Act}
@@ -14,7 +14,7 @@ use Rattle.def_profile.specs.declared.traps.TheConstants.{ILLEGAL_INSTRUCTION}
 use Rattle.def_instr.specs.declared.Instr.{Instr}
 use Rattle.def_machine.specs.Image.{Image}
 use Rattle.def_machine.specs.State.{State, thread}
-use Rattle.def_machine.specs.Frames.{returned, unwound}
+use Rattle.def_step.specs.Handlers.{return_taken, trap_taken}
 use Rattle.def_step.specs.declared.Access.{Access}
 use Rattle.def_step.specs.declared.Class.{Class}
 use Rattle.def_step.specs.declared.Class.TheVariants as class
@@ -26,21 +26,27 @@ use Rattle.def_step.specs.Checks.{first_failed}
 use Rattle.def_step.specs.Devices.{found}
 use Rattle.def_step.specs.Jumps.{Flowed}
 use Rattle.def_step.specs.Operands.{operands_of, class_of}
-use Rattle.def_step.specs.Instructions.{Board, Done, Around, carried_out, named_by, flows, accesses, around, space_of, deed, deed_told, trapped, put_done, ends, operand, goes_on, after_fetch, executed, fetch_checks, next_at, ran, served}
+use Rattle.def_step.specs.Instructions.{Done, Around, carried_out, named_by, flows, accesses, around, space_of, deed, deed_told, trapped, put_done, ends, operand, goes_on, after_fetch, executed, fetch_checks, next_at, ran, served}
+use Rattle.def_machine.specs.Board.{Board}
 use Rattle.def_step.specs.Native.{native}
 use Rattle.def_step.specs.Quotas.{allocate, free, remaining}
 use Rattle.def_step.specs.Routines.{Ran, Traps, Leaves, switch, yield, sleep, wait, wake}
+use Rattle.def_step.specs.Tokens.{token_key, token_new, token_open, token_free}
 use Rattle.law_events.proofs.Fairness.{some_same}
 use Rattle.law_routines.specs.Leaving.{Left}
 use Rattle.law_routines.proofs.Cases.{by_next, by_routine}
-use Rattle.law_routines.proofs.Leaving.{switch_left, yield_left, sleep_left, wait_left, wake_left, allocate_left, free_left, remaining_left}
+use Rattle.law_routines.proofs.Leaving.{switch_left, yield_left, sleep_left, wait_left, wake_left, allocate_left, free_left, remaining_left, token_key_left, token_new_left, token_open_left, token_free_left}
 
 -- which routine of thread t told an act, and left a state
 abbrev pub ToldBy : Image → State → ℕ → State → ℕ → Act → Type 0
 ToldBy i s t z entry (acts.Call export) = switch i s t ≡ Leaves z (Some (entry, acts.Call export))
-ToldBy i s t z entry (acts.Allocate number base long live) = allocate i s t ≡ Leaves z (Some (entry, acts.Allocate number base long live))
-ToldBy i s t z entry (acts.Free number base long live) = free i s t ≡ Leaves z (Some (entry, acts.Free number base long live))
-ToldBy i s t z entry (acts.Trap cause code register) = z ≡ unwound i s t (thread s t).frames
+ToldBy i s t z entry (acts.Allocate number base long live) =
+    let told : Ran = Leaves z (Some (entry, acts.Allocate number base long live)) in
+    (allocate i s t ≡ told) ⊎ ((token_key i s t ≡ told) ⊎ (token_new i s t ≡ told))
+ToldBy i s t z entry (acts.Free number base long live) =
+    let told : Ran = Leaves z (Some (entry, acts.Free number base long live)) in
+    (free i s t ≡ told) ⊎ (token_free i s t ≡ told)
+ToldBy i s t z entry (acts.Trap cause code register) = z ≡ trap_taken i s t (record { cause = cause; code = code; register = register }) (thread s t).frames
 ToldBy i s t z entry (acts.Load address width value) = Unit {0}
 ToldBy i s t z entry (acts.Store address width value) = Unit {0}
 
@@ -56,7 +62,7 @@ none_tells : (b : Board) (s : State) (t : ℕ) (z : State) → TellsAll b s t (z
 none_tells b s t z d e = absurd (let clash : None ≡ Some d = e in cc)
 
 trap_tells : (b : Board) (s : State) (t : ℕ) (why : Trap) → TellsAll b s t (trapped b s t why)
-trap_tells b s t why d e = some_same (Tells b s t (unwound b.image s t (thread s t).frames)) (deed s t 0 (acts.Trap why.cause why.code why.register)) d e (record { thread = refl; by = refl })
+trap_tells b s t why d e = some_same (Tells b s t (trap_taken b.image s t why (thread s t).frames)) (deed s t 0 (acts.Trap why.cause why.code why.register)) d e (record { thread = refl; by = refl })
 
 -- ---- instructions tell loads and stores alone
 
@@ -147,21 +153,22 @@ call_by i s t z entry (acts.Allocate number base long live) h e = absurd h
 call_by i s t z entry (acts.Free number base long live) h e = absurd h
 call_by i s t z entry (acts.Trap cause code register) h e = absurd h
 
-allocate_by : (i : Image) (s : State) (t : ℕ) (z : State) (entry : ℕ) (a : Act) → IsAllocate a → allocate i s t ≡ Leaves z (Some (entry, a)) → ToldBy i s t z entry a
-allocate_by i s t z entry (acts.Allocate number base long live) h e = e
-allocate_by i s t z entry (acts.Load address width value) h e = absurd h
-allocate_by i s t z entry (acts.Store address width value) h e = absurd h
-allocate_by i s t z entry (acts.Call export) h e = absurd h
-allocate_by i s t z entry (acts.Free number base long live) h e = absurd h
-allocate_by i s t z entry (acts.Trap cause code register) h e = absurd h
+-- by one of the routines that hand an object out, and of those that give one back
+allocate_by : (i : Image) (s : State) (t : ℕ) (routine : Ran) → ((z : State) (entry number base long live : ℕ) → routine ≡ Leaves z (Some (entry, acts.Allocate number base long live)) → ToldBy i s t z entry (acts.Allocate number base long live)) → (z : State) (entry : ℕ) (a : Act) → IsAllocate a → routine ≡ Leaves z (Some (entry, a)) → ToldBy i s t z entry a
+allocate_by i s t routine by z entry (acts.Allocate number base long live) h e = by z entry number base long live e
+allocate_by i s t routine by z entry (acts.Load address width value) h e = absurd h
+allocate_by i s t routine by z entry (acts.Store address width value) h e = absurd h
+allocate_by i s t routine by z entry (acts.Call export) h e = absurd h
+allocate_by i s t routine by z entry (acts.Free number base long live) h e = absurd h
+allocate_by i s t routine by z entry (acts.Trap cause code register) h e = absurd h
 
-free_by : (i : Image) (s : State) (t : ℕ) (z : State) (entry : ℕ) (a : Act) → IsFree a → free i s t ≡ Leaves z (Some (entry, a)) → ToldBy i s t z entry a
-free_by i s t z entry (acts.Free number base long live) h e = e
-free_by i s t z entry (acts.Load address width value) h e = absurd h
-free_by i s t z entry (acts.Store address width value) h e = absurd h
-free_by i s t z entry (acts.Call export) h e = absurd h
-free_by i s t z entry (acts.Allocate number base long live) h e = absurd h
-free_by i s t z entry (acts.Trap cause code register) h e = absurd h
+free_by : (i : Image) (s : State) (t : ℕ) (routine : Ran) → ((z : State) (entry number base long live : ℕ) → routine ≡ Leaves z (Some (entry, acts.Free number base long live)) → ToldBy i s t z entry (acts.Free number base long live)) → (z : State) (entry : ℕ) (a : Act) → IsFree a → routine ≡ Leaves z (Some (entry, a)) → ToldBy i s t z entry a
+free_by i s t routine by z entry (acts.Free number base long live) h e = by z entry number base long live e
+free_by i s t routine by z entry (acts.Load address width value) h e = absurd h
+free_by i s t routine by z entry (acts.Store address width value) h e = absurd h
+free_by i s t routine by z entry (acts.Call export) h e = absurd h
+free_by i s t routine by z entry (acts.Allocate number base long live) h e = absurd h
+free_by i s t routine by z entry (acts.Trap cause code register) h e = absurd h
 
 -- a routine whose acts are all of one kind, by which it is found
 ran_tells : (b : Board) (s : State) (t : ℕ) (P : Act → Type 0) (routine r : Ran) → routine ≡ r → ((z : State) (entry : ℕ) (a : Act) → P a → routine ≡ Leaves z (Some (entry, a)) → ToldBy b.image s t z entry a) → Left (IfTold P) r → TellsAll b s t (ran b s t r)
@@ -179,16 +186,20 @@ routine_tells b s t n few other = by_routine (λ (o : Option Ran). TellsAll b s 
   sleep = none_by b s t (sleep s t) (sleep_left (IfTold IsNone) b.image s t (λ status. tt));
   wait = none_by b s t (wait b.image s t) (wait_left (IfTold IsNone) b.image s t (λ n. tt) (λ status. tt));
   wake = none_by b s t (wake b.image s t) (wake_left (IfTold IsNone) b.image s t (λ address most. tt));
-  allocate = ran_tells b s t IsAllocate (allocate b.image s t) (allocate b.image s t) refl (allocate_by b.image s t) (allocate_left (IfTold IsAllocate) b.image s t (λ n. tt) (λ size r is. tt));
-  free = ran_tells b s t IsFree (free b.image s t) (free b.image s t) refl (free_by b.image s t) (free_left (IfTold IsFree) b.image s t (λ n. tt) (λ r is. tt));
+  allocate = ran_tells b s t IsAllocate (allocate b.image s t) (allocate b.image s t) refl (allocate_by b.image s t (allocate b.image s t) (λ z entry number base long live e. inl e)) (allocate_left (IfTold IsAllocate) b.image s t (λ n. tt) (λ size r is. tt));
+  free = ran_tells b s t IsFree (free b.image s t) (free b.image s t) refl (free_by b.image s t (free b.image s t) (λ z entry number base long live e. inl e)) (free_left (IfTold IsFree) b.image s t (λ n. tt) (λ r c is. tt));
   remaining = none_by b s t (remaining b.image s t) (remaining_left (IfTold IsNone) b.image s t (λ n. tt));
+  token_key = ran_tells b s t IsAllocate (token_key b.image s t) (token_key b.image s t) refl (allocate_by b.image s t (token_key b.image s t) (λ z entry number base long live e. inr (inl e))) (token_key_left (IfTold IsAllocate) b.image s t (λ n. tt) (λ r is. tt));
+  token_new = ran_tells b s t IsAllocate (token_new b.image s t) (token_new b.image s t) refl (allocate_by b.image s t (token_new b.image s t) (λ z entry number base long live e. inr (inr e))) (token_new_left (IfTold IsAllocate) b.image s t (λ n. tt) (λ size key r is k. tt));
+  token_open = none_by b s t (token_open s t) (token_open_left (IfTold IsNone) b.image s t (λ n. tt) (λ key r is. tt));
+  token_free = ran_tells b s t IsFree (token_free b.image s t) (token_free b.image s t) refl (free_by b.image s t (token_free b.image s t) (λ z entry number base long live e. inr e)) (token_free_left (IfTold IsFree) b.image s t (λ n. tt) (λ r c is. tt));
 })
 
 -- ---- whole
 
 next_tells : (b : Board) (s : State) (t : ℕ) → TellsAll b s t (goes_on b s t (next_at (space_of b s) (cap_address (thread s t).pcc)))
 next_tells b s t = by_next (λ (n : Next). TellsAll b s t (goes_on b s t n)) (space_of b s) (cap_address (thread s t).pcc)
-    (none_tells b s t (returned b.image s t (thread s t).frames))
+    (none_tells b s t (return_taken b.image s t (thread s t).frames))
     (λ k away read. ends_tells b s t (operand s t (operands_of k).first) _ (class_acts (class_of k) k (operands_of k).to (operand s t (operands_of k).first) (operand s t (operands_of k).second) (named_by b.image (operand s t (operands_of k).first)) (around b s t)))
     (λ n few other. routine_tells b s t n few other)
     (trap_tells b s t (plain_trap ILLEGAL_INSTRUCTION))

@@ -14,17 +14,19 @@ ghost use Rattle.def_machine.specs.Objects.{charges};
 ghost use Rattle.def_machine.specs.State.{State};
 ghost use Rattle.def_step.specs.declared.Event.{Event};
 ghost use Rattle.def_step.specs.Events.{run};
-ghost use Rattle.def_step.specs.Instructions.{Board};
-ghost use Rattle.law_history.specs.Accesses.{UsesReach};
-ghost use Rattle.law_history.specs.Chunks.{SweptBeforeReuse};
-ghost use Rattle.law_history.specs.Clean.{CleanEvent};
-ghost use Rattle.law_history.specs.Each.{EachEvent};
-ghost use Rattle.law_history.specs.Temporal.{AllocatesFresh, UsesLive};
+ghost use Rattle.def_machine.specs.Board.{Board};
+ghost use Rattle.def_safety.specs.Accesses.{UsesReach};
+ghost use Rattle.def_safety.specs.Chunks.{SweptBeforeReuse};
+ghost use Rattle.def_safety.specs.Calls.{CleanEvent};
+ghost use Rattle.def_safety.specs.Each.{EachEvent};
+ghost use Rattle.def_safety.specs.Temporal.{AllocatesFresh, UsesLive};
 
 /// Clean calls. On entry through an export that passes plain values the tagged registers are exactly the
 /// program counter, c1, c2 and c3, as the switcher gives them, and the callee's stack is zero and untagged.
-/// On its return or unwind c10 and c11 are untagged, the other tagged registers are the caller's saved
-/// ones, and the stack is zero and untagged from its base up to the frame's top.
+/// On its return or unwind, and at the end of its error handler, c10 and c11 are untagged, the other tagged
+/// registers are the caller's saved ones, and the stack is zero and untagged from its base up to the frame's
+/// top. A trap that enters an error handler begins it with its own code, the way back, the stack from the
+/// record of the trap on and its compartment's globals, and nothing else tagged.
 pub fn calls_clean()
     ensures { (b : Board) (s : State) (es : List Event)
         → Partitioned b.image → Facts b.image → Wired b → Keeps b.image s

@@ -15,7 +15,8 @@ use Rattle.def_confined.specs.Capabilities.{heap_cap}
 use Rattle.def_confined.specs.Places.{Placed, InFrames, LiveCovers, OwnStack}
 use Rattle.def_confined.specs.Confined.{Confined, IsPcc, PostureFits}
 use Rattle.def_confined.specs.Licensed.{Licensed, OffLicensed, IsDeviceAccess}
-use Rattle.law_licensed.specs.Uses.{IsUse, GatesOfExports}
+use Rattle.law_licensed.specs.Uses.{GatesOfExports}
+use Rattle.def_safety.specs.Accesses.{IsUse}
 use Rattle.law_places.proofs.Places.{no_heap_of}
 use Rattle.law_registers.proofs.Derives.{code_no_heap}
 

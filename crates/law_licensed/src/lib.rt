@@ -13,7 +13,8 @@ ghost use Rattle.def_machine.specs.State.{State, Frame, register, thread};
 ghost use Rattle.def_machine.specs.Objects.{charges};
 ghost use Rattle.def_confined.specs.Confined.{Confined, IsPcc};
 ghost use Rattle.def_confined.specs.Licensed.{Licensed, OffLicensed};
-ghost use Rattle.law_licensed.specs.Uses.{IsUse, GatesOfExports, Holds, Accesses, Charges, deed_by, span_of};
+ghost use Rattle.law_licensed.specs.Uses.{GatesOfExports, Holds, Accesses, Charges, deed_by, span_of};
+ghost use Rattle.def_safety.specs.Accesses.{IsUse};
 
 /// What a tagged register of the running thread, or a thread's tagged program counter, may be used for.
 pub fn uses_reach()

@@ -1,5 +1,5 @@
 -- Tests that tell: what a Bool test says of numbers, and a test by cases.
-use Rattle.std.proofs.Common.{◌≡◌, ℕ, ◌<◌, ◌≤◌, Bool, true, false, ◌&&◌, cond, nat_lt, nat_le, nat_eq, ◌⊎◌, inl, inr, refl}
+use Rattle.std.proofs.Common.{◌≡◌, ℕ, zero, suc, not, ◌||◌, ◌<◌, ◌≤◌, Bool, true, false, ◌&&◌, cond, nat_lt, nat_le, nat_eq, ◌⊎◌, inl, inr, refl}
 use Rattle.std.proofs.lemmas.Bool.{ltb-true, ltb-false, leb-true, leb-false, eqb-true, eqb-false, cases_Bool, and_parts}
 
 pub bool_tells : (b : Bool) → (b ≡ true) ⊎ (b ≡ false)
@@ -34,3 +34,23 @@ chosen_in P from to n x y inside outside = elim (le_tells from n) [
   ]
   | inr e ↦ let test : (nat_le from n && nat_lt n to) ≡ false = rw e.0 refl in rw test (outside (inl e.1))
 ]
+
+-- what a test says of each number below n, and of those after, it says of all
+abbrev pub all_below : (ℕ → Bool) → ℕ → Bool
+all_below f zero = true
+all_below f (suc n) = f 0 && all_below (λ j. f (suc j)) n
+
+-- the number that is so far past another
+abbrev pub past : ℕ → ℕ → ℕ
+past zero j = j
+past (suc n) j = suc (past n j)
+
+pub by_test : (f : ℕ → Bool) (n : ℕ) → all_below f n ≡ true → ((j : ℕ) → f (past n j) ≡ true) → (k : ℕ) → f k ≡ true
+by_test f zero below rest k = rest k
+by_test f (suc n) below rest zero = both_left (f 0) (all_below (λ j. f (suc j)) n) below
+by_test f (suc n) below rest (suc k) = by_test (λ j. f (suc j)) n (both_right (f 0) (all_below (λ j. f (suc j)) n) below) rest k
+
+-- what a test asks under another
+pub implied : (a b : Bool) → (not a || b) ≡ true → a ≡ true → b ≡ true
+implied true b h is = h
+implied false b h is = absurd (let clash : false ≡ true = is in cc)

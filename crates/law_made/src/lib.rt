@@ -24,21 +24,24 @@ ghost use Rattle.def_confined.specs.Partitioned.{Partitioned};
 ghost use Rattle.def_confined.specs.Made.{Derived, Opens, Links, IsStackUpTo, IsObjectCap};
 ghost use Rattle.def_confined.specs.Changes.{Enters, NewObject};
 ghost use Rattle.law_made.specs.Calling.{PassesChecks, stack_up_to};
+ghost use Rattle.law_made.specs.Results.{ResultOf};
 
-/// A result of an operation is derived from its first operand: the address and its raise, bounds, exact
-/// bounds, a mask, the tag cleared, a seal and an unseal by a key with a root, and a load's attenuation.
+/// A result of an operation is within its first operand, and sealed as it or by a key: the address and its raise,
+/// bounds, exact bounds, a mask, the tag cleared, a seal and an unseal by a key with a root, and a load's
+/// attenuation. What is so is derived, as the moves take it.
 pub fn results_derived()
-    ensures address { (c : Cap) (a : ℕ) → a < 2 ^ 32 → Derived c (with_address c a) }
-    ensures raise { (c : Cap) (n : ℕ) → Derived c (raised c n) }
-    ensures bounds { (c : Cap) (n : ℕ) → Derived c (with_bounds c n) }
-    ensures exact { (c : Cap) (n : ℕ) → Derived c (with_exact_bounds c n) }
-    ensures mask { (c : Cap) (n : ℕ) → Derived c (masked c n) }
-    ensures clear { (c : Cap) → Derived c (untagged c) }
+    ensures address { (c : Cap) (a : ℕ) → a < 2 ^ 32 → ResultOf c (with_address c a) }
+    ensures raise { (c : Cap) (n : ℕ) → ResultOf c (raised c n) }
+    ensures bounds { (c : Cap) (n : ℕ) → ResultOf c (with_bounds c n) }
+    ensures exact { (c : Cap) (n : ℕ) → ResultOf c (with_exact_bounds c n) }
+    ensures mask { (c : Cap) (n : ℕ) → ResultOf c (masked c n) }
+    ensures clear { (c : Cap) → ResultOf c (untagged c) }
     ensures seals { (i : Image) (c key : Cap)
-        → Partitioned i → (key.tag ≡ true → Rooted i key) → Derived c (sealed_by c key) }
+        → Partitioned i → (key.tag ≡ true → Rooted i key) → ResultOf c (sealed_by c key) }
     ensures unseals { (i : Image) (c key : Cap)
-        → Partitioned i → (key.tag ≡ true → Rooted i key) → Derived c (unsealed_by c key) }
-    ensures loads { (by c : Cap) → Derived c (attenuated by c) }
+        → Partitioned i → (key.tag ≡ true → Rooted i key) → ResultOf c (unsealed_by c key) }
+    ensures loads { (by c : Cap) → ResultOf c (attenuated by c) }
+    ensures derived { (c d : Cap) → ResultOf c d → Derived c d }
     ensures carries { (by c : Cap)
         → (attenuated by c).tag ≡ true → has by memory_capability ≡ true }
 {}

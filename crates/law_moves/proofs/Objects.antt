@@ -1,24 +1,22 @@
 -- Moves of the heap's objects: an allocation, a free.
-use Rattle.std.proofs.Common.{ℕ, ◌≡◌, ◌+◌, ◌-◌, ◌*◌, ◌≤◌, ◌<◌, inl, inr, true, false, List, [], ◌∷◌, length, map, Option, Some, None, refl, sym, ◌∙◌, subst, arith, slice_set}
-use Rattle.std.proofs.lemmas.List.{length-map, length-set}
-use Rattle.law_lists.proofs.Sets.{after_set, after_set_at, after_set_split}
+use Rattle.std.proofs.Common.{ℕ, ◌≡◌, ◌+◌, ◌-◌, inr, true, false, List, [], ◌∷◌, map, Option, arith}
+use Rattle.std.proofs.lemmas.List.{length-map}
 use Rattle.law_granules.proofs.Lists.{zeroed_length, marked_length}
 use Rattle.def_words.specs.declared.Cap.{Cap}
 use Rattle.def_memory.specs.Ranges.{zeroed_from}
-use Rattle.def_machine.specs.Image.{Image, area_of, frames_most}
-use Rattle.def_machine.specs.State.{State, Thread, Frame, Object, thread, register, granule, nobody}
+use Rattle.def_machine.specs.Image.{Image, area_of}
+use Rattle.def_machine.specs.State.{State, Frame, Object, thread, register, granule}
 use Rattle.def_machine.specs.Memory.{filtered}
-use Rattle.def_machine.specs.Objects.{Any, Each, quarantine, placed_among}
+use Rattle.def_machine.specs.Objects.{Each, quarantine, placed_among}
 use Rattle.def_machine.specs.Heap.{with_object, quarantined, freed}
-use Rattle.def_machine.specs.Registers.{put_register, with_registers}
+use Rattle.def_machine.specs.Registers.{put_register}
 use Rattle.def_confined.specs.Changes.{NewObject, Frees}
-use Rattle.def_confined.specs.Holding.{EndFits}
 use Rattle.def_confined.specs.Keeps.{Beside, Keeps}
 use Rattle.def_confined.specs.Partitioned.{Partitioned}
-use Rattle.def_confined.specs.Swept.{UnpaintedCovers, HasUnpainted, FramesSwept, Swept}
+use Rattle.def_confined.specs.Swept.{UnpaintedCovers, HasUnpainted, FramesSwept}
 use Rattle.law_places.proofs.Rows.{among_any, among_each}
 use Rattle.law_heap.proofs.Allocates.{allocate_confined}
-use Rattle.law_heap.proofs.Quarantines.{gone, quarantine_any, quarantine_each}
+use Rattle.law_heap.proofs.Quarantines.{quarantine_any, quarantine_each}
 use Rattle.law_heap.proofs.Frees.{free_confined, freed_cap}
 use Rattle.law_moves.specs.Premises.{Allocates}
 use Rattle.law_moves.proofs.Threads.{put_beside, registers_beside}

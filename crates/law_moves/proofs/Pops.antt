@@ -6,12 +6,12 @@ use Rattle.def_memory.specs.Granules.{plain}
 use Rattle.def_memory.specs.Ranges.{zeroed_from}
 use Rattle.def_machine.specs.Image.{Image, area_of, frames_most, stack_base}
 use Rattle.def_machine.specs.State.{State, Frame, thread, nobody}
-use Rattle.def_machine.specs.Frames.{returned, unwound, left_by, answer}
+use Rattle.def_machine.specs.Frames.{returned, ended_with, unwound, left_by, answer}
 use Rattle.def_confined.specs.Keeps.{Beside, Keeps}
 use Rattle.def_confined.specs.Partitioned.{Partitioned}
 use Rattle.def_confined.specs.Swept.{FramesSwept, Bounded}
 use Rattle.law_places.proofs.Turns.{clock_of}
-use Rattle.law_calls.proofs.Pops.{returned_confined, unwound_confined}
+use Rattle.law_calls.proofs.Pops.{returned_confined, ended_confined}
 use Rattle.law_sweeps.proofs.Moves.{ThreadLeft, moved_beside}
 use Rattle.law_moves.proofs.Threads.{zeroed_left}
 
@@ -54,14 +54,17 @@ returned_beside i s t (f ∷ g ∷ gs) e runs b =
     (back_left i s t f g gs (answer i (thread s t) f 10) (answer i (thread s t) f 11) runs e b.bounded)
     b
 
-pub unwound_beside : (i : Image) (s : State) (t : ℕ) (fs : List Frame) → (thread s t).frames ≡ fs → s.running ≡ Some t → Beside i s → Beside i (unwound i s t fs)
-unwound_beside i s t [] e runs b = b
-unwound_beside i s t (f ∷ []) e runs b = moved_beside i s t (zeroed_from (stack_base i t) f.top i.ram s.granules) nobody None (clock_of s) (zeroed_left i s t f.top) (over_left i s t runs) b
-unwound_beside i s t (f ∷ g ∷ gs) e runs b =
-    moved_beside i s t (zeroed_from (stack_base i t) f.top i.ram s.granules) (left_by i s (thread s t) f (g ∷ gs) (plain UNWOUND) (plain 0)) s.running (clock_of s)
+pub ended_beside : (i : Image) (s : State) (t value : ℕ) (fs : List Frame) → (thread s t).frames ≡ fs → s.running ≡ Some t → Beside i s → Beside i (ended_with i s t value fs)
+ended_beside i s t value [] e runs b = b
+ended_beside i s t value (f ∷ []) e runs b = moved_beside i s t (zeroed_from (stack_base i t) f.top i.ram s.granules) nobody None (clock_of s) (zeroed_left i s t f.top) (over_left i s t runs) b
+ended_beside i s t value (f ∷ g ∷ gs) e runs b =
+    moved_beside i s t (zeroed_from (stack_base i t) f.top i.ram s.granules) (left_by i s (thread s t) f (g ∷ gs) (plain value) (plain 0)) s.running (clock_of s)
     (zeroed_left i s t f.top)
-    (back_left i s t f g gs (plain UNWOUND) (plain 0) runs e b.bounded)
+    (back_left i s t f g gs (plain value) (plain 0) runs e b.bounded)
     b
+
+pub unwound_beside : (i : Image) (s : State) (t : ℕ) (fs : List Frame) → (thread s t).frames ≡ fs → s.running ≡ Some t → Beside i s → Beside i (unwound i s t fs)
+unwound_beside i s t fs e runs b = ended_beside i s t UNWOUND fs e runs b
 
 -- ---- whole
 
@@ -71,8 +74,11 @@ returned_keeps i s t parts k runs = record {
   beside = returned_beside i s t (thread s t).frames refl runs k.beside;
 }
 
-pub unwound_keeps : (i : Image) (s : State) (t : ℕ) → Partitioned i → Keeps i s → s.running ≡ Some t → Keeps i (unwound i s t (thread s t).frames)
-unwound_keeps i s t parts k runs = record {
-  confined = unwound_confined i s t (thread s t).frames parts k.confined refl;
-  beside = unwound_beside i s t (thread s t).frames refl runs k.beside;
+pub ended_keeps : (i : Image) (s : State) (t value : ℕ) → Partitioned i → Keeps i s → s.running ≡ Some t → Keeps i (ended_with i s t value (thread s t).frames)
+ended_keeps i s t value parts k runs = record {
+  confined = ended_confined i s t value (thread s t).frames parts k.confined refl;
+  beside = ended_beside i s t value (thread s t).frames refl runs k.beside;
 }
+
+pub unwound_keeps : (i : Image) (s : State) (t : ℕ) → Partitioned i → Keeps i s → s.running ≡ Some t → Keeps i (unwound i s t (thread s t).frames)
+unwound_keeps i s t parts k runs = ended_keeps i s t UNWOUND parts k runs

@@ -1,5 +1,5 @@
 -- What the whole moves take of a state.
-use Rattle.std.specs.Prelude.{ℕ, ◌≡◌, ◌<◌, true, List, [], ◌∷◌, length, Some}
+use Rattle.std.specs.Prelude.{ℕ, ◌≡◌, ◌<◌, true, List, [], length, Some}
 use Rattle.def_words.specs.declared.Cap.{Cap}
 use Rattle.ct_entry.specs.declared.rows.Kind.TheVariants.{Quota}
 use Rattle.def_reach.specs.Roots.{Listing}

@@ -8,7 +8,7 @@ ghost use Rattle.def_words.specs.declared.Cap.{Cap};
 ghost use Rattle.def_sched.specs.declared.Status.{Status};
 ghost use Rattle.def_machine.specs.Image.{Image};
 ghost use Rattle.def_machine.specs.State.{State, Frame, Object, thread};
-ghost use Rattle.def_machine.specs.Frames.{Given, switched, entered, returned, unwound};
+ghost use Rattle.def_machine.specs.Frames.{Given, switched, ended_with, entered, returned, unwound};
 ghost use Rattle.def_machine.specs.Heap.{with_object, freed};
 ghost use Rattle.def_machine.specs.Registers.{put_register};
 ghost use Rattle.def_machine.specs.Threads.{Clockwork, changed, with_status};
@@ -51,11 +51,15 @@ pub fn turn_moves()
         → Keeps i (changed s t (with_status (thread s t) status) s.running w) }
 {}
 
-/// The innermost frame of the running thread ends, by a return or by an unwind; the end of the last one is the thread's.
+/// The innermost frame of the running thread ends, by a return, with a value or by an unwind; the end of the last one is
+/// the thread's.
 pub fn pop_moves()
     ensures returned { (i : Image) (s : State) (t : ℕ)
         → Partitioned i → Keeps i s → s.running ≡ Some t
         → Keeps i (returned i s t (thread s t).frames) }
+    ensures value { (i : Image) (s : State) (t value : ℕ)
+        → Partitioned i → Keeps i s → s.running ≡ Some t
+        → Keeps i (ended_with i s t value (thread s t).frames) }
     ensures unwound { (i : Image) (s : State) (t : ℕ)
         → Partitioned i → Keeps i s → s.running ≡ Some t
         → Keeps i (unwound i s t (thread s t).frames) }

@@ -14,16 +14,15 @@ use Rattle.def_machine.specs.Image.{Image, root, made_cap, code_entry, globals_e
 use Rattle.def_machine.specs.State.{State, Thread, Frame, thread, register, nobody}
 use Rattle.def_machine.specs.Memory.{filtered}
 use Rattle.def_words.specs.Seals.{cap_seal, posture_through}
-use Rattle.def_machine.specs.Frames.{switched, entered, answer, left_by, returned, unwound, posture_of_call}
+use Rattle.def_machine.specs.Frames.{switched, entered, answer, left_by, returned, ended_with, unwound, posture_of_call}
 use Rattle.def_confined.specs.Keeps.{Keeps}
 use Rattle.def_confined.specs.Partitioned.{Partitioned}
 use Rattle.def_step.specs.Switch.{called}
 use Rattle.def_step.specs.Routines.{Leaves, switch}
 use Rattle.law_calls.proofs.Cleans.{entry_plain, left_plain, answer_plain, stack_zero}
-use Rattle.law_calls.specs.Cleans.{IsGiven, IsSaved}
+use Rattle.def_safety.specs.Clean.{IsGiven, IsSaved, CleanEntry, CleanReturn, StackZero, high_of, given_to}
 use Rattle.def_facts.specs.Facts.{Facts}
 use Rattle.law_natives.proofs.Calling.{code_tagged, globals_tagged, sentry_tagged, stack_tagged}
-use Rattle.law_natives.specs.Clean.{CleanEntry, CleanReturn, StackZero, high_of, given_to}
 use Rattle.law_natives.proofs.Switching.{callee_of, entered_state, switch_told, checks_say, caller_of}
 
 -- ---- a thread that changed
@@ -99,6 +98,9 @@ left_clean i s t f g gs first second frames one two =
 pub back_clean : (i : Image) (s : State) (t : ℕ) (f g : Frame) (gs : List Frame) → (thread s t).frames ≡ f ∷ g ∷ gs → (root i f.export).passes ≡ false → CleanReturn i s t f (returned i s t (f ∷ g ∷ gs))
 back_clean i s t f g gs frames plain_one =
     left_clean i s t f g gs (answer i (thread s t) f 10) (answer i (thread s t) f 11) frames (answer_plain i (thread s t) f 10 plain_one) (answer_plain i (thread s t) f 11 plain_one)
+
+pub value_clean : (i : Image) (s : State) (t value : ℕ) (f g : Frame) (gs : List Frame) → (thread s t).frames ≡ f ∷ g ∷ gs → CleanReturn i s t f (ended_with i s t value (f ∷ g ∷ gs))
+value_clean i s t value f g gs frames = left_clean i s t f g gs (plain value) (plain 0) frames refl refl
 
 pub unwind_clean : (i : Image) (s : State) (t : ℕ) (f g : Frame) (gs : List Frame) → (thread s t).frames ≡ f ∷ g ∷ gs → CleanReturn i s t f (unwound i s t (f ∷ g ∷ gs))
 unwind_clean i s t f g gs frames = left_clean i s t f g gs (plain UNWOUND) (plain 0) frames refl refl

@@ -20,7 +20,7 @@ use Rattle.def_confined.specs.Confined.{Confined}
 use Rattle.def_confined.specs.Keeps.{Keeps}
 use Rattle.def_confined.specs.Partitioned.{Partitioned, AwayFromHeap}
 use Rattle.def_step.specs.Routines.{answers, code}
-use Rattle.def_step.specs.Quotas.{quota_in, whole_of, without_row, let_go, freed_as, free}
+use Rattle.def_step.specs.Quotas.{quota_in, whole_of, without_row, let_go, gives_back, freed_as, free}
 use Rattle.law_places.proofs.Turns.{beside_confined, clock_of}
 use Rattle.law_registers.proofs.Moves.{untagged_puts}
 use Rattle.law_jumps.proofs.Moves.{in_rooted}
@@ -28,7 +28,7 @@ use Rattle.law_memory.proofs.Authorities.{headed}
 use Rattle.law_memory.proofs.Filtering.{filter_is_heaps}
 use Rattle.law_memory.specs.Filters.{heap_filtered}
 use Rattle.law_moves.proofs.Objects.{free_keeps}
-use Rattle.law_routines.proofs.Objects.{whole_found}
+use Rattle.law_routines.proofs.Objects.{Found, whole_found}
 use Rattle.law_natives.specs.Stands.{Stands}
 use Rattle.law_natives.proofs.Cleans.{framed_there}
 use Rattle.ct_entry.specs.declared.acts.Act.TheVariants as acts
@@ -39,7 +39,7 @@ use Rattle.law_natives.proofs.Charging.{Charging, quota_stands, quota_licensed}
 
 -- ---- rows of keys and tokens
 
-tokens_keeps : (i : Image) (s : State) (ts : List Token) → Keeps i s → Keeps i (record s { tokens = ts })
+pub tokens_keeps : (i : Image) (s : State) (ts : List Token) → Keeps i s → Keeps i (record s { tokens = ts })
 tokens_keeps i s ts k =
     let b = k.beside in
     record {
@@ -85,12 +85,11 @@ map_at f (x ∷ xs) (suc k) e = map_at f xs k e
 
 -- ---- the free
 
-gone_keeps : (i : Image) (s : State) (t : ℕ) (o : Object) → Charging i s t → whole_of s.objects (quota_in s t) (register (thread s t) 11) ≡ Some o → Keeps i (answers (let_go i s t o) t (integer 0))
-gone_keeps i s t o c is =
+gone_keeps : (i : Image) (s : State) (t : ℕ) (o : Object) (by : Cap) → Charging i s t → Found (quota_in s t) by s.objects o → Keeps i (answers (let_go i s t o) t (integer 0))
+gone_keeps i s t o by c f =
     let parts = c.returning.parts in
     let k = c.returning.keeps in
     let runs = c.returning.runs in
-    let f = whole_found s.objects (quota_in s t) (register (thread s t) 11) o is in
     let after : Keeps i (freed i s t o) = free_keeps i s t o parts k (record { running = runs; there = f.there; live = f.live }) in
     let here : Rooted i (register (thread s t) 1) = in_rooted i s.objects t (thread s t).frames (register (thread s t) 1) (k.confined.registers t 1) c.returning.tagged in
     let stays : filtered i (quarantined i s o) (register (thread s t) 1) ≡ register (thread s t) 1 = sentry_stays i (freed i s t o) (register (thread s t) 1) parts after.confined here c.returning.sealed in
@@ -109,14 +108,17 @@ gone_keeps i s t o c is =
     })
     (untagged_puts i (let_go i s t o) t (integer 0) refl)
 
-pub freed_stands : (i : Image) (s : State) (t : ℕ) (o : Option Object) → Charging i s t → whole_of s.objects (quota_in s t) (register (thread s t) 11) ≡ o → Stands i s t (freed_as i s t o)
-freed_stands i s t None c is = (answers_keeps i s t (code 6) c.returning (untagged_puts i s t (code 6) refl), tt)
-freed_stands i s t (Some o) c is =
-    let after = gone_keeps i s t o c is in (
+pub given_stands : (i : Image) (s : State) (t : ℕ) (o : Object) (by : Cap) → Charging i s t → Found (quota_in s t) by s.objects o → Stands i s t (gives_back i s t o)
+given_stands i s t o by c f =
+    let after = gone_keeps i s t o by c f in (
       after,
-      quota_licensed i s t o.quota (λ q. acts.Free o.number o.base o.length (charges q (let_go i s t o).objects)) c (whole_found s.objects (quota_in s t) (register (thread s t) 11) o is).charged
+      quota_licensed i s t o.quota (λ q. acts.Free o.number o.base o.length (charges q (let_go i s t o).objects)) c f.charged
           (λ f fs frames. free_licensed i s (answers (let_go i s t o) t (integer 0)) t 10 o.number o.base o.length f fs c.returning.keeps.confined after.confined frames c.tagged c.quota),
     )
+
+pub freed_stands : (i : Image) (s : State) (t : ℕ) (o : Option Object) → Charging i s t → whole_of s.objects (quota_in s t) (register (thread s t) 11) ≡ o → Stands i s t (freed_as i s t o)
+freed_stands i s t None c is = (answers_keeps i s t (code 6) c.returning (untagged_puts i s t (code 6) refl), tt)
+freed_stands i s t (Some o) c is = given_stands i s t o (register (thread s t) 11) c (whole_found s.objects (quota_in s t) (register (thread s t) 11) o is)
 
 pub free_stands : (i : Image) (s : State) (t : ℕ) → Partitioned i → Facts i → Keeps i s → s.running ≡ Some t → Stands i s t (free i s t)
 free_stands i s t parts facts k runs = quota_stands i s t (freed_as i s t (whole_of s.objects (quota_in s t) (register (thread s t) 11))) parts facts k runs

@@ -1,52 +1,32 @@
--- An allocation that tells its deed: the object that it made, and that it is fresh.
-use Rattle.std.proofs.Common.{ℕ, ◌≡◌, ◌+◌, ◌/◌, ◌*◌, ◌≤◌, ◌<◌, ◌⊎◌, ◌&&◌, ◌||◌, Bool, true, false, inl, inr, nat_le, nat_lt, List, [], ◌∷◌, Option, Some, None, refl, sym, ap, subst, arith, if◌then◌else◌}
-use Rattle.law_lists.proofs.Tests.{chosen, le_tells, lt_tells}
+-- An allocation that tells its deed: the object that it made, that it is fresh, and how it is handed out.
+use Rattle.std.proofs.Common.{ℕ, ◌≡◌, ◌+◌, ◌/◌, ◌*◌, ◌≤◌, ◌<◌, ◌⊎◌, ◌&&◌, ◌||◌, Bool, true, false, inl, inr, nat_le, nat_lt, List, [], ◌∷◌, Option, Some, None, refl, sym, ap, subst, arith}
+use Rattle.law_lists.proofs.Tests.{le_tells, lt_tells}
 use Rattle.ct_entry.specs.declared.acts.Act.{Act}
 use Rattle.ct_entry.specs.declared.acts.Act.TheVariants.{Allocate}
-use Rattle.def_words.specs.Authority.{cap_address}
+use Rattle.def_words.specs.Capability.{integer}
 use Rattle.def_words.specs.LeastBounds.{exponent_for}
 use Rattle.law_words.proofs.Leasts.{ceil_above}
 use Rattle.def_machine.specs.Image.{Image, address_of}
-use Rattle.def_machine.specs.State.{State, Object, thread, register}
-use Rattle.def_machine.specs.Objects.{Each, charges}
+use Rattle.def_machine.specs.State.{State, Object}
+use Rattle.def_machine.specs.Objects.{Each}
 use Rattle.def_machine.specs.Heap.{IsPlaceFor, length_for, place_of, new_object, object_cap, with_object}
 use Rattle.def_confined.specs.Changes.{NewObject}
 use Rattle.def_confined.specs.Confined.{Apart}
 use Rattle.def_confined.specs.Keeps.{Keeps}
 use Rattle.def_confined.specs.Partitioned.{Partitioned}
 use Rattle.def_hidden.specs.Hidden.{Blank, is_live_at}
-use Rattle.def_step.specs.Checks.{Check, first_failed}
-use Rattle.def_step.specs.Switch.{return_checks}
-use Rattle.def_step.specs.Routines.{Ran, Traps, Leaves, tells, checked, code}
-use Rattle.def_step.specs.Quotas.{Allocation, Refused, Made, allocation, is_quota_cap, quota_in, hands_out, allocated, allocate}
+use Rattle.def_step.specs.Routines.{Ran, Leaves, answers}
+use Rattle.def_step.specs.Quotas.{Made, allocation, quota_in, allocate}
+use Rattle.def_step.specs.Tokens.{with_row, sealed_token, token_key, token_new}
 use Rattle.law_made.proofs.Found.{place_found}
 use Rattle.law_routines.proofs.Places as places
 use Rattle.def_facts.specs.Facts.{RootsAway}
 use Rattle.law_fresh.proofs.Covering.{granule_misses, register_misses, pcc_misses, frames_miss}
-use Rattle.law_routines.proofs.Leaving.{option_tells}
+use Rattle.law_routines.specs.Leaving.{Left}
+use Rattle.law_routines.proofs.Leaving.{allocate_left, token_key_left, token_new_left}
 use Rattle.law_routines.proofs.Objects.{Makes, made_says}
 use Rattle.law_natives.proofs.Hiding.{heap_zero}
-use Rattle.law_natives.specs.Fresh.{IsFresh, HandsOut}
-
--- ---- what a routine told
-
-abbrev told_by : Ran → Option (ℕ × Act)
-told_by (Traps w) = None
-told_by (Leaves s d) = d
-
-abbrev state_of : State → Ran → State
-state_of s (Traps w) = s
-state_of s (Leaves z d) = z
-
-none_told : (s after : State) (t n : ℕ) (d : ℕ × Act) → tells s t (code n) ≡ Leaves after (Some d) → ⊥
-none_told s after t n d e = let clash : None ≡ Some d = ap told_by e in cc
-
--- where the checks passed, and so a deed was told, the rest told it
-past_checks : (cs : List Check) (ran : Ran) (after : State) (d : ℕ × Act) → checked cs ran ≡ Leaves after (Some d) → ran ≡ Leaves after (Some d)
-past_checks cs ran after d e = elim (option_tells (first_failed cs)) [
-  | inl none ↦ rw none at e
-  | inr failed ↦ (let traps : Traps failed.0 ≡ Leaves after (Some d) = rw failed.1 at e in let clash : None ≡ Some d = ap told_by traps in absurd cc)
-]
+use Rattle.def_safety.specs.Fresh.{IsFresh, HandsOut, AsMade, AsKey, AsToken}
 
 -- ---- fresh
 
@@ -94,7 +74,7 @@ made_fresh i s quota size base parts away k blank m found =
       frames = λ t. frames_miss i s (new_object s quota size base) t away k.confined new;
     }
 
--- ---- the event
+-- ---- what is told
 
 abbrev number_in : Act → ℕ
 number_in (Allocate number base long live) = number
@@ -112,28 +92,45 @@ abbrev act_of : Act → Option (ℕ × Act) → Act
 act_of a None = a
 act_of a (Some d) = d.1
 
-pub hands_fresh : (i : Image) (s after : State) (t entry number base long live : ℕ) → Partitioned i → RootsAway i → Keeps i s → Blank i s → allocate i s t ≡ Leaves after (Some (entry, Allocate number base long live)) → HandsOut i s t number base long after
-hands_fresh i s after t entry number base long live parts away k blank e =
-    chosen (λ (z : Ran). z ≡ Leaves after (Some (entry, Allocate number base long live)) → HandsOut i s t number base long after) (is_quota_cap (register (thread s t) 10))
-    (allocated s t (allocation i s (quota_in s t) (cap_address (register (thread s t) 11)))) (tells s t (code 1))
-    (λ is told. by_made (allocation i s (quota_in s t) (cap_address (register (thread s t) 11))) refl told)
-    (λ not told. absurd (none_told s after t 1 (entry, Allocate number base long live) told))
-    (past_checks (return_checks (register (thread s t) 1)) (if is_quota_cap (register (thread s t) 10) then allocated s t (allocation i s (quota_in s t) (cap_address (register (thread s t) 11))) else tells s t (code 1)) after (entry, Allocate number base long live) e)
-  where
-    handed : (r : Object) → IsFresh i s r → hands_out s t r (object_cap r) ≡ Leaves after (Some (entry, Allocate number base long live)) → HandsOut i s t number base long after
-    handed r fresh told =
-        let acts : Allocate r.number r.base r.length (charges r.quota (with_object s r).objects) ≡ Allocate number base long live = ap (λ (z : Ran). act_of (Allocate 0 0 0 0) (told_by z)) told in
-        record {
-          object = r;
-          told = (ap number_in acts, ap base_in acts, ap length_in acts);
-          fresh = fresh;
-          after_is = sym (ap (state_of s) told);
-        }
+-- an allocation that a routine tells, and what it left, is of a fresh object that is handed out so
+abbrev Hands : Image → State → (State → Object → Type 0) → State → Option (ℕ × Act) → Type 0
+Hands i s How after told = (entry number base long live : ℕ) → told ≡ Some (entry, Allocate number base long live) → HandsOut i s number base long (How after)
 
-    by_made : (a : Allocation) → allocation i s (quota_in s t) (cap_address (register (thread s t) 11)) ≡ a → allocated s t a ≡ Leaves after (Some (entry, Allocate number base long live)) → HandsOut i s t number base long after
-    by_made (Refused n) is told = absurd (none_told s after t n (entry, Allocate number base long live) told)
-    by_made (Made r) is told =
-        let m = made_says i s (quota_in s t) (cap_address (register (thread s t) 11)) r is in
-        let r_is : r ≡ new_object s (quota_in s t) (cap_address (register (thread s t) 11)) m.base = m.is in
-        let fresh = made_fresh i s (quota_in s t) (cap_address (register (thread s t) 11)) m.base parts away k blank (record { base = m.base; is = refl; some = m.some; limit = m.limit; place = m.place }) m.place in
-        handed r (subst (IsFresh i s) (sym m.is) fresh) told
+none_hands : (i : Image) (s : State) (How : State → Object → Type 0) (after : State) → Hands i s How after None
+none_hands i s How after entry number base long live e = absurd (let clash : None ≡ Some (entry, Allocate number base long live) = e in cc)
+
+made_hands : (i : Image) (s after : State) (t size : ℕ) (r : Object) (count : ℕ) (How : State → Object → Type 0) → Partitioned i → RootsAway i → Keeps i s → Blank i s → allocation i s (quota_in s t) size ≡ Made r → How after r → Hands i s How after (Some (r.quota, Allocate r.number r.base r.length count))
+made_hands i s after t size r count How parts away k blank is how entry number base long live told =
+    let acts : Allocate r.number r.base r.length count ≡ Allocate number base long live = ap (act_of (Allocate 0 0 0 0)) told in
+    let m = made_says i s (quota_in s t) size r is in
+    let fresh = made_fresh i s (quota_in s t) size m.base parts away k blank (record { base = m.base; is = refl; some = m.some; limit = m.limit; place = m.place }) m.place in
+    record {
+      object = r;
+      told = (ap number_in acts, ap base_in acts, ap length_in acts);
+      fresh = subst (IsFresh i s) (sym m.is) fresh;
+      after_is = how;
+    }
+
+-- ---- the event
+
+left_by : (Q : State → Option (ℕ × Act) → Type 0) (r : Ran) (z : State) (told : Option (ℕ × Act)) → r ≡ Leaves z told → Left Q r → Q z told
+left_by Q r z told is h = subst (Left Q) is h
+
+module _ (i : Image) (s after : State) (t entry number base long live : ℕ) (parts : Partitioned i) (away : RootsAway i) (k : Keeps i s) (blank : Blank i s) where
+  by_left : (r : Ran) (How : State → Object → Type 0) → r ≡ Leaves after (Some (entry, Allocate number base long live)) → Left (Hands i s How) r → HandsOut i s number base long (How after)
+  by_left r How is left = left_by (Hands i s How) r after (Some (entry, Allocate number base long live)) is left entry number base long live refl
+
+  pub hands_fresh : allocate i s t ≡ Leaves after (Some (entry, Allocate number base long live)) → HandsOut i s number base long (AsMade s t after)
+  hands_fresh is = by_left (allocate i s t) (AsMade s t) is (allocate_left (Hands i s (AsMade s t)) i s t
+      (λ n. none_hands i s (AsMade s t) (answers s t (integer n)))
+      (λ size r made. made_hands i s (answers (with_object s r) t (object_cap r)) t size r _ (AsMade s t) parts away k blank made refl))
+
+  pub key_fresh : token_key i s t ≡ Leaves after (Some (entry, Allocate number base long live)) → HandsOut i s number base long (AsKey s t after)
+  key_fresh is = by_left (token_key i s t) (AsKey s t) is (token_key_left (Hands i s (AsKey s t)) i s t
+      (λ n. none_hands i s (AsKey s t) (answers s t (integer n)))
+      (λ r made. made_hands i s (answers (with_object (with_row s r None) r) t (sealed_token r)) t 8 r _ (AsKey s t) parts away k blank made refl))
+
+  pub token_fresh : token_new i s t ≡ Leaves after (Some (entry, Allocate number base long live)) → HandsOut i s number base long (AsToken s t after)
+  token_fresh is = by_left (token_new i s t) (AsToken s t) is (token_new_left (Hands i s (AsToken s t)) i s t
+      (λ n. none_hands i s (AsToken s t) (answers s t (integer n)))
+      (λ size key r made named. made_hands i s (answers (with_object (with_row s r (Some key)) r) t (sealed_token r)) t size r _ (AsToken s t) parts away k blank made (key, (named, refl))))

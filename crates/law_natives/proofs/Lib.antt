@@ -9,3 +9,4 @@ pub mod Waiting
 pub mod Charging
 pub mod Freeing
 pub mod Licences
+pub mod Sealing

@@ -33,7 +33,7 @@ use Rattle.def_step.specs.Routines.{tells, code, switched_to, switch, stops, yie
 use Rattle.law_registers.proofs.Moves.{untagged_puts}
 use Rattle.law_made.proofs.Entering.{given_enters}
 use Rattle.law_moves.proofs.Threads.{push_keeps}
-use Rattle.law_natives.specs.Clean.{high_of}
+use Rattle.def_safety.specs.Clean.{high_of}
 use Rattle.law_natives.specs.Stands.{Stands}
 use Rattle.law_natives.proofs.Switching.{callee_of, checks_say, caller_of}
 use Rattle.law_natives.proofs.Answering.{Returning, return_says, return_tells, failed_tells, checked_stands, answers_keeps, stops_keeps}

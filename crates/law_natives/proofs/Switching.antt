@@ -25,7 +25,7 @@ use Rattle.def_step.specs.Routines.{Ran, Traps, Leaves, tells, code, enters, swi
 use Rattle.law_licensed.proofs.Checks.{AllPass, all_pass}
 use Rattle.law_jumps.proofs.Moves.{in_rooted}
 use Rattle.law_memory.proofs.Authorities.{headed}
-use Rattle.law_natives.specs.Clean.{high_of}
+use Rattle.def_safety.specs.Clean.{high_of}
 
 abbrev pub callee_of : Image → ℕ → ℕ
 callee_of i export = compartment_of (root i export).owner

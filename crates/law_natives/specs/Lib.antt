@@ -1,3 +1,1 @@
-pub mod Clean
-pub mod Fresh
 pub mod Stands

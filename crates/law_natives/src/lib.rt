@@ -9,14 +9,15 @@ ghost use Rattle.def_confined.specs.Keeps.{Keeps};
 ghost use Rattle.def_confined.specs.Licensed.{Licensed};
 ghost use Rattle.def_confined.specs.Partitioned.{Partitioned};
 ghost use Rattle.def_hidden.specs.Hidden.{Blank};
-ghost use Rattle.def_machine.specs.Frames.{returned, unwound};
+ghost use Rattle.def_machine.specs.Frames.{ended_with, returned, unwound};
 ghost use Rattle.def_machine.specs.Image.{Image, root};
 ghost use Rattle.def_machine.specs.State.{State, Frame, thread};
 ghost use Rattle.def_step.specs.Quotas.{allocate, free, remaining};
 ghost use Rattle.def_step.specs.Routines.{Leaves, switch, sleep, yield, wait, wake};
+ghost use Rattle.def_step.specs.Tokens.{token_key, token_new, token_open, token_free};
 ghost use Rattle.def_facts.specs.Facts.{Facts, RootsAway};
-ghost use Rattle.law_natives.specs.Clean.{CleanEntry, CleanReturn};
-ghost use Rattle.law_natives.specs.Fresh.{HandsOut};
+ghost use Rattle.def_safety.specs.Clean.{CleanEntry, CleanReturn};
+ghost use Rattle.def_safety.specs.Fresh.{HandsOut, AsMade, AsKey, AsToken};
 ghost use Rattle.law_natives.specs.Stands.{Stands};
 
 /// What each routine comes to stands: a trap is one that may be told; what it leaves is confined, with all
@@ -40,6 +41,13 @@ pub fn routines_stand()
         → Partitioned i → Facts i → Keeps i s → s.running ≡ Some t → Stands i s t (free i s t) }
     ensures remaining { (i : Image) (s : State) (t : ℕ)
         → Partitioned i → Facts i → Keeps i s → s.running ≡ Some t → Stands i s t (remaining i s t) }
+    ensures seals { (i : Image) (s : State) (t : ℕ)
+        → Partitioned i → Facts i → Keeps i s → s.running ≡ Some t
+        → Stands i s t (token_key i s t) × Stands i s t (token_new i s t) }
+    ensures opens { (i : Image) (s : State) (t : ℕ)
+        → Partitioned i → Keeps i s → s.running ≡ Some t → Stands i s t (token_open s t) }
+    ensures token_free { (i : Image) (s : State) (t : ℕ)
+        → Partitioned i → Facts i → Keeps i s → s.running ≡ Some t → Stands i s t (token_free i s t) }
 {}
 
 /// A call through an export that passes plain values enters its callee clean.
@@ -59,20 +67,33 @@ pub fn calls_licensed()
         (record { thread = t; actor = f.actor; entry = entry; act = Call export }) }
 {}
 
-/// A return of a frame whose export passes plain values, and an unwind of any frame, lead to its caller clean.
+/// A return of a frame whose export passes plain values, and the end of any frame with a value or by an unwind, lead to
+/// its caller clean.
 pub fn returns_clean()
     ensures back { (i : Image) (s : State) (t : ℕ) (f g : Frame) (gs : List Frame)
         → (thread s t).frames ≡ f ∷ g ∷ gs → (root i f.export).passes ≡ false
         → CleanReturn i s t f (returned i s t (f ∷ g ∷ gs)) }
+    ensures value { (i : Image) (s : State) (t value : ℕ) (f g : Frame) (gs : List Frame)
+        → (thread s t).frames ≡ f ∷ g ∷ gs
+        → CleanReturn i s t f (ended_with i s t value (f ∷ g ∷ gs)) }
     ensures unwind { (i : Image) (s : State) (t : ℕ) (f g : Frame) (gs : List Frame)
         → (thread s t).frames ≡ f ∷ g ∷ gs
         → CleanReturn i s t f (unwound i s t (f ∷ g ∷ gs)) }
 {}
 
-/// An allocation that tells its deed hands out a fresh object, at the least lawful place.
+/// An allocation that tells its deed hands out a fresh object, at the least lawful place: as it is, as a key
+/// or as a token.
 pub fn objects_fresh()
-    ensures { (i : Image) (s after : State) (t entry number base long live : ℕ)
+    ensures objects { (i : Image) (s after : State) (t entry number base long live : ℕ)
         → Partitioned i → RootsAway i → Keeps i s → Blank i s
         → allocate i s t ≡ Leaves after (Some (entry, Allocate number base long live))
-        → HandsOut i s t number base long after }
+        → HandsOut i s number base long (AsMade s t after) }
+    ensures keys { (i : Image) (s after : State) (t entry number base long live : ℕ)
+        → Partitioned i → RootsAway i → Keeps i s → Blank i s
+        → token_key i s t ≡ Leaves after (Some (entry, Allocate number base long live))
+        → HandsOut i s number base long (AsKey s t after) }
+    ensures tokens { (i : Image) (s after : State) (t entry number base long live : ℕ)
+        → Partitioned i → RootsAway i → Keeps i s → Blank i s
+        → token_new i s t ≡ Leaves after (Some (entry, Allocate number base long live))
+        → HandsOut i s number base long (AsToken s t after) }
 {}

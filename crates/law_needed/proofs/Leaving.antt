@@ -26,7 +26,8 @@ use Rattle.law_places.proofs.Places.{all_of}
 use Rattle.law_words.proofs.Rights.{memory_is_root, executable_is_root, taken}
 use Rattle.law_made.proofs.Boots.{as_boot, is_fixed, not_live, kept_as}
 use Rattle.law_example.proofs.Mades.{make, kind_service}
-use Rattle.law_example.proofs.Cases.{by_test, not_so, of_kind, past_end}
+use Rattle.law_lists.proofs.Tests.{by_test}
+use Rattle.law_example.proofs.Cases.{not_so, of_kind, past_end}
 use Rattle.law_example.proofs.Rooting.{by_entry_of, entry_placed}
 use Rattle.law_example.proofs.Alone.{Filled, ThreadHolds, alone_confined}
 use Rattle.law_needed.specs.Loosely.{without_exports, Loosely}

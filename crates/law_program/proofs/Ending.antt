@@ -29,7 +29,7 @@ use Rattle.law_image.proofs.Backs.{one_reading}
 use Rattle.law_image.proofs.Faults.{no_fault as image_has_none}
 use Rattle.law_policy.proofs.Texts as texts
 use Rattle.law_script.proofs.Scripts as scripts
-use Rattle.law_program.specs.Completing.{NoFault, IsTold, AreTold, Stand, IsRuled, IsPlanned, IsPlannedIfNamed, AlsoStands, AreGiven, Given, IsAsked, looked_status, Finishes, Completes, CompletesDemo, RefusesMisuse, IsSteady}
+use Rattle.def_program.specs.Completing.{NoFault, IsTold, AreTold, Stand, IsRuled, IsPlanned, IsPlannedIfNamed, AlsoStands, AreGiven, Given, IsAsked, looked_status, Finishes, Completes, CompletesDemo, RefusesMisuse, IsSteady}
 
 -- ---- lists by index
 

@@ -1,7 +1,6 @@
 -- What is written of an upgraded image runs to the same turn.
 use Rattle.std.proofs.Common.{ℕ, ◌≡◌, ◌++◌, inl, inr, List, [], ◌∷◌, Option, Some, None, refl, ap, sym, ◌∙◌, subst}
-use Rattle.def_step.specs.Events.{MachineRow}
-use Rattle.def_step.specs.Instructions.{Board}
+use Rattle.def_machine.specs.Board.{MachineRow, Board}
 use Rattle.def_machine.specs.State.{State}
 use Rattle.def_image.specs.Parts.{PartsRow, upgraded}
 use Rattle.def_image.specs.Accepted.{IsImage}

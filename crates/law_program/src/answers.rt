@@ -4,7 +4,7 @@ ghost use Rattle.std.specs.Prelude.{◌≡◌};
 ghost use Rattle.def_program.specs.Answers.{Answers};
 ghost use Rattle.def_program.specs.Ends.{Ends};
 ghost use Rattle.def_program.specs.declared.Status.{Status as StatusRow};
-ghost use Rattle.law_program.specs.Completing.{Completes, CompletesDemo, IsSteady, NoFault, RefusesMisuse};
+ghost use Rattle.def_program.specs.Completing.{Completes, CompletesDemo, IsSteady, NoFault, RefusesMisuse};
 
 /// Completeness: where no fault is counted, and the words are a form whose files the folder tells and
 /// which stand for parts, a script or a policy among them where one is named, the status is Done, or

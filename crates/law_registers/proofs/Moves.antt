@@ -37,14 +37,18 @@ untagged_puts i s t c none = record {
 pub same_puts : (i : Image) (s : State) (t from : ℕ) → Confined i s → s.running ≡ Some t → Puts i s t (register (thread s t) from)
 same_puts i s t from h runs = record { there = h.registers t from; kept = h.kept.registers t from; live = h.live t runs from }
 
-pub register_puts : (i : Image) (s : State) (t from : ℕ) (d : Cap) → Confined i s → s.running ≡ Some t → Derived (register (thread s t) from) d → Puts i s t d
-register_puts i s t from d h runs x =
-    let bound = λ (tagged : (register (thread s t) from).tag ≡ true). kept_bound i (register (thread s t) from) tagged (h.kept.registers t from) in
+-- and what is derived of what it may get
+pub derived_puts : (i : Image) (s : State) (t : ℕ) (c d : Cap) → Derived c d → Puts i s t c → Puts i s t d
+derived_puts i s t c d x p =
+    let bound = λ (tagged : c.tag ≡ true). kept_bound i c tagged p.kept in
     record {
-      there = derived_in i s.objects t (thread s t).frames (register (thread s t) from) d bound x (h.registers t from);
-      kept = derived_kept i (register (thread s t) from) d bound x (h.kept.registers t from);
-      live = live_derived i s.objects (register (thread s t) from) d x (h.live t runs from);
+      there = derived_in i s.objects t (thread s t).frames c d bound x p.there;
+      kept = derived_kept i c d bound x p.kept;
+      live = live_derived i s.objects c d x p.live;
     }
+
+pub register_puts : (i : Image) (s : State) (t from : ℕ) (d : Cap) → Confined i s → s.running ≡ Some t → Derived (register (thread s t) from) d → Puts i s t d
+register_puts i s t from d h runs x = derived_puts i s t (register (thread s t) from) d x (same_puts i s t from h runs)
 
 pub pcc_puts : (i : Image) (s : State) (t : ℕ) (d : Cap) → Confined i s → is_native (root i (thread s t).pcc.shadow.root).origin ≡ false → Derived (thread s t).pcc d → Puts i s t d
 pcc_puts i s t d h other x =

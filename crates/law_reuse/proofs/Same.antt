@@ -2,9 +2,7 @@
 -- quarantine one.
 use Rattle.std.proofs.Common.{ℕ, ◌≡◌, ◌+◌, ◌&&◌, true, false, not, List, [], ◌∷◌, map, Option, Some, None, Result, Ok, Err, inl, inr, refl, sym, ap, ◌∙◌, subst}
 use Rattle.law_lists.proofs.Tests.{chosen}
-use Rattle.def_words.specs.declared.Cap.{Cap}
 use Rattle.def_words.specs.declared.Trap.{Trap}
-use Rattle.def_words.specs.Authority.{cap_address}
 use Rattle.def_sched.specs.Picks.{pick}
 use Rattle.def_machine.specs.Image.{Image}
 use Rattle.def_words.specs.Capability.{integer}
@@ -12,19 +10,19 @@ use Rattle.def_machine.specs.State.{State, Frame, Object, thread}
 use Rattle.def_machine.specs.Objects.{Any, Each, placed_among}
 use Rattle.def_machine.specs.Heap.{with_object, quarantined, object_cap}
 use Rattle.def_machine.specs.Threads.{timed, statuses_of}
-use Rattle.def_machine.specs.Frames.{returned, unwound}
-use Rattle.def_step.specs.declared.Next.{Next}
+use Rattle.def_machine.specs.Frames.{returned, ended_with}
 use Rattle.def_step.specs.Routines.{answers}
 use Rattle.def_step.specs.Quotas.{quota_in, let_go}
+use Rattle.def_step.specs.Tokens.{with_row, sealed_token}
 use Rattle.law_places.proofs.Rows.{among_any, any_among}
 use Rattle.law_heap.proofs.Quarantines.{quarantine_any, any_quarantine}
-use Rattle.law_routines.proofs.Cases.{by_next}
 use Rattle.law_routines.proofs.Objects.{made_says}
-use Rattle.law_routines.proofs.Leaving.{Moves, served_left}
-use Rattle.law_reuse.specs.Reuse.{IsRow, Waits, IsPainted}
-use Rattle.def_step.specs.Checks.{first_failed}
-use Rattle.def_step.specs.Operands.{operands_of, class_of}
-use Rattle.def_step.specs.Instructions.{Board, Done, carried_out, named_by, around, space_of, ends, operand, goes_on, after_fetch, executed, fetch_checks, next_at}
+use Rattle.law_routines.proofs.Leaving.{Moves}
+use Rattle.law_routines.proofs.Stepping.{Steps, IfDone, carried, executed_left}
+use Rattle.def_step.specs.Handlers.{handler_entered}
+use Rattle.def_safety.specs.Reuse.{IsRow, Waits, IsPainted}
+use Rattle.def_step.specs.Instructions.{Done, put_done, executed}
+use Rattle.def_machine.specs.Board.{Board}
 use Rattle.def_step.specs.Events.{preempted_from, preempted, picked_as, picked_from, scheduled, continued, one_more_step, stepped, interrupted, ticked}
 
 pub record Same (s r : State) : Type 0 where
@@ -42,14 +40,10 @@ returned_same i s t [] = itself s
 returned_same i s t (f ∷ []) = record { objects = refl; front = refl }
 returned_same i s t (f ∷ g ∷ gs) = record { objects = refl; front = refl }
 
-unwound_same : (i : Image) (s : State) (t : ℕ) (fs : List Frame) → Same s (unwound i s t fs)
-unwound_same i s t [] = itself s
-unwound_same i s t (f ∷ []) = record { objects = refl; front = refl }
-unwound_same i s t (f ∷ g ∷ gs) = record { objects = refl; front = refl }
-
-ends_same : (b : Board) (s : State) (t : ℕ) (x : Cap) (r : Result Done Trap) → Same s (ends b s t x r).0
-ends_same b s t x (Err why) = unwound_same b.image s t (thread s t).frames
-ends_same b s t x (Ok d) = record { objects = refl; front = refl }
+ended_same : (i : Image) (s : State) (t value : ℕ) (fs : List Frame) → Same s (ended_with i s t value fs)
+ended_same i s t value [] = itself s
+ended_same i s t value (f ∷ []) = record { objects = refl; front = refl }
+ended_same i s t value (f ∷ g ∷ gs) = record { objects = refl; front = refl }
 
 -- ---- a step may add an object, and quarantine one
 
@@ -113,23 +107,26 @@ moves_stay i s t = record {
   stops = λ status. same_stays s _ (record { objects = refl; front = refl });
   wakes = λ address most. same_stays s _ (record { objects = refl; front = refl });
   hands = λ size r is. object_stays s r (answers (with_object s r) t (object_cap r)) (ap (λ (o : Object). o.painted) (made_says i s (quota_in s t) size r is).is) refl refl;
-  gives = λ r is. stays_on s (quarantined i s r) (answers (let_go i s t r) t (integer 0)) (quarantined_stays i s r) (same_stays (quarantined i s r) (answers (let_go i s t r) t (integer 0)) (record { objects = refl; front = refl }));
+  gives = λ r c is. stays_on s (quarantined i s r) (answers (let_go i s t r) t (integer 0)) (quarantined_stays i s r) (same_stays (quarantined i s r) (answers (let_go i s t r) t (integer 0)) (record { objects = refl; front = refl }));
+  seals = λ size key r is k. object_stays s r (answers (with_object (with_row s r key) r) t (sealed_token r)) (ap (λ (o : Object). o.painted) (made_says i s (quota_in s t) size r is).is) refl refl;
+  opens = λ key r is. same_stays s _ (record { objects = refl; front = refl });
 }
 
-next_stays : (b : Board) (s : State) (t : ℕ) → Stays s (goes_on b s t (next_at (space_of b s) (cap_address (thread s t).pcc))).0
-next_stays b s t = by_next (λ (n : Next). Stays s (goes_on b s t n).0) (space_of b s) (cap_address (thread s t).pcc)
-    (same_stays s _ (returned_same b.image s t (thread s t).frames))
-    (λ k away read. same_stays s _ (ends_same b s t (operand s t (operands_of k).first) (carried_out (class_of k) k (operands_of k).to (operand s t (operands_of k).first) (operand s t (operands_of k).second) (named_by b.image (operand s t (operands_of k).first)) (around b s t))))
-    (λ n few other. served_left (Stays s) b s t n few other (same_stays s _ (unwound_same b.image s t (thread s t).frames)) (moves_stay b.image s t))
-    (same_stays s _ (unwound_same b.image s t (thread s t).frames))
+done_stays : (s : State) (t : ℕ) (r : Result Done Trap) → IfDone (Stays s) s t r
+done_stays s t (Err why) = tt
+done_stays s t (Ok d) = same_stays s (put_done s t d) (record { objects = refl; front = refl })
 
-fetch_stays : (b : Board) (s : State) (t : ℕ) (o : Option Trap) → Stays s (after_fetch b s t o).0
-fetch_stays b s t (Some why) = same_stays s _ (unwound_same b.image s t (thread s t).frames)
-fetch_stays b s t None = next_stays b s t
+steps_stay : (b : Board) (s : State) (t : ℕ) → Steps (Stays s) b s t
+steps_stay b s t = record {
+  handles = λ why f fs frames is. same_stays s (handler_entered b.image s t why f fs) (record { objects = refl; front = refl });
+  ends = λ value. same_stays s (ended_with b.image s t value (thread s t).frames) (ended_same b.image s t value (thread s t).frames);
+  back = λ plain_one. same_stays s (returned b.image s t (thread s t).frames) (returned_same b.image s t (thread s t).frames);
+  done = λ k. done_stays s t (carried b s t k);
+  moves = moves_stay b.image s t;
+}
 
 executed_stays : (b : Board) (s : State) (t : ℕ) → Stays s (executed b s t).0
-unfolding executed
-executed_stays b s t = fetch_stays b s t (first_failed (fetch_checks (thread s t).pcc))
+executed_stays b s t = executed_left (Stays s) b s t (steps_stay b s t)
 
 preempted_same : (s : State) (o : Option ℕ) → Same s (preempted_from s o)
 preempted_same s None = itself s

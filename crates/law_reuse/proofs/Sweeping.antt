@@ -1,12 +1,12 @@
 -- What a Sweep event does to the objects of the heap, by cases: nothing is due; a sweep begins; one goes on.
-use Rattle.std.proofs.Common.{ℕ, ◌≡◌, ◌⊎◌, inl, inr, true, false, not, nat_le, List, [], ◌∷◌, Option, Some, None, refl, sym, ◌∙◌, subst}
+use Rattle.std.proofs.Common.{ℕ, ◌≡◌, ◌⊎◌, inl, inr, true, false, nat_le, List, [], ◌∷◌, Option, Some, None, refl, sym, ◌∙◌, subst}
 use Rattle.law_lists.proofs.Tests.{chosen, bool_tells}
 use Rattle.def_machine.specs.Image.{Image}
 use Rattle.def_machine.specs.State.{State, Object}
 use Rattle.def_machine.specs.Objects.{Any, has_quarantined, painted, unpainted}
 use Rattle.def_machine.specs.Heap.{with_slice, slice_end, sweep_over, ram_size, ended_sweep, sweep_began, sweep_on, swept}
 use Rattle.law_places.proofs.Rows.{any_map, left_any, any_left}
-use Rattle.law_reuse.specs.Reuse.{IsRow, Waits, IsPainted}
+use Rattle.def_safety.specs.Reuse.{IsRow, Waits, IsPainted}
 
 abbrev pub begun : State → State
 begun s = record s { objects = painted s.objects; front = Some 0 }

@@ -7,11 +7,11 @@ use Rattle.def_machine.specs.Heap.{slice_end, sweep_began, with_object, quaranti
 use Rattle.def_step.specs.declared.Event.{Event}
 use Rattle.def_step.specs.declared.Event.TheVariants.{Step, Tick, Sweep, Input}
 use Rattle.def_step.specs.Events.{stepped, ticked, happens, run}
-use Rattle.def_step.specs.Instructions.{Board}
+use Rattle.def_machine.specs.Board.{Board}
 use Rattle.def_confined.specs.Confined.{Apart}
 use Rattle.def_confined.specs.Changes.{NewObject}
 use Rattle.law_places.proofs.Rows.{each_take, among_any}
-use Rattle.law_reuse.specs.Reuse.{IsRow, Waits, IsPainted, Meets, Begins, EndsIn, SweepsWhole}
+use Rattle.def_safety.specs.Reuse.{IsRow, Waits, IsPainted, Meets, Begins, EndsIn, SweepsWhole}
 use Rattle.law_reuse.proofs.Same.{Same, Stays, quarantined_stays, stepped_stays, ticked_same}
 use Rattle.law_reuse.proofs.Sweeping.{begun, swept_case, sliced_case, painted_row, waits_row, waits_left, row_tells, none_painted}
 

@@ -10,9 +10,9 @@ ghost use Rattle.def_machine.specs.State.{State, Object};
 ghost use Rattle.def_step.specs.declared.Event.{Event};
 ghost use Rattle.def_step.specs.declared.Event.TheVariants.{Sweep};
 ghost use Rattle.def_step.specs.Events.{happens, run};
-ghost use Rattle.def_step.specs.Instructions.{Board};
+ghost use Rattle.def_machine.specs.Board.{Board};
 ghost use Rattle.def_confined.specs.Changes.{NewObject};
-ghost use Rattle.law_reuse.specs.Reuse.{IsRow, Waits, IsPainted, Meets, Begins, SweepsWhole};
+ghost use Rattle.def_safety.specs.Reuse.{IsRow, Waits, IsPainted, Meets, Begins, SweepsWhole};
 
 /// Where an object stands among the others that no sweep has painted, as each does when it is freed, and after some
 /// events an object may be put where its chunk was, there was a whole sweep among them.

@@ -1,8 +1,8 @@
 -- What stands at the program counter, and which routine a number is, by cases.
-use Rattle.std.proofs.Common.{ℕ, ◌≡◌, ◌+◌, ◌-◌, ◌*◌, ◌%◌, ◌==◌, ◌≤◌, ◌&&◌, true, false, nat_le, nat_lt, Option, Some, None, refl, arith, if◌then◌else◌}
+use Rattle.std.proofs.Common.{ℕ, ◌≡◌, ◌+◌, ◌*◌, ◌%◌, ◌==◌, ◌≤◌, ◌&&◌, true, false, nat_le, nat_lt, Option, Some, None, refl, arith, if◌then◌else◌}
 use Rattle.std.proofs.lemmas.Bool.{eqb-true, eqb-false, leb-true, and_parts}
 use Rattle.law_lists.proofs.Tests.{chosen}
-use Rattle.def_profile.specs.declared.native.TheConstants.{NATIVE_BASE, NATIVE_UNIT, LAST_NATIVE, RETURN_ENTRY, SWITCH, RETURN, YIELD, SLEEP, WAIT, WAKE, ALLOCATE, FREE, REMAINING}
+use Rattle.def_profile.specs.declared.native.TheConstants.{NATIVE_BASE, NATIVE_UNIT, LAST_NATIVE, RETURN_ENTRY, SWITCH, RETURN, YIELD, SLEEP, WAIT, WAKE, ALLOCATE, FREE, REMAINING, TOKEN_KEY, TOKEN_NEW, TOKEN_OPEN, TOKEN_FREE}
 use Rattle.def_instr.specs.declared.Instr.{Instr}
 use Rattle.def_instr.specs.Reading.{instruction_in}
 use Rattle.def_machine.specs.Image.{Image}
@@ -15,6 +15,7 @@ use Rattle.def_step.specs.Instructions.{fetched, is_native_entry, native_number,
 use Rattle.def_step.specs.Native.{native}
 use Rattle.def_step.specs.Quotas.{allocate, free, remaining}
 use Rattle.def_step.specs.Routines.{Ran, switch, yield, sleep, wait, wake}
+use Rattle.def_step.specs.Tokens.{token_key, token_new, token_open, token_free}
 
 -- the number of a native entry but the return's isn't the return's
 not_return : (x : ℕ) → (x == RETURN_ENTRY) ≡ false → is_native_entry x ≡ true → native_number x ≡ RETURN → ⊥
@@ -54,6 +55,10 @@ pub record Routines (P : Ran → Type 0) (i : Image) (s : State) (t : ℕ) : Typ
   pub allocate : P (allocate i s t)
   pub free : P (free i s t)
   pub remaining : P (remaining i s t)
+  pub token_key : P (token_key i s t)
+  pub token_new : P (token_new i s t)
+  pub token_open : P (token_open s t)
+  pub token_free : P (token_free i s t)
 
 pub by_routine : (P : Option Ran → Type 0) (i : Image) (s : State) (t n : ℕ) → n ≤ LAST_ROUTINE → (n ≡ RETURN → ⊥) → Routines (λ r. P (Some r)) i s t → P (native i s t n)
 by_routine P i s t n few other h =
@@ -66,7 +71,12 @@ by_routine P i s t n few other h =
     (λ n5. chosen P (n == ALLOCATE) _ _ (λ is. h.allocate)
     (λ n6. chosen P (n == FREE) _ _ (λ is. h.free)
     (λ n7. chosen P (n == REMAINING) _ _ (λ is. h.remaining)
-    (λ n8. absurd (past (eqb-false n SWITCH n0) (eqb-false n RETURN n1) (eqb-false n YIELD n2) (eqb-false n SLEEP n3) (eqb-false n WAIT n4) (eqb-false n WAKE n5) (eqb-false n ALLOCATE n6) (eqb-false n FREE n7) (eqb-false n REMAINING n8)))))))))))
+    (λ n8. chosen P (n == TOKEN_KEY) _ _ (λ is. h.token_key)
+    (λ n9. chosen P (n == TOKEN_NEW) _ _ (λ is. h.token_new)
+    (λ n10. chosen P (n == TOKEN_OPEN) _ _ (λ is. h.token_open)
+    (λ n11. chosen P (n == TOKEN_FREE) _ _ (λ is. h.token_free)
+    (λ n12. absurd (past (eqb-false n SWITCH n0) (eqb-false n RETURN n1) (eqb-false n YIELD n2) (eqb-false n SLEEP n3) (eqb-false n WAIT n4) (eqb-false n WAKE n5) (eqb-false n ALLOCATE n6) (eqb-false n FREE n7) (eqb-false n REMAINING n8)
+    (eqb-false n TOKEN_KEY n9) (eqb-false n TOKEN_NEW n10) (eqb-false n TOKEN_OPEN n11) (eqb-false n TOKEN_FREE n12)))))))))))))))
   where
-    past : (n ≡ SWITCH → ⊥) → (n ≡ RETURN → ⊥) → (n ≡ YIELD → ⊥) → (n ≡ SLEEP → ⊥) → (n ≡ WAIT → ⊥) → (n ≡ WAKE → ⊥) → (n ≡ ALLOCATE → ⊥) → (n ≡ FREE → ⊥) → (n ≡ REMAINING → ⊥) → ⊥
-    past a b c d e f g k l = omega (arith, few, a, b, c, d, e, f, g, k, l)
+    past : (n ≡ SWITCH → ⊥) → (n ≡ RETURN → ⊥) → (n ≡ YIELD → ⊥) → (n ≡ SLEEP → ⊥) → (n ≡ WAIT → ⊥) → (n ≡ WAKE → ⊥) → (n ≡ ALLOCATE → ⊥) → (n ≡ FREE → ⊥) → (n ≡ REMAINING → ⊥) → (n ≡ TOKEN_KEY → ⊥) → (n ≡ TOKEN_NEW → ⊥) → (n ≡ TOKEN_OPEN → ⊥) → (n ≡ TOKEN_FREE → ⊥) → ⊥
+    past a b c d e f g k l m o p q = omega (arith, few, a, b, c, d, e, f, g, k, l, m, o, p, q)

@@ -1,13 +1,11 @@
 -- Every event settles what it makes.
-use Rattle.std.proofs.Common.{ℕ, zero, suc, ◌≡◌, ◌+◌, ◌-◌, ◌*◌, ◌&&◌, Bool, true, false, not, nat_le, nat_lt, List, [], ◌∷◌, map, slice_set, Option, Some, None, Result, Ok, Err, refl, subst}
+use Rattle.std.proofs.Common.{ℕ, zero, suc, ◌≡◌, ◌+◌, ◌-◌, ◌*◌, ◌/◌, ◌&&◌, Bool, true, false, not, nat_le, nat_lt, List, [], ◌∷◌, map, slice_set, Option, Some, None, Result, Ok, Err, refl, subst}
 use Rattle.std.proofs.Math.ListN.{get_or}
-use Rattle.def_profile.specs.declared.answers.TheConstants.{UNWOUND}
 use Rattle.law_lists.proofs.Tests.{chosen}
 use Rattle.law_lists.proofs.Sets.{after_set}
 use Rattle.def_words.specs.declared.Cap.{Cap}
 use Rattle.def_words.specs.declared.Trap.{Trap}
-use Rattle.def_words.specs.Authority.{cap_address}
-use Rattle.def_words.specs.Capability.{IsSettled, integer, untagged}
+use Rattle.def_words.specs.Capability.{IsSettled, integer, untagged, word_sealed}
 use Rattle.def_memory.specs.declared.Granule.{Granule}
 use Rattle.def_memory.specs.Granules.{plain, nothing, granule_at}
 use Rattle.def_memory.specs.Ranges.{zeroed_from}
@@ -16,35 +14,37 @@ use Rattle.def_instr.specs.declared.Instr.{Instr}
 use Rattle.def_sched.specs.declared.Status.{Status}
 use Rattle.def_sched.specs.Picks.{pick}
 use Rattle.def_sched.specs.Statuses.{woken, woken_count}
-use Rattle.def_machine.specs.Image.{Image, root, made_cap, code_entry, globals_entry, area_of, stack_base}
+use Rattle.def_machine.specs.Image.{Image, root, made_cap, code_entry, globals_entry, handler_entry, area_of, stack_base}
 use Rattle.def_machine.specs.State.{State, Thread, Frame, Object, thread, register, granule, nobody}
 use Rattle.def_machine.specs.Objects.{Each, has_quarantined, painted}
 use Rattle.def_machine.specs.Memory.{filtered}
 use Rattle.def_machine.specs.Registers.{written}
 use Rattle.def_machine.specs.Threads.{picked, timed, with_status, statuses_of, with_statuses, jumped}
-use Rattle.def_machine.specs.Frames.{answer, argument, passed, given, entered, left_by, returned, unwound, switched}
-use Rattle.def_machine.specs.Heap.{sliced, sliced_frames, sliced_thread, unmarked, sweep_over, ram_size, ended_sweep, sweep_on, sweep_began, with_slice, slice_end, is_number, with_object, object_cap, quarantined}
+use Rattle.def_machine.specs.Frames.{answer, argument, passed, given, entered, left_by, returned, ended_with, switched}
+use Rattle.def_machine.specs.Heap.{sliced, sweep_over, ram_size, ended_sweep, sweep_on, sweep_began, with_slice, slice_end, with_object, object_cap, quarantined}
+use Rattle.def_machine.specs.Slices.{kept_frames, kept_thread, marks_cleared, is_number}
 use Rattle.def_reach.specs.Roots.{root_of, gate_for, compartment_of}
 use Rattle.def_step.specs.declared.Class.{Class}
 use Rattle.def_step.specs.declared.Class.TheVariants as class
-use Rattle.def_step.specs.declared.Next.{Next}
 use Rattle.def_step.specs.declared.Event.{Event}
 use Rattle.def_step.specs.declared.Event.TheVariants.{Step, Tick, Sweep, Input}
-use Rattle.def_profile.specs.declared.traps.TheConstants.{ILLEGAL_INSTRUCTION}
-use Rattle.def_words.specs.Traps.{plain_trap}
 use Rattle.def_facts.specs.Facts.{MadeSettled}
 use Rattle.def_step.specs.Routines.{answered, answers, wakes}
 use Rattle.def_step.specs.Switch.{called}
 use Rattle.def_step.specs.Quotas.{let_go}
+use Rattle.def_step.specs.Tokens.{with_row, sealed_token, opened_token}
 use Rattle.law_heap.proofs.Frees.{freed_cap}
-use Rattle.law_routines.proofs.Cases.{by_next}
-use Rattle.law_routines.proofs.Leaving.{Moves, stopped, entering, served_left}
-use Rattle.def_step.specs.Checks.{first_failed}
+use Rattle.law_routines.proofs.Leaving.{Moves, stopped, entering}
+use Rattle.law_routines.proofs.Stepping as steps
+use Rattle.def_step.specs.declared.TheConstants.{TRAP_RECORD}
+use Rattle.def_step.specs.Handlers.{record_end, record_words, words_written, handled, handler_entered}
 use Rattle.def_step.specs.Accesses.{Accessed}
 use Rattle.def_step.specs.Jumps.{Flowed}
 use Rattle.def_step.specs.Operands.{operands_of, class_of}
-use Rattle.def_step.specs.Instructions.{Board, Done, carried_out, named_by, gives, flows, accesses, around, space_of, put_done, ends, operand, trapped, goes_on, after_fetch, executed, fetch_checks, next_at}
+use Rattle.def_step.specs.Instructions.{Done, carried_out, named_by, gives, flows, accesses, around, space_of, put_done, operand, executed}
+use Rattle.def_machine.specs.Board.{Board}
 use Rattle.def_step.specs.Events.{preempted_from, preempted, picked_as, picked_from, scheduled, continued, one_more_step, stepped, interrupted, happens, run}
+use Rattle.law_words.proofs.Making.{settled}
 use Rattle.law_words.proofs.Away.{address_settles, opens_settles, derives_settle}
 use Rattle.law_lists.proofs.Maps.{at_map}
 use Rattle.law_sweeps.proofs.Slices.{granule_at_slice, register_at_slice, thread_sliced}
@@ -99,13 +99,31 @@ returned_settled i s t [] e h = h
 returned_settled i s t (f ∷ []) e h = over_settled i s t f.top h
 returned_settled i s t (f ∷ g ∷ gs) e h = back_settled i s t f g gs (answer i (thread s t) f 10) (answer i (thread s t) f 11) h e (answer_settled i s t f 10 h) (answer_settled i s t f 11 h)
 
-unwound_settled : (i : Image) (s : State) (t : ℕ) (fs : List Frame) → (thread s t).frames ≡ fs → Settled s → Settled (unwound i s t fs)
-unwound_settled i s t [] e h = h
-unwound_settled i s t (f ∷ []) e h = over_settled i s t f.top h
-unwound_settled i s t (f ∷ g ∷ gs) e h = back_settled i s t f g gs (plain UNWOUND) (plain 0) h e (plain_settled UNWOUND) (plain_settled 0)
+value_settled : (i : Image) (s : State) (t value : ℕ) (fs : List Frame) → (thread s t).frames ≡ fs → Settled s → Settled (ended_with i s t value fs)
+value_settled i s t value [] e h = h
+value_settled i s t value (f ∷ []) e h = over_settled i s t f.top h
+value_settled i s t value (f ∷ g ∷ gs) e h = back_settled i s t f g gs (plain value) (plain 0) h e (plain_settled value) (plain_settled 0)
 
-trapped_settled : (b : Board) (s : State) (t : ℕ) (why : Trap) → Settled s → Settled (trapped b s t why).0
-trapped_settled b s t why h = unwound_settled b.image s t (thread s t).frames refl h
+-- ---- an error handler
+
+words_settled : (gs : List Granule) (k : ℕ) (ws : List ℕ) → ((j : ℕ) → IsSettled (granule_at gs j).cap) → (j : ℕ) → IsSettled (granule_at (words_written gs k ws) j).cap
+words_settled gs k [] h = h
+words_settled gs k (w ∷ ws) h = words_settled (slice_set gs k (record { cap = plain w; mark = (granule_at gs k).mark })) (k + 1) ws
+    (λ j. after_set (λ (g : Granule). IsSettled g.cap) gs k j (record { cap = plain w; mark = (granule_at gs k).mark }) nothing (plain_settled w) (h j))
+
+handler_settled : (i : Image) (s : State) (t : ℕ) (why : Trap) (f : Frame) (fs : List Frame) → MadeSettled i → (thread s t).frames ≡ f ∷ fs → Settled s → Settled (handler_entered i s t why f fs)
+handler_settled i s t why f fs made frames h =
+    let all : Each FrameSettled (f ∷ fs) = subst (Each FrameSettled) frames (h.threads t).frames in
+    let zero_ : IsSettled (plain 0) = plain_settled 0 in
+    record {
+      granules = words_settled s.granules ((record_end (register (thread s t) 2) - TRAP_RECORD - i.ram) / 8) (record_words (thread s t) why) h.granules;
+      threads = set_settled s t (handled i (thread s t) why f fs) h (record {
+        pcc = address_settles (made_cap i (code_entry i f.actor)) (gate_for i.entries.gates (handler_entry i f.actor)).code;
+        registers = sixteen IsSettled _ _ _ _ _ _ _ _ _ _ _ _ _ _ _ _ zero_ (made 0) (address_settles (register (thread s t) 2) (record_end (register (thread s t) 2) - TRAP_RECORD)) (made (globals_entry i f.actor)) zero_ zero_ zero_ zero_ zero_ zero_
+            (λ e. refl) (λ e. refl) (λ e. refl) zero_ zero_ zero_ zero_;
+        frames = (record { c1 = all.0.c1; c2 = all.0.c2; c3 = all.0.c3; c8 = all.0.c8; c9 = all.0.c9 }, all.1);
+      });
+    }
 
 -- ---- an instruction
 
@@ -132,9 +150,9 @@ put_settled s t d h done = record {
   });
 }
 
-ends_settled : (b : Board) (s : State) (t : ℕ) (x : Cap) (r : Result Done Trap) → Settled s → IfDone r → Settled (ends b s t x r).0
-ends_settled b s t x (Err why) h done = trapped_settled b s t why h
-ends_settled b s t x (Ok d) h done = put_settled s t d h done
+done_settled : (s : State) (t : ℕ) (r : Result Done Trap) → Settled s → IfDone r → steps.IfDone Settled s t r
+done_settled s t (Err why) h done = tt
+done_settled s t (Ok d) h done = put_settled s t d h done
 
 gives_settled : (b : Board) (s : State) (t to : ℕ) (value : Cap) → Settled s → IsSettled value → IfDone (Ok (gives (around b s t) to value))
 gives_settled b s t to value h settled = record { value = settled; pcc = address_settles (thread s t).pcc _; granules = h.granules }
@@ -228,23 +246,22 @@ moves_settle i s t made h = record {
   stops = λ status. stops_settled s t status h;
   wakes = λ address most. wakes_settled s t address most h;
   hands = λ size r is. answers_settled (with_object s r) t (object_cap r) (record { granules = h.granules; threads = h.threads }) (derives_settle _ _ _ _ _ _ _);
-  gives = λ r is. answers_settled (let_go i s t r) t (integer 0) (freed_settled i s t r h) (λ e. refl);
+  gives = λ r c is. answers_settled (let_go i s t r) t (integer 0) (freed_settled i s t r h) (λ e. refl);
+  seals = λ size key r is k. answers_settled (with_object (with_row s r key) r) t (sealed_token r) (record { granules = h.granules; threads = h.threads }) (settled (object_cap r).tag (word_sealed (object_cap r) 3) (object_cap r).shadow);
+  opens = λ key r is. answers_settled s t (opened_token (register (thread s t) 11)) h (settled (register (thread s t) 11).tag (word_sealed (register (thread s t) 11) 0) (register (thread s t) 11).shadow);
 }
 
-next_settled : (b : Board) (s : State) (t : ℕ) → MadeSettled b.image → Settled s → Settled (goes_on b s t (next_at (space_of b s) (cap_address (thread s t).pcc))).0
-next_settled b s t made h = by_next (λ (n : Next). Settled (goes_on b s t n).0) (space_of b s) (cap_address (thread s t).pcc)
-    (returned_settled b.image s t (thread s t).frames refl h)
-    (λ k away read. ends_settled b s t (operand s t (operands_of k).first) (carried_out (class_of k) k (operands_of k).to (operand s t (operands_of k).first) (operand s t (operands_of k).second) (named_by b.image (operand s t (operands_of k).first)) (around b s t)) h (class_settled b s t (class_of k) k (operands_of k).to (operands_of k).first (operands_of k).second h))
-    (λ n few other. served_left Settled b s t n few other (unwound_settled b.image s t (thread s t).frames refl h) (moves_settle b.image s t made h))
-    (trapped_settled b s t (plain_trap ILLEGAL_INSTRUCTION) h)
-
-fetch_settled : (b : Board) (s : State) (t : ℕ) (o : Option Trap) → MadeSettled b.image → Settled s → Settled (after_fetch b s t o).0
-fetch_settled b s t (Some why) made h = trapped_settled b s t why h
-fetch_settled b s t None made h = next_settled b s t made h
+steps_settle : (b : Board) (s : State) (t : ℕ) → MadeSettled b.image → Settled s → steps.Steps Settled b s t
+steps_settle b s t made h = record {
+  handles = λ why f fs frames is. handler_settled b.image s t why f fs made frames h;
+  ends = λ value. value_settled b.image s t value (thread s t).frames refl h;
+  back = λ plain_one. returned_settled b.image s t (thread s t).frames refl h;
+  done = λ k. done_settled s t (steps.carried b s t k) h (class_settled b s t (class_of k) k (operands_of k).to (operands_of k).first (operands_of k).second h);
+  moves = moves_settle b.image s t made h;
+}
 
 executed_settled : (b : Board) (s : State) (t : ℕ) → MadeSettled b.image → Settled s → Settled (executed b s t).0
-unfolding executed
-executed_settled b s t made h = fetch_settled b s t (first_failed (fetch_checks (thread s t).pcc)) made h
+executed_settled b s t made h = steps.executed_left Settled b s t (steps_settle b s t made h)
 
 -- ---- a step
 
@@ -294,7 +311,7 @@ interrupted_settled s (Some t) h = chosen Settled (thread s t).posture.off (reco
 slice_settled : (i : Image) (s : State) (low high offset : ℕ) (c : Cap) → IsSettled c → IsSettled (sliced i s low high offset c)
 slice_settled i s low high offset c h = chosen IsSettled (nat_le low offset && nat_lt offset high) (filtered i s c) c (λ is. filtered_settled i s c h) (λ not. h)
 
-frames_settled : (i : Image) (s : State) (low high area : ℕ) (fs : List Frame) → Each FrameSettled fs → Each FrameSettled (sliced_frames i s low high area fs)
+frames_settled : (i : Image) (s : State) (low high area : ℕ) (fs : List Frame) → Each FrameSettled fs → Each FrameSettled (kept_frames (sliced i s low high) area fs)
 frames_settled i s low high area [] h = tt
 frames_settled i s low high area (f ∷ fs) h = (
   record {
@@ -307,7 +324,7 @@ frames_settled i s low high area (f ∷ fs) h = (
   frames_settled i s low high area fs h.1,
 )
 
-sliced_settled : (i : Image) (s : State) (low high area : ℕ) (runs : Bool) (t : Thread) → ThreadSettled t → ThreadSettled (sliced_thread i s low high area runs t)
+sliced_settled : (i : Image) (s : State) (low high area : ℕ) (runs : Bool) (t : Thread) → ThreadSettled t → ThreadSettled (kept_thread (sliced i s low high) area runs t)
 sliced_settled i s low high area true t h = record { pcc = h.pcc; registers = h.registers; frames = frames_settled i s low high area t.frames h.frames }
 sliced_settled i s low high area false t h = record {
   pcc = slice_settled i s low high area t.pcc h.pcc;
@@ -321,7 +338,7 @@ with_slice_settled i s low high h = record {
   threads = λ t. thread_sliced (λ n x y. ThreadSettled y) i s low high t (λ n. nobody_settled) (sliced_settled i s low high (area_of i t - i.ram) (is_number s.running t) (thread s t) (h.threads t));
 }
 
-unmarked_settled : (i : Image) (rows : List Object) (x : ℕ) (gs : List Granule) (k : ℕ) → IsSettled (get_or gs k nothing).cap → IsSettled (get_or (unmarked i rows x gs) k nothing).cap
+unmarked_settled : (i : Image) (rows : List Object) (x : ℕ) (gs : List Granule) (k : ℕ) → IsSettled (get_or gs k nothing).cap → IsSettled (get_or (marks_cleared rows x gs) k nothing).cap
 unmarked_settled i rows x [] k h = h
 unmarked_settled i rows x (g ∷ gs) zero h = h
 unmarked_settled i rows x (g ∷ gs) (suc k) h = unmarked_settled i rows (x + 8) gs k h

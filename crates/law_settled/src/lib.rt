@@ -4,7 +4,7 @@
 ghost use Rattle.std.specs.Prelude.{List};
 ghost use Rattle.def_machine.specs.State.{State};
 ghost use Rattle.def_step.specs.declared.Event.{Event};
-ghost use Rattle.def_step.specs.Instructions.{Board};
+ghost use Rattle.def_machine.specs.Board.{Board};
 ghost use Rattle.def_step.specs.Events.{happens, run};
 ghost use Rattle.def_facts.specs.Facts.{MadeSettled};
 ghost use Rattle.def_confined.specs.Settled.{Settled};

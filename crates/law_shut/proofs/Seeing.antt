@@ -65,7 +65,7 @@ none_hidden i rs y one two = elim two [
     never false b = refl
 
 -- what lies outside the trusted region's areas and the heap isn't hidden
-away_seen : (i : Image) (rs : List Object) (x : ℕ) → Shut i → i.ram ≤ x → (x < i.trusted) ⊎ (trusted_end i ≤ x) → (x < i.heap_base) ⊎ (i.heap_end ≤ x) → is_hidden i rs (granule_of i x) ≡ false
+pub away_seen : (i : Image) (rs : List Object) (x : ℕ) → Shut i → i.ram ≤ x → (x < i.trusted) ⊎ (trusted_end i ≤ x) → (x < i.heap_base) ⊎ (i.heap_end ≤ x) → is_hidden i rs (granule_of i x) ≡ false
 away_seen i rs x shut inside trusted heap =
     let n = near i x inside in
     let even = shut.even in

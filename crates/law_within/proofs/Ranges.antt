@@ -14,7 +14,7 @@ use Rattle.def_boot.specs.Boot.{image_of}
 use Rattle.law_grants.proofs.Sets.{RightsFit}
 use Rattle.law_grants.proofs.Told.{LiesAs, of_nothing, in_ram, native, device, of_key}
 use Rattle.law_grants.proofs.Clauses.{told_at}
-use Rattle.law_within.specs.Within.{IsWithin}
+use Rattle.def_program.specs.Within.{IsWithin}
 
 -- ---- devices
 

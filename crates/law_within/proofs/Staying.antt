@@ -18,7 +18,7 @@ use Rattle.law_grants.proofs.Holding.{holds}
 use Rattle.law_jumps.proofs.Moves.{in_rooted}
 use Rattle.law_events.proofs.Running.{run_keeps}
 use Rattle.law_started.proofs.Whole.{keeps}
-use Rattle.law_within.specs.Within.{IsWithin, MayTouch, StaysWithin, state_after}
+use Rattle.def_program.specs.Within.{IsWithin, MayTouch, StaysWithin, state_after}
 use Rattle.law_within.proofs.Ranges.{Touches, root_within, heap_within}
 
 module _ (p : PartsRow) (s : Sound p) where

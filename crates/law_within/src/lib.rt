@@ -8,7 +8,7 @@ ghost use Rattle.def_image.specs.Parts.{PartsRow};
 ghost use Rattle.def_image.specs.Sound.{Sound};
 ghost use Rattle.def_machine.specs.State.{register, thread};
 ghost use Rattle.def_step.specs.declared.Event.{Event};
-ghost use Rattle.law_within.specs.Within.{StaysWithin, state_after};
+ghost use Rattle.def_program.specs.Within.{StaysWithin, state_after};
 
 /// After any list of events from the boot of a sound image, every address of the bounds of a tagged
 /// register or program counter that may load, store or run is one of RAM, of a device or of a native

@@ -2,13 +2,13 @@
 //! docs/use/image.md and docs/use/machine.md.
 
 ghost use Rattle.std.specs.Prelude.{◌≡◌, IfOk, None, length};
-ghost use Rattle.ct_launch.specs.Placed.{AreFirst};
+ghost use Rattle.ct_boot.specs.Placed.{AreFirst};
 
 use crate::seen::{count_is, is};
 use crate::start::shelf_image;
-use ct_heaped::{Engine, Object};
+use ct_boot::launch;
+use ct_engine::{Engine, Object};
 use ct_image::Image;
-use ct_launch::launch;
 use ct_mem::Plain;
 use def_refusals::NoMemory;
 use std::alloc::Global;
@@ -19,8 +19,8 @@ const LIMITS: [u32; 17] = [0, 24, 0, 0, 0, 0, 0, 0, 0, 0, 0, 0, 0, 0, 0, 0, 0];
 
 /// An image launched into memory of its size, where quota 1 alone may take something: 24 bytes.
 fn launched(alloc: Global, image: &Image) -> Result<Engine<Plain>, NoMemory>
-    ensures none { IfOk result (λ e. e.threads.running ≡ None) }
-    ensures first { IfOk result (λ e. AreFirst e.threads) }
+    ensures none { IfOk result (λ e. e.running ≡ None) }
+    ensures first { IfOk result (λ e. AreFirst e) }
     ensures quotas { IfOk result (λ e. length e.limits ≡ 17) }
     ensures next { IfOk result (λ e. e.next ≡ 1) }
 {
@@ -32,8 +32,8 @@ fn launched(alloc: Global, image: &Image) -> Result<Engine<Plain>, NoMemory>
 /// The second thread runs with its own stack. The heap begins where the image has it: of 24 bytes an object of 16 bytes
 /// takes all, past the eight of its head.
 fn see_launched(rt: &impl Abort, engine: &mut Engine<Plain>)
-    requires none { engine.old.threads.running ≡ None }
-    requires first { AreFirst engine.old.threads }
+    requires none { engine.old.running ≡ None }
+    requires first { AreFirst engine.old }
     requires quotas { length engine.old.limits ≡ 17 }
     requires next { engine.old.next ≡ 1 }
 {

@@ -4,12 +4,12 @@
 ghost use Rattle.std.specs.Prelude.{◌≡◌, length, IfOk};
 
 use crate::seen::{count_is, fewer, is, put_made};
+use ct_boot::{First, Start, boot};
 use ct_cap::{Cap, Posture, Shadow};
 use ct_entry::{Device, DeviceKind, Mode};
 use ct_image::{Image, ImageFault, accept};
 use ct_mem::{Memory, Plain};
 use ct_parts::{Code, Compartment, Export, Parts, Sealed, Shared, Slot, Thread, written};
-use ct_start::{First, Start, boot};
 use ct_tables::{ExportRow, ImportRow, SlotKind};
 use def_refusals::NoMemory;
 use std::alloc::{AllocError, Global};

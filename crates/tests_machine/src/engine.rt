@@ -6,7 +6,7 @@ ghost use Rattle.def_memory.specs.Granules.{plain};
 use crate::seen::is;
 use ct_areas::Area;
 use ct_cap::{Live, Posture, Trap};
-use ct_engine::{Called, Engine, Fresh, Region};
+use ct_engine::{Called, Engine, Fresh, Heap, Region};
 use ct_entry::Entries;
 use ct_mem::Plain;
 use def_profile::traps::TAG_CODE;
@@ -69,16 +69,27 @@ fn fresh(number: u32) -> Fresh
     }
 }
 
-/// Two threads; the second runs, calls once and no more, and stops; the first runs to its end; the second goes on with
-/// what it held, and returns twice.
+fn no_entries(alloc: Global) -> Entries
+    ensures { result.gates ≡ [] }
+{
+    Entries {
+        rows: Vec::new(alloc),
+        gates: Vec::new(alloc),
+    }
+}
+
+/// Two threads; the second runs, gets a register and stops; the first runs to its end; the second goes on with what it
+/// held.
 #[test]
 fn threads_take_turns(rt: HostRuntime) -> Result<(), NoMemory> {
+    let none = no_entries(rt.alloc());
     let threads = [fresh(1), fresh(2)];
-    let mut engine = Engine::start(rt.alloc(), Plain::new(rt.alloc(), 2048)?, REGION, &threads)?;
+    let heap = Heap::new(rt.alloc(), 0x8000_0000, 0x8000_0600, 512, &[])?;
+    let memory = Plain::new(rt.alloc(), 2048)?;
+    let mut engine = Engine::start(rt.alloc(), memory, REGION, &threads, heap)?;
     is(&rt, 1, engine.count() == 2);
     engine.pick(1);
     is(&rt, 2, engine.register(1, 2).cap.word == 2);
-    is(&rt, 3, engine.push(1, 2, 9, 0x8000_0580));
     engine.go(
         1,
         Live::integer(0x200),
@@ -89,49 +100,51 @@ fn threads_take_turns(rt: HostRuntime) -> Result<(), NoMemory> {
         2,
         Live::integer(5),
     );
-    is(&rt, 4, !engine.push(1, 2, 9, 0x8000_0560));
     engine.stop(1);
-    is(&rt, 5, engine.load(0x250, 4) == 0);
+    is(&rt, 3, engine.load(0x250, 4) == 0);
     engine.pick(0);
-    let saved = engine.pop(0);
-    is(&rt, 6, saved.export == 7);
-    is(&rt, 7, saved.c2.cap.word == 0);
-    is(&rt, 8, engine.running() == None);
+    is(&rt, 4, engine.register(0, 2).cap.word == 1);
+    is(&rt, 5, !engine.unwind(0, &none));
+    is(&rt, 6, engine.running() == None);
     engine.pick(1);
-    is(&rt, 9, engine.register(1, 2).cap.word == 5);
-    let saved = engine.pop(1);
-    is(&rt, 10, saved.export == 9);
-    is(&rt, 11, saved.c2.cap.word == 2);
-    is(&rt, 12, engine.running() == Some(1));
+    is(&rt, 7, engine.register(1, 2).cap.word == 5);
+    is(&rt, 8, engine.pcc(1).address() == 0x200);
+    is(&rt, 9, engine.running() == Some(1));
     drop(engine);
+    drop(none);
     Ok(())
 }
 
-fn no_entries(alloc: Global) -> Entries
-    ensures { result.gates ≡ [] }
-{
-    Entries {
-        rows: Vec::new(alloc),
-        gates: Vec::new(alloc),
-    }
+/// A thread whose c1 and c6 hold no capability calls: it traps.
+#[test]
+fn call_without_a_sentry_traps(rt: HostRuntime) -> Result<(), NoMemory> {
+    let none = no_entries(rt.alloc());
+    let threads = [fresh(1), fresh(2)];
+    let heap = Heap::new(rt.alloc(), 0x8000_0000, 0x8000_0600, 512, &[])?;
+    let memory = Plain::new(rt.alloc(), 2048)?;
+    let mut engine = Engine::start(rt.alloc(), memory, REGION, &threads, heap)?;
+    engine.pick(1);
+    let posture = engine.posture(1);
+    engine.go(1, Live::integer(0x200), posture, 6, Live::integer(0));
+    engine.go(1, Live::integer(0x200), posture, 1, Live::integer(0));
+    let trap = Trap::capability(TAG_CODE, 1);
+    is(&rt, 1, engine.call(1, &none) == Called::Trapped { trap });
+    drop(engine);
+    drop(none);
+    Ok(())
 }
 
-/// A thread with two frames: an unwind answers its caller -1; the caller holds no import, so its call traps; its return
-/// ends the thread.
+/// A thread with one frame returns: it has ended, and none runs.
 #[test]
-fn frames_end(rt: HostRuntime) -> Result<(), NoMemory> {
-    let threads = [fresh(1), fresh(2)];
+fn last_frame_ends(rt: HostRuntime) -> Result<(), NoMemory> {
     let none = no_entries(rt.alloc());
-    let mut engine = Engine::start(rt.alloc(), Plain::new(rt.alloc(), 2048)?, REGION, &threads)?;
+    let threads = [fresh(1), fresh(2)];
+    let heap = Heap::new(rt.alloc(), 0x8000_0000, 0x8000_0600, 512, &[])?;
+    let memory = Plain::new(rt.alloc(), 2048)?;
+    let mut engine = Engine::start(rt.alloc(), memory, REGION, &threads, heap)?;
     engine.pick(1);
-    is(&rt, 1, engine.push(1, 2, 9, 0x8000_0580));
-    is(&rt, 2, engine.unwind(1, &none));
-    is(&rt, 3, engine.register(1, 2).cap.word == 2);
-    is(&rt, 4, engine.register(1, 10).cap.word == 0xFFFF_FFFF);
-    let trap = Trap::capability(TAG_CODE, 1);
-    is(&rt, 5, engine.call(1, &none) == Called::Trapped { trap });
-    is(&rt, 6, !engine.give_back(1, &none));
-    is(&rt, 7, engine.running() == None);
+    is(&rt, 1, !engine.give_back(1, &none));
+    is(&rt, 2, engine.running() == None);
     drop(engine);
     drop(none);
     Ok(())

@@ -1,4 +1,5 @@
-//! Tests of the crates of memory, devices, files and the lines of a run, by their public calls.
+//! Tests of the crates of memory, devices, tokens, traps' records, files and the lines of a run, by their public
+//! calls.
 //!
 //! They stand apart, since a crate with tests is proved twice.
 #![tactic(auto)]
@@ -7,6 +8,8 @@
 mod bus;
 #[cfg(test)]
 mod flow;
+#[cfg(test)]
+mod handler;
 #[cfg(test)]
 mod loadstore;
 #[cfg(test)]
@@ -17,5 +20,7 @@ mod port;
 mod revoke;
 #[cfg(test)]
 mod seen;
+#[cfg(test)]
+mod token;
 #[cfg(test)]
 mod trace;

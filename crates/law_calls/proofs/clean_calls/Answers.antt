@@ -5,4 +5,4 @@ use Rattle.law_calls.proofs.Cleans.{entry_plain, return_plain, left_plain, stack
 use Rattle.law_calls.proofs.clean_calls.Goals as goal
 
 pub returns : goal.returns
-returns c = record { entry = entry_plain; back = return_plain; unwind = λ i s old f fs. left_plain i s old f fs (plain UNWOUND) (plain 0) refl refl; stack = stack_zero }
+returns c = record { entry = entry_plain; back = return_plain; value = λ i s old value f fs. left_plain i s old f fs (plain value) (plain 0) refl refl; unwind = λ i s old f fs. left_plain i s old f fs (plain UNWOUND) (plain 0) refl refl; stack = stack_zero }

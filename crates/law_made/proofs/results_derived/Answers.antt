@@ -1,16 +1,17 @@
-use Rattle.law_made.proofs.Results.{address_derived, raised_derived, bounds_derived, exact_derived, masked_derived, untagged_derived, sealed_derived, unsealed_derived, attenuated_derived, attenuated_carries}
+use Rattle.law_made.proofs.Results.{address_result, raised_result, bounds_result, exact_result, masked_result, untagged_result, sealed_result, unsealed_result, attenuated_result, widened, attenuated_carries}
 use Rattle.law_made.proofs.results_derived.Goals as goal
 
 pub returns : goal.returns
 returns c = record {
-  address = address_derived;
-  raise = raised_derived;
-  bounds = bounds_derived;
-  exact = exact_derived;
-  mask = masked_derived;
-  clear = untagged_derived;
-  seals = sealed_derived;
-  unseals = unsealed_derived;
-  loads = attenuated_derived;
+  address = address_result;
+  raise = raised_result;
+  bounds = bounds_result;
+  exact = exact_result;
+  mask = masked_result;
+  clear = untagged_result;
+  seals = sealed_result;
+  unseals = unsealed_result;
+  loads = attenuated_result;
+  derived = widened;
   carries = attenuated_carries;
 }

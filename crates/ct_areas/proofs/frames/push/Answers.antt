@@ -1,5 +1,6 @@
 use Rattle.std.proofs.Common.{◌≡◌, ◌/◌, ◌∙◌, ap, refl, arith}
-use Rattle.def_areas.specs.Areas.{holding_all, frame_words, frame_place}
+use Rattle.def_areas.specs.Areas.{frame_words, frame_place}
+use Rattle.def_memory.specs.Granules.{holding_all}
 use Rattle.ct_areas.specs.Threads.{area_begin}
 use Rattle.ct_areas.specs.Parts.{saved_of}
 use Rattle.ct_areas.proofs.Rows.{pushed_is, pushed_touches}

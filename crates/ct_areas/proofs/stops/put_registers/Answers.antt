@@ -1,5 +1,5 @@
 use Rattle.std.proofs.Common.{◌+◌, ◌*◌, ◌/◌, ◌∙◌, ap}
-use Rattle.def_areas.specs.Areas.{holding}
+use Rattle.def_memory.specs.Granules.{holding}
 use Rattle.ct_areas.proofs.Stopped.{put_step}
 use Rattle.ct_areas.proofs.stops.put_registers.Goals as goal
 

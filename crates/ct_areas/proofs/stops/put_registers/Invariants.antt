@@ -1,5 +1,5 @@
 use Rattle.std.proofs.Common.{◌≡◌, ◌/◌, length, drop, take}
-use Rattle.def_areas.specs.Areas.{holding_all}
+use Rattle.def_memory.specs.Granules.{holding_all}
 use Rattle.ct_areas.proofs.stops.put_registers.Given as goal
 
 abbrev pub invariant-loop-i : goal.invariant-loop-i

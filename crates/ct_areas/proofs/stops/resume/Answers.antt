@@ -1,7 +1,6 @@
 use Rattle.std.proofs.Common.{◌≡◌, ◌∷◌, ◌+◌, ◌*◌, ◌/◌, ◌∙◌, ap, map, length, arith}
-use Rattle.def_memory.specs.Granules.{plain}
+use Rattle.def_memory.specs.Granules.{plain, held, held_from}
 use Rattle.def_machine.specs.Memory.{filtered_in}
-use Rattle.def_areas.specs.Areas.{held, held_from}
 use Rattle.ct_areas.specs.Threads.{area_begin}
 use Rattle.ct_areas.proofs.Stopped.{resumed_is, resumed_touches}
 use Rattle.ct_areas.proofs.stops.resume.Goals as goal

@@ -8,7 +8,7 @@ use Rattle.ct_engine.specs.Seen.{seen, thread}
 use Rattle.ct_engine.specs.Calls.{after_call}
 use Rattle.ct_engine.proofs.Whole.{running_kept}
 use Rattle.ct_engine.proofs.Stacks.{stacks_turn}
-use Rattle.ct_engine.proofs.Entering.{register_is, switch_is, may_is, call_sees, call_areas_by, call_size}
+use Rattle.ct_engine.proofs.Entering.{register_is, switch_is, may_is, call_sees, call_areas_by, call_heap_by, call_size}
 use Rattle.ct_engine.proofs.calls.call.Goals as goal
 
 pub call_row-requires-clause-kept : goal.call_row-requires-clause-kept
@@ -32,6 +32,7 @@ returns-clause-holds g c =
       runs = λ u is. (let lt = c.requires.holds.runs u is in let size = length-set rows.list.items c.args.t c.call_row.new.t in omega (arith, lt, size));
       stacks = stacks_turn gs hs rows c.args.t r c.call_row.new.t c.requires.holds (c.requires.holds.runs c.args.t c.requires.runs) c.index_mut.ensures.value
           (call_size gs hs r (switch_in gs e r) c.call_row.ensures.touches) c.call_row.ensures.area;
+      heap = call_heap_by gs hs rows c.args.t r e c.requires.holds c.requires.runs c.index_mut.ensures.value c.requires.may (switch_in gs e r) refl c.call_row.ensures.touches;
     }
 
 pub returns-clause-result : goal.returns-clause-result

@@ -2,13 +2,13 @@ use Rattle.std.proofs.Common.{ℕ, ◌≡◌, Option, length, refl, sym, ◌∙�
 use Rattle.std.proofs.Math.ListN.{set}
 use Rattle.std.proofs.lemmas.List.{length-set}
 use Rattle.def_memory.specs.Granules.{plain}
-use Rattle.ct_engine.specs.Seen.{seen_by, seen}
+use Rattle.ct_engine.specs.Seen.{seen_of, seen}
 use Rattle.ct_engine.specs.Kept.{AreasFrom}
 use Rattle.ct_engine.specs.Calls.{ended_with}
 use Rattle.ct_engine.proofs.Whole.{running_kept}
 use Rattle.ct_engine.proofs.Ends.{runs_in}
 use Rattle.ct_engine.proofs.Stacks.{stacks_turn, ready_is}
-use Rattle.ct_engine.proofs.Leaving.{end_areas, end_size, end_tells, end_sees}
+use Rattle.ct_engine.proofs.Leaving.{end_areas, end_heap, end_size, end_tells, end_sees}
 use Rattle.ct_engine.proofs.calls.end_with.Goals as goal
 
 pub end_row-more-requires-clause-kept : goal.end_row-more-requires-clause-kept
@@ -34,6 +34,7 @@ returns-clause-holds g c =
           let size = length-set rows.list.items c.args.t q in omega (arith, less, size));
       stacks = stacks_turn gs hs rows c.args.t r q c.requires.holds lt c.index_mut.ensures.value
           (end_size gs hs r q c.end_row-more.result (λ f. plain c.args.value) (λ f. plain 0) c.end_row-more.ensures) c.end_row-more.ensures.area;
+      heap = end_heap gs hs rows c.args.t r q c.end_row-more.result (λ f. plain c.args.value) (λ f. plain 0) c.requires.holds c.requires.runs c.index_mut.ensures.value c.requires.top c.end_row-more.ensures;
     }
 
 pub returns-clause-result : goal.returns-clause-result
@@ -48,7 +49,7 @@ returns-clause-seen g c =
     let rows = c.args.rows.now in
     let r = c.index_mut.result.now in
     let q = c.end_row-more.new.t in
-    subst (λ (o : Option ℕ). seen_by hs rows.region (set rows.list.items c.args.t q) o ≡ ended_with (seen gs rows) c.args.t c.args.value) (sym c.still-rows.ensures)
+    subst (λ (o : Option ℕ). seen_of hs rows (set rows.list.items c.args.t q) o ≡ ended_with (seen gs rows) c.args.t c.args.value) (sym c.still-rows.ensures)
     (end_sees gs hs rows c.args.t r q c.end_row-more.result (λ f. plain c.args.value) (λ f. plain 0)
     (λ f. plain c.args.value) (λ f. plain 0)
     c.requires.holds c.requires.runs c.index_mut.ensures.value c.requires.top c.end_row-more.ensures

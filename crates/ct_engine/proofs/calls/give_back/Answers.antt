@@ -4,14 +4,14 @@ use Rattle.std.proofs.lemmas.List.{length-set}
 use Rattle.def_words.specs.declared.Cap.{Cap}
 use Rattle.def_machine.specs.Frames.{answer_by, passed_by}
 use Rattle.ct_switch.specs.Calls.{returned_by}
-use Rattle.ct_engine.specs.Seen.{seen_by, seen, thread}
+use Rattle.ct_engine.specs.Seen.{seen_of, seen, thread}
 use Rattle.ct_engine.specs.Kept.{AreasFrom}
 use Rattle.ct_engine.specs.Calls.{returned}
 use Rattle.ct_engine.proofs.Whole.{running_kept}
 use Rattle.ct_engine.proofs.Ends.{runs_in}
 use Rattle.ct_engine.proofs.Stacks.{stacks_turn, ready_is}
 use Rattle.ct_engine.proofs.Entering.{register_is}
-use Rattle.ct_engine.proofs.Leaving.{end_areas, end_size, end_tells, end_sees}
+use Rattle.ct_engine.proofs.Leaving.{end_areas, end_heap, end_size, end_tells, end_sees}
 use Rattle.ct_engine.proofs.calls.give_back.Goals as goal
 
 pub return_row-more-requires-clause-kept : goal.return_row-more-requires-clause-kept
@@ -37,6 +37,7 @@ returns-clause-holds g c =
           let size = length-set rows.list.items c.args.t q in omega (arith, less, size));
       stacks = stacks_turn gs hs rows c.args.t r q c.requires.holds lt c.index_mut.ensures.value
           (end_size gs hs r q c.return_row-more.result (returned_by c.args.e.now r 10) (returned_by c.args.e.now r 11) c.return_row-more.ensures) c.return_row-more.ensures.area;
+      heap = end_heap gs hs rows c.args.t r q c.return_row-more.result (returned_by c.args.e.now r 10) (returned_by c.args.e.now r 11) c.requires.holds c.requires.runs c.index_mut.ensures.value c.requires.top c.return_row-more.ensures;
     }
 
 pub returns-clause-result : goal.returns-clause-result
@@ -51,7 +52,7 @@ returns-clause-seen g c =
     let rows = c.args.rows.now in
     let r = c.index_mut.result.now in
     let q = c.return_row-more.new.t in
-    subst (λ (o : Option ℕ). seen_by hs rows.region (set rows.list.items c.args.t q) o ≡ returned (seen gs rows) c.args.e.now c.args.t) (sym c.still-rows.ensures)
+    subst (λ (o : Option ℕ). seen_of hs rows (set rows.list.items c.args.t q) o ≡ returned (seen gs rows) c.args.e.now c.args.t) (sym c.still-rows.ensures)
     (end_sees gs hs rows c.args.t r q c.return_row-more.result (returned_by c.args.e.now r 10) (returned_by c.args.e.now r 11)
     (λ f. answer_by c.args.e.now (thread (seen gs rows) c.args.t) f 10) (λ f. answer_by c.args.e.now (thread (seen gs rows) c.args.t) f 11)
     c.requires.holds c.requires.runs c.index_mut.ensures.value c.requires.top c.return_row-more.ensures

@@ -1,32 +1,42 @@
-use Rattle.std.proofs.Common.{◌+◌, ◌≤◌, length, take, drop, arith}
-use Rattle.ct_engine.proofs.Whole.{none_is}
-use Rattle.ct_engine.proofs.Begins.{next_clear, begun_at, begun_step, begun_areas, begun_stacks, begun_seen}
+use Rattle.std.proofs.Common.{◌+◌, ◌*◌, ◌≤◌, None, length, refl, arith}
+use Rattle.ct_engine.specs.declared.rows.Rows.{Rows}
+use Rattle.ct_engine.proofs.Laying.{Lays, laid_holds, laid_seen}
+use Rattle.ct_engine.proofs.starting.start.Given as given
 use Rattle.ct_engine.proofs.starting.start.Goals as goal
 
-pub begin-row-requires-clause-clear : goal.begin-row-requires-clause-clear
-begin-row-requires-clause-clear g c =
-    let was = g.M.Memory.granules c.args.mem.now in
-    let gs = g.M.Memory.granules c.loop-i.mem in
-    let fs = c.args.fresh.now in
-    next_clear c.args.region was gs c.loop-i.list.items (take c.loop-i.i fs) (drop (c.loop-i.i + 1) fs) c.index-fresh-i.result
-    (begun_at c.args.region was gs c.loop-i.list.items fs c.loop-i.i c.index-fresh-i.result c.loop-i.invariant c.loop-i-test.true c.index-fresh-i.is)
+pub lay-requires-clause-inside : goal.lay-requires-clause-inside
+lay-requires-clause-inside g c =
+    let inside = c.requires.heap.inside in
+    let ram = c.requires.heap.ram in
+    let size = c.in_ok-list.ensures.size in
+    omega (arith, inside, ram, size)
 
-pub loop-i-preserved : goal.loop-i-preserved
-loop-i-preserved g c =
-    begun_step c.args.region (g.M.Memory.granules c.args.mem.now) (g.M.Memory.granules c.loop-i.mem) (g.M.Memory.granules c.begin-row.new.mem)
-    c.loop-i.list.items c.push.new.self.items c.begin-row.result c.args.fresh.now c.loop-i.i c.index-fresh-i.result c.loop-i.invariant c.loop-i-test.true c.index-fresh-i.is
-    c.begin-row.ensures.touches c.begin-row.ensures.kept c.begin-row.ensures.area c.begin-row.ensures.thread c.in_ok-push.ensures.items
+abbrev rows_of : (g : given.Over) (c : goal.After-idle g) → Rows
+rows_of g c = record {
+  region = c.args.region;
+  list = c.in_ok-list.list;
+  running = None;
+  heap = c.lay.new.self;
+  front = c.idle.result;
+}
+
+-- what is known once the heap is laid
+lays : (g : given.Over) (c : goal.After-idle g)
+    → Lays (g.M.Memory.granules c.args.mem.now) (g.M.Memory.granules c.begin_all.new.mem) (g.M.Memory.granules c.lay.new.mem) (rows_of g c) c.args.fresh.now c.args.heap
+lays g c = record {
+  may = c.requires;
+  begun = c.in_ok-list.ensures;
+  none = refl;
+  idle = c.idle.ensures;
+  laid = c.lay.ensures.laid;
+  objects = c.lay.ensures.objects;
+  stays = c.lay.ensures.stays;
+  same = c.lay.ensures.same;
+  next = c.lay.ensures.next;
+}
 
 pub returns-clause-holds : goal.returns-clause-holds
-returns-clause-holds g c =
-    let end : length c.args.fresh.now ≤ c.loop-i.i = omega (arith, c.loop-i-test.false) in
-    record {
-      areas = begun_areas c.args.region (g.M.Memory.granules c.args.mem.now) (g.M.Memory.granules c.loop-i.mem) c.loop-i.list.items c.args.fresh.now c.loop-i.i c.loop-i.invariant end;
-      runs = λ u e. none_is u e;
-      stacks = begun_stacks c.args.region (g.M.Memory.granules c.args.mem.now) (g.M.Memory.granules c.loop-i.mem) c.loop-i.list.items c.args.fresh.now c.loop-i.i c.loop-i.invariant end c.requires.stacks;
-    }
+returns-clause-holds g c = laid_holds _ _ (g.M.Memory.granules c.lay.new.mem) (rows_of g c) c.args.fresh.now c.args.heap (lays g c)
 
 pub returns-clause-seen : goal.returns-clause-seen
-returns-clause-seen g c =
-    let end : length c.args.fresh.now ≤ c.loop-i.i = omega (arith, c.loop-i-test.false) in
-    begun_seen c.args.region (g.M.Memory.granules c.args.mem.now) (g.M.Memory.granules c.loop-i.mem) c.loop-i.list.items c.args.fresh.now c.loop-i.i c.loop-i.invariant end c.requires.clear
+returns-clause-seen g c = laid_seen _ _ (g.M.Memory.granules c.lay.new.mem) (rows_of g c) c.args.fresh.now c.args.heap (lays g c)

@@ -1,6 +1,7 @@
-use Rattle.std.proofs.Common.{◌<◌, arith, subst}
+use Rattle.std.proofs.Common.{◌<◌, false, arith, subst}
 use Rattle.std.proofs.lemmas.List.{length-set}
 use Rattle.ct_engine.proofs.Whole.{stopped_lies, none_runs, depth_is, pick_areas, pick_seen, some_is}
+use Rattle.ct_engine.proofs.HeapStays.{turn_heap}
 use Rattle.ct_engine.proofs.Stacks.{stacks_turn}
 use Rattle.ct_engine.proofs.turns.pick.Goals as goal
 
@@ -19,6 +20,8 @@ returns-clause-holds g c = record {
   runs = λ u e. (let lt = c.requires.there in let is = some_is c.args.t u e in let size = length-set c.args.rows.now.list.items c.args.t c.pick_row.new.t in omega (arith, lt, is, size));
   stacks = stacks_turn (g.M.Memory.granules c.args.mem.now) (g.M.Memory.granules c.pick_row.new.mem) c.args.rows.now c.args.t c.index_mut.result.now c.pick_row.new.t
       c.requires.holds c.requires.there c.index_mut.ensures.value c.pick_row.ensures.touches.size c.pick_row.ensures.area;
+  heap = turn_heap (g.M.Memory.granules c.args.mem.now) (g.M.Memory.granules c.pick_row.new.mem) c.args.rows.now.region c.args.rows.now.heap c.args.rows.now.front false c.index_mut.result.now c.requires.holds.heap
+      (stopped_lies (g.M.Memory.granules c.args.mem.now) c.args.rows.now c.args.t c.index_mut.result.now c.requires.holds c.requires.none c.requires.there c.index_mut.ensures.value) c.pick_row.ensures.touches;
 }
 
 pub returns-clause-seen : goal.returns-clause-seen

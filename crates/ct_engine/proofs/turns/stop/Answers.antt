@@ -1,5 +1,6 @@
 use Rattle.ct_engine.proofs.Whole.{running_kept, stop_areas, stop_seen, none_is}
 use Rattle.ct_engine.proofs.Stacks.{stacks_turn}
+use Rattle.ct_engine.proofs.Turning.{running_heap}
 use Rattle.ct_engine.proofs.turns.stop.Goals as goal
 
 pub stop_row-requires : goal.stop_row-requires
@@ -13,6 +14,7 @@ returns-clause-holds g c = record {
   runs = λ u e. none_is u e;
   stacks = stacks_turn (g.M.Memory.granules c.args.mem.now) (g.M.Memory.granules c.stop_row.new.mem) c.args.rows.now c.args.t c.index_mut.result.now c.stop_row.new.t
       c.requires.holds (c.requires.holds.runs c.args.t c.requires.runs) c.index_mut.ensures.value c.stop_row.ensures.touches.size c.stop_row.ensures.area;
+  heap = running_heap (g.M.Memory.granules c.args.mem.now) (g.M.Memory.granules c.stop_row.new.mem) c.args.rows.now c.args.t c.index_mut.result.now c.requires.holds c.requires.runs c.index_mut.ensures.value c.stop_row.ensures.touches;
 }
 
 pub returns-clause-seen : goal.returns-clause-seen

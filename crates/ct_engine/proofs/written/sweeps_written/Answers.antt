@@ -1,5 +1,5 @@
-use Rattle.ct_engine.proofs.Sliced.{slice_written}
+use Rattle.ct_engine.proofs.Shown.{swept_shown}
 use Rattle.ct_engine.proofs.written.sweeps_written.Goals as goal
 
 pub returns : goal.returns
-returns c = slice_written
+returns c = swept_shown

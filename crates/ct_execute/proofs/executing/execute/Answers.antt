@@ -14,38 +14,36 @@ use Rattle.ct_execute.proofs.executing.execute.Goals as goal
 
 pub returns-in-Instruction-clause-unfinished : goal.returns-in-Instruction-clause-unfinished
 returns-in-Instruction-clause-unfinished g c =
-    let e = c.args.engine.now.threads in
+    let e = c.args.engine.now in
     decided_unfinished (decide_instruction c.args.entries.now (thread e c.args.t) (space_in e c.args.bus.now c.args.time) c.in-Instruction.instruction)
-    c.args.t c.args.engine.now c.carry_out.new.engine c.args.bus.now c.carry_out.new.bus c.carry_out.result c.carry_out.ensures.kept c.carry_out.ensures.is
+    c.args.t c.args.engine.now c.carry_out.new.engine c.args.bus.now c.carry_out.new.bus c.carry_out.result c.carry_out.ensures.is
 
 pub returns-in-Instruction-clause-ranged : goal.returns-in-Instruction-clause-ranged
 returns-in-Instruction-clause-ranged g c =
     let i = c.in-Instruction.instruction in
-    let e = c.args.engine.now.threads in
+    let e = c.args.engine.now in
     let w = thread e c.args.t in
     let x : Cap = register w (operands_of i).first in
     no_routine x.shadow.root
     (carried_out (class_of i) i (operands_of i).to x (register w (operands_of i).second) (named_in c.args.entries.now x) (around_of w (space_in e c.args.bus.now c.args.time)))
-    c.args.t e c.carry_out.new.engine.threads c.args.bus.now c.carry_out.new.bus c.carry_out.result c.carry_out.ensures.is
+    c.args.t e c.carry_out.new.engine c.args.bus.now c.carry_out.new.bus c.carry_out.result c.carry_out.ensures.is
 
 pub returns-in-Some : goal.returns-in-Some
 returns-in-Some g c = record {
-  is = fetch_fails c.args.entries.now c.args.engine.now.threads c.args.t c.args.bus.now c.args.time c.pcc-pcc.result c.in-Some.trap c.pcc-pcc.ensures c.in-Some.ensures;
-  kept = refl;
+  is = fetch_fails c.args.entries.now c.args.engine.now c.args.t c.args.bus.now c.args.time c.pcc-pcc.result c.in-Some.trap c.pcc-pcc.ensures c.in-Some.ensures;
   unfinished = (refl, refl);
   ranged = tt;
-  stays = stays_same c.args.engine.now.threads;
+  stays = stays_same c.args.engine.now;
   bases = refl;
 }
 
 pub returns-in-Returning : goal.returns-in-Returning
 returns-in-Returning g c =
-    let s = c.args.engine.now.threads in
+    let s = c.args.engine.now in
     let k = c.args.bus.now in
     record {
       is = subst (λ (d : Decision). Decided d c.args.t s k s k ran.Returned)
           (fetch_passes c.args.entries.now s c.args.t k c.args.time c.pcc-pcc.result c.address.result Returning c.pcc-pcc.ensures c.in_default.ensures c.address.ensures c.in-Returning.ensures.is) (refl, refl, refl);
-      kept = refl;
       unfinished = (refl, refl);
       ranged = tt;
       stays = stays_same s;
@@ -54,13 +52,12 @@ returns-in-Returning g c =
 
 pub returns-in-Native : goal.returns-in-Native
 returns-in-Native g c =
-    let s = c.args.engine.now.threads in
+    let s = c.args.engine.now in
     let k = c.args.bus.now in
     let number = c.in-Native.number in
     record {
       is = subst (λ (d : Decision). Decided d c.args.t s k s k (ran.Native number))
           (fetch_passes c.args.entries.now s c.args.t k c.args.time c.pcc-pcc.result c.address.result (Native number) c.pcc-pcc.ensures c.in_default.ensures c.address.ensures c.in-Native.ensures.is) (refl, refl, refl);
-      kept = refl;
       unfinished = (refl, refl);
       ranged = c.in-Native.ensures.ranged;
       stays = stays_same s;
@@ -69,13 +66,12 @@ returns-in-Native g c =
 
 pub returns-in-Nothing : goal.returns-in-Nothing
 returns-in-Nothing g c =
-    let s = c.args.engine.now.threads in
+    let s = c.args.engine.now in
     let k = c.args.bus.now in
     record {
       is = subst (λ (d : Decision). Decided d c.args.t s k s k (ran.Trapped c.plain.result))
           (fetch_passes c.args.entries.now s c.args.t k c.args.time c.pcc-pcc.result c.address.result Nothing c.pcc-pcc.ensures c.in_default.ensures c.address.ensures c.in-Nothing.ensures.is)
           (refl, refl, ap (λ (w : Trap). ran.Trapped w) c.plain.ensures);
-      kept = refl;
       unfinished = (refl, refl);
       ranged = tt;
       stays = stays_same s;
@@ -84,8 +80,8 @@ returns-in-Nothing g c =
 
 pub returns-in-Instruction-clause-is : goal.returns-in-Instruction-clause-is
 returns-in-Instruction-clause-is g c =
-    let s = c.args.engine.now.threads in
+    let s = c.args.engine.now in
     let k = c.args.bus.now in
-    subst (λ (d : Decision). Decided d c.args.t s k c.carry_out.new.engine.threads c.carry_out.new.bus c.carry_out.result)
+    subst (λ (d : Decision). Decided d c.args.t s k c.carry_out.new.engine c.carry_out.new.bus c.carry_out.result)
     (fetch_passes c.args.entries.now s c.args.t k c.args.time c.pcc-pcc.result c.address.result (Instruction c.in-Instruction.instruction) c.pcc-pcc.ensures c.in_default.ensures c.address.ensures c.in-Instruction.ensures.is)
     c.carry_out.ensures.is

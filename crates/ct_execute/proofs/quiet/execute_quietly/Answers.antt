@@ -11,14 +11,14 @@ carry-requires-clause-says g c =
 
 pub returns-in-Some-clause-when : goal.returns-in-Some-clause-when
 returns-in-Some-clause-when g c =
-    when_fetched c.args.engine.now.threads c.args.t c.in-Some.word c.address-at.result (instruction_in c.in-Some.word) c.reading.result.now c.carry.result
+    when_fetched c.args.engine.now c.args.t c.in-Some.word c.address-at.result (instruction_in c.in-Some.word) c.reading.result.now c.carry.result
     (c.reading.ensures.is ∙ c.keep.ensures) (sym c.fetches.ensures ∙ c.if-not-fetches.false) c.address-at.ensures c.in-Some.ensures.when c.in-Some.ensures.given c.carry.ensures.when
 
 pub returns-in-Some-clause-quiet : goal.returns-in-Some-clause-quiet
 returns-in-Some-clause-quiet g c carried =
-    let s = c.args.engine.now.threads in
+    let s = c.args.engine.now in
     let o = instruction_in c.in-Some.word in
-    decided_quietly s c.args.t c.in-Some.word c.carry.new.engine.threads o c.reading.result.now (c.reading.ensures.is ∙ c.keep.ensures)
+    decided_quietly s c.args.t c.in-Some.word c.carry.new.engine o c.reading.result.now (c.reading.ensures.is ∙ c.keep.ensures)
     (sym c.fetches.ensures ∙ c.if-not-fetches.false)
     (subst (λ (n : ℕ). next_in s n ≡ next_word o) c.address-at.ensures c.in-Some.ensures.given)
     (sym c.carry.ensures.when ∙ carried) (c.carry.ensures.quiet carried)

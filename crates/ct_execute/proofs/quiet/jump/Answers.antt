@@ -5,7 +5,7 @@ use Rattle.ct_execute.proofs.Quietly.{jump_quiet}
 use Rattle.ct_execute.proofs.quiet.jump.Goals as goal
 
 pub returns-in-Some-clause-when : goal.returns-in-Some-clause-when
-returns-in-Some-clause-when g c = c.go_by.ensures.whole ∙ ap (jumps_whole (thread c.args.engine.now.threads c.args.t).pcc) c.in-Some.ensures
+returns-in-Some-clause-when g c = c.go_by.ensures.whole ∙ ap (jumps_whole (thread c.args.engine.now c.args.t).pcc) c.in-Some.ensures
 
 pub returns-in-Some-clause-quiet : goal.returns-in-Some-clause-quiet
 returns-in-Some-clause-quiet g c turned =

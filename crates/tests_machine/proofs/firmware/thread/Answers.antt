@@ -1,8 +1,7 @@
 use Rattle.std.proofs.Common.{◌≡◌, ◌*◌, ◌/◌, ◌∙◌, List, length, replicate, sym, ap, subst, arith}
 use Rattle.std.proofs.lemmas.List.{length-replicate}
 use Rattle.def_memory.specs.declared.Granule.{Granule}
-use Rattle.def_memory.specs.Granules.{plain, nothing}
-use Rattle.def_areas.specs.Areas.{held}
+use Rattle.def_memory.specs.Granules.{plain, nothing, held}
 use Rattle.ct_areas.specs.Threads.{HasArea}
 use Rattle.ct_ready.proofs.Searches.{blank_held}
 use Rattle.tests_machine.proofs.firmware.thread.Goals as goal

@@ -1,5 +1,5 @@
 use Rattle.std.proofs.Common.{◌≡◌, map, take}
-use Rattle.def_step.specs.Devices.{fresh_device}
+use Rattle.def_machine.specs.State.{fresh_device}
 use Rattle.ct_bus.proofs.bus.Bus.new.Given as goal
 
 -- the first devices stand there

@@ -1,5 +1,5 @@
 use Rattle.std.proofs.Common.{◌+◌, ◌≤◌, refl, sym, subst}
-use Rattle.def_step.specs.Events.{MachineRow}
+use Rattle.def_machine.specs.Board.{MachineRow}
 use Rattle.def_step.specs.Quotas.{allocate}
 use Rattle.ct_machine.proofs.Granting.{ServesIn, whole, allocated_in, came_in, named_in}
 use Rattle.ct_machine.proofs.Sizes.{few_by, made_by}

@@ -1,5 +1,6 @@
 use Rattle.std.proofs.Common.{ap, sym, ◌∙◌}
-use Rattle.def_step.specs.Events.{MachineRow, holder, begun_since}
+use Rattle.def_step.specs.Events.{holder, begun_since}
+use Rattle.def_machine.specs.Board.{MachineRow}
 use Rattle.ct_machine.proofs.Taking.{not_true, not_false, begun_off, begun_same, begun_new}
 use Rattle.ct_machine.proofs.engine.Engine.begun.Goals as goal
 

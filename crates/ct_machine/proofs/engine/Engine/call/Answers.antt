@@ -1,15 +1,14 @@
 use Rattle.std.proofs.Common.{sym, subst}
 use Rattle.ct_entry.specs.Listed.{Listed}
-use Rattle.def_step.specs.Events.{MachineRow}
+use Rattle.def_machine.specs.Board.{MachineRow}
 use Rattle.def_step.specs.Instructions.{ran}
 use Rattle.def_step.specs.Routines.{switch}
-use Rattle.ct_heaped.specs.Calls.{MayCall}
-use Rattle.law_callable.proofs.Calls.{entered_stands}
-use Rattle.law_callable.proofs.Open.{may_open}
+use Rattle.ct_engine.specs.Calls.{MayCall}
+use Rattle.law_callable.proofs.Calls.{may_call, entered_stands}
 use Rattle.ct_machine.specs.Going.{MayGoOn, Runs}
 use Rattle.ct_machine.proofs.Opened.{placed_at, some_seen}
 use Rattle.ct_machine.proofs.Calling.{came_call, call_kept, shows_caller}
-use Rattle.ct_machine.proofs.Keeping.{came_by, counted_so}
+use Rattle.ct_machine.proofs.Keeping.{came_by, counted_so, switched_next}
 use Rattle.ct_machine.proofs.engine.Engine.call.Goals as goal
 
 pub switch-requires-clause-may : goal.switch-requires-clause-may
@@ -19,8 +18,8 @@ switch-requires-clause-may g c =
     let runs = subst (λ (m : MachineRow). Runs m c.args.t) (sym c.self.view_is) c.requires.runs in
     let some = some_seen i.plan i.threads i.sched i.pending i.bus.states i.time i.counts c.args.t runs.some in
     subst (λ (e : Listed). MayCall i.threads c.args.t e) (sym c.entries.ensures.is)
-    (may_open i.plan _ i.threads c.args.t
-    (shows_caller i.plan i.threads i.sched i.pending i.bus.states i.time i.counts c.args.t c.self.invariant.0 c.entries.ensures.sound may.keeps.confined some) c.self.invariant.0.heap.base some)
+    (may_call i.plan _ i.threads c.args.t
+    (shows_caller i.plan i.threads i.sched i.pending i.bus.states i.time i.counts c.args.t c.self.invariant.0 c.entries.ensures.sound may.keeps.confined some) some)
 
 pub invariant_of-self : goal.invariant_of-self
 invariant_of-self g c =
@@ -30,7 +29,7 @@ invariant_of-self g c =
     let placed = placed_at i.plan i.threads i.sched i.pending i.bus.states i.time i.counts c.args.t c.self.invariant.0 some in (
       call_kept i.plan i.threads i.sched i.bus i.pending i.time i.counts c.args.t c.self.invariant.0 placed.base_is placed.room_is c.entries.result.now c.switch.new.engine
           c.entries.ensures.is c.switch.ensures.engine,
-      counted_so c.self.inside.counts c.self.inside.time c.self.inside.threads c.switch.new.engine _ c.switch.ensures.engine c.self.invariant.1,
+      counted_so c.self.inside.counts c.self.inside.time c.self.inside.threads c.switch.new.engine _ c.switch.ensures.engine (switched_next i.threads c.entries.result.now c.args.t _) c.self.invariant.1,
     )
 
 pub returns-clause-came : goal.returns-clause-came
@@ -43,4 +42,4 @@ returns-clause-came g c =
     let shows = shows_caller i.plan i.threads i.sched i.pending i.bus.states i.time i.counts c.args.t c.self.invariant.0 c.entries.ensures.sound may.keeps.confined some in
     came_by (λ (m : MachineRow). ran m.board m.state c.args.t (switch m.board.image m.state c.args.t)) c.self.view_is c.ran_by_call.ensures.is
     (came_call i.plan i.threads i.sched i.bus i.pending i.time i.counts c.args.t c.self.invariant.0 placed.base_is placed.room_is c.entries.result.now c.switch.new.engine c.switch.result
-    c.entries.ensures.is (λ export high enters. entered_stands i.plan _ i.threads.threads c.args.t export high shows enters) c.switch.ensures.result c.switch.ensures.engine)
+    c.entries.ensures.is (λ export high enters. entered_stands i.plan _ i.threads c.args.t export high shows enters) c.switch.ensures.result c.switch.ensures.engine)

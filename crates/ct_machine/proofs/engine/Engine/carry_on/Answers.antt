@@ -1,6 +1,6 @@
 use Rattle.std.proofs.Common.{◌≡◌, Some, None, sym, subst, ◌∙◌}
 use Rattle.def_machine.specs.State.{thread}
-use Rattle.def_step.specs.Events.{MachineRow}
+use Rattle.def_machine.specs.Board.{MachineRow}
 use Rattle.def_step.specs.Instructions.{actor_of}
 use Rattle.ct_machine.specs.Going.{Runs}
 use Rattle.ct_machine.proofs.Stepping.{runs_by, acts_by, ends_by, carried_so, quietly_left}

@@ -1,5 +1,5 @@
 use Rattle.std.proofs.Common.{◌≡◌, Some, refl, subst, sym}
-use Rattle.def_step.specs.Events.{MachineRow}
+use Rattle.def_machine.specs.Board.{MachineRow}
 use Rattle.def_step.specs.Instructions.{executed}
 use Rattle.ct_execute.specs.Deciding.{decision}
 use Rattle.ct_machine.specs.Going.{MayGoOn}
@@ -22,13 +22,13 @@ execute-requires g c =
 
 pub invariant_of-self : goal.invariant_of-self
 invariant_of-self g c = (
-  ran_kept c.self.inside.plan (decision c.entries.result.now c.self.inside.threads.threads c.args.t c.self.inside.bus c.self.inside.time) c.args.t
-      c.self.inside.threads c.execute.new.engine c.self.inside.sched c.self.inside.bus c.execute.new.bus c.execute.result c.self.invariant.0 c.execute.ensures.is c.execute.ensures.kept c.execute.ensures.stays,
-  counted_so c.self.inside.counts c.self.inside.time c.self.inside.threads c.execute.new.engine _ c.execute.ensures.kept c.self.invariant.1,
+  ran_kept c.self.inside.plan (decision c.entries.result.now c.self.inside.threads c.args.t c.self.inside.bus c.self.inside.time) c.args.t
+      c.self.inside.threads c.execute.new.engine c.self.inside.sched c.self.inside.bus c.execute.new.bus c.execute.result c.self.invariant.0 c.execute.ensures.is c.execute.ensures.stays,
+  counted_so c.self.inside.counts c.self.inside.time c.self.inside.threads c.execute.new.engine _ c.execute.ensures.stays.beside refl c.self.invariant.1,
 )
 
 pub returns-clause-came : goal.returns-clause-came
 returns-clause-came g c =
     came_by (λ (m : MachineRow). executed m.board m.state c.args.t) c.self.view_is refl
     (came c.self.inside.plan c.entries.result.now c.self.inside.threads c.self.inside.sched c.self.inside.bus c.self.inside.pending c.self.inside.time c.self.inside.counts c.args.t
-    c.self.invariant.0 c.entries.ensures.is c.execute.new.engine c.execute.new.bus c.execute.result c.execute.ensures.is c.execute.ensures.kept c.execute.ensures.bases c.execute.ensures.unfinished)
+    c.self.invariant.0 c.entries.ensures.is c.execute.new.engine c.execute.new.bus c.execute.result c.execute.ensures.is c.execute.ensures.bases c.execute.ensures.unfinished)

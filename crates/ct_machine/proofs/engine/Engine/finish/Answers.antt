@@ -1,15 +1,15 @@
 use Rattle.std.proofs.Common.{◌≡◌, ◌<◌, ◌≤◌, ◌+◌, Some, length, ap, sym, subst, ◌∙◌, arith}
 use Rattle.def_machine.specs.State.{Counts}
-use Rattle.def_step.specs.Events.{MachineRow, noted}
+use Rattle.def_step.specs.Events.{noted}
+use Rattle.def_machine.specs.Board.{MachineRow}
 use Rattle.ct_sched.specs.Sched.{SchedRow}
-use Rattle.ct_engine.specs.Seen.{thread}
-use Rattle.ct_heaped.specs.Seen.{Seen, with_threads}
+use Rattle.ct_engine.specs.Seen.{thread, Seen}
 use Rattle.ct_engine.specs.Calls.{TopLies}
 use Rattle.ct_execute.specs.Deciding.{IfUnfinished}
 use Rattle.ct_machine.specs.Parts.{IsKept, IsCounted, deeds_of}
 use Rattle.ct_machine.specs.Going.{MayEnd, finished, left_after, status_after}
 use Rattle.ct_machine.proofs.Opened.{tops, base_of, some_seen}
-use Rattle.ct_machine.proofs.Keeping.{left_kept, unfinished_map}
+use Rattle.ct_machine.proofs.Keeping.{left_kept, left_next, unfinished_map}
 use Rattle.ct_machine.proofs.Sizes.{deed_counts}
 use Rattle.ct_machine.proofs.Carried.{Ends, finished_so}
 use Rattle.ct_machine.proofs.engine.Engine.finish.Goals as goal
@@ -17,7 +17,7 @@ use Rattle.ct_machine.proofs.engine.Engine.finish.Goals as goal
 pub leave-goes-requires-clause-runs : goal.leave-goes-requires-clause-runs
 leave-goes-requires-clause-runs g c =
     let i = c.self.inside in
-    unfinished_map c.args.ran (MayEnd _ c.args.t c.args.actor) ((i.threads.threads.running ≡ Some c.args.t) × TopLies i.threads.threads c.args.t)
+    unfinished_map c.args.ran (MayEnd _ c.args.t c.args.actor) ((i.threads.running ≡ Some c.args.t) × TopLies i.threads c.args.t)
     (λ m. (
       m.runs.runs,
       tops i.plan i.threads i.sched i.pending i.bus.states i.time i.counts c.args.t c.self.invariant.0 m.may.keeps.confined
@@ -30,15 +30,16 @@ invariant_of-self g c =
     let i = c.self.inside in
     let few = subst (λ (m : MachineRow). deeds_of m.state.counts < m.state.counts.steps) (sym c.self.view_is) c.requires.deeds in
     let room : deeds_of i.counts + 1 ≤ i.counts.steps = omega (arith, few) in
-    let some = unfinished_map c.args.ran (MayEnd _ c.args.t c.args.actor) (0 < length (thread i.threads.threads c.args.t).frames)
+    let some = unfinished_map c.args.ran (MayEnd _ c.args.t c.args.actor) (0 < length (thread i.threads c.args.t).frames)
     (λ m. some_seen i.plan i.threads i.sched i.pending i.bus.states i.time i.counts c.args.t m.runs.some)
     (subst (λ (m : MachineRow). IfUnfinished c.args.ran (MayEnd m c.args.t c.args.actor)) (sym c.self.view_is) c.requires.ends) in
     let kept = left_kept i.plan i.threads i.sched c.entries.result.now c.args.t c.args.ran c.self.invariant.0 some in
     let turn = c.note_end.ensures ∙ ap (λ b. status_after b i.sched c.args.t) c.leave-goes.ensures.result in (
       subst (λ (x : Seen). IsKept i.plan x c.note_end.new.sched) (sym c.leave-goes.ensures.is)
-          (subst (λ (x : SchedRow). IsKept i.plan (with_threads i.threads (left_after c.args.ran i.threads.threads c.entries.result.now c.args.t)) x) (sym turn) kept),
+          (subst (λ (x : SchedRow). IsKept i.plan (left_after c.args.ran i.threads c.entries.result.now c.args.t) x) (sym turn) kept),
       subst (λ (x : Seen). IsCounted c.note.new.self i.time x.next) (sym c.leave-goes.ensures.is)
-          (subst (λ (n : Counts). IsCounted n i.time i.threads.next) (sym c.note.ensures) (deed_counts i.counts c.deed_of-deed.result i.time i.threads.next c.self.invariant.1 room)),
+          (subst (λ n. IsCounted c.note.new.self i.time n) (sym (left_next c.args.ran i.threads c.entries.result.now c.args.t))
+          (subst (λ (n : Counts). IsCounted n i.time i.threads.next) (sym c.note.ensures) (deed_counts i.counts c.deed_of-deed.result i.time i.threads.next c.self.invariant.1 room))),
     )
 
 pub returns-clause-is : goal.returns-clause-is

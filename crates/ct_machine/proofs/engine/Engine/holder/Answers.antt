@@ -1,5 +1,6 @@
 use Rattle.std.proofs.Common.{ap, ◌∙◌}
-use Rattle.def_step.specs.Events.{MachineRow, holder}
+use Rattle.def_step.specs.Events.{holder}
+use Rattle.def_machine.specs.Board.{MachineRow}
 use Rattle.ct_machine.proofs.Taking.{holder_then, holder_else}
 use Rattle.ct_machine.proofs.engine.Engine.holder.Goals as goal
 

@@ -1,5 +1,6 @@
 use Rattle.std.proofs.Common.{ap, ◌∙◌}
-use Rattle.def_step.specs.Events.{MachineRow, interrupted}
+use Rattle.def_step.specs.Events.{interrupted}
+use Rattle.def_machine.specs.Board.{MachineRow}
 use Rattle.ct_machine.proofs.Taking.{waits_interrupted, stops_interrupted}
 use Rattle.ct_machine.proofs.engine.Engine.interrupt.Goals as goal
 

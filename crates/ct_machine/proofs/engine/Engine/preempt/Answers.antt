@@ -1,5 +1,6 @@
 use Rattle.std.proofs.Common.{ap, sym, ◌∙◌}
-use Rattle.def_step.specs.Events.{MachineRow, preempted}
+use Rattle.def_step.specs.Events.{preempted}
+use Rattle.def_machine.specs.Board.{MachineRow}
 use Rattle.ct_machine.proofs.Taking.{not_true, not_false, stops_preempted, stays_preempted}
 use Rattle.ct_machine.proofs.Keeping.{stopped_so}
 use Rattle.ct_machine.proofs.engine.Engine.preempt.Goals as goal

@@ -1,6 +1,7 @@
-use Rattle.std.proofs.Common.{ap, sym, subst, ◌∙◌}
+use Rattle.std.proofs.Common.{ap, refl, sym, subst, ◌∙◌}
 use Rattle.def_confined.specs.Holding.{EndsFit}
-use Rattle.def_step.specs.Events.{MachineRow, scheduled}
+use Rattle.def_step.specs.Events.{scheduled}
+use Rattle.def_machine.specs.Board.{MachineRow}
 use Rattle.ct_machine.proofs.Taking.{none_is, some_is, picked_alive}
 use Rattle.ct_machine.proofs.Keeping.{picked_kept, counted_so}
 use Rattle.ct_machine.proofs.engine.Engine.schedule.Goals as goal
@@ -26,5 +27,5 @@ pub invariant_of-self : goal.invariant_of-self
 invariant_of-self g c = (
   picked_kept c.self.inside.plan c.self.inside.threads c.pick-in-Some-pick.new.self c.self.inside.sched c.pick.new.self c.in-Some-pick.t c.self.invariant.0 c.in-Some-pick.ensures.picked
       c.pick-in-Some-pick.ensures c.in-Some-pick.ensures.row,
-  counted_so c.self.inside.counts c.self.inside.time c.self.inside.threads c.pick-in-Some-pick.new.self _ c.pick-in-Some-pick.ensures c.self.invariant.1,
+  counted_so c.self.inside.counts c.self.inside.time c.self.inside.threads c.pick-in-Some-pick.new.self _ c.pick-in-Some-pick.ensures refl c.self.invariant.1,
 )

@@ -1,5 +1,5 @@
 use Rattle.std.proofs.Common.{ap, ◌∙◌}
-use Rattle.def_step.specs.Events.{MachineRow}
+use Rattle.def_machine.specs.Board.{MachineRow}
 use Rattle.ct_machine.specs.Going.{sleepers_on}
 use Rattle.ct_machine.proofs.Taking.{timed_is}
 use Rattle.ct_machine.proofs.Keeping.{ticked_kept}

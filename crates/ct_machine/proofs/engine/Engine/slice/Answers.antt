@@ -1,6 +1,6 @@
 use Rattle.std.proofs.Common.{ap, sym, subst, ◌∙◌}
 use Rattle.def_machine.specs.Heap as heap
-use Rattle.def_step.specs.Events.{MachineRow}
+use Rattle.def_machine.specs.Board.{MachineRow}
 use Rattle.ct_machine.specs.Going.{MaySweep}
 use Rattle.ct_machine.specs.Parts.{IsCounted}
 use Rattle.ct_machine.proofs.Sweeping.{none_left, swept_kept, swept_next, swept_is}

@@ -2,7 +2,7 @@ use Rattle.std.proofs.Common.{◌∙◌, ap, sym, subst}
 use Rattle.def_image.specs.Sound.{Sound}
 use Rattle.law_image.proofs.Sounds.{sound}
 use Rattle.def_boot.specs.Gates.{entries_of}
-use Rattle.ct_launch.specs.Launching.{launched}
+use Rattle.ct_boot.specs.Launching.{launched}
 use Rattle.ct_machine.specs.Starting.{limits_of}
 use Rattle.ct_machine.proofs.Guards.{booted_by, blank_booted}
 use Rattle.ct_machine.proofs.engine.Engine.start.Goals as goal

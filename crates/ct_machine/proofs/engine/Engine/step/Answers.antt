@@ -1,6 +1,6 @@
 use Rattle.std.proofs.Common.{ap, sym, subst, ◌<◌, ◌≤◌, ◌∙◌}
 use Rattle.def_machine.specs.State.{State, Counts}
-use Rattle.def_step.specs.Instructions.{Board}
+use Rattle.def_machine.specs.Board.{Board}
 use Rattle.def_step.specs.Events.{preempted, scheduled}
 use Rattle.ct_machine.specs.Parts.{deeds_of}
 use Rattle.ct_machine.proofs.Ready.{ends_fit, may_go_on}

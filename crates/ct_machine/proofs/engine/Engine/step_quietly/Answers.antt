@@ -1,7 +1,8 @@
 use Rattle.std.proofs.Common.{true, false, sym, subst, ap, ◌∙◌}
 use Rattle.def_board.specs.Guarded.{Guarded}
 use Rattle.def_step.specs.declared.Event.TheVariants.{Step}
-use Rattle.def_step.specs.Events.{MachineRow, happens}
+use Rattle.def_step.specs.Events.{happens}
+use Rattle.def_machine.specs.Board.{MachineRow}
 use Rattle.ct_machine.proofs.Opened.{is_open}
 use Rattle.ct_machine.specs.Going.{steps_quietly}
 use Rattle.ct_machine.proofs.Quietly.{quietly_kept, quietly_is, when_late, when_idle, when_runs}
@@ -17,13 +18,13 @@ pub invariant_of-self-in-Some : goal.invariant_of-self-in-Some
 invariant_of-self-in-Some g c =
     let i = c.self.inside in
     quietly_kept i.plan i.threads c.execute_quietly.new.engine i.sched i.bus i.pending i.time i.counts c.in-Some.t c.self.invariant.0 c.in-Some.ensures
-    (c.execute_quietly.ensures.quiet c.if-not-execute_quietly.false i.plan.entries i.bus i.time) c.execute_quietly.ensures.kept c.execute_quietly.ensures.stays c.self.invariant.1
+    (c.execute_quietly.ensures.quiet c.if-not-execute_quietly.false i.plan.entries i.bus i.time) c.execute_quietly.ensures.stays c.self.invariant.1
 
 pub returns-else-not-execute_quietly-clause-is : goal.returns-else-not-execute_quietly-clause-is
 returns-else-not-execute_quietly-clause-is g c told =
     let i = c.self.inside in
     quietly_is i.plan i.threads c.execute_quietly.new.engine i.sched i.bus i.pending i.time i.counts c.in-Some.t c.self.invariant.0 c.in-Some.ensures
-    (c.execute_quietly.ensures.quiet c.if-not-execute_quietly.false i.plan.entries i.bus i.time) c.execute_quietly.ensures.kept c.execute_quietly.ensures.stays
+    (c.execute_quietly.ensures.quiet c.if-not-execute_quietly.false i.plan.entries i.bus i.time) c.execute_quietly.ensures.stays
     c.count_step.new.self.state c.if-self.false c.count_step.ensures.state
     ∙ ap (λ (m : MachineRow). happens m.board m.state Step) c.self.view_is
 

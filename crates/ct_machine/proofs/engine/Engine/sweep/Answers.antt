@@ -1,6 +1,6 @@
 use Rattle.std.proofs.Common.{ap, ◌∙◌}
 use Rattle.def_machine.specs.Heap as heap
-use Rattle.def_step.specs.Instructions.{Board}
+use Rattle.def_machine.specs.Board.{Board}
 use Rattle.ct_machine.proofs.Sweeping.{may_sweep, swept_as, sweep_silent}
 use Rattle.ct_machine.proofs.engine.Engine.sweep.Goals as goal
 

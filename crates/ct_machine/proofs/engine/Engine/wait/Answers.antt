@@ -2,7 +2,7 @@ use Rattle.std.proofs.Common.{◌-◌, refl, sym, subst, ◌∙◌}
 use Rattle.def_words.specs.Authority.{cap_address}
 use Rattle.def_memory.specs.Accesses.{loaded}
 use Rattle.def_machine.specs.State.{register}
-use Rattle.def_step.specs.Events.{MachineRow}
+use Rattle.def_machine.specs.Board.{MachineRow}
 use Rattle.def_step.specs.Instructions.{ran}
 use Rattle.def_step.specs.Routines.{wait}
 use Rattle.ct_engine.specs.Seen.{thread}
@@ -11,7 +11,7 @@ use Rattle.ct_machine.proofs.Opened.{is_open}
 use Rattle.ct_machine.proofs.Taking.{ram_is}
 use Rattle.ct_machine.proofs.Resting.{came_wait, kept_wait, runs_ready}
 use Rattle.ct_machine.specs.Parts.{state_by}
-use Rattle.ct_machine.proofs.Keeping.{came_by, counted_so}
+use Rattle.ct_machine.proofs.Keeping.{came_by, counted_so, unless_next, waited_next}
 use Rattle.ct_machine.proofs.engine.Engine.wait.Goals as goal
 
 pub wait-requires-clause-opens : goal.wait-requires-clause-opens
@@ -32,11 +32,11 @@ invariant_of-self g c =
     let i = c.self.inside in
     let runs = subst (λ (m : MachineRow). Runs m c.args.t) (sym c.self.view_is) c.requires.runs in (
       kept_wait i.plan i.threads i.sched i.bus i.pending i.time i.counts c.args.t c.self.invariant.0
-          (cap_address (register (thread i.threads.threads c.args.t) 10)) (loaded i.threads.threads.granules (cap_address (register (thread i.threads.threads c.args.t) 10) - c.ram.result) 4)
-          (cap_address (register (thread i.threads.threads c.args.t) 11)) c.wait.result c.wait.new.engine c.wait.new.sched
+          (cap_address (register (thread i.threads c.args.t) 10)) (loaded i.threads.granules (cap_address (register (thread i.threads c.args.t) 10) - c.ram.result) 4)
+          (cap_address (register (thread i.threads c.args.t) 11)) c.wait.result c.wait.new.engine c.wait.new.sched
           (runs_ready i.plan i.threads i.sched i.bus i.pending i.time i.counts c.args.t c.self.invariant.0 runs.runs)
           c.wait.ensures.engine c.wait.ensures.sched,
-      counted_so c.self.inside.counts c.self.inside.time c.self.inside.threads c.wait.new.engine _ c.wait.ensures.engine c.self.invariant.1,
+      counted_so c.self.inside.counts c.self.inside.time c.self.inside.threads c.wait.new.engine _ c.wait.ensures.engine (unless_next c.wait.result i.threads _ (waited_next i.threads c.args.t _ _)) c.self.invariant.1,
     )
 
 pub returns-clause-came : goal.returns-clause-came

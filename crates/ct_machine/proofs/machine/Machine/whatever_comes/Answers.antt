@@ -3,14 +3,15 @@ use Rattle.def_confined.specs.Telling.{AllLicensed}
 use Rattle.def_step.specs.declared.Event.{Event}
 use Rattle.def_machine.specs.Image.{root}
 use Rattle.def_machine.specs.Objects.{charges}
-use Rattle.def_step.specs.Events.{MachineRow, told, run}
+use Rattle.def_step.specs.Events.{told, run}
+use Rattle.def_machine.specs.Board.{MachineRow}
 use Rattle.law_events.proofs.Running.{told_licensed}
-use Rattle.law_history.specs.Accesses.{UsesReach}
-use Rattle.law_history.specs.Clean.{CleanEvent}
-use Rattle.law_history.specs.Each.{EachEvent}
-use Rattle.law_history.specs.Temporal.{AllocatesFresh, UsesLive}
+use Rattle.def_safety.specs.Accesses.{UsesReach}
+use Rattle.def_safety.specs.Calls.{CleanEvent}
+use Rattle.def_safety.specs.Each.{EachEvent}
+use Rattle.def_safety.specs.Temporal.{AllocatesFresh, UsesLive}
 use Rattle.law_history.proofs.Running.{run_clean, run_uses_reach, run_uses_live, run_fresh, run_reuses, run_charges}
-use Rattle.law_history.specs.Chunks.{SweptBeforeReuse}
+use Rattle.def_safety.specs.Chunks.{SweptBeforeReuse}
 use Rattle.ct_machine.proofs.machine.Machine.whatever_comes.Goals as goal
 
 pub returns-clause-calls : goal.returns-clause-calls

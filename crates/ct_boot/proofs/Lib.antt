@@ -1,0 +1,8 @@
+pub mod Counts
+pub mod Fits
+pub mod Made
+pub mod Ranges
+pub mod Firsts
+pub mod Standing
+pub mod Placing
+pub mod Launched

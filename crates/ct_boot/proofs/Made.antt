@@ -1,0 +1,93 @@
+-- What boot makes, for the numbers of owners, slots and threads.
+use Rattle.std.proofs.Common.{ℕ, List, ◌≡◌, ◌+◌, ◌*◌, ◌<◌, ◌^◌, Some, slice_get, refl, ap, sym, ◌∙◌, subst, arith}
+use Rattle.ct_entry.specs.declared.rows.Gate.{Gate}
+use Rattle.ct_entry.specs.declared.rows.Owner.{Owner}
+use Rattle.ct_entry.specs.declared.rows.Owner.TheVariants.{Compartment, Library}
+use Rattle.def_words.specs.declared.Cap.{Cap}
+use Rattle.def_words.specs.Derive.{executable_root, memory_root}
+use Rattle.def_reach.specs.Roots.{gate_for}
+use Rattle.def_image.specs.Parts.{SlotRow, GateRow, CodeRow, CompartmentRow, ThreadRow, PartsRow}
+use Rattle.def_image.specs.Members.{compartment, library, text_base, gate_address, code_number, globals_number, library_number, stack_number, library_gate_number}
+use Rattle.def_image.specs.Sound.{Sound}
+use Rattle.def_boot.specs.Entries.{code_row, globals_row, stack_row}
+use Rattle.def_boot.specs.Gates.{gate, gates_of}
+use Rattle.def_boot.specs.Made.{from_entry, made_as, made_for, sentry_type}
+use Rattle.def_words.specs.Derive.{derive}
+use Rattle.def_image.specs.declared.ImportRow.{ImportRow}
+use Rattle.def_image.specs.declared.SlotKind.TheVariants as slot
+use Rattle.def_image.specs.Sound.{Names}
+use Rattle.law_listed.proofs.Standing.{compartment_of, library_of, stack_of}
+use Rattle.law_boot_words.specs.Booting.{Puts}
+use Rattle.law_boot_words.specs.Booting.{PutsBytes}
+use Rattle.law_boot_words.proofs.Putting.{compartment_is, library_is, puts_slot, puts_library_slot}
+use Rattle.ct_boot.proofs.Fits.{gate_end}
+use Rattle.ct_boot.specs.Slots.{slot_cap, SlotPut, SlotsPut}
+
+pub code_is : (p : PartsRow) (b : ℕ) (c : CompartmentRow) → slice_get p.compartments b ≡ Some c → made_as executable_root (code_number p b) (code_row (Compartment b) c.code) c.code.base 0 ≡ made_for p (code_number p b)
+code_is p b c is = sym (compartment_of p b c is).code.made_is
+
+pub globals_are : (p : PartsRow) (b : ℕ) (c : CompartmentRow) → slice_get p.compartments b ≡ Some c → made_as memory_root (globals_number p b) (globals_row b c) c.globals 0 ≡ made_for p (globals_number p b)
+globals_are p b c is = sym (compartment_of p b c is).globals.made_is
+
+pub stack_is : (p : PartsRow) (t : ℕ) (x : ThreadRow) → slice_get p.threads t ≡ Some x → made_as memory_root (stack_number p t) (stack_row t x) (x.stack + x.stack_length) 0 ≡ made_for p (stack_number p t)
+stack_is p t x is = sym (stack_of p t x is).row.made_is
+
+pub gate_is : (p : PartsRow) (l j : ℕ) (c : CodeRow) (x : GateRow) → slice_get p.libraries l ≡ Some c → slice_get c.exports j ≡ Some x → gate_for (gates_of p) (library_gate_number p l j) ≡ gate (library_gate_number p l j) c x.row
+gate_is p l j c x is export = ((library_of p l c is).export j x export).gate_is
+
+-- ---- slots
+
+puts_this : (p : PartsRow) (x : ℕ) (c d : Cap) → c ≡ d → Puts p x c → Puts p x d
+puts_this p x c d same h = subst (λ z. Puts p x z) same h
+
+pub slots_put : (p : PartsRow) → Sound p → (b first : ℕ) (c : CompartmentRow) → slice_get p.compartments b ≡ Some c → first ≡ code_number p b + 2 → SlotsPut p first c.code
+slots_put p s b first c is number j slot there =
+    let has = (compartment_of p b c is).slot j slot there in
+    let same : code_number p b + 2 + j ≡ first + j = omega (arith, number) in
+    record {
+      fits = ((s.compartment b c is).slot j slot there).fits;
+      owner = Compartment b;
+      puts = puts_this p (c.code.base + 8 * j) _ _ (has.made_is ∙ ap (λ n. slot_cap p (Compartment b) n (c.code.base + 8 * j) slot.row) same) (puts_slot p s b j c slot is there);
+    }
+
+pub library_slots_put : (p : PartsRow) → Sound p → (l first : ℕ) (c : CodeRow) → slice_get p.libraries l ≡ Some c → first ≡ library_number p l + 1 → SlotsPut p first c
+library_slots_put p s l first c is number j slot there =
+    let has = (library_of p l c is).slot j slot there in
+    let same : library_number p l + 1 + j ≡ first + j = omega (arith, number) in
+    record {
+      fits = ((s.library l c is).slot j slot there).fits;
+      owner = Library l;
+      puts = puts_this p (c.base + 8 * j) _ _ (has.made_is ∙ ap (λ n. slot_cap p (Library l) n (c.base + 8 * j) slot.row) same) (puts_library_slot p s l j c slot is there);
+    }
+
+-- ---- the same by other names
+
+pub puts_at : (p : PartsRow) (x y : ℕ) (c d : Cap) → Puts p x c → y ≡ x → d ≡ c → Puts p y d
+puts_at p x y c d h place what = subst (λ z. Puts p z d) (sym place) (subst (λ z. Puts p x z) (sym what) h)
+
+pub bytes_at : (p : PartsRow) (x y : ℕ) (b d : List ℕ) → PutsBytes p x b → y ≡ x → d ≡ b → PutsBytes p y d
+bytes_at p x y b d h place what = subst (λ z. PutsBytes p z d) (sym place) (subst (λ z. PutsBytes p x z) (sym what) h)
+
+pub code_made_is : (p : PartsRow) (b : ℕ) (c : CompartmentRow) (n : ℕ) (d : CodeRow) → slice_get p.compartments b ≡ Some c → n ≡ code_number p b → d ≡ c.code → made_as executable_root n (code_row (Compartment b) d) d.base 0 ≡ made_for p (code_number p b)
+code_made_is p b c n d there number same =
+    ap (λ k. made_as executable_root k (code_row (Compartment b) d) d.base 0) number
+    ∙ ap (λ (e : CodeRow). made_as executable_root (code_number p b) (code_row (Compartment b) e) e.base 0) same
+    ∙ code_is p b c there
+
+pub globals_made_are : (p : PartsRow) (b : ℕ) (c : CompartmentRow) (n : ℕ) → slice_get p.compartments b ≡ Some c → n ≡ globals_number p b → made_as memory_root n (globals_row b c) c.globals 0 ≡ made_for p (globals_number p b)
+globals_made_are p b c n there number = ap (λ k. made_as memory_root k (globals_row b c) c.globals 0) number ∙ globals_are p b c there
+
+-- ---- what a row names
+
+pub call_fits : (p : PartsRow) → Sound p → (r : ImportRow) → Names p r slot.Call → gate_address (compartment p r.first) r.second < 4294967296
+call_fits p s r (c, x, there, export) =
+    let end = gate_end p s r.first r.second c x there export in
+    let same = ap (λ (d : CompartmentRow). gate_address d r.second) (compartment_is p r.first c there) in
+    omega (arith, end, same)
+
+pub library_made : (p : PartsRow) (l j : ℕ) (c : CodeRow) (x : GateRow) (n rights : ℕ) → slice_get p.libraries l ≡ Some c → slice_get c.exports j ≡ Some x
+    → derive executable_root c.base c.length rights (text_base c + x.row.offset) (sentry_type x.row.posture) (from_entry n)
+    ≡ derive executable_root (library p l).base (library p l).length rights (gate_for (gates_of p) (library_gate_number p l j)).code (sentry_type (gate_for (gates_of p) (library_gate_number p l j)).posture) (from_entry n)
+library_made p l j c x n rights there export =
+    sym (ap (λ (d : CodeRow). derive executable_root d.base d.length rights (gate_for (gates_of p) (library_gate_number p l j)).code (sentry_type (gate_for (gates_of p) (library_gate_number p l j)).posture) (from_entry n)) (library_is p l c there)
+    ∙ ap (λ (g : Gate). derive executable_root c.base c.length rights g.code (sentry_type g.posture) (from_entry n)) (gate_is p l j c x there export))

@@ -1,0 +1,63 @@
+-- Ranges of RAM that are booted, one granule or one range after another.
+use Rattle.std.proofs.Common.{ℕ, ◌≡◌, ◌+◌, ◌*◌, ◌%◌, ◌<◌, ◌≤◌, ◌⊎◌, inl, inr, List, length, Some, slice_get, sym, ap, ◌∙◌, subst, arith}
+use Rattle.std.specs.Prelude.{slice_index_or}
+use Rattle.std.proofs.lemmas.Option.{slice_get_within}
+use Rattle.def_memory.specs.declared.Granule.{Granule}
+use Rattle.def_image.specs.Parts.{SealedRow, CodeRow, CompartmentRow, PartsRow}
+use Rattle.law_boot_words.specs.Booting.{Booting, Stage, IsFrom, IsDone}
+use Rattle.law_boot_words.specs.Written.{InCode, InTable, InInitial, InCompartment, InSealed, OfFirst, OfAny, InTrusted, IsWritten}
+use Rattle.def_boot.specs.Contents.{boot_granules}
+use Rattle.law_boot_words.proofs.Stages.{stage_none, stage_then, stage_as, stage_range, stage_granule, stage_one, whole}
+use Rattle.ct_boot.proofs.Counts.{there}
+
+pub empty_range : (p : PartsRow) (gs : List Granule) (low high : ℕ) → high ≤ low → Booting p gs → Stage p gs gs (IsFrom low high)
+empty_range p gs low high order h = stage_none p gs (IsFrom low high) h (λ x f. let a = f.0 in let b = f.1 in omega (arith, a, b, order))
+
+pub narrow : (p : PartsRow) (a b : List Granule) (low high less : ℕ) → less ≤ high → Stage p a b (IsFrom low high) → Stage p a b (IsFrom low less)
+narrow p a b low high less order h = stage_as p a b (IsFrom low high) (IsFrom low less) h (λ x f. let lt = f.1 in (f.0, omega (arith, lt, order)))
+
+-- granule i of a range is booted after those before it
+pub next_granule : (p : PartsRow) (a b c : List Granule) (base i : ℕ) → (base + 8 * i) % 8 ≡ 0 → Stage p a b (IsFrom base (base + 8 * i)) → Stage p b c (λ x. x ≡ base + 8 * i) → Stage p a c (IsFrom base (base + 8 * (i + 1)))
+next_granule p a b c base i even first second = stage_granule p a b c base (base + 8 * i) (base + 8 * (i + 1)) even (omega arith) first second
+
+-- two granules
+pub both_granules : (p : PartsRow) (a b c : List Granule) (base : ℕ) → base % 8 ≡ 0 → Stage p a b (λ x. x ≡ base) → Stage p b c (λ x. x ≡ base + 8) → Stage p a c (IsFrom base (base + 16))
+both_granules p a b c base even first second =
+    stage_granule p a b c base (base + 8) (base + 16) (omega (arith, even)) (omega arith) (stage_one p a b base (base + 8) even (omega arith) first) second
+
+-- a compartment's parts
+pub own_parts : (p : PartsRow) (a b c d : List Granule) (own : CompartmentRow) → Stage p a b (InCode own.code) → Stage p b c (InTable own) → Stage p c d (InInitial own) → Stage p a d (InCompartment own)
+own_parts p a b c d own code table initial =
+    stage_then p a b d (InCode own.code) (λ x. InTable own x ⊎ InInitial own x) (InCompartment own) code
+    (stage_then p b c d (InTable own) (InInitial own) (λ x. InTable own x ⊎ InInitial own x) table initial (λ x even h. h))
+    (λ x even h. h)
+
+-- all members
+pub all_first : {A : Type 0} (p : PartsRow) (a b : List Granule) (In : A → ℕ → Type 0) (xs : List A) (n m : ℕ) → m ≤ n → Stage p a b (OfFirst In xs n) → Stage p a b (OfFirst In xs m)
+all_first p a b In xs n m order h = stage_as p a b (OfFirst In xs n) (OfFirst In xs m) h (λ x f. let lt = f.1 in (f.0, omega (arith, lt, order), f.2, f.3, f.4))
+
+-- the same range by other names
+pub range_at : (p : PartsRow) (a b : List Granule) (low high from to : ℕ) → Stage p a b (IsFrom low high) → from ≡ low → to ≡ high → Stage p a b (IsFrom from to)
+range_at p a b low high from to h start finish = subst (λ z. Stage p a b (IsFrom z to)) (sym start) (subst (λ z. Stage p a b (IsFrom low z)) (sym finish) h)
+
+pub granule_at : (p : PartsRow) (a b : List Granule) (low from : ℕ) → Stage p a b (λ x. x ≡ low) → from ≡ low → Stage p a b (λ x. x ≡ from)
+granule_at p a b low from h start = subst (λ z. Stage p a b (λ x. x ≡ z)) (sym start) h
+
+-- what an index reads is there
+pub got_of : {A : Type 0} (xs ys : List A) (k : ℕ) (x : A) → xs ≡ ys → k < length ys → x ≡ slice_index_or xs k x → slice_get ys k ≡ Some x
+got_of xs ys k x same lt read = there ys k x lt ∙ ap (λ z. Some z) (sym (read ∙ ap (λ zs. slice_index_or zs k x) same))
+
+-- ---- all of RAM
+
+of_first : {A : Type 0} (In : A → ℕ → Type 0) (xs : List A) (x : ℕ) → OfAny In xs x → OfFirst In xs (length xs) x
+of_first In xs x (i, y, is, h) = (i, slice_get_within xs i y is, y, is, h)
+
+pub filled : (p : PartsRow) (a b c d e : List Granule) → Stage p a b (OfFirst InCompartment p.compartments (length p.compartments)) → Stage p b c (OfFirst InCode p.libraries (length p.libraries))
+    → Stage p c d (OfFirst InSealed p.sealed (length p.sealed)) → Stage p d e (λ x. x ≡ p.trusted) → p.trusted % 8 ≡ 0 → e ≡ boot_granules p
+filled p a b c d e owners libraries sealed sentry even =
+    whole p e sentry.booting (λ k w. elim w [
+      | inl own ↦ sentry.keeps k (sealed.keeps k (libraries.keeps k (owners.done k (of_first InCompartment p.compartments (p.ram + 8 * k) own))))
+      | inr (inl lib) ↦ sentry.keeps k (sealed.keeps k (libraries.done k (of_first InCode p.libraries (p.ram + 8 * k) lib)))
+      | inr (inr (inl box)) ↦ sentry.keeps k (sealed.done k (of_first InSealed p.sealed (p.ram + 8 * k) box))
+      | inr (inr (inr head)) ↦ (stage_one p d e p.trusted (p.trusted + 8) even (omega arith) sentry).done k head
+    ])

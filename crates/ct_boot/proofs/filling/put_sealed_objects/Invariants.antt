@@ -1,0 +1,7 @@
+use Rattle.law_boot_words.specs.Booting.{Stage}
+use Rattle.law_boot_words.specs.Written.{InSealed, OfFirst}
+use Rattle.ct_boot.proofs.filling.put_sealed_objects.Given as goal
+
+-- those so far are booted
+abbrev pub invariant-loop-of : goal.invariant-loop-of
+invariant-loop-of g l = Stage l.parts (g.M.Memory.granules l.fn.mem) (g.M.Memory.granules l.mem) (OfFirst InSealed l.parts.sealed l.of)

@@ -1,0 +1,4 @@
+pub mod Starts
+pub mod Slots
+pub mod Launching
+pub mod Placed

@@ -1,0 +1,56 @@
+//! The threads of an image before their first step.
+
+ghost use Rattle.std.specs.Prelude.{◌≡◌, IfOk};
+ghost use Rattle.def_image.specs.Sound.{Sound};
+ghost use Rattle.ct_boot.specs.Starts.{starts_of};
+ghost use Rattle.ct_boot.specs.Launching as spec;
+
+use crate::areas::area_at;
+use crate::start::Start;
+use ct_engine::Fresh;
+use ct_parts::Parts;
+use def_profile::layout::TRUSTED_HEAD;
+use def_refusals::NoMemory;
+use std::alloc::Global;
+
+/// The threads, and where the last one's area ends.
+#[derive(Drop)]
+pub(crate) struct Threads {
+    pub(crate) fresh: Vec<Fresh>,
+    pub(crate) end: u32,
+}
+
+/// The address at which the threads' areas begin.
+pub(crate) fn areas_begin(parts: &Parts) -> u32
+    requires { Sound parts.now }
+    ensures { result ≡ spec.areas_begin parts.now }
+{
+    parts.trusted + TRUSTED_HEAD
+}
+
+/// All threads, in the order of their numbers; their areas stand one after another. Boot told how
+/// they start. The one error is `NoMemory`.
+pub(crate) fn threads_of(alloc: Global, parts: &Parts, start: &Start) -> Result<Threads, NoMemory>
+    requires sound { Sound parts.now }
+    requires told { start.now.firsts ≡ starts_of parts.now }
+    ensures fresh { IfOk result (λ r. r.fresh.items ≡ spec.fresh_of parts.now) }
+    ensures end { IfOk result (λ r. r.end ≡ spec.areas_end parts.now) }
+{
+    let mut fresh = Vec::with_capacity(alloc, parts.threads.len())?;
+    let mut at = areas_begin(parts);
+    for index in 0..parts.threads.len() {
+        let area = area_at(parts, at, index);
+        let first = start.first(index as u32);
+        let regs = first.regs;
+        fresh.push(Fresh {
+            pcc: first.pcc,
+            regs,
+            posture: first.posture,
+            actor: first.actor,
+            export: first.export,
+            area,
+        })?;
+        at += area.trusted_length;
+    }
+    Ok(Threads { fresh, end: at })
+}

@@ -1,0 +1,276 @@
+-- A free, over all that is seen: the object is zeroed and marked, and the running thread's registers pass the load filter.
+use Rattle.std.proofs.Common.{ℕ, zero, suc, ◌≡◌, ◌+◌, ◌-◌, ◌*◌, ◌≤◌, ◌<◌, ◌==◌, ◌&&◌, ◌||◌, ◌⊎◌, inl, inr, Bool, true, false, not, nat_eq, nat_le, nat_lt, List, [], ◌∷◌, length, map, Some, None, refl, sym, ap, ◌∙◌, subst, arith}
+use Rattle.std.specs.Prelude.{find}
+use Rattle.std.proofs.Math.ListN.{get_or, set}
+use Rattle.std.proofs.lemmas.Bool.{and_parts}
+use Rattle.law_lists.proofs.Tests.{bool_tells, le_tells, lt_tells, eq_tells}
+use Rattle.def_words.specs.declared.Cap.{Cap}
+use Rattle.def_memory.specs.declared.Granule.{Granule}
+use Rattle.def_memory.specs.Ranges.{is_tagged, zeroed_from, marked_from}
+use Rattle.def_machine.specs.Image.{Image}
+use Rattle.def_machine.specs.State.{State, Object, Thread, Status, nobody}
+use Rattle.def_machine.specs.Threads.{with_status, with_statuses}
+use Rattle.def_machine.specs.Heap as heap
+use Rattle.def_machine.specs.Memory.{filtered_in}
+use Rattle.def_machine.specs.Objects.{Each, charges, quarantine}
+use Rattle.def_hidden.specs.Hidden.{is_live_at}
+use Rattle.def_veil.specs.Veil.{veiled}
+use Rattle.law_veil.proofs.Granules.{zeroed_seen, marked_seen}
+use Rattle.def_chunks.specs.Heaps.{HeapRow, objects_of, Distinct, Laid}
+use Rattle.law_chunks.specs.Kept.{StandsIn, InOrder}
+use Rattle.law_chunks.proofs.Rows.{each_more, quarantine_others}
+use Rattle.law_chunks.proofs.Standing.{objects_inside, objects_apart}
+use Rattle.law_heaped.specs.Heaped.{heap_hides}
+use Rattle.law_heaped.specs.Objects.{Vanishes}
+use Rattle.law_heaped.proofs.Objects.{covers, covers_tells, object_vanishes}
+use Rattle.ct_heap.specs.declared.rows.Object as told
+use Rattle.ct_heap.specs.Lookups.{spans_of, whole_of}
+use Rattle.ct_heap.specs.Effects.{Frees}
+use Rattle.ct_engine.specs.declared.rows.Rows.{Rows}
+use Rattle.ct_engine.specs.Seen.{Seen, region_hides, seen, sifted}
+use Rattle.ct_engine.specs.Kept.{IsClear, Holds}
+use Rattle.ct_engine.specs.Grants.{WasWhole, whole_in, quarantined, freed, freed_by}
+use Rattle.ct_engine.specs.Written.{state_with}
+use Rattle.ct_engine.proofs.Clear.{zero_clear}
+use Rattle.ct_engine.proofs.Veils.{seen_both}
+use Rattle.ct_engine.proofs.HeapTurns.{with_heap, HeapTurns, turned_holds, turned_seen}
+use Rattle.ct_engine.proofs.Granted.{seen_as, hides_by, veil_by}
+
+-- ---- an object that is found by its quota and its bounds
+
+pub record Whole (quota base top : ℕ) (r : Object) : Type 0 where
+  pub quota_is : r.quota ≡ quota
+  pub base_is : r.base ≡ base
+  pub top_is : r.base + r.length ≡ top
+
+same_number : (a b : ℕ) → (a == b) ≡ true → a ≡ b
+same_number a b e = elim (eq_tells a b) [ inl is ↦ is.1 | inr not ↦ absurd (let clash : true ≡ false = sym e ∙ not.0 in cc) ]
+
+spans_tells : (quota base top : ℕ) (r : Object) → spans_of quota base top r ≡ true → Whole quota base top r
+spans_tells quota base top r e =
+    let last = and_parts (r.live && (r.quota == quota) && (r.base == base)) (r.base + r.length == top) e in
+    let two = and_parts (r.live && (r.quota == quota)) (r.base == base) last.0 in
+    let one = and_parts r.live (r.quota == quota) two.0 in
+    record { quota_is = same_number r.quota quota one.1; base_is = same_number r.base base two.1; top_is = same_number (r.base + r.length) top last.1 }
+
+-- it is the first, or one of the others
+found_first : (p : Object → Bool) (q r : Object) (os : List Object) → p q ≡ true → find p (q ∷ os) ≡ Some r → q ≡ r
+found_first p q r os is_it e = let is : Some q ≡ Some r = rw is_it at e in cc
+
+found_later : (p : Object → Bool) (q r : Object) (os : List Object) → p q ≡ false → find p (q ∷ os) ≡ Some r → find p os ≡ Some r
+found_later p q r os isnt e = rw isnt at e
+
+found_passes : (p : Object → Bool) (r : Object) (os : List Object) → find p os ≡ Some r → p r ≡ true
+found_passes p r [] e = absurd (let clash : None ≡ Some r = e in cc)
+found_passes p r (q ∷ os) e = elim (bool_tells (p q)) [
+  | inl is_it ↦ subst (λ x. p x ≡ true) (found_first p q r os is_it e) is_it
+  | inr isnt ↦ found_passes p r os (found_later p q r os isnt e)
+]
+
+-- what each is, it is
+found_each : (P : Object → Type 0) (p : Object → Bool) (r : Object) (os : List Object) → Each P os → find p os ≡ Some r → P r
+found_each P p r [] each e = absurd (let clash : None ≡ Some r = e in cc)
+found_each P p r (q ∷ os) each e = elim (bool_tells (p q)) [
+  | inl is_it ↦ subst P (found_first p q r os is_it e) each.0
+  | inr isnt ↦ found_each P p r os each.1 (found_later p q r os isnt e)
+]
+
+whole_says : (quota base top : ℕ) (os : List Object) (r : Object) → whole_of quota base top os ≡ Some r → Whole quota base top r
+whole_says quota base top os r e = spans_tells quota base top r (found_passes (spans_of quota base top) r os e)
+
+-- ---- what is live
+
+uncovered : (q : Object) (x : ℕ) → (x < q.base) ⊎ (q.base + q.length ≤ x) → covers x q ≡ false
+uncovered q x out = elim (bool_tells (covers x q)) [
+  | inl e ↦ absurd (let in_ = covers_tells q x e in elim out [ inl a ↦ (let b = in_.0 in omega (arith, a, b)) | inr a ↦ (let b = in_.1 in omega (arith, a, b)) ])
+  | inr e ↦ e
+]
+
+-- none before an address
+dead_before : (os : List Object) (x : ℕ) → Each (λ q. x < q.base) os → is_live_at os x ≡ false
+dead_before [] x each = refl
+dead_before (q ∷ os) x each = rw (uncovered q x (inl each.0), dead_before os x each.1) refl
+
+-- none at the head of one that is found
+head_dead : (p : Object → Bool) (r : Object) (os : List Object) (x : ℕ) → InOrder os → find p os ≡ Some r → r.base ≤ x + 8 → x < r.base → is_live_at os x ≡ false
+head_dead p r [] x order e low high = refl
+head_dead p r (q ∷ os) x order e low high = elim (bool_tells (p q)) [
+  | inl is_it ↦
+      let same : q.base ≡ r.base = ap (λ (o : Object). o.base) (found_first p q r os is_it e) in
+      let later = each_more (λ z. q.base + q.length + 8 ≤ z.base) (λ z. x < z.base) os (λ z le. omega (arith, le, same, high)) order.0 in
+      rw (uncovered q x (inl (omega (arith, same, high))), dead_before os x later) refl
+  | inr isnt ↦
+      let rest = found_later p q r os isnt e in
+      let before : q.base + q.length + 8 ≤ r.base = found_each (λ z. q.base + q.length + 8 ≤ z.base) p r os order.0 rest in
+      rw (uncovered q x (inr (omega (arith, before, low))), head_dead p r os x order.1 rest low high) refl
+]
+
+-- outside of it the same is live once it is quarantined
+live_outside : (p : Object → Bool) (r : Object) (os : List Object) (x : ℕ) → Distinct os → find p os ≡ Some r → (x < r.base) ⊎ (r.base + r.length ≤ x)
+    → is_live_at (quarantine r.number os) x ≡ is_live_at os x
+live_outside p r [] x one e out = refl
+live_outside p r (q ∷ os) x one e out = elim (bool_tells (p q)) [
+  | inl is_it ↦
+      let same : q ≡ r = found_first p q r os is_it e in
+      let number : nat_eq q.number r.number ≡ true = elim (eq_tells q.number r.number) [ inl a ↦ a.0 | inr a ↦ absurd (a.1 (ap (λ (o : Object). o.number) same)) ] in
+      let others = quarantine_others r.number os (each_more (λ z. z.number ≡ q.number → ⊥) (λ z. z.number ≡ r.number → ⊥) os (λ z ne is. ne (is ∙ ap (λ (o : Object). o.number) (sym same))) one.0) in
+      let off : covers x q ≡ false = subst (λ (o : Object). covers x o ≡ false) (sym same) (uncovered r x out) in
+      rw (number, others, off) refl
+  | inr isnt ↦
+      let rest = found_later p q r os isnt e in
+      let number : nat_eq q.number r.number ≡ false = elim (eq_tells q.number r.number) [
+        | inl a ↦ absurd (found_each (λ z. z.number ≡ q.number → ⊥) p r os one.0 rest (sym a.1))
+        | inr a ↦ a.0
+      ] in
+      rw number (ap (λ b. covers x q || b) (live_outside p r os x one.1 rest out))
+]
+
+-- ---- what is seen
+
+freed_vanishes : (h n : HeapRow) (gs hs : List Granule) (quota base top number place long live : ℕ) → Laid h gs → (f : Frees h n gs hs quota base top number place long live)
+    → Vanishes h.range.ram h.range.base (h.range.base + h.range.length) (objects_of h gs) (quarantine f.object.number (objects_of h gs)) gs hs base top
+freed_vanishes h n gs hs quota base top number place long live l f =
+    let p = spans_of quota base top in
+    let os : List Object = objects_of h gs in
+    let r : Object = f.object in
+    let w = whole_says quota base top os r f.is in
+    let b = w.base_is in
+    let t = w.top_is in
+    let stands = found_each (λ q. StandsIn h.range q) (spans_of quota base top) r os (objects_inside h gs l) f.is in
+    let low = stands.low in
+    let high = stands.high in
+    record {
+      size = f.size;
+      some = omega (arith, low, b);
+      zero = f.zero;
+      marks = f.marks;
+      rest = f.rest;
+      live = λ x out. live_outside (spans_of quota base top) r os x l.distinct f.is (elim out [ inl a ↦ inl (omega (arith, a, b)) | inr a ↦ inr (omega (arith, a, t)) ]);
+      head = λ k from under.
+          let dead = head_dead (spans_of quota base top) r os (h.range.ram + 8 * k) (objects_apart h gs l) f.is (omega (arith, from, b)) (omega (arith, under, b)) in
+          let above : nat_le h.range.base (h.range.ram + 8 * k) ≡ true = elim (le_tells h.range.base (h.range.ram + 8 * k)) [ inl a ↦ a.0 | inr a ↦ absurd (let lt = a.1 in omega (arith, lt, from, low, b)) ] in
+          let below : nat_lt (h.range.ram + 8 * k) (h.range.base + h.range.length) ≡ true = elim (lt_tells (h.range.ram + 8 * k) (h.range.base + h.range.length)) [ inl a ↦ a.0 | inr a ↦ absurd (let ge = a.1 in omega (arith, ge, under, high, b)) ] in
+          hidden (nat_le h.range.base (h.range.ram + 8 * k)) (nat_lt (h.range.ram + 8 * k) (h.range.base + h.range.length)) (is_live_at os (h.range.ram + 8 * k)) above below dead;
+    }
+  where
+    hidden : (a b c : Bool) → a ≡ true → b ≡ true → c ≡ false → (a && b && not c) ≡ true
+    hidden a b c x y z = rw (x, y, z) refl
+
+-- a free keeps clear what it hides: the object reads as zero
+freed_clear : (h n : HeapRow) (gs hs : List Granule) (quota base top number place long live : ℕ) → Laid h gs → IsClear h gs → Frees h n gs hs quota base top number place long live → IsClear n hs
+freed_clear h n gs hs quota base top number place long live l clear f = λ k hid. elim (le_tells base (h.range.ram + 8 * k)) [
+  | inl low ↦ elim (lt_tells (h.range.ram + 8 * k) top) [
+    | inl high ↦ zero_clear hs k (f.zero k low.1 high.1)
+    | inr high ↦ stays k (inr high.1) hid
+  ]
+  | inr low ↦ stays k (inl low.1) hid
+]
+  where
+    stays : (k : ℕ) → (h.range.ram + 8 * k < base) ⊎ (top ≤ h.range.ram + 8 * k) → heap_hides n hs k ≡ true → is_tagged hs k ≡ false
+    stays k out hid =
+        let r : Object = f.object in
+        let w = whole_says quota base top (objects_of h gs) r f.is in
+        let b = w.base_is in
+        let t = w.top_is in
+        let live : is_live_at (quarantine r.number (objects_of h gs)) (h.range.ram + 8 * k) ≡ is_live_at (objects_of h gs) (h.range.ram + 8 * k) =
+        live_outside (spans_of quota base top) r (objects_of h gs) (h.range.ram + 8 * k) l.distinct f.is (elim out [ inl a ↦ inl (omega (arith, a, b)) | inr a ↦ inr (omega (arith, a, t)) ]) in
+        let was : heap_hides h gs k ≡ true =
+        ap (λ x. nat_le h.range.base (h.range.ram + 8 * k) && nat_lt (h.range.ram + 8 * k) (h.range.base + h.range.length) && not x) (sym live) ∙ sym (hides_by h n hs (quarantine r.number (objects_of h gs)) k f.same f.objects) ∙ hid in
+        elim (bool_tells (is_tagged hs k)) [
+          | inl on ↦ absurd (let clash : true ≡ false = sym on ∙ ap (λ (c : Cap). c.tag) (f.tags k on) ∙ clear k was in cc)
+          | inr off ↦ off
+        ]
+
+-- memory, zeroed and marked by the object's bounds
+wiped_as : (base top low high ram : ℕ) (xs : List Granule) → low ≡ base → high ≡ top
+    → marked_from (base - 8) top true ram (zeroed_from base top ram xs) ≡ marked_from (low - 8) high true ram (zeroed_from low high ram xs)
+wiped_as base top low high ram xs p q = rw (p, q) refl
+
+-- below the heap everything stays
+freed_turns : (gs hs : List Granule) (rows : Rows) (n : HeapRow) (quota base top number place long live : ℕ) → Laid rows.heap gs → Frees rows.heap n gs hs quota base top number place long live → HeapTurns gs hs rows n
+freed_turns gs hs rows n quota base top number place long live l f =
+    let w = whole_says quota base top (objects_of rows.heap gs) f.object f.is in
+    let b = w.base_is in
+    let stands = found_each (λ q. StandsIn rows.heap.range q) (spans_of quota base top) f.object (objects_of rows.heap gs) (objects_inside rows.heap gs l) f.is in
+    let low = stands.low in
+    record {
+      size = f.size;
+      below = λ k under. ap (λ (g : Granule). g.cap) (f.rest k (inl (omega (arith, under, low, b))));
+      same = f.same;
+    }
+
+pub freed_holds : (gs hs : List Granule) (rows : Rows) (n : HeapRow) (quota base top number place long live : ℕ) → Holds gs rows → Laid n hs
+    → Frees rows.heap n gs hs quota base top number place long live → Holds hs (with_heap rows n rows.front)
+freed_holds gs hs rows n quota base top number place long live holds laid f =
+    turned_holds gs hs rows n rows.front holds (freed_turns gs hs rows n quota base top number place long live holds.heap.laid f) laid
+    (freed_clear rows.heap n gs hs quota base top number place long live holds.heap.laid holds.heap.clear f) holds.heap.within
+
+freed_seen : (gs hs : List Granule) (rows : Rows) (n : HeapRow) (quota base top number place long live : ℕ) → Holds gs rows → (f : Frees rows.heap n gs hs quota base top number place long live)
+    → seen hs (with_heap rows n rows.front) ≡ quarantined (seen gs rows) f.object
+freed_seen gs hs rows n quota base top number place long live holds f =
+    let h : HeapRow = rows.heap in
+    let r : Object = f.object in
+    let w = whole_says quota base top (objects_of h gs) r f.is in
+    let ram : ℕ = h.range.ram in
+    let new : List Object = quarantine r.number (objects_of h gs) in
+    let region : ℕ → Bool = region_hides rows.region in
+    let was : List Granule = veiled (heap_hides h gs) gs in
+    let now : List Granule = (seen gs rows).granules in
+    let memory : veiled region (veiled (heap_hides n hs) hs) ≡ marked_from (r.base - 8) (r.base + r.length) true rows.region.ram (zeroed_from r.base (r.base + r.length) rows.region.ram now) =
+    ap (λ xs. veiled region xs) (veil_by h n hs new f.same f.objects
+    ∙ object_vanishes ram h.range.base (h.range.base + h.range.length) (objects_of h gs) new gs hs base top (freed_vanishes h n gs hs quota base top number place long live holds.heap.laid f))
+    ∙ sym (marked_seen region (zeroed_from base top ram was) (base - 8) top true ram)
+    ∙ ap (λ xs. marked_from (base - 8) top true ram xs) (sym (zeroed_seen region was base top ram))
+    ∙ ap (λ xs. marked_from (base - 8) top true ram (zeroed_from base top ram xs)) (sym (seen_both gs rows holds))
+    ∙ wiped_as base top r.base (r.base + r.length) ram now w.base_is w.top_is
+    ∙ ap (λ m. marked_from (r.base - 8) (r.base + r.length) true m (zeroed_from r.base (r.base + r.length) m now)) holds.heap.ram in
+    turned_seen gs hs rows n rows.front holds (freed_turns gs hs rows n quota base top number place long live holds.heap.laid f)
+    ∙ seen_as (seen gs rows) _ _ _ _ _ _ memory f.objects f.next
+
+-- ---- a state of the machine where this is seen
+
+-- a thread's registers change, whatever the statuses are
+registers_with : (f : List Cap → List Cap) (ts : List Thread) (ss : List Status) (t : ℕ)
+    → set (with_statuses ts ss) t (record (get_or (with_statuses ts ss) t nobody) { registers = f (get_or (with_statuses ts ss) t nobody).registers })
+    ≡ with_statuses (set ts t (record (get_or ts t nobody) { registers = f (get_or ts t nobody).registers })) ss
+registers_with f [] ss t = refl
+registers_with f (x ∷ ts) [] zero = refl
+registers_with f (x ∷ ts) [] (suc t) = refl
+registers_with f (x ∷ ts) (s ∷ ss) zero = refl
+registers_with f (x ∷ ts) (s ∷ ss) (suc t) = ap (λ us. with_status x s ∷ us) (registers_with f ts ss t)
+
+pub freed_shown : (i : Image) (m : State) (s : Seen) (statuses : List Status) (t : ℕ) (r : Object) → s.region.ram ≡ i.ram
+    → heap.freed i (state_with m s statuses) t r ≡ state_with m (freed s t r) statuses
+freed_shown i m s statuses t r ram =
+    let here : State = state_with m s statuses in
+    let wiped : ℕ → List Granule = λ n. marked_from (r.base - 8) (r.base + r.length) true n (zeroed_from r.base (r.base + r.length) n s.granules) in
+    let filters : ℕ → List Cap → List Cap = λ n cs. map (filtered_in n (wiped n)) cs in
+    let put : List Granule → List Thread → State = λ gs ts. record here { granules = gs; objects = quarantine r.number s.objects; threads = ts } in
+    let old : Thread = get_or (with_statuses s.threads statuses) t nobody in
+    ap (λ n. put (wiped n) (set (with_statuses s.threads statuses) t (record old { registers = filters n old.registers }))) (sym ram)
+    ∙ ap (put (wiped s.region.ram)) (registers_with (filters s.region.ram) s.threads statuses t)
+
+-- ---- the call: memory is freed, and then the registers pass
+
+pub free_is : (gs hs : List Granule) (rows : Rows) (n : HeapRow) (v z : Seen) (t quota base top number place long live : ℕ) → seen gs rows ≡ v → Holds gs rows
+    → Frees rows.heap n gs hs quota base top number place long live → z ≡ sifted (seen hs (with_heap rows n rows.front)) t → z ≡ freed_by v t (whole_in v quota base top)
+free_is gs hs rows n v z t quota base top number place long live is holds f sift =
+    sift ∙ ap (λ x. sifted x t) (freed_seen gs hs rows n quota base top number place long live holds f)
+    ∙ ap (freed_by (seen gs rows) t) (sym f.is)
+    ∙ ap (λ x. freed_by x t (whole_in x quota base top)) is
+
+pub free_told : (gs hs : List Granule) (rows : Rows) (n : HeapRow) (v z : Seen) (t quota base top : ℕ) (o : told.Object) → seen gs rows ≡ v
+    → Frees rows.heap n gs hs quota base top o.number o.base o.length o.live → z ≡ sifted (seen hs (with_heap rows n rows.front)) t → WasWhole v z quota base top o
+free_told gs hs rows n v z t quota base top o is f sift =
+    let w = whole_says quota base top (objects_of rows.heap gs) f.object f.is in
+    let here : WasWhole (seen gs rows) (sifted (seen hs (with_heap rows n rows.front)) t) quota base top o = record {
+      object = f.object;
+      is = f.is;
+      told = record {
+        number = f.number_is;
+        base = f.base_is;
+        length = f.length_is;
+        live = f.live_is ∙ ap (λ q. charges q (objects_of n hs)) (sym w.quota_is);
+      };
+    } in
+    subst (λ x. WasWhole v x quota base top o) (sym sift) (subst (λ x. WasWhole x (sifted (seen hs (with_heap rows n rows.front)) t) quota base top o) is here)

@@ -1,0 +1,74 @@
+-- What leaves the heap, its objects, and what it hides, as they are.
+use Rattle.std.proofs.Common.{ℕ, ◌≡◌, ◌+◌, ◌*◌, ◌≤◌, ◌<◌, inl, inr, Bool, true, false, List, length, Option, unwrap_or, sym, ap, ◌∙◌, subst, arith}
+use Rattle.law_lists.proofs.Tests.{bool_tells, le_tells, lt_tells}
+use Rattle.def_words.specs.declared.Cap.{Cap}
+use Rattle.def_memory.specs.declared.Granule.{Granule}
+use Rattle.def_memory.specs.Granules.{plain, granule_at, held}
+use Rattle.def_memory.specs.Ranges.{is_tagged}
+use Rattle.def_machine.specs.State.{Object}
+use Rattle.def_areas.specs.Touches.{Touches}
+use Rattle.def_chunks.specs.Heaps.{HeapRow, objects_of}
+use Rattle.law_chunks.specs.Kept.{KeepsHeap}
+use Rattle.law_heaped.specs.Heaped.{hides_heap, heap_hides}
+use Rattle.law_heaped.proofs.Shown.{hidden_keeps, hides_same}
+use Rattle.law_heaped.proofs.Objects.{place_seen}
+use Rattle.ct_areas.specs.declared.thread.Thread as row
+use Rattle.ct_areas.specs.Threads.{area_begin, area_end}
+use Rattle.ct_engine.specs.declared.rows.Region.{Region}
+use Rattle.ct_engine.specs.Kept.{IsClear, HeapHolds}
+use Rattle.ct_engine.proofs.Lists.{Lies, within}
+
+-- what the heap hides lies from its base on
+pub heap_low : (h : HeapRow) (gs : List Granule) (k : ℕ) → heap_hides h gs k ≡ true → h.range.base ≤ h.range.ram + 8 * k
+heap_low h gs k hidden = elim (le_tells h.range.base (h.range.ram + 8 * k)) [
+  | inl a ↦ a.1
+  | inr a ↦ absurd (let clash : true ≡ false = sym hidden ∙ place_seen h.range.ram h.range.base (h.range.base + h.range.length) (objects_of h gs) k (inl a.1) in cc)
+]
+
+-- what the heap hides holds what it held
+abbrev pub HeapStays : HeapRow → List Granule → List Granule → Type 0
+HeapStays h gs hs = (k : ℕ) → heap_hides h gs k ≡ true → held hs k ≡ held gs k
+
+pub heap_keeps : (gs hs : List Granule) (g : Region) (h : HeapRow) (front : Option ℕ) → HeapHolds gs g h front → length hs ≡ length gs → HeapStays h gs hs → KeepsHeap h gs hs
+heap_keeps gs hs g h front holds size same = hidden_keeps h gs hs holds.laid size same
+
+clear_same : (h : HeapRow) (gs hs : List Granule) → IsClear h gs → objects_of h hs ≡ objects_of h gs → HeapStays h gs hs → IsClear h hs
+clear_same h gs hs clear objects same k hid =
+    let was : heap_hides h gs k ≡ true = sym (hides_same h gs hs k objects) ∙ hid in
+    ap (λ (c : Cap). c.tag) (same k was) ∙ clear k was
+
+pub heap_holds : (gs hs : List Granule) (g : Region) (h : HeapRow) (front : Option ℕ) → HeapHolds gs g h front → length hs ≡ length gs → HeapStays h gs hs → HeapHolds hs g h front
+heap_holds gs hs g h front holds size same =
+    let keeps = heap_keeps gs hs g h front holds size same in
+    record {
+      laid = keeps.laid;
+      ram = holds.ram;
+      past = holds.past;
+      within = subst (λ n. unwrap_or front 0 ≤ 8 * n) (sym size) holds.within;
+      clear = clear_same h gs hs holds.clear keeps.objects same;
+    }
+
+-- a change of one area
+turn_stays : (gs hs : List Granule) (g : Region) (h : HeapRow) (front : Option ℕ) (runs : Bool) (t : row.Thread) → HeapHolds gs g h front → Lies g.ram gs runs g.trusted g.end t
+    → Touches (area_begin t.area) (area_end t.area) gs hs → HeapStays h gs hs
+turn_stays gs hs g h front runs t holds l touches k hid =
+    let low = heap_low h gs k hid in
+    let ram = holds.ram in
+    let past = holds.past in
+    let high = l.high in
+    let base = l.base in
+    ap (λ (x : Granule). x.cap) (touches.rest k (elim (lt_tells k (area_begin t.area)) [
+      | inl a ↦ inl a.1
+      | inr a ↦ elim (lt_tells k (area_end t.area)) [
+        | inl b ↦ absurd (let w = within (8 * length gs) t.area k l.kept.area a.1 b.1 in let to = w.1 in omega (arith, low, ram, past, high, base, to))
+        | inr b ↦ inr b.1
+      ]
+    ]))
+
+pub turn_objects : (gs hs : List Granule) (g : Region) (h : HeapRow) (front : Option ℕ) (runs : Bool) (t : row.Thread) → HeapHolds gs g h front → Lies g.ram gs runs g.trusted g.end t
+    → Touches (area_begin t.area) (area_end t.area) gs hs → objects_of h hs ≡ objects_of h gs
+turn_objects gs hs g h front runs t holds l touches = (heap_keeps gs hs g h front holds touches.size (turn_stays gs hs g h front runs t holds l touches)).objects
+
+pub turn_heap : (gs hs : List Granule) (g : Region) (h : HeapRow) (front : Option ℕ) (runs : Bool) (t : row.Thread) → HeapHolds gs g h front → Lies g.ram gs runs g.trusted g.end t
+    → Touches (area_begin t.area) (area_end t.area) gs hs → HeapHolds hs g h front
+turn_heap gs hs g h front runs t holds l touches = heap_holds gs hs g h front holds touches.size (turn_stays gs hs g h front runs t holds l touches)

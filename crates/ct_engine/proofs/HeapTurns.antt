@@ -1,0 +1,113 @@
+-- A change of the heap, and of memory from the heap's base on: what is kept, and what is seen.
+use Rattle.std.proofs.Common.{ℕ, zero, suc, ◌≡◌, ◌+◌, ◌*◌, ◌<◌, ◌≤◌, List, [], ◌∷◌, length, map, Option, unwrap_or, refl, sym, ap, ◌∙◌, subst, arith}
+use Rattle.std.proofs.Math.ListN.{get_or}
+use Rattle.def_memory.specs.declared.Granule.{Granule}
+use Rattle.def_memory.specs.Granules.{held}
+use Rattle.def_machine.specs.State.{Thread, Object}
+use Rattle.def_machine.specs.Objects.{Each}
+use Rattle.def_veil.specs.Veil.{veiled}
+use Rattle.def_chunks.specs.declared.rows.Range.{Range}
+use Rattle.def_chunks.specs.declared.rows.Account.{Account}
+use Rattle.def_chunks.specs.Heaps.{HeapRow, objects_of, no_account, Laid}
+use Rattle.law_heaped.specs.Heaped.{hides_heap, heap_hides}
+use Rattle.ct_heap.specs.Effects.{Same}
+use Rattle.ct_areas.specs.declared.thread.Thread as row
+use Rattle.ct_engine.specs.declared.rows.Rows.{Rows}
+use Rattle.ct_engine.specs.Seen.{Seen, region_hides, hides_over, limits_in, threads_of, seen}
+use Rattle.ct_engine.specs.Kept.{IsClear, StackLies, Holds}
+use Rattle.ct_engine.proofs.Lists.{areas_same, threads_same}
+use Rattle.ct_engine.proofs.Veils.{veiled_both}
+
+-- these rows, with this heap and this front
+abbrev pub with_heap : Rows → HeapRow → Option ℕ → Rows
+with_heap rows n front = record rows { heap = n; front = front }
+
+-- ---- limits
+
+pub limit_of : (accounts : List Account) (q : ℕ) → get_or (limits_in accounts) q 0 ≡ (get_or accounts q no_account).limit
+limit_of [] q = refl
+limit_of (a ∷ rest) zero = refl
+limit_of (a ∷ rest) (suc q) = limit_of rest q
+
+limits_same : (a b : List Account) → length b ≡ length a → ((q : ℕ) → (get_or b q no_account).limit ≡ (get_or a q no_account).limit) → limits_in b ≡ limits_in a
+limits_same [] [] size same = refl
+limits_same [] (y ∷ ys) size same = absurd (omega (arith, size))
+limits_same (x ∷ xs) [] size same = absurd (omega (arith, size))
+limits_same (x ∷ xs) (y ∷ ys) size same =
+    let first : y.limit ≡ x.limit = same zero in
+    let rest = limits_same xs ys (omega (arith, size)) (λ q. same (suc q)) in
+    ap (λ n. n ∷ limits_in ys) first ∙ ap (λ ls. x.limit ∷ ls) rest
+
+pub limits_stay : (h n : HeapRow) → Same h n → limits_in n.accounts ≡ limits_in h.accounts
+limits_stay h n same = limits_same h.accounts n.accounts same.quotas same.limits
+
+limits_length : (accounts : List Account) → length (limits_in accounts) ≡ length accounts
+limits_length [] = refl
+limits_length (a ∷ rest) = ap (λ n. suc n) (limits_length rest)
+
+-- a quota is one of the accounts
+pub quota_there : (gs : List Granule) (rows : Rows) (s : Seen) (quota : ℕ) → seen gs rows ≡ s → quota < length s.limits → quota < length rows.heap.accounts
+quota_there gs rows s quota is lt =
+    let count : length s.limits ≡ length rows.heap.accounts = ap (λ (x : Seen). length x.limits) (sym is) ∙ limits_length rows.heap.accounts in
+    omega (arith, count, lt)
+
+-- ---- a change
+
+-- the heap lies where it lay, and below it memory holds what it held
+pub record HeapTurns (gs hs : List Granule) (rows : Rows) (n : HeapRow) : Type 0 where
+  pub size : length hs ≡ length gs
+  pub below : (k : ℕ) → rows.heap.range.ram + 8 * k < rows.heap.range.base → held hs k ≡ held gs k
+  pub same : Same rows.heap n
+
+region_same : (gs hs : List Granule) (rows : Rows) (n : HeapRow) → Holds gs rows → HeapTurns gs hs rows n
+    → (m : ℕ) → rows.region.trusted ≤ rows.region.ram + 8 * m → rows.region.ram + 8 * m < rows.region.end → held hs m ≡ held gs m
+region_same gs hs rows n holds t m lo hi =
+    let ram = holds.heap.ram in
+    let past = holds.heap.past in
+    t.below m (omega (arith, hi, ram, past))
+
+pub turned_holds : (gs hs : List Granule) (rows : Rows) (n : HeapRow) (front : Option ℕ) → Holds gs rows → HeapTurns gs hs rows n → Laid n hs → IsClear n hs
+    → unwrap_or front 0 ≤ 8 * length gs → Holds hs (with_heap rows n front)
+turned_holds gs hs rows n front holds t laid clear within =
+    let base : n.range.base ≡ rows.heap.range.base = ap (λ (r : Range). r.base) t.same.range in
+    let ram : n.range.ram ≡ rows.heap.range.ram = ap (λ (r : Range). r.ram) t.same.range in
+    let past = holds.heap.past in
+    record {
+      areas = areas_same rows.region.ram gs hs rows.running rows.running 0 rows.region.trusted rows.region.end rows.list.items holds.areas t.size
+          (region_same gs hs rows n holds t) (λ u lo. refl);
+      runs = holds.runs;
+      stacks = subst (λ b. Each (StackLies rows.region b (8 * length hs)) (map (λ (r : row.Thread). r.area) rows.list.items)) (sym base)
+          (subst (λ m. Each (StackLies rows.region rows.heap.range.base (8 * m)) (map (λ (r : row.Thread). r.area) rows.list.items)) (sym t.size) holds.stacks);
+      heap = record {
+        laid = laid;
+        ram = ram ∙ holds.heap.ram;
+        past = omega (arith, past, base);
+        within = subst (λ m. unwrap_or front 0 ≤ 8 * m) (sym t.size) within;
+        clear = clear;
+      };
+    }
+
+seen_as : (s : Seen) (gs gs' : List Granule) (ts ts' : List Thread) (b b' l l' : ℕ) (limits limits' : List ℕ)
+    → gs ≡ gs' → ts ≡ ts' → b ≡ b' → l ≡ l' → limits ≡ limits'
+    → (let x : Seen = record s { granules = gs; threads = ts; heap_base = b; heap_end = l; limits = limits } in x)
+    ≡ record s { granules = gs'; threads = ts'; heap_base = b'; heap_end = l'; limits = limits' }
+seen_as s gs gs' ts ts' b b' l l' limits limits' p q t u v = rw (p, q, t, u, v) refl
+
+veil_over : (rows : Rows) (n : HeapRow) (hs : List Granule) → n.range.ram ≡ rows.region.ram
+    → veiled (hides_over rows.region n.range (objects_of n hs)) hs ≡ veiled (region_hides rows.region) (veiled (heap_hides n hs) hs)
+veil_over rows n hs ram =
+    veiled_both (region_hides rows.region) (λ k. hides_heap rows.region.ram n.range.base (n.range.base + n.range.length) (objects_of n hs) k) hs
+    ∙ ap (λ a. veiled (region_hides rows.region) (veiled (λ k. hides_heap a n.range.base (n.range.base + n.range.length) (objects_of n hs) k) hs)) (sym ram)
+
+pub turned_seen : (gs hs : List Granule) (rows : Rows) (n : HeapRow) (front : Option ℕ) → Holds gs rows → HeapTurns gs hs rows n
+    → seen hs (with_heap rows n front)
+    ≡ record (seen gs rows) { granules = veiled (region_hides rows.region) (veiled (heap_hides n hs) hs); objects = objects_of n hs; next = n.next; front = front }
+turned_seen gs hs rows n front holds t =
+    let put : Seen = record (seen gs rows) { objects = objects_of n hs; next = n.next; front = front } in
+    seen_as put _ _ _ _ _ _ _ _ _ _
+    (veil_over rows n hs (ap (λ (r : Range). r.ram) t.same.range ∙ holds.heap.ram))
+    (threads_same rows.region.ram gs hs rows.running rows.running 0 rows.region.trusted rows.region.end rows.list.items holds.areas
+    (region_same gs hs rows n holds t) (λ u lo. refl))
+    (ap (λ (r : Range). r.base) t.same.range)
+    (ap (λ (r : Range). r.base + r.length) t.same.range)
+    (limits_stay rows.heap n t.same)

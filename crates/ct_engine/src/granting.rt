@@ -1,0 +1,73 @@
+//! Objects are allocated and freed.
+
+ghost use Rattle.std.specs.Prelude.{◌≡◌, ◌-◌, ◌≤◌, ◌<◌, Some, None, length, IfOk, MatchResult};
+ghost use Rattle.def_profile.specs.declared.limits.TheConstants.{MOST_STEPS};
+ghost use Rattle.def_machine.specs.Image.{Image};
+ghost use Rattle.def_machine.specs.Objects.{charges, has_quarantined};
+ghost use Rattle.def_machine.specs.State.{State};
+ghost use Rattle.def_step.specs.Quotas.{allocation};
+ghost use Rattle.ct_engine.specs.Grants.{new_object, after_allocation, allocation_told, IsTold, WasWhole, whole_in, freed_by};
+ghost use Rattle.ct_engine.specs.Seen.{limit_at};
+ghost use Rattle.ct_engine.specs.Written.{HasHeap, SharesObjects};
+
+use crate::engine::Engine;
+use crate::steps::sift;
+use ct_heap::{HeapRefusal, NotWhole, Object};
+use ct_mem::Memory;
+
+impl<M: Memory + Drop> Engine<M> {
+    /// An object of so many bytes, charged to a quota, at the least lawful place. Memory is seen as before: the
+    /// object reads as zero.
+    ///
+    /// `Size` comes exactly where the size is zero or above the heap's length; else `Quota` exactly where the
+    /// quota's limit would be passed; else `NoGap` exactly where no place is lawful. A refusal changes nothing.
+    pub fn allocate(&mut self, quota: u32, size: u32) -> Result<Object, HeapRefusal>
+        requires quota { quota < length self.old.limits }
+        requires few { self.old.next ≤ MOST_STEPS }
+        ensures is { self.new ≡ after_allocation self.old quota size result }
+        ensures answer { (i : Image) (m : State) → HasHeap i self.old → SharesObjects m self.old
+            → allocation i m quota size ≡ allocation_told self.old quota size result }
+        ensures told { IfOk result
+            (λ o. IsTold self.new o (new_object self.old quota size o.base)) }
+    {
+        self.rows.heap.allocate(&mut self.mem, quota, size)
+    }
+
+    /// The live object of a quota with exactly these bounds, which are addresses, is freed: it is zeroed and
+    /// quarantined, its chunk is marked, and then the registers of the running thread pass the load filter.
+    /// `NotWhole` comes exactly where there is none; then nothing changes.
+    pub fn free(&mut self, t: u32, quota: u32, base: u32, top: u64) -> Result<Object, NotWhole>
+        requires runs { self.old.running ≡ Some t }
+        requires quota { quota < length self.old.limits }
+        ensures is { self.new ≡ freed_by self.old t (whole_in self.old quota base top) }
+        ensures told { MatchResult result
+            (λ o. WasWhole self.old self.new quota base top o)
+            (λ why. whole_in self.old quota base top ≡ None) }
+    {
+        let object = self.rows.heap.free(&mut self.mem, quota, base, top)?;
+        sift(&mut self.rows, &self.mem, t);
+        Ok(object)
+    }
+
+    /// How many objects were allocated.
+    pub fn made(&self) -> u32
+        ensures { result ≡ self.now.next - 1 }
+    {
+        self.rows.heap.made()
+    }
+
+    /// What a quota may still take, in bytes.
+    pub fn remaining(&self, quota: u32) -> u32
+        requires quota { quota < length self.now.limits }
+        ensures { result ≡ limit_at self.now quota - charges quota self.now.objects }
+    {
+        self.rows.heap.remaining(quota)
+    }
+
+    /// Whether an object is quarantined, painted or not.
+    pub fn quarantined(&self) -> bool
+        ensures { result ≡ has_quarantined self.now.objects }
+    {
+        self.rows.heap.quarantined()
+    }
+}

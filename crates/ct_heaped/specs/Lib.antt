@@ -1,7 +1,0 @@
-pub mod Seen
-pub mod Kept
-pub mod Starts
-pub mod Calls
-pub mod Grants
-pub mod Sweeps
-pub mod Shared

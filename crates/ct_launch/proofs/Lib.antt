@@ -1,3 +1,0 @@
-pub mod Standing
-pub mod Placing
-pub mod Starting

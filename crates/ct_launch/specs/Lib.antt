@@ -1,2 +1,0 @@
-pub mod Launching
-pub mod Placed

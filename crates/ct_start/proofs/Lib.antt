@@ -1,5 +1,0 @@
-pub mod Counts
-pub mod Fits
-pub mod Made
-pub mod Ranges
-pub mod Firsts

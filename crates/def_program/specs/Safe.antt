@@ -1,0 +1,61 @@
+-- What holds of each event of a run that a command asks for, beside the licences of its deeds: its calls are clean, its
+-- accesses are licensed, and the heap is safe.
+use Rattle.std.specs.Prelude.{ℕ, ◌≡◌, ◌≤◌, ◌++◌, List, ◌∷◌, take, Some}
+use Rattle.ct_entry.specs.declared.acts.Act.TheVariants.{Allocate, Free}
+use Rattle.ct_entry.specs.declared.acts.Deed.{Deed}
+use Rattle.def_boot.specs.Boot.{board_of, boot_state, booted_machine, image_of}
+use Rattle.def_image.specs.Parts.{PartsRow}
+use Rattle.def_machine.specs.Image.{root}
+use Rattle.def_machine.specs.Objects.{charges}
+use Rattle.def_program.specs.Commands.{Command, Run, RunImage, Demo}
+use Rattle.def_program.specs.declared.TheConstants.{DEMO_STEPS}
+use Rattle.def_program.specs.Runs.{events_until}
+use Rattle.def_script.specs.Script.{Due}
+use Rattle.def_step.specs.Events.{happens, run}
+use Rattle.def_step.specs.declared.Event.{Event}
+use Rattle.def_step.specs.declared.Event.TheVariants.{Step}
+use Rattle.def_safety.specs.Accesses.{UsesReach}
+use Rattle.def_safety.specs.Chunks.{ChunksMeet}
+use Rattle.def_safety.specs.Calls.{CleanEvent}
+use Rattle.def_safety.specs.Each.{EachEvent}
+use Rattle.def_safety.specs.Temporal.{AllocatesFresh, UsesLive}
+use Rattle.def_safety.specs.Reuse.{SweepsWhole}
+use Rattle.def_program.specs.Within.{state_after}
+
+-- after so many of the events the live charges on each quota are at most its limit
+abbrev pub WithinLimits : PartsRow → List Event → Type 0
+WithinLimits p es =
+    (n q : ℕ) → charges q (state_after p (take n es)).objects ≤ (root (image_of p) q).limit
+
+-- where one step tells a free, and a later one an allocation whose chunk meets the chunk of the freed object, a whole
+-- sweep that began after the free lies between
+abbrev pub SweptBeforeReuseIn : PartsRow → List Event → Type 0
+SweptBeforeReuseIn p events =
+    (es fs rest : List Event) (freed made : Deed)
+    (n base long live number from size left : ℕ)
+    → events ≡ es ++ Step ∷ (fs ++ Step ∷ rest)
+    → (happens (board_of p) (state_after p es) Step).1.deed ≡ Some freed
+    → freed.act ≡ Free n base long live
+    → (happens (board_of p) (run (board_of p) (happens (board_of p) (state_after p es) Step).0 fs)
+    Step).1.deed ≡ Some made
+    → made.act ≡ Allocate number from size left → ChunksMeet from size base long
+    → SweepsWhole (board_of p) (happens (board_of p) (state_after p es) Step).0 fs
+
+pub record IsSafeRun (p : PartsRow) (es : List Event) : Type 0 where
+  pub calls : EachEvent (CleanEvent (board_of p)) (board_of p) (boot_state p) es
+  pub accesses : EachEvent (λ s e. UsesReach (board_of p) s) (board_of p) (boot_state p) es
+  pub unused : EachEvent (λ s e. UsesLive (board_of p) s) (board_of p) (boot_state p) es
+  pub fresh : EachEvent (AllocatesFresh (board_of p)) (board_of p) (boot_state p) es
+  pub swept : SweptBeforeReuseIn p es
+  pub quotas : WithinLimits p es
+
+-- of the run that a command asks for, whatever its script says
+abbrev pub RunsSafely : PartsRow → ℕ → Type 0
+RunsSafely p limit =
+    (script : List Due) → IsSafeRun p (events_until (booted_machine p) script p.quantum limit)
+
+abbrev pub IsSafeCommand : Command → PartsRow → Type 0
+IsSafeCommand (Run name limit script) p = RunsSafely p limit
+IsSafeCommand (RunImage name limit script) p = RunsSafely p limit
+IsSafeCommand (Demo number) p = RunsSafely p DEMO_STEPS
+IsSafeCommand _ p = Unit {0}

@@ -1,0 +1,42 @@
+-- Chunks by where they stand, and that none is handed out again before a whole sweep.
+use Rattle.std.specs.Prelude.{ℕ, ◌≡◌, ◌+◌, ◌≤◌, ◌⊎◌, false, List, Some}
+use Rattle.ct_entry.specs.declared.acts.Act.TheVariants.{Allocate, Free}
+use Rattle.ct_entry.specs.declared.acts.Deed.{Deed}
+use Rattle.def_profile.specs.declared.layout.TheConstants.{CHUNK_HEAD}
+use Rattle.def_machine.specs.State.{State, Object}
+use Rattle.def_step.specs.declared.Event.{Event}
+use Rattle.def_step.specs.declared.Event.TheVariants.{Step}
+use Rattle.def_step.specs.Events.{happens, run}
+use Rattle.def_machine.specs.Board.{Board}
+use Rattle.def_safety.specs.Reuse.{SweepsWhole}
+
+-- objects of these lengths at these bases, with their heads, meet
+abbrev pub ChunksMeet : ℕ → ℕ → ℕ → ℕ → Type 0
+ChunksMeet from size base long =
+    ((from + size + CHUNK_HEAD ≤ base) ⊎ (base + long + CHUNK_HEAD ≤ from)) → ⊥
+
+-- the object of a number at a base, of which nothing else is asked
+abbrev pub chunk_at : ℕ → ℕ → ℕ → Object
+chunk_at number base long = record {
+  number = number;
+  quota = 0;
+  base = base;
+  length = long;
+  charge = 0;
+  live = false;
+  painted = false;
+}
+
+-- the state in which a step leaves what these events left
+abbrev pub stepped_after : Board → State → List Event → State
+stepped_after b s es = (happens b (run b s es) Step).0
+
+-- Where a free is told after some events, and after more an allocation whose chunk meets the chunk of the freed object,
+-- there was a whole sweep among these, which began after the free.
+abbrev pub SweptBeforeReuse : Board → State → Type 0
+SweptBeforeReuse b s =
+    (es fs : List Event) (d : Deed) (n base long live : ℕ) (c : Deed) (number from size left : ℕ)
+    → (happens b (run b s es) Step).1.deed ≡ Some d → d.act ≡ Free n base long live
+    → (happens b (run b (stepped_after b s es) fs) Step).1.deed ≡ Some c
+    → c.act ≡ Allocate number from size left → ChunksMeet from size base long
+    → SweepsWhole b (stepped_after b s es) fs

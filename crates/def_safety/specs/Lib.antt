@@ -1,0 +1,10 @@
+pub mod Each
+pub mod Clean
+pub mod Handlers
+pub mod Calls
+pub mod Accesses
+pub mod Fresh
+pub mod Temporal
+pub mod Reuse
+pub mod Chunks
+pub mod Marks

@@ -1,0 +1,4 @@
+pub mod Written
+pub mod Entered
+pub mod Begins
+pub mod Whole

@@ -1,5 +1,0 @@
-pub mod Each
-pub mod Clean
-pub mod Temporal
-pub mod Chunks
-pub mod Accesses

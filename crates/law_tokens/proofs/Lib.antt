@@ -1,0 +1,4 @@
+pub mod Listing
+pub mod Counting
+pub mod Moving
+pub mod Events

@@ -1,0 +1,5 @@
+# Writes a byte to the serial port.
+put:
+    cimport ct0, uart
+    csb a0, 0(ct0)
+    cret

@@ -1,0 +1,111 @@
+#!/bin/bash
+# Tries the commands of bin/ with a kit and a program that only say what they are asked for: that bin/capfw hands on
+# words, files and statuses, with a built program and by a try, and answers its own two forms; and that bin/build counts
+# crates, and says what failed. Nothing is proved or built. Status 0: nothing differs.
+here=$(cd "$(dirname "$0")/.." && pwd) || exit 1
+work=$(mktemp -d) || exit 1
+trap 'rm -rf "$work"' EXIT
+status=0
+
+# expect NAME WANTED FOUND
+expect() {
+    if [ "$2" = "$3" ]; then
+        echo "command: $1: as expected"
+    else
+        printf 'command: %s: differs\n%s\ndue is\n%s\n' "$1" "$3" "$2"
+        status=1
+    fi
+}
+
+# A clone of four crates, of which one is built and another is needed by nobody, and a sample.
+clone=$work/a\ clone
+mkdir -p "$clone" "$work/kit" && cp -r "$here/bin" "$here/VERSION" "$clone" || exit 1
+printf '# crates\nlow:\nunused: low\nhigh: low\nct_main: high\n' > "$clone/crates.txt"
+for crate in low unused high ct_main; do
+    mkdir -p "$clone/crates/$crate/src" "$clone/crates/$crate/out/rlib"
+    touch -d "1 hour ago" "$clone/crates/$crate/src/lib.rt"
+done
+touch -d "1 minute ago" "$clone/crates/low/out/rlib/stamp"
+mkdir -p "$clone/sample" && printf '{"code": {"file": "a.s"}}\n' > "$clone/sample/a.json" && touch "$clone/sample/a.s"
+
+# The program says its words, and ends with the number of them.
+cat > "$work/program" << 'PROGRAM'
+#!/bin/bash
+echo "program: $*"
+exit $#
+PROGRAM
+# The kit's try says its words and ends as a program with status 7, or not at all; its run builds what is left, or
+# fails.
+cat > "$work/kit/rt" << 'KIT'
+#!/bin/bash
+case $1 in
+    version) echo "a kit" ;;
+    try)
+        echo "try: ${*//$CLONE/CLONE}"
+        [ -n "$FAILS" ] && echo "run=none" >&2 && exit 2
+        echo "run=ended status=7" >&2
+        exit 7
+        ;;
+    run)
+        sleep 1
+        touch ../high/out/rlib/stamp
+        sleep 4
+        [ -z "$FAILS" ] || { echo "error: high" >&2; exit 1; }
+        cp "$PROGRAM" out/ct_main
+        ;;
+esac
+KIT
+chmod +x "$work/program" "$work/kit/rt"
+export CLONE=$clone PROGRAM=$work/program FAILS=
+kit=$work/kit:$PATH
+cd "$clone/sample" || exit 1
+
+# said WORD..: what bin/capfw writes, errors too, and its status; the kit is there
+said() {
+    PATH=$kit "$clone/bin/capfw" "$@" 2>&1
+    echo "status $?"
+}
+
+trying="capfw: trying the program unproved, which takes a minute or two; bin/build makes the proved one, once"
+expect "a try" "$trying
+try: try --seconds 60 --data a.json=CLONE/sample/a.json --data a.s=CLONE/sample/a.s -- audit a.json
+status 7" "$(said audit a.json)"
+expect "a try without an answer" "$trying
+try: try --seconds 60 -- audit nosuch.json
+run=none
+capfw: the try gave no answer; bin/build makes the proved program, which has no such limits
+status 125" "$(FAILS=yes said audit nosuch.json)"
+expect "no kit" "capfw: there is no program at CLONE/bin/../crates/ct_main/out/ct_main, and no command rt to make it
+status 125" "$(PATH=$work "$clone/bin/capfw" audit a.json 2>&1 | sed "s|$clone|CLONE|"; echo "status ${PIPESTATUS[0]}")"
+expect "--version without a program" "capfw $(< "$here/VERSION")
+no program is built: the kit tries it unproved; bin/build makes the proved one
+a kit
+status 0" "$(said --version)"
+
+expect "a build that fails" "[1/3] 2 left
+[2/3] high, 0 min, 1 left
+error: high
+build: it failed with status 1; all of it is in CLONE/crates/ct_main/out/build.log
+status 1" "$(FAILS=yes PATH=$kit "$clone/bin/build" 2>&1 | sed "s|$clone|CLONE|"; echo "status ${PIPESTATUS[0]}")"
+expect "a build" "[2/3] 1 left
+built in 0 min: CLONE/crates/ct_main/out/ct_main
+status 0" "$(PATH=$kit "$clone/bin/build" 2>&1 | sed "s|$clone|CLONE|"; echo "status ${PIPESTATUS[0]}")"
+
+expect "a program" "program: run a.json 100
+status 3" "$(said run a.json 100)"
+ln -s "$clone/bin/capfw" "$work/linked"
+expect "a link to the command" "program: a
+status 1" "$("$work/linked" a 2>&1; echo "status $?")"
+expect "--version" "capfw $(< "$here/VERSION")
+the program was proved and built after the last change of a source
+a kit
+status 0" "$(said --version)"
+touch -d "1 minute" "$clone/crates/high/src/lib.rt"
+expect "--version after a change" "capfw $(< "$here/VERSION")
+the program is older than crates/high/src/lib.rt; bin/build makes it anew
+a kit
+status 0" "$(said --version)"
+forms=$(said --help | grep -o '^capfw [a-z]*' | sort | tr '\n' ' ')
+expect "--help names each command" \
+    "capfw audit capfw check capfw demo capfw image capfw run capfw runimage capfw upgrade capfw why " "$forms"
+exit $status
