@@ -161,7 +161,7 @@ class Trace:
                 print(f"         {text}")
 
     def why(self, machine, moment, origins, cause, code, number):
-        """Why a trap came: the register that failed and where it was set, the access, and where the thread goes on."""
+        """Why a trap came: the register that failed and where it was set, the access, and where the caller goes on."""
         if cause == names.CAPABILITY:
             yield from self.failed(machine, moment, origins, code, number)
         elif cause == 2:
@@ -171,10 +171,7 @@ class Trace:
             address, width = accessed(machine, moment) or (moment.registers[10].address, 4)
             yield f"{address:08x} is no multiple of {width}"
         thread = machine.threads[moment.thread]
-        if len(thread.frames) == moment.depth:
-            actor = self.report.compartments[machine.actor(moment.thread)]
-            yield f"{actor} handles it at {self.spot_at(thread.pcc.address)}"
-        elif thread.frames:
+        if thread.frames:
             actor = self.report.compartments[machine.actor(moment.thread)]
             yield f"{actor} goes on at {self.spot_at(thread.pcc.address)} with a0 = -1"
         else:

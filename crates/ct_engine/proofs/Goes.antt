@@ -32,7 +32,7 @@ running_is gs rows t r holds runs is =
     ∙ alive_is gs true r ((running_kept gs rows t r holds runs is).kept.alive refl)
 
 -- it has an innermost frame, of its row's compartment
-pub running_frames : (gs : List Granule) (rows : Rows) (t : ℕ) (r : row.Thread) → Holds gs rows → rows.running ≡ Some t → r ≡ get_or rows.list.items t r
+running_frames : (gs : List Granule) (rows : Rows) (t : ℕ) (r : row.Thread) → Holds gs rows → rows.running ≡ Some t → r ≡ get_or rows.list.items t r
     → (thread (seen gs rows) t).frames ≡ inner_frame gs r ∷ outer_frames gs r
 running_frames gs rows t r holds runs is =
     let alive : 0 < r.depth = (running_kept gs rows t r holds runs is).kept.alive refl in

@@ -15,7 +15,6 @@ pub mod Laying
 pub mod Turning
 pub mod Entering
 pub mod Leaving
-pub mod Handling
 pub mod AsWritten
 pub mod Sifting
 pub mod Quietly

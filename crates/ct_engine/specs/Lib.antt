@@ -3,7 +3,6 @@ pub mod Kept
 pub mod Starts
 pub mod Steps
 pub mod Calls
-pub mod Handling
 pub mod Grants
 pub mod Sweeps
 pub mod Written

@@ -10,6 +10,9 @@ use def_profile::native::REMAINING;
 /// nothing that is carried out.
 pub const LAST_ROUTINE: u32 = REMAINING;
 
+/// Whether the machine enters error handlers. As long as it doesn't, each trap unwinds.
+pub const SERVES_HANDLERS: bool = false;
+
 /// The bytes of the record of a trap that an error handler finds on its stack: twenty words.
 pub const TRAP_RECORD: u32 = 80;
 

@@ -6,7 +6,7 @@ use Rattle.ct_entry.specs.declared.acts.Act.TheVariants as acts
 use Rattle.ct_entry.specs.declared.acts.Deed.{Deed}
 use Rattle.def_machine.specs.Image.{Image, root, stack_base}
 use Rattle.def_words.specs.declared.Trap.{Trap}
-use Rattle.def_step.specs.Handlers.{is_handled, handler_entered, trap_taken}
+use Rattle.def_step.specs.Handlers.{is_entered, handler_entered, trap_taken}
 use Rattle.def_safety.specs.Handlers.{HandlerBegins}
 use Rattle.law_handlers.proofs.Whole.{handler_begins}
 use Rattle.def_machine.specs.State.{State, Frame, Counts, thread}
@@ -21,6 +21,7 @@ use Rattle.def_step.specs.Instructions.{executed}
 use Rattle.def_machine.specs.Board.{Board}
 use Rattle.def_safety.specs.Clean.{CleanEntry, CleanReturn}
 use Rattle.law_natives.proofs.Cleans.{enters_clean, unwind_clean}
+use Rattle.law_routines.proofs.Stepping.{handled_where}
 use Rattle.law_events.proofs.Events.{ready_keeps}
 use Rattle.def_safety.specs.Each.{ready}
 use Rattle.def_safety.specs.Calls.{CleanEvent, HandsPlain, enters_handler}
@@ -58,12 +59,12 @@ step_leaves b s t f g gs runs before plain_one = step_case (λ (r : State × Opt
     own after = counted_return b.image (ready b s) t f (executed b (ready b s) t).0 (with_deed (executed b (ready b s) t).0.counts (executed b (ready b s) t).1) (executed_ends b (ready b s) t f g gs before after plain_one)
 
 -- a trap's state, by whether it enters a handler
-unwound_case : (i : Image) (s : State) (t : ℕ) (why : Trap) (f : Frame) (fs : List Frame) → is_handled i (stack_base i t) (thread s t) f ≡ false → trap_taken i s t why (f ∷ fs) ≡ unwound i s t (f ∷ fs)
-unwound_case i s t why f fs not = chosen (λ z. z ≡ unwound i s t (f ∷ fs)) (is_handled i (stack_base i t) (thread s t) f) (handler_entered i s t why f fs) (unwound i s t (f ∷ fs))
+unwound_case : (i : Image) (s : State) (t : ℕ) (why : Trap) (f : Frame) (fs : List Frame) → is_entered i (stack_base i t) (thread s t) f ≡ false → trap_taken i s t why (f ∷ fs) ≡ unwound i s t (f ∷ fs)
+unwound_case i s t why f fs not = chosen (λ z. z ≡ unwound i s t (f ∷ fs)) (is_entered i (stack_base i t) (thread s t) f) (handler_entered i s t why f fs) (unwound i s t (f ∷ fs))
     (λ is. absurd (let clash : true ≡ false = sym is ∙ not in cc)) (λ no. refl)
 
-entered_case : (i : Image) (s : State) (t : ℕ) (why : Trap) (f : Frame) (fs : List Frame) → is_handled i (stack_base i t) (thread s t) f ≡ true → trap_taken i s t why (f ∷ fs) ≡ handler_entered i s t why f fs
-entered_case i s t why f fs is = chosen (λ z. z ≡ handler_entered i s t why f fs) (is_handled i (stack_base i t) (thread s t) f) (handler_entered i s t why f fs) (unwound i s t (f ∷ fs))
+entered_case : (i : Image) (s : State) (t : ℕ) (why : Trap) (f : Frame) (fs : List Frame) → is_entered i (stack_base i t) (thread s t) f ≡ true → trap_taken i s t why (f ∷ fs) ≡ handler_entered i s t why f fs
+entered_case i s t why f fs is = chosen (λ z. z ≡ handler_entered i s t why f fs) (is_entered i (stack_base i t) (thread s t) f) (handler_entered i s t why f fs) (unwound i s t (f ∷ fs))
     (λ yes. refl) (λ no. absurd (let clash : true ≡ false = sym is ∙ no in cc))
 
 counted_begin : (i : Image) (s : State) (t : ℕ) (f : Frame) (fs : List Frame) (z : State) (c : Counts) → HandlerBegins i s t f fs z → HandlerBegins i s t f fs (record z { counts = c })
@@ -95,7 +96,7 @@ step_handles : (b : Board) (s : State) (d : Deed) (cause code register : ℕ) (f
 step_handles b s d cause code register f fs parts facts k act frames is told = step_trap (HandlerBegins b.image (ready b s) d.thread f fs) b s d cause code register act told (counted_begin b.image (ready b s) d.thread f fs)
     (subst (λ (gs : List Frame). HandlerBegins b.image (ready b s) d.thread f fs (trap_taken b.image (ready b s) d.thread (record { cause = cause; code = code; register = register }) gs)) (sym frames)
     (subst (λ (z : State). HandlerBegins b.image (ready b s) d.thread f fs z) (sym (entered_case b.image (ready b s) d.thread (record { cause = cause; code = code; register = register }) f fs is))
-    (handler_begins b.image (ready b s) d.thread (record { cause = cause; code = code; register = register }) f fs parts facts (ready_keeps b s parts k) frames is)))
+    (handler_begins b.image (ready b s) d.thread (record { cause = cause; code = code; register = register }) f fs parts facts (ready_keeps b s parts k) frames (handled_where b.image (stack_base b.image d.thread) (thread (ready b s) d.thread) f is))))
 
 -- ---- an event
 
