@@ -1,2 +1,3 @@
 pub mod Wired
+pub mod Rows
 pub mod Guarded
