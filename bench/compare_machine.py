@@ -32,7 +32,7 @@ LOOKS = ["cgetperm", "cgettype", "cgetbase", "cgetlen", "cgettag", "crrl", "cram
 MAKES = ["csetbounds", "csetboundsexact", "cseal", "cunseal", "candperm", "csetaddr", "cincaddr", "csub", "csethigh",
          "ctestsubset", "csetequalexact"]
 SERVICES = ["yield", "sleep", "wait", "wake"]
-HEAP = ["allocate", "free", "remaining", "token_key", "token_new", "token_open", "token_free"]
+HEAP = ["allocate", "free", "remaining"]
 DEVICES = [("uart0", "uart"), ("pins", "gpio"), ("clock", "timer")]
 
 
@@ -85,23 +85,6 @@ class Code:
             out += self.by_quota("free", f"clc ca1, {place}")
         return out + rng.choice([[], self.shown(), self.by_quota("remaining", "nop"), [f"clc {register}, {place}"]])
 
-    def tokened(self):
-        """A key and a token of it are made and kept in places; one is opened or freed, and perhaps used or freed so."""
-        rng = self.rng
-        key, token = rng.choice(["0(cgp)", "48(cgp)"]), rng.choice(["8(cgp)", "56(cgp)", "-24(csp)"])
-        out = self.by_quota("token_key", "nop", f"csc ca0, {key}") if rng.random() < 0.6 else []
-        if rng.random() < 0.8:
-            out += [f"clc ca2, {key}"]
-            out += self.by_quota("token_new", f"li a1, {rng.choice([8, 24, 100, 0])}", f"csc ca0, {token}")
-        first, second = rng.choice([(key, token)] * 6 + [(token, key), (key, key)])
-        if rng.random() < 0.7:
-            out += [f"clc ca0, {first}", f"clc ca1, {second}", "cimport ct2, token_open", "cjalr cra, ct2"]
-            out += rng.choice([[], ["csw a2, 0(ca0)", "clw a2, 0(ca0)"], ["csc ca0, 32(cgp)"],
-                               ["cmove ca1, ca0", *self.by_quota("free", "nop")]])
-        if rng.random() < 0.5:
-            out += [f"clc ca2, {second}", *self.by_quota("token_free", f"clc ca1, {first}")]
-        return out + rng.choice([[], self.shown(), self.by_quota("remaining", "nop")])
-
     def accessed(self):
         rng = self.rng
         through = rng.choice(["cgp", "csp", "cgp", "csp", f"c{self.register()}"])
@@ -140,10 +123,9 @@ class Code:
 
     def statement(self):
         rng = self.rng
-        kind = rng.choices([self.shown, self.called, self.served, self.allocated, self.tokened, self.accessed, self.made,
-                            self.counted, self.turned,
-                            lambda: [f"cimport c{self.register()}, {rng.choice(self.slots)}"]],
-                           [3, 2, 1, 2, 2, 3, 4, 2, 1, 2])[0]
+        kind = rng.choices([self.shown, self.called, self.served, self.allocated, self.accessed, self.made, self.counted,
+                            self.turned, lambda: [f"cimport c{self.register()}, {rng.choice(self.slots)}"]],
+                           [3, 2, 1, 2, 3, 4, 2, 1, 2])[0]
         return [part for line in kind() for part in line.split("\n")]
 
 

@@ -54,21 +54,6 @@ judged(twice(), [
     ("quota app 63\n", "denied 1 7\ndenied 1 8"),
 ])
 
-# ---- the same, whose app and driver open tokens: entries 7 and 14
-
-def opening():
-    firmware = board()
-    for owner in firmware["compartments"]:
-        owner["imports"].append({"as": "token_open", "service": "token_open"})
-    return firmware
-
-
-judged(opening(), [
-    ("service token_open only app driver\n", "allow"),
-    ("service token_open only app\n", "denied 1 14"),
-    ("service token_open only hex\n", "denied 1 7\ndenied 1 14"),
-])
-
 # ---- three compartments that share an object, a with b, and a call that passes data
 
 judged(sharing("RWC", "data"), [

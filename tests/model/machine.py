@@ -1,6 +1,6 @@
 """A plain, slow machine: it runs images by the rules of docs/use/machine.md, and knows nothing of the program.
 
-The heap is in heap.py, with its routines from 6 on.
+The heap is in heap.py: here native routines from 6 on trap as a word that is no instruction does.
 """
 from model.words import (CODE, EX, EXECUTABLE_ROOT, GL, GLOBALS, LD, LG, LM, M32, MC, MEMORY_ROOT, SD, SE, SEALING_ROOT,
                          SL, STACK, US, Cap, derive, integer, normal, round_length, unpack)

@@ -48,7 +48,6 @@ away_holds gs hs rows holds size same = record {
   runs = holds.runs;
   stacks = subst (λ n. Each (StackLies rows.region rows.heap.range.base (8 * n)) (map (λ (t : row.Thread). t.area) rows.list.items)) (sym size) holds.stacks;
   heap = heap_holds gs hs rows.region rows.heap rows.front holds.heap size (heap_stays gs hs rows holds same);
-  room = holds.room;
 }
 
 pub away_seen : (gs hs : List Granule) (rows : Rows) → Holds gs rows → length hs ≡ length gs → HiddenStays gs hs rows → seen hs rows ≡ with_granules (seen gs rows) (veiled (hidden gs rows) hs)

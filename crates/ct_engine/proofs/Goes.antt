@@ -100,7 +100,6 @@ own_holds gs rows t r q f to value holds runs is gone = record {
   runs = λ u e. (let lt = holds.runs u e in let size = length-set rows.list.items t q in omega (arith, lt, size));
   stacks = stacks_turn gs gs rows t r q holds (holds.runs t runs) is refl (ap (λ (u : row.Thread). u.area) gone);
   heap = holds.heap;
-  room = holds.room;
 }
 
 pub own_seen : (gs : List Granule) (rows : Rows) (t : ℕ) (r q : row.Thread) (f : Cap → Cap) (to : ℕ) (value : Cap) → Holds gs rows → rows.running ≡ Some t

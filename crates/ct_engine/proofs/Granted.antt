@@ -86,7 +86,7 @@ allocated_turns gs hs rows n quota size number base long live a = record {
   same = a.same;
 }
 
-pub allocated_seen : (gs hs : List Granule) (rows : Rows) (n : HeapRow) (quota size number base long live : ℕ) → Holds gs rows → Allocates rows.heap n gs hs quota size number base long live
+allocated_seen : (gs hs : List Granule) (rows : Rows) (n : HeapRow) (quota size number base long live : ℕ) → Holds gs rows → Allocates rows.heap n gs hs quota size number base long live
     → seen hs (with_heap rows n rows.front) ≡ with_object (seen gs rows) (new_object (seen gs rows) quota size base)
 allocated_seen gs hs rows n quota size number base long live holds a =
     let h : HeapRow = rows.heap in

@@ -1,5 +1,5 @@
 -- A change of the heap, and of memory from the heap's base on: what is kept, and what is seen.
-use Rattle.std.proofs.Common.{ℕ, zero, suc, ◌≡◌, ◌+◌, ◌*◌, ◌/◌, ◌<◌, ◌≤◌, List, [], ◌∷◌, length, map, Option, unwrap_or, refl, sym, ap, ◌∙◌, subst, arith}
+use Rattle.std.proofs.Common.{ℕ, zero, suc, ◌≡◌, ◌+◌, ◌*◌, ◌<◌, ◌≤◌, List, [], ◌∷◌, length, map, Option, unwrap_or, refl, sym, ap, ◌∙◌, subst, arith}
 use Rattle.std.proofs.Math.ListN.{get_or}
 use Rattle.def_memory.specs.declared.Granule.{Granule}
 use Rattle.def_memory.specs.Granules.{held}
@@ -85,7 +85,6 @@ turned_holds gs hs rows n front holds t laid clear within =
         within = subst (λ m. unwrap_or front 0 ≤ 8 * m) (sym t.size) within;
         clear = clear;
       };
-      room = holds.room ∙ ap (λ (r : Range). r.length / 16) (sym t.same.range);
     }
 
 seen_as : (s : Seen) (gs gs' : List Granule) (ts ts' : List Thread) (b b' l l' : ℕ) (limits limits' : List ℕ)

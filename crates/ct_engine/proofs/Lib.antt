@@ -20,8 +20,6 @@ pub mod Sifting
 pub mod Quietly
 pub mod Clear
 pub mod Granted
-pub mod Tables
-pub mod Sealed
 pub mod Freeing
 pub mod Sweeps
 pub mod Sliced

@@ -1,4 +1,4 @@
--- An allocation, with a row too, and a free over all that is seen.
+-- An allocation and a free over all that is seen.
 use Rattle.std.specs.Prelude.{ℕ, ◌+◌, ◌-◌, ◌≡◌, true, if◌then◌else◌, Option, Some, None, Result, Ok, Err, MatchResult}
 use Rattle.def_profile.specs.declared.answers.TheConstants.{PAST_LIMIT, NO_PLACE, NO_SIZE, NO_PLACE_YET}
 use Rattle.def_profile.specs.declared.layout.TheConstants.{CHUNK_HEAD}
@@ -6,13 +6,11 @@ use Rattle.def_memory.specs.Ranges.{zeroed_from, marked_from}
 use Rattle.def_machine.specs.State as state
 use Rattle.def_machine.specs.Objects.{live_object, charges, placed_among, quarantine, has_quarantined}
 use Rattle.def_machine.specs.Heap.{length_for}
-use Rattle.def_step.specs.Quotas.{Allocation, Refused, Made, without_row}
-use Rattle.def_step.specs.Tokens.{row_among}
+use Rattle.def_step.specs.Quotas.{Allocation, Refused, Made}
 use Rattle.ct_heap.specs.declared.rows.Object.{Object}
 use Rattle.ct_heap.specs.declared.rows.HeapRefusal.{HeapRefusal}
 use Rattle.ct_heap.specs.declared.rows.HeapRefusal.TheVariants.{Size, Quota, NoGap}
 use Rattle.ct_heap.specs.Lookups.{whole_of}
-use Rattle.ct_token.specs.Table.{row_for}
 use Rattle.ct_engine.specs.Seen.{Seen, sifted}
 
 -- ---- allocate
@@ -28,18 +26,6 @@ with_object s r = record s { objects = placed_among r s.objects; next = s.next +
 abbrev pub after_allocation : Seen → ℕ → ℕ → Result Object HeapRefusal → Seen
 after_allocation s quota size (Ok o) = with_object s (new_object s quota size o.base)
 after_allocation s quota size (Err why) = s
-
--- a row more: a key's where no key is named, else that of a token of this key
-abbrev pub with_row : Seen → ℕ → Option ℕ → Seen
-with_row s n key = record s { tokens = row_among (row_for n key) s.tokens }
-
--- the object has one
-abbrev pub with_sealed : Seen → state.Object → Option ℕ → Seen
-with_sealed s r key = with_object (with_row s r.number key) r
-
-abbrev pub after_sealing : Seen → ℕ → ℕ → Option ℕ → Result Object HeapRefusal → Seen
-after_sealing s quota size key (Ok o) = with_sealed s (new_object s quota size o.base) key
-after_sealing s quota size key (Err why) = s
 
 -- the written allocation's answer of what was told
 abbrev pub refused_as : Seen → HeapRefusal → Allocation
@@ -78,13 +64,9 @@ quarantined s r = record s {
   objects = quarantine r.number s.objects;
 }
 
--- its row goes, where it has one
-abbrev pub let_go : Seen → state.Object → Seen
-let_go s r = record (quarantined s r) { tokens = without_row r.number s.tokens }
-
 -- and the running thread's registers pass the load filter
 abbrev pub freed : Seen → ℕ → state.Object → Seen
-freed s t r = sifted (let_go s r) t
+freed s t r = sifted (quarantined s r) t
 
 abbrev pub freed_by : Seen → ℕ → Option state.Object → Seen
 freed_by s t None = s

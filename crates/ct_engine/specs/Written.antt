@@ -41,7 +41,6 @@ state_with m s statuses = record m {
   threads = with_statuses s.threads statuses;
   running = s.running;
   objects = s.objects;
-  tokens = s.tokens;
   next = s.next;
   front = s.front;
 }

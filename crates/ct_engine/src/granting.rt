@@ -34,8 +34,8 @@ impl<M: Memory + Drop> Engine<M> {
     }
 
     /// The live object of a quota with exactly these bounds, which are addresses, is freed: it is zeroed and
-    /// quarantined, its chunk is marked, its row goes where it is a key or a token, and then the registers of the
-    /// running thread pass the load filter. `NotWhole` comes exactly where there is none; then nothing changes.
+    /// quarantined, its chunk is marked, and then the registers of the running thread pass the load filter.
+    /// `NotWhole` comes exactly where there is none; then nothing changes.
     pub fn free(&mut self, t: u32, quota: u32, base: u32, top: u64) -> Result<Object, NotWhole>
         requires runs { self.old.running ≡ Some t }
         requires quota { quota < length self.old.limits }
@@ -45,7 +45,6 @@ impl<M: Memory + Drop> Engine<M> {
             (λ why. whole_in self.old quota base top ≡ None) }
     {
         let object = self.rows.heap.free(&mut self.mem, quota, base, top)?;
-        self.rows.tokens.drop_row(object.number);
         sift(&mut self.rows, &self.mem, t);
         Ok(object)
     }

@@ -2,10 +2,10 @@
 //! that firmware never sees.
 //!
 //! Contracts see memory behind one veil, over what threads keep and over the heap outside live objects; the threads of
-//! the machine's state, the heap's objects and the keys and tokens among them as its rows, which are functions of memory
-//! and of what is kept beside it (specs/Seen). A thread that stops and one that is picked change nothing of these but who runs, and what the load
-//! filter takes from the picked one; a store of what isn't hidden changes no thread and no object. An allocation, one with
-//! a row of a key or a token, a free and a slice of a sweep are the changes that the machine's definitions say. docs/use/machine.md tells the layout in
+//! the machine's state and the heap's objects as its rows, which are functions of memory and of what is kept beside it
+//! (specs/Seen). A thread that stops and one that is picked change nothing of these but who runs, and what the load
+//! filter takes from the picked one; a store of what isn't hidden changes no thread and no object. An allocation, a free
+//! and a slice of a sweep are the changes that the machine's definitions say. docs/use/machine.md tells the layout in
 //! prose.
 #![tactic(auto)]
 
@@ -16,7 +16,6 @@ mod fetching;
 mod granting;
 mod quiet;
 mod rows;
-mod sealing;
 mod starting;
 mod steps;
 mod sweeping;
@@ -24,7 +23,7 @@ mod turns;
 mod written;
 
 pub use calls::callee_given;
-pub use ct_heap::{Found, Heap, HeapRefusal, NotWhole, Object};
+pub use ct_heap::{Heap, HeapRefusal, NotWhole, Object};
 pub use ct_switch::Called;
 pub use def_refusals::NoMemory;
 pub use engine::Engine;

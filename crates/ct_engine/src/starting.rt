@@ -15,7 +15,6 @@ use ct_cap::{Live, Posture};
 use ct_heap::Heap;
 use ct_mem::Memory;
 use ct_revoke::Front;
-use ct_token::Tokens;
 use def_refusals::NoMemory;
 use std::alloc::Global;
 
@@ -104,7 +103,6 @@ pub(crate) fn start<M: Memory>(
         ≡ started (M.granules mem.old) region fresh.now heap) }
 {
     let list = begin_all(alloc, mem, region, fresh)?;
-    let tokens = Tokens::new(alloc, heap.length())?;
     let mut heap = heap;
     heap.lay(mem);
     Ok(Rows {
@@ -113,6 +111,5 @@ pub(crate) fn start<M: Memory>(
         running: None,
         heap,
         front: Front::idle(),
-        tokens,
     })
 }

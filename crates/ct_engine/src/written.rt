@@ -1,20 +1,18 @@
 //! That calls, frames' ends, allocations, frees and slices of the revoker over what is seen are the machine's written
 //! ones.
 
-ghost use Rattle.std.specs.Prelude.{ℕ, ◌≡◌, ◌-◌, List, [], ◌∷◌, Option, None};
+ghost use Rattle.std.specs.Prelude.{ℕ, ◌≡◌, ◌-◌, List, [], ◌∷◌, None};
 ghost use Rattle.def_memory.specs.Granules.{plain};
 ghost use Rattle.def_machine.specs.Image.{Image, root, stack_base, frames_most};
 ghost use Rattle.def_machine.specs.State.{State, Frame, Object, Status, nobody, thread};
 ghost use Rattle.def_machine.specs.Objects.{charges};
 ghost use Rattle.def_machine.specs.Heap as machine;
-ghost use Rattle.def_step.specs.Quotas.{let_go};
-ghost use Rattle.def_step.specs.Tokens as tokens;
 ghost use Rattle.def_machine.specs.Heap.{swept};
 ghost use Rattle.def_machine.specs.Frames.{answer, left_by};
 ghost use Rattle.def_step.specs.Switch.{Enters, switch_of, frame_top};
 ghost use Rattle.ct_engine.specs.Seen.{Seen, limit_at};
 ghost use Rattle.ct_engine.specs.Calls.{HeadStands, switch_at, after_call, returned, ended_with};
-ghost use Rattle.ct_engine.specs.Grants.{with_object, with_row, freed};
+ghost use Rattle.ct_engine.specs.Grants.{with_object, freed};
 ghost use Rattle.ct_engine.specs.Sweeps.{swept_by};
 ghost use Rattle.ct_engine.specs.Written.{Shows, written, callee_thread, HasAreas, HasHeap, SharesObjects, state_with};
 
@@ -53,18 +51,15 @@ pub fn ends_written()
 {}
 
 /// Of a state of the machine that holds what is seen, whatever the statuses of its threads, the written changes of an
-/// allocation, of a row that comes with it and of a free leave what `allocate`, `allocate_sealed` and `free` leave of
-/// that; and a quota may still take what `remaining` says.
+/// allocation and of a free leave what `allocate` and `free` leave of that; and a quota may still take what `remaining`
+/// says.
 pub fn grants_written()
     ensures allocates { (m : State) (s : Seen) (statuses : List Status) (r : Object)
         → machine.with_object (state_with m s statuses) r
         ≡ state_with m (with_object s r) statuses }
-    ensures seals { (m : State) (s : Seen) (statuses : List Status) (r : Object) (key : Option ℕ)
-        → tokens.with_row (state_with m s statuses) r key
-        ≡ state_with m (with_row s r.number key) statuses }
     ensures frees { (i : Image) (m : State) (s : Seen) (statuses : List Status) (t : ℕ)
         (r : Object) → s.region.ram ≡ i.ram
-        → let_go i (state_with m s statuses) t r ≡ state_with m (freed s t r) statuses }
+        → machine.freed i (state_with m s statuses) t r ≡ state_with m (freed s t r) statuses }
     ensures remains { (i : Image) (m : State) (s : Seen) (quota : ℕ) → HasHeap i s
         → SharesObjects m s → (root i quota).limit - charges quota m.objects
         ≡ limit_at s quota - charges quota s.objects }

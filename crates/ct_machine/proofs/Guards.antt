@@ -2,7 +2,6 @@
 use Rattle.std.proofs.Common.{◌≡◌, Bool, true, false, refl, ap, subst, sym}
 use Rattle.ct_entry.specs.declared.acts.Happened.{Happened}
 use Rattle.def_board.specs.Guarded.{Guarded}
-use Rattle.def_board.specs.Rows.{RowsFit}
 use Rattle.def_confined.specs.Telling.{IsLicensedEvent}
 use Rattle.def_hidden.specs.Hidden.{Blank}
 use Rattle.def_machine.specs.State.{State}
@@ -12,7 +11,7 @@ use Rattle.def_machine.specs.Board.{Board, MachineRow}
 use Rattle.def_step.specs.Events.{happens}
 use Rattle.def_image.specs.Parts.{PartsRow}
 use Rattle.def_image.specs.Sound.{Sound}
-use Rattle.def_boot.specs.Boot.{booted_machine, boot_state}
+use Rattle.def_boot.specs.Boot.{booted_machine}
 use Rattle.law_grants.proofs.Wiring.{wired}
 use Rattle.law_grants.proofs.Holding.{holds}
 use Rattle.law_booted.proofs.Whole.{partitioned}
@@ -22,14 +21,8 @@ use Rattle.law_started.proofs.Settling.{boot_settles}
 use Rattle.law_started.proofs.Blanking.{blank}
 use Rattle.law_settled.proofs.Events.{event_settles}
 use Rattle.law_blank.proofs.Events.{event_blank}
-use Rattle.law_tokens.proofs.Events.{event_fit}
 use Rattle.law_events.proofs.Events.{event_keeps, deed_licensed, span_licensed}
 use Rattle.ct_machine.specs.Going.{silence}
-
--- boot makes no key and no token
-no_rows : (p : PartsRow) → RowsFit (boot_state p).objects (boot_state p).tokens
-unfolding boot_state
-no_rows p = record { differ = tt; live = tt }
 
 pub at_boot : (p : PartsRow) → Sound p → Guarded (booted_machine p)
 at_boot p s = record {
@@ -39,7 +32,6 @@ at_boot p s = record {
   shut = shut p s;
   keeps = keeps p s;
   settled = boot_settles p;
-  rows = no_rows p;
 }
 
 pub after_event : (m : MachineRow) (e : Event) → Guarded m → Guarded (record { board = m.board; state = (happens m.board m.state e).0 })
@@ -50,7 +42,6 @@ after_event m e g = record {
   shut = g.shut;
   keeps = event_keeps m.board m.state e g.partitioned g.facts g.wired g.keeps;
   settled = event_settles m.board m.state e g.facts.settled g.settled;
-  rows = event_fit m.board m.state e g.partitioned g.keeps g.rows;
 }
 
 pub event_licensed : (m : MachineRow) (e : Event) → Guarded m → IsLicensedEvent m.board.image.entries (happens m.board m.state e).1

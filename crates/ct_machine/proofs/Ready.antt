@@ -7,7 +7,6 @@ use Rattle.def_machine.specs.State.{State, thread}
 use Rattle.def_machine.specs.Board.{Board, MachineRow}
 use Rattle.def_step.specs.Events.{preempted_from, preempted, scheduled, one_more_step}
 use Rattle.law_events.proofs.Events.{ready_keeps}
-use Rattle.law_tokens.proofs.Events.{ready_fit}
 use Rattle.ct_machine.specs.Going.{MayGoOn}
 
 ends_from : (s : State) (o : Option ℕ) → EndsFit s → EndsFit (preempted_from s o)
@@ -21,4 +20,4 @@ pub may_go_on : (m n : MachineRow) → Guarded m → n.board ≡ m.board → n.s
 may_go_on m n g board state = whole n.board n.state board state
   where
     whole : (b : Board) (s : State) → b ≡ m.board → s ≡ scheduled m.board (preempted (one_more_step m.state)) → MayGoOn (record { board = b; state = s })
-    whole b s is_board is_state = rw (is_board, is_state) (record { shut = g.shut; facts = g.facts; keeps = ready_keeps m.board m.state g.partitioned g.keeps; rows = ready_fit m.board m.state g.rows })
+    whole b s is_board is_state = rw (is_board, is_state) (record { shut = g.shut; facts = g.facts; keeps = ready_keeps m.board m.state g.partitioned g.keeps })

@@ -7,7 +7,6 @@ use Rattle.ct_entry.specs.declared.acts.Deed.{Deed}
 use Rattle.ct_entry.specs.declared.acts.Happened.{Happened}
 use Rattle.ct_entry.specs.declared.acts.Act.TheVariants.{Call, Trap}
 use Rattle.def_words.specs.declared.Trap as words
-use Rattle.def_board.specs.Rows.{RowsFit}
 use Rattle.def_confined.specs.Keeps.{Keeps}
 use Rattle.def_confined.specs.Partitioned.{Partitioned}
 use Rattle.def_facts.specs.Facts.{Facts, RootsAway}
@@ -33,13 +32,12 @@ use Rattle.ct_execute.specs.declared.ran.Ran.TheVariants.{Went, Returned, Native
 use Rattle.ct_execute.specs.Deciding.{IfUnfinished}
 use Rattle.ct_execute.specs.Quiet.{goes_quietly}
 
--- No entry reaches what is hidden, capabilities of boot are what their entries say, the state is confined, with what
--- stands beside, and each row of a key or a token is of a live object.
+-- No entry reaches what is hidden, capabilities of boot are what their entries say, and the state is confined, with what
+-- stands beside.
 pub record MayGoOn (m : MachineRow) : Type 0 where
   pub shut : Shut m.board.image
   pub facts : Facts m.board.image
   pub keeps : Keeps m.board.image m.state
-  pub rows : RowsFit m.state.objects m.state.tokens
 
 -- Thread t runs, and has a frame.
 pub record Runs (m : MachineRow) (t : ℕ) : Type 0 where

@@ -2,4 +2,3 @@ pub mod Answers
 pub mod Switching
 pub mod Held
 pub mod Granted
-pub mod Sealed

@@ -1,7 +1,6 @@
 -- What a machine's type keeps: its image and devices stand as the laws ask, and no entry reaches what is hidden; its
--- state is *Confined*, what stands beside holds, what is untagged is settled, and each row of a key or a token is of a
--- live object. From it every deed and every span with interrupts off of the next event is licensed, and it holds again
--- after the event.
+-- state is *Confined*, what stands beside holds, and what is untagged is settled. From it every deed and every span with
+-- interrupts off of the next event is licensed, and it holds again after the event.
 use Rattle.def_confined.specs.Keeps.{Keeps}
 use Rattle.def_confined.specs.Partitioned.{Partitioned}
 use Rattle.def_confined.specs.Settled.{Settled}
@@ -9,7 +8,6 @@ use Rattle.def_facts.specs.Facts.{Facts}
 use Rattle.def_hidden.specs.Hidden.{Shut}
 use Rattle.def_machine.specs.Board.{MachineRow}
 use Rattle.def_board.specs.Wired.{Wired}
-use Rattle.def_board.specs.Rows.{RowsFit}
 
 pub record Guarded (m : MachineRow) : Type 0 where
   pub partitioned : Partitioned m.board.image
@@ -18,4 +16,3 @@ pub record Guarded (m : MachineRow) : Type 0 where
   pub shut : Shut m.board.image
   pub keeps : Keeps m.board.image m.state
   pub settled : Settled m.state
-  pub rows : RowsFit m.state.objects m.state.tokens

@@ -1,3 +1,2 @@
 pub mod Wired
-pub mod Rows
 pub mod Guarded

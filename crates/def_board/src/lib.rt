@@ -1,4 +1,4 @@
-//! What the machine's step asks of a board, beside what the moves ask of its image: where native routines stand, and what
-//! reaches a device; how the rows of keys and tokens stand to objects; and all that a machine's type keeps. Definitions
-//! alone, in specs/; docs/claims/confinement.md tells the same in prose.
+//! What the machine's step asks of a board, beside what the moves ask of its image: where native
+//! routines stand, and what reaches a device. Definitions alone, in specs/; docs/claims/confinement.md tells
+//! the same in prose.
 #![tactic(auto)]

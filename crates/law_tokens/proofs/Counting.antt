@@ -3,7 +3,7 @@ use Rattle.std.proofs.Common.{ℕ, ◌≡◌, ◌+◌, ◌≤◌, ◌==◌, inl,
 use Rattle.law_lists.proofs.Tests.{eq_tells}
 use Rattle.def_machine.specs.State.{Object, Token}
 use Rattle.def_machine.specs.Objects.{Any, Each}
-use Rattle.def_board.specs.Rows.{IsLiveOf, IsApart, RowsDiffer, RowsFit}
+use Rattle.law_tokens.specs.Rows.{IsLiveOf, IsApart, RowsDiffer, RowsFit}
 
 -- the first object of a number is taken out
 abbrev without : ℕ → List Object → List Object

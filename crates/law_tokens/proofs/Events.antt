@@ -26,10 +26,10 @@ use Rattle.law_routines.proofs.Leaving.{Moves}
 use Rattle.law_routines.proofs.Stepping.{Steps, IfDone, carried, executed_left}
 use Rattle.law_reuse.proofs.Sweeping.{begun, swept_case, sliced_case}
 use Rattle.law_events.proofs.Events.{ready_keeps, event_keeps}
-use Rattle.def_board.specs.Rows.{RowsFit}
+use Rattle.law_tokens.specs.Rows.{RowsFit}
 use Rattle.law_tokens.proofs.Moving.{added_fit, sealed_fit, gone_fit, painted_fit, left_fit}
 
-abbrev pub Fit : State → Type 0
+abbrev Fit : State → Type 0
 Fit z = RowsFit z.objects z.tokens
 
 -- ---- a step
@@ -90,12 +90,11 @@ continued_fit : (b : Board) (s : State) (o : Option ℕ) → Each (ObjectFits b.
 continued_fit b s None fits h = h
 continued_fit b s (Some t) fits h = executed_fit b s t fits h
 
-pub ready_fit : (b : Board) (s : State) → Fit s → Fit (scheduled b (preempted (one_more_step s)))
-ready_fit b s h = scheduled_fit b (preempted (one_more_step s)) (preempted (one_more_step s)).running (preempted_fit (one_more_step s) s.running h)
-
 stepped_fit : (b : Board) (s : State) → Partitioned b.image → Keeps b.image s → Fit s → Fit (stepped b s).0
 stepped_fit b s parts k h =
-    continued_fit b (scheduled b (preempted (one_more_step s))) (scheduled b (preempted (one_more_step s))).running (ready_keeps b s parts k).confined.fits (ready_fit b s h)
+    let before : Fit (preempted (one_more_step s)) = preempted_fit (one_more_step s) s.running h in
+    let ready : Fit (scheduled b (preempted (one_more_step s))) = scheduled_fit b (preempted (one_more_step s)) (preempted (one_more_step s)).running before in
+    continued_fit b (scheduled b (preempted (one_more_step s))) (scheduled b (preempted (one_more_step s))).running (ready_keeps b s parts k).confined.fits ready
 
 -- ---- a tick
 

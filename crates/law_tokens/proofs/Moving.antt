@@ -8,7 +8,7 @@ use Rattle.def_step.specs.Quotas.{without_row}
 use Rattle.def_step.specs.Tokens.{row_among}
 use Rattle.law_places.proofs.Rows.{among_any, each_map, each_any, each_take, left_any}
 use Rattle.law_heap.proofs.Quarantines.{quarantine_any}
-use Rattle.def_board.specs.Rows.{IsLiveOf, IsApart, RowsFit}
+use Rattle.law_tokens.specs.Rows.{IsLiveOf, IsApart, RowsFit}
 use Rattle.law_tokens.proofs.Listing.{among_each, among_differ, without_each, without_differ}
 
 -- each row's object is among others

@@ -11,7 +11,7 @@ ghost use Rattle.def_machine.specs.State.{State, Object, Token};
 ghost use Rattle.def_step.specs.declared.Event.{Event};
 ghost use Rattle.def_step.specs.Events.{happens, run};
 ghost use Rattle.def_machine.specs.Board.{Board};
-ghost use Rattle.def_board.specs.Rows.{RowsFit};
+ghost use Rattle.law_tokens.specs.Rows.{RowsFit};
 
 /// Every event, lawful or not, leaves each row of a live object, and no two of one.
 pub fn events_fit()
