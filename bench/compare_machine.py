@@ -1,11 +1,12 @@
 #!/usr/bin/env python3
 """Compares runs of random firmware with those of the plain machine in tests/model.
 
-    compare_machine.py COUNT SEED [STEPS]
+    compare_machine.py COUNT SEED [STEPS [PROGRAM]]
 
-writes COUNT cases and runs them through the program by `rt try --cases`, which proves nothing; the kit says of each
-case whether it wrote what the plain machine writes. Two compartments that call one another, a library, a shared word,
-three devices, up to five threads, quotas, and sweeps of several rates; code is random statements, most of which go on.
+writes COUNT cases and runs them through a built program, or without one by `rt try --cases`, which proves nothing; of
+each case is said whether it wrote what the plain machine writes. Two compartments that call one another, most of them
+with an error handler, a library, a shared word, three devices, up to five threads, quotas, keys and tokens, and sweeps
+of several rates; code is random statements, most of which go on.
 """
 import os
 import random
@@ -16,6 +17,7 @@ import tempfile
 HERE = os.path.dirname(os.path.abspath(__file__))
 COUNT, SEED = int(sys.argv[1]), int(sys.argv[2])
 STEPS = int(sys.argv[3]) if len(sys.argv) > 3 else 400
+PROGRAM = os.path.realpath(sys.argv[4]) if len(sys.argv) > 4 else None
 OUT = tempfile.mkdtemp()
 sys.argv = [sys.argv[0], OUT]
 sys.path.insert(0, os.path.join(HERE, "..", "tests"))
@@ -32,7 +34,7 @@ LOOKS = ["cgetperm", "cgettype", "cgetbase", "cgetlen", "cgettag", "crrl", "cram
 MAKES = ["csetbounds", "csetboundsexact", "cseal", "cunseal", "candperm", "csetaddr", "cincaddr", "csub", "csethigh",
          "ctestsubset", "csetequalexact"]
 SERVICES = ["yield", "sleep", "wait", "wake"]
-HEAP = ["allocate", "free", "remaining"]
+HEAP = ["allocate", "free", "remaining", "token_key", "token_new", "token_open", "token_free"]
 DEVICES = [("uart0", "uart"), ("pins", "gpio"), ("clock", "timer")]
 
 
@@ -52,7 +54,7 @@ class Code:
     def register(self):
         return self.rng.choice(PLAIN if self.rng.random() < 0.85 else REGISTERS)
 
-    def shown(self):
+    def port_lines(self):
         """A register's word at the port, so that it is told; or what a device reads."""
         if self.rng.random() < 0.2:
             at = self.rng.choice([0, 0, 4, 4, 8, 2])
@@ -60,10 +62,10 @@ class Code:
                     f"{self.rng.choice(['lw', 'lw', 'lhu', 'clc', 'sw', 'csc'])} {self.register()}, {at}(ct0)"]
         return ["cimport ct0, uart0", f"csw {self.rng.choice(REGISTERS)}, 0(ct0)"]
 
-    def called(self):
+    def call_lines(self):
         return [f"cimport ct1, {self.rng.choice(self.gates)}", "cimport ct2, switch", "cjalr cra, ct2"]
 
-    def served(self):
+    def service_lines(self):
         rng, name = self.rng, self.rng.choice(SERVICES)
         word = rng.choice([["cmove ca0, cgp"], ["cimport ca0, box"], [f"cincaddrimm ca0, cgp, {self.small()}"], []])
         value = [f"li a1, {rng.choice([0, 0, 0, 1, 2, -1])}"] if rng.random() < 0.8 else []
@@ -73,19 +75,37 @@ class Code:
     def by_quota(self, name, argument, *after):
         return ["cimport ca0, q", argument, f"cimport ct2, {name}", "cjalr cra, ct2", *after]
 
-    def allocated(self):
+    def object_lines(self):
         """An object is allocated, kept in a place, perhaps used, and perhaps freed."""
         rng, register = self.rng, f"c{self.register()}"
         place = rng.choice(["0(cgp)", "32(cgp)", "40(cgp)", "-8(csp)"])
         size = rng.choice([1, 8, 16, 24, 100, 600, 1000, 5000, self.number()])
         out = self.by_quota("allocate", f"li a1, {size}", f"csc ca0, {place}")
-        out += rng.choice([[], self.accessed(), self.made(), self.called(), [f"cmove {register}, ca0"],
-                           ["csc ca0, 0(ca0)"]])
+        out += rng.choice([[], self.access_lines(), self.capability_lines(), self.call_lines(),
+                           [f"cmove {register}, ca0"], ["csc ca0, 0(ca0)"]])
         if rng.random() < 0.7:
             out += self.by_quota("free", f"clc ca1, {place}")
-        return out + rng.choice([[], self.shown(), self.by_quota("remaining", "nop"), [f"clc {register}, {place}"]])
+        more = [[], self.port_lines(), self.by_quota("remaining", "nop"), [f"clc {register}, {place}"]]
+        return out + rng.choice(more)
 
-    def accessed(self):
+    def token_lines(self):
+        """A key and a token of it are made and kept in places; one is opened or freed, and perhaps used or freed so."""
+        rng = self.rng
+        key, token = rng.choice(["0(cgp)", "48(cgp)"]), rng.choice(["8(cgp)", "56(cgp)", "-24(csp)"])
+        out = self.by_quota("token_key", "nop", f"csc ca0, {key}") if rng.random() < 0.6 else []
+        if rng.random() < 0.8:
+            out += [f"clc ca2, {key}"]
+            out += self.by_quota("token_new", f"li a1, {rng.choice([8, 24, 100, 0])}", f"csc ca0, {token}")
+        first, second = rng.choice([(key, token)] * 6 + [(token, key), (key, key)])
+        if rng.random() < 0.7:
+            out += [f"clc ca0, {first}", f"clc ca1, {second}", "cimport ct2, token_open", "cjalr cra, ct2"]
+            out += rng.choice([[], ["csw a2, 0(ca0)", "clw a2, 0(ca0)"], ["csc ca0, 32(cgp)"],
+                               ["cmove ca1, ca0", *self.by_quota("free", "nop")]])
+        if rng.random() < 0.5:
+            out += [f"clc ca2, {second}", *self.by_quota("token_free", f"clc ca1, {first}")]
+        return out + rng.choice([[], self.port_lines(), self.by_quota("remaining", "nop")])
+
+    def access_lines(self):
         rng = self.rng
         through = rng.choice(["cgp", "csp", "cgp", "csp", f"c{self.register()}"])
         within, below = rng.choice([0, 0, 8, 4, 12, -8, -16, self.small()]), self.small() - 16 * rng.randrange(3)
@@ -93,7 +113,7 @@ class Code:
         op = rng.choice(["clw", "csw", "clc", "csc", "csc", "clc", "lb", "lbu", "lh", "lhu", "sb", "sh"])
         return [f"{op} {self.register()}, {at}({through})"]
 
-    def made(self):
+    def capability_lines(self):
         rng, to = self.rng, self.register()
         return [rng.choice([
             f"{rng.choice(MAKES)} {to}, {rng.choice(REGISTERS)}, {rng.choice(REGISTERS)}",
@@ -103,7 +123,7 @@ class Code:
             f"{rng.choice(LOOKS)} {to}, {rng.choice(REGISTERS)}", f"auipcc {to}, {rng.randrange(-2, 2)}",
             f"auicgp {to}, {rng.randrange(-2, 2)}"])]
 
-    def counted(self):
+    def integer_lines(self):
         rng, to = self.rng, self.register()
         return [rng.choice([
             f"{rng.choice(INTEGER)} {to}, {rng.choice(REGISTERS)}, {rng.choice(REGISTERS)}",
@@ -112,7 +132,7 @@ class Code:
             f"{rng.choice(['slli', 'srli', 'srai'])} {to}, {rng.choice(REGISTERS)}, {rng.randrange(32)}",
             f"li {to}, {self.number()}", f"lui {to}, {rng.randrange(-524288, 524288)}"])]
 
-    def turned(self):
+    def jump_lines(self):
         rng = self.rng
         where = rng.choice(self.labels)
         return [rng.choice([
@@ -123,16 +143,31 @@ class Code:
 
     def statement(self):
         rng = self.rng
-        kind = rng.choices([self.shown, self.called, self.served, self.allocated, self.accessed, self.made, self.counted,
-                            self.turned, lambda: [f"cimport c{self.register()}, {rng.choice(self.slots)}"]],
-                           [3, 2, 1, 2, 3, 4, 2, 1, 2])[0]
+        kind = rng.choices([self.port_lines, self.call_lines, self.service_lines, self.object_lines, self.token_lines,
+                            self.access_lines, self.capability_lines, self.integer_lines, self.jump_lines,
+                            lambda: [f"cimport c{self.register()}, {rng.choice(self.slots)}"]],
+                           [3, 2, 1, 2, 2, 3, 4, 2, 1, 2])[0]
         return [part for line in kind() for part in line.split("\n")]
+
+
+def handler_of(rng, code):
+    """An error handler: it shows words of the record, does a few things, and ends, most often with an answer."""
+    out = ["handler:", "cmove cs0, cra"]
+    for _ in range(rng.randrange(5)):
+        out += [f"clw a3, {4 * rng.randrange(20)}(csp)", *code.port_lines()] if rng.random() < 0.4 else code.statement()
+    answers = ["li a0, 1", rng.choice(["nop", f"cmove ca1, c{code.register()}", "clc ca1, 8(cgp)"])]
+    out += answers if rng.random() < 0.75 else []
+    back = ["clw a1, 64(csp)", "addi a1, a1, 4", "cla cs1, handler", "csetaddr cs1, cs1, a1", "cjr cs1"]
+    return out + rng.choice([["cmove cra, cs0", "cret"]] * 5 + [back, ["ebreak"]])
 
 
 def text_of(rng, slots, gates, exports):
     """Code with a few statements at each export, which ends by its way back."""
     code, out = Code(rng, slots, gates, exports), []
     for export in exports:
+        if export == "handler":
+            out += handler_of(rng, code)
+            continue
         out += [f"{export}:", "cmove cs0, cra"]
         if rng.random() < 0.7:
             out.append(f"cincaddrimm csp, csp, {-16 * rng.randrange(4)}")
@@ -153,7 +188,7 @@ def firmware(rng, name):
     owners = []
     for own, other in (("a", "b"), ("b", "a")):
         names = [f"{own}{n}" for n in range(rng.randrange(1, 4))]
-        owners.append((own, other, names))
+        owners.append((own, other, names + ["handler"] * (rng.random() < 0.8)))
     out = []
     for n, (own, other, names) in enumerate(owners):
         gates = [f"{which}.{export}" for which, export in
@@ -170,7 +205,7 @@ def firmware(rng, name):
         out.append(compartment(own, imports, exports_of(rng, names), *code, globals=64, keys=[13],
                                quotas=[{"name": "q", "limit": rng.choice([500, 3000, 100000])}]))
     threads = [{"name": f"t{n}", "entry": f"{own}.{rng.choice(names)}", "priority": rng.randrange(3),
-                "stack": rng.choice([256, 256, 512, 1008]), "frames": rng.randrange(1, 6)}
+                "stack": rng.choice([256, 256, 512, 1008, 2000]), "frames": rng.randrange(1, 6)}
                for n, (own, _, names) in enumerate(rng.choice(owners) for _ in range(rng.randrange(1, 6)))]
     guard = {"name": "guard", "code": {"lines": ["crit: jal ct0, 4", rng.choice(["nop", "addi a0, a0, 1"]), "cret"]},
              "exports": [{"name": "crit", "at": "crit", "posture": rng.choice(["inherit", "enabled", "disabled"])}]}
@@ -200,6 +235,9 @@ def main():
         for line in file:
             options += ["--data", line.strip()]
     print(OUT, total)
+    if PROGRAM:
+        answers = os.path.join(HERE, "..", "tests", "answers.py")
+        sys.exit(subprocess.run([sys.executable, "-B", answers, OUT, PROGRAM, *options[1::2]]).returncode)
     done = subprocess.run(["rt", "try", "--cases", OUT, *options], cwd=os.path.join(HERE, "..", "crates", "ct_main"))
     sys.exit(done.returncode)
 

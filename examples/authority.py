@@ -24,7 +24,7 @@ def reasons(report, path):
     return "; ".join(report.reason(first, second) for first, second in zip(path, path[1:]))
 
 
-def held(report, compartment):
+def entries_in(report, compartment):
     """The entries that code in a compartment may use, as rows, and the paths of the other owners that hold some."""
     rows, paths = [], {}
     for owner in [compartment] + [name for name in report.owners if name != compartment]:
@@ -39,7 +39,7 @@ def held(report, compartment):
 def answer(report, compartment):
     """The lines of one compartment."""
     yield f"code in {compartment} may use"
-    rows, paths = held(report, compartment)
+    rows, paths = entries_in(report, compartment)
     lines = table([("entry", "what", "held by"), *rows]) if rows else ["nothing but its own code and globals"]
     yield from ("  " + line for line in lines)
     for owner, path in paths.items():

@@ -132,14 +132,14 @@ def script(call, number, line):
         devices = images.Image(image_bytes(call)).devices
     else:
         devices = [(node.text("name"), node.text("kind")) for node in call.description().top.items("devices")]
-    return told(rules.first_of_script(Text.read(call.named["SCRIPT"]), devices), number, line)
+    return spot_of_first(rules.first_of_script(Text.read(call.named["SCRIPT"]), devices), number, line)
 
 
 def policy(call, number, line):
-    return told(rules.first_of_policy(Text.read(call.named["POLICY"]), call.description()), number, line)
+    return spot_of_first(rules.first_of_policy(Text.read(call.named["POLICY"]), call.description()), number, line)
 
 
-def told(first, number, line):
+def spot_of_first(first, number, line):
     return [first[2]] if first and first[:2] == (number, int(line)) else []
 
 

@@ -21,7 +21,7 @@ from reports import file_of  # noqa: E402
 TOLD = re.compile(r" +> (.*?)(?:  \(.*\))?$")
 
 
-def told(read, *words):
+def trace_lines(read, *words):
     """The lines that a trace tells of a run by these words."""
     options = step.options_of(words)
     firmware = plain.firmware_of(options.desc, read)
@@ -51,7 +51,7 @@ def cases(folder, files):
             return file_of(paths.get(source, source))
 
         if command in ("run", "runimage") and due.startswith("{"):
-            yield name, due.partition("\n")[2], told(read, *words)
+            yield name, due.partition("\n")[2], trace_lines(read, *words)
         if command == "why" and due.startswith(("path", "none")):
             yield name, due, path(read, *words)
 

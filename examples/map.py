@@ -43,7 +43,7 @@ def regions(image):
     return sorted(row for row in rows if row[1])
 
 
-def laid(image):
+def region_rows(image):
     """The regions with what rounds them up, and the heap."""
     at = image.ram
     for base, length, owner, what in regions(image) + [(image.heap, image.ram + image.size - image.heap, "heap", "")]:
@@ -61,7 +61,7 @@ def sums(image, rows):
     return [(name, length, f"{100 * length / image.size:.1f} %") for name, length in totals.items()]
 
 
-def left(firmware):
+def heap_lines(firmware):
     """What is left for the heap, and what quotas may take of it."""
     heap = firmware.report.heap["length"]
     limits = sum(entry["limit"] for entry in firmware.report.of_kind("quota"))
@@ -75,10 +75,10 @@ def main(words):
         print(__doc__.split("\n\n")[1], file=sys.stderr)
         return NO_REPORT
     firmware = plain.firmware_of(words[0])
-    rows = list(laid(firmware.image))
+    rows = list(region_rows(firmware.image))
     print("\n".join(table([("from", "to", "bytes", "of", "what"), *(
         (f"{base:08x}", f"{base + length:08x}", length, owner, what) for base, length, owner, what in rows)])))
-    print("\n".join(["", *table([("of", "bytes", "of RAM"), *sums(firmware.image, rows)]), "", *left(firmware)]))
+    print("\n".join(["", *table([("of", "bytes", "of RAM"), *sums(firmware.image, rows)]), "", *heap_lines(firmware)]))
     return 0
 
 

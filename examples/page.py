@@ -83,7 +83,7 @@ def touched(report):
 def used(report):
     parts = []
     for compartment in report.compartments:
-        rows, paths = authority.held(report, compartment)
+        rows, paths = authority.entries_in(report, compartment)
         parts.append(said("h3", compartment))
         parts.append(table(f"What code in {compartment} may ever use", ["entry", "what", "held by"], rows)
                      if rows else said("p", "Nothing but its own code and globals."))

@@ -191,7 +191,7 @@ def planted():
         yield Planted(words, line, head, hint)
 
 
-def laid(row, folder):
+def write_firmware(row, folder):
     """The firmware with the mistake, in a folder."""
     for file in os.listdir(FIRMWARE):
         if os.path.splitext(file)[1] in WORDS:
@@ -228,7 +228,7 @@ def main():
     faults = not_planted(rows)
     for row in rows:
         with tempfile.TemporaryDirectory() as folder:
-            laid(row, folder)
+            write_firmware(row, folder)
             os.chdir(folder)
             told = fault(row, program, out)
             if told:

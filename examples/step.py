@@ -115,7 +115,7 @@ class Trace:
         row = "  ".join(cell.ljust(width) for cell, width in zip(cells, self.widths))
         print(*self.rest(), f"{step:6} {row}  {'  '.join(changed)}".rstrip(), sep="\n")
         for line in lines:
-            self.told(machine, moment, line, origins)
+            self.show_deed(machine, moment, line, origins)
 
     def rest(self):
         """A line of the steps before this in which no thread ran, if there are any."""
@@ -152,7 +152,7 @@ class Trace:
 
     # -- what is told
 
-    def told(self, machine, moment, line, origins):
+    def show_deed(self, machine, moment, line, origins):
         _, thread, compartment, kind, what, by = names.row(self.report, line)
         named = what + (f", by {by}" if by else "")
         print(f"       > {line}  ({named})")
@@ -161,7 +161,7 @@ class Trace:
                 print(f"         {text}")
 
     def why(self, machine, moment, origins, cause, code, number):
-        """Why a trap came: the register that failed and where it was set, the access, and where the caller goes on."""
+        """Why a trap came: the register that failed and where it was set, the access, and where the thread goes on."""
         if cause == names.CAPABILITY:
             yield from self.failed(machine, moment, origins, code, number)
         elif cause == 2:
@@ -171,7 +171,10 @@ class Trace:
             address, width = accessed(machine, moment) or (moment.registers[10].address, 4)
             yield f"{address:08x} is no multiple of {width}"
         thread = machine.threads[moment.thread]
-        if thread.frames:
+        if len(thread.frames) == moment.depth:
+            actor = self.report.compartments[machine.actor(moment.thread)]
+            yield f"{actor} handles it at {self.spot_at(thread.pcc.address)}"
+        elif thread.frames:
             actor = self.report.compartments[machine.actor(moment.thread)]
             yield f"{actor} goes on at {self.spot_at(thread.pcc.address)} with a0 = -1"
         else:

@@ -118,7 +118,7 @@ def run(cases, program, files):
         return [it for it in pool.map(one, names_of(cases)) if it]
 
 
-def told(cases, said):
+def status_faults(cases, said):
     """What differs in the statuses that the kit tells."""
     ended = dict(re.findall(r"^case=(\S+) run=ended status=(\d+) ", said, re.M))
     due = {name: str(status_of(content(cases, name + ".stdout"))) for name in names_of(cases)}
@@ -127,7 +127,7 @@ def told(cases, said):
 
 def main():
     cases, *more = sys.argv[1:]
-    faults = run(cases, more[0], more[1:]) if more else told(cases, sys.stdin.read())
+    faults = run(cases, more[0], more[1:]) if more else status_faults(cases, sys.stdin.read())
     count = len(names_of(cases))
     print("\n".join(faults) if faults else f"all {count} {'answers and ' * bool(more)}statuses as due")
     return 1 if faults or not count else 0

@@ -104,7 +104,7 @@ def refused(folder, words, first, last):
     return answer, fault, content(LOG)
 
 
-def told(answer):
+def text_of_answer(answer):
     status, output = answer
     return f"status {status}, {len(output)} bytes: {output[:60]!r}"
 
@@ -128,7 +128,7 @@ class Row:
     def judge(self, when, answer, fault, allowed):
         self.runs += 1
         if not fault and answer not in allowed:
-            fault = told(answer)
+            fault = text_of_answer(answer)
         if fault:
             self.faults.append(f"{' '.join(self.words)}, {when}: {fault}")
 

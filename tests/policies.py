@@ -1,5 +1,5 @@
 #!/usr/bin/env python3
-"""Worked rows of policies: what denies each of three firmwares, or the fault of the policy's text.
+"""Worked rows of policies: what denies each of a few firmwares, or the fault of the policy's text.
 
     policies.py OUT     writes the cases that cases.py tells of
 
@@ -52,6 +52,41 @@ judged(twice(), [
     ("quota total 100\nquota app 100\n", "allow"),
     ("quota total 99\n", "denied 1 8"),
     ("quota app 63\n", "denied 1 7\ndenied 1 8"),
+])
+
+# ---- the same, whose app and driver open tokens: entries 7 and 14
+
+def opening():
+    firmware = board()
+    for owner in firmware["compartments"]:
+        owner["imports"].append({"as": "token_open", "service": "token_open"})
+    return firmware
+
+
+judged(opening(), [
+    ("service token_open only app driver\n", "allow"),
+    ("service token_open only app\n", "denied 1 14"),
+    ("service token_open only hex\n", "denied 1 7\ndenied 1 14"),
+])
+
+# ---- the same, whose app makes keys and tokens, entries 7 and 8, and has an error handler, entry 11, with interrupts
+# off where it is called by its name; whose driver frees tokens, entry 16
+
+def guarding():
+    firmware = board()
+    app, driver = firmware["compartments"]
+    app["imports"] += [{"as": name, "service": name} for name in ("token_key", "token_new")]
+    app["exports"].append({"name": "handler", "at": "main", "posture": "disabled"})
+    driver["imports"].append({"as": "token_free", "service": "token_free"})
+    return firmware
+
+
+judged(guarding(), [
+    ("service token_key only app\nservice token_new only app\nservice token_free only driver\n", "allow"),
+    ("service token_key only driver\n", "denied 1 7"),
+    ("service token_new only hex driver\nservice token_free only app\n", "denied 1 8\ndenied 2 16"),
+    ("service token_open only hex\ncall app.handler only driver\n", "allow"),
+    ("disabled only driver\ndata app.handler\n", "denied 1 11\ndenied 2 11"),
 ])
 
 # ---- three compartments that share an object, a with b, and a call that passes data

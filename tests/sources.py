@@ -1,17 +1,18 @@
 #!/usr/bin/env python3
-"""Worked rows of sources: faulty lines with their faults, reaches of branches, and what integer instructions give.
+"""Worked rows of sources: faults, reaches of branches, results of integer instructions, each word of the language.
 
     sources.py OUT     writes the cases that cases.py tells of
 
 The faults were taken from docs/use/assembler.md, the results of integer instructions from a model in another language
-with unbounded integers (docs/build/testing.md).
+with unbounded integers (docs/build/testing.md). What a source with each word stands for is model/assembler.py's.
 """
 import copy
 import json
 import os
 import re
 
-from cases import case, ended, lines, report, run, sample, source, stored, stored_file
+from cases import (DEVICES, QUOTA, SAMPLES, UART, case, compartment, content_of, ended, image, lines, report, run,
+                   sample, service, source, stored, stored_file, thread)
 
 TINY = sample("tiny")
 COUNT = [0]
@@ -279,3 +280,66 @@ for line, x, y, result in RESULTS:
     told.append(stored(step, 0, 0, 4, result))
 firmware = filed(source("integers.s", [*text, "cret"])["file"])
 run("integers", firmware, 1000, *told, ended("finished", step + 2, ticks=(step + 1) // 100, devices=len(told)))
+
+# ---- one source with each word of the language, each name of a register, and the ends of each range
+
+NAMES = [f"{letter}{n}" for letter in "cx" for n in range(16)] + ["zero", "cnull"] + [
+    name for plain in "ra sp gp tp t0 t1 t2 s0 s1 a0 a1 a2 a3 a4 a5".split() for name in (plain, "c" + plain)]
+THREE = ("add sub sll slt sltu xor srl sra or and mul mulh mulhsu mulhu div divu rem remu csetbounds csetboundsexact "
+         "cseal cunseal candperm csetaddr cincaddr csub csethigh ctestsubset csetequalexact").split()
+TWO = "cgetperm cgettype cgetbase cgetlen cgettag crrl cram cmove ccleartag cgetaddr cgethigh cgettop cjalr mv".split()
+LOADS = "lb lh lw lbu lhu clb clh clw clbu clhu clc cjalr".split()
+STORES = "sb sh sw csb csh csw csc".split()
+BRANCHES = "beq bne blt bge bltu bgeu".split()
+SERVICES = "yield sleep wait wake allocate free remaining token_key token_new token_open token_free".split()
+SIGNED, JUMPS, WAYS = (-2048, 2047, 0), (-1048576, 1048574), ("first", "last", "here")
+WORDS = [
+    (["add"], [operands for name in NAMES for operands in (
+        f"{name}, zero, a5", f"cnull, {name}, x15", f"c15, a5, {name}")]),
+    (["sw", "lw"], [f"{name}, 4({name})" for name in NAMES]),
+    (THREE, ["a0, cs1, x5", "c15, zero, ra"]),
+    (TWO, ["a1, csp", "x4, c3"]),
+    ("addi slti sltiu xori ori andi cincaddrimm".split(), [f"ct1, a2, {n}" for n in SIGNED]),
+    ("slli srli srai".split(), [f"a3, t2, {n}" for n in (0, 31)]),
+    (["csetboundsimm"], [f"ca4, cgp, {n}" for n in (0, 4095)]),
+    ("lui auipcc auicgp".split(), [f"c8, {n}" for n in (-524288, 1048575, 0)]),
+    (LOADS, [f"a0, {n}(csp)" for n in SIGNED]),
+    (STORES, [f"a0, {n}(csp)" for n in SIGNED]),
+    (BRANCHES, [f"a0, ra, {to}" for to in (*WAYS, -4096, 4094, 0)]),
+    (["beqz", "bnez"], [f"a0, {to}" for to in (*WAYS, -4096, 4094)]),
+    (["jal", "cjal"], [f"cra, {to}" for to in (*WAYS, *JUMPS)]),
+    (["j"], [*WAYS, *map(str, JUMPS)]),
+    (["cjr"], ["ct2", "x1"]),
+    ("nop cret fence ecall ebreak".split(), [""]),
+    (["li"], [f"a0, {n}" for n in (
+        0, 2047, 2048, -2048, -2049, 4294967295, 4294965248, 4294965247, -2147483648, 2147483647, "0x7FFFfabc",
+        "0x00000000000000000000800")]),
+    (["cimport"], [f"ca0, {name}" for name in ("switch", "uart", *SERVICES, "q", "key13", "key14")]),
+    (["cla"], [f"ca0, {to}" for to in WAYS]),
+    (["clg"], ["ca0, bytes", "ca1, end"]),
+    ([".word"], ["-2147483648", "4294967295", "0x0a1B2c3D"]),
+]
+DATA = [".data", "bytes: .byte -128", ".byte 255", ".align 2", ".byte 0x7f", ".align 4", ".word -1", ".zero 0",
+        ".zero 5", *[f".align {1 << n}" for n in range(13)], ".byte 1", "end: .byte 2", ".text", "nop"]
+
+
+def page_words():
+    """The words that docs/use/assembler.md lists: directives, mnemonics and pseudo instructions."""
+    page = content_of(os.path.join(SAMPLES, "..", "docs", "use", "assembler.md")).decode()
+    lists = page[page.index("## Sections"):page.index("## You know")]
+    cells = [line.split("|")[1] for line in lists.split("\n") if line.startswith("| `")]
+    items = [item.split("\n\n")[0].partition(": ")[2] for item in lists.split("\n- ")[1:]]
+    found = re.findall(r"`(\.?[a-z]+)", " ".join(cells)) + re.findall(r"`([a-z]{2,})`", " ".join(items))
+    return set(found)
+
+
+body = [f"{word} {operands}".strip() for words, forms in WORDS for word in words for operands in forms]
+middle = len(body) // 2
+text = ["main:", "first: nop", *body[:middle], "here: nop # a comment", *body[middle:], "last : cret", *DATA]
+used = {word for line in text for word in re.sub(r"^\w+ *:", "", line).split()[:1]}
+assert page_words() | {"c" + word for word in LOADS + STORES if word[0] in "ls"} == used, page_words() ^ used
+words = {"firmware": "words", "ram": {"base": 0x80000000, "size": 65536}, "threads": [thread("app.main")],
+         "devices": DEVICES,
+         "compartments": [compartment("app", [UART, *map(service, SERVICES)], ["main"], keys=[13, 14], **QUOTA)]}
+words["compartments"][0]["code"] = source("each_word.s", text)
+case("each_word", ["image", "{}"], json.dumps(words), image(words))

@@ -228,8 +228,3 @@ for routine in ("wait", "wake"):
     refused("past_the_end", routine, (5, 28, 1, 10), "cincaddrimm ca0, cgp, 16", *served(routine))
     refused("across_the_end", routine, (5, 28, 1, 10), "cincaddrimm ca0, cgp, 13", *served(routine))
     refused("not_aligned", routine, (5, 4), "cincaddrimm ca0, cgp, 2", *served(routine))
-
-# ---- routines that the machine doesn't have yet
-
-for routine in ("token_key", "token_new", "token_open", "token_free"):
-    refused("not_yet", routine, (4, 2), *served(routine))

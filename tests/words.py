@@ -62,9 +62,9 @@ row("capital", ["why", "{}", "APP", "app"], "refused 11 name\n", BOARD)
 row("capital", ["why", "{}", "app", "App"], "refused 11 name\n", BOARD)
 
 # Numbers have one spelling: no sign, no leading zero, no point, no other digits; and their limits.
-usage("number", *(["run", "{}", number] for number in (
-    "+1", "-1", "01", "0x1", "1.", "1_0", "\N{FULLWIDTH DIGIT ONE}", "0", "4000000001", "18446744073709551617")),
-      ["runimage", "{}", "0"], ["runimage", "{}", "4000000001"],
+usage("number", ["run", "{}", "+1"], ["run", "{}", "-1"], ["run", "{}", "01"], ["run", "{}", "0x1"], ["run", "{}", "1."],
+      ["run", "{}", "1_0"], ["run", "{}", "\N{FULLWIDTH DIGIT ONE}"], ["run", "{}", "0"], ["run", "{}", "4000000001"],
+      ["run", "{}", "18446744073709551617"], ["runimage", "{}", "0"], ["runimage", "{}", "4000000001"],
       ["demo", "+0"], ["demo", "00"], ["demo", "4294967296"], ["demo", "18446744073709551616"])
 for most in "4000000000", "1":
     unread("number", ["run", "{}", most, "nosuch.script"])

@@ -409,7 +409,7 @@ def meets(base, length, other, size):
     return base < other + size and other < base + length
 
 
-def taken(d, spot):
+def address_conflict(d, spot):
     """What an address of RAM or of a device meets."""
     base = spot.node.get("base")
     length = tables.UNIT if spot.part == "device" else spot.node.get("size").number()
@@ -433,7 +433,7 @@ def taken(d, spot):
 
 
 JUDGES = {"F2": kinds, "F3": stray_members, "F4": bad_names, "F5": twice, "F6": limits, "F7": references, "F8": rights,
-          "F9": services, "F10": taken}
+          "F9": services, "F10": address_conflict}
 
 
 def judged(d, fault):

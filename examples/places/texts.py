@@ -64,7 +64,7 @@ class Found:
     def lines(self):
         yield f"{self.head()}: {self.member + ': ' if self.member else ''}{self.says}"
         if isinstance(self.text, Text):
-            yield from shown(self.text, self.start, self.end)
+            yield from marked_line(self.text, self.start, self.end)
         for hint in self.hints:
             yield "    " + hint
 
@@ -74,7 +74,7 @@ def printable(text):
     return "".join(" " if character == "\t" else character if character.isprintable() else "?" for character in text)
 
 
-def shown(text, start, end):
+def marked_line(text, start, end):
     """The line of a range and marks under it; of a long line the part around it."""
     number, column = text.place(start)
     line, first = text.line(number), 0

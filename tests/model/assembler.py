@@ -72,7 +72,7 @@ def split(lines):
 
 
 def number(text):
-    return int(text, 0)
+    return int(text, 16 if text.startswith("0x") else 10)
 
 
 def size(word, ops, at):

@@ -1,8 +1,10 @@
-"""The plain machine of machine.py with the heap: routines 6 to 8, and slices of the revoker."""
+"""The plain machine of machine.py with the heap: routines 6 to 12, and slices of the revoker."""
 from model.machine import Machine, Row, cap_trap
 from model.words import GLOBALS, MEMORY_ROOT, derive, integer, round_length
 
-ALLOCATE, FREE, REMAINING = 6, 7, 8
+ALLOCATE, FREE, REMAINING, TOKEN_KEY, TOKEN_NEW, TOKEN_OPEN, TOKEN_FREE = range(6, 13)
+TOKEN = 11  # the type of keys and tokens
+A_KEY = 0  # in place of the number of a token's key
 
 
 class HeapMachine(Machine):
@@ -49,7 +51,7 @@ class HeapMachine(Machine):
     # -- routines
 
     def native(self, t, number):
-        if not ALLOCATE <= number <= REMAINING:
+        if not ALLOCATE <= number <= TOKEN_FREE:
             return super().native(t, number)
         th = self.threads[t]
         c1, quota = th.regs[1], th.regs[10]
@@ -57,13 +59,21 @@ class HeapMachine(Machine):
             raise cap_trap(2, 1)
         if c1.seal not in (4, 5):
             raise cap_trap(3, 1)
+        if number == TOKEN_OPEN:
+            return self.token_open(t, th.regs[10], th.regs[11])
         if not quota.tag or quota.seal != 10:
             return self.answer(t, integer(-1))
         if number == ALLOCATE:
             return self.allocate(t, quota.root, th.regs[11].address)
         if number == FREE:
             return self.free(t, quota.root, th.regs[11])
-        return self.answer(t, integer(self.limits[quota.root] - self.charges(quota.root)))
+        if number == REMAINING:
+            return self.answer(t, integer(self.limits[quota.root] - self.charges(quota.root)))
+        if number == TOKEN_KEY:
+            return self.allocate(t, quota.root, 8, A_KEY)
+        if number == TOKEN_NEW:
+            return self.token_new(t, quota.root, th.regs[11].address, th.regs[12])
+        return self.token_free(t, quota.root, th.regs[11], th.regs[12])
 
     def charges(self, quota):
         return sum(r.length + 8 for r in self.objects if r.live and r.quota == quota)
@@ -77,7 +87,8 @@ class HeapMachine(Machine):
                 return base
         return None
 
-    def allocate(self, t, quota, size):
+    def allocate(self, t, quota, size, key=None):
+        """With a key's number the object is a token of it, with A_KEY a key: then its capability is sealed."""
         if size == 0 or size > self.end - self.heap:
             return self.answer(t, integer(-4))
         exponent, length = round_length(-(-size // 8) * 8)
@@ -89,24 +100,63 @@ class HeapMachine(Machine):
         self.count["allocations"] += 1
         made = Row()
         made.number, made.quota, made.base, made.length = self.count["allocations"], quota, base, length
-        made.live, made.painted = True, False
+        made.live, made.painted, made.key = True, False, key
         self.objects.append(made)
-        self.answer(t, derive(MEMORY_ROOT, base, length, GLOBALS, base, 0, quota, made.number))
+        kind = 0 if key is None else TOKEN
+        self.answer(t, derive(MEMORY_ROOT, base, length, GLOBALS, base, kind, quota, made.number))
         return "allocate", quota, f"n{made.number} {base:08x} {length} {self.charges(quota)}"
 
     def free(self, t, quota, cap):
-        found = [r for r in self.objects if cap.tag and not cap.field and r.live and r.quota == quota
-                 and cap.bounds() == (r.base, r.base + r.length)]
-        if not found:
+        found = self.whole(cap)
+        if not found or cap.field or found.quota != quota:
             return self.answer(t, integer(-6))
-        gone, th = found[0], self.threads[t]
+        return self.let_go(t, found)
+
+    def let_go(self, t, gone):
+        th = self.threads[t]
         self.zero(gone.base, gone.base + gone.length)
         self.mark(gone, True)
         gone.live = False
         self.count["frees"] += 1
         th.regs = [self.filtered(cap) for cap in th.regs]
         self.answer(t, integer(0))
-        return "free", quota, f"n{gone.number} {gone.base:08x} {gone.length} {self.charges(quota)}"
+        return "free", gone.quota, f"n{gone.number} {gone.base:08x} {gone.length} {self.charges(gone.quota)}"
+
+    def whole(self, cap):
+        """The live object that a tagged capability is the whole of, or None."""
+        bounds = cap.bounds()
+        return next((r for r in self.objects if cap.tag and r.live and bounds == (r.base, r.base + r.length)), None)
+
+    # -- keys and tokens
+
+    def key(self, cap):
+        """The number of the live key that a capability is of, or None."""
+        found = self.whole(cap) if cap.seal == TOKEN else None
+        return found.number if found and found.key == A_KEY else None
+
+    def token(self, key, cap):
+        """The live token of a key that a capability is of, or None."""
+        found = self.whole(cap) if cap.seal == TOKEN else None
+        return found if found and found.key == key else None
+
+    def token_new(self, t, quota, size, key_cap):
+        key = self.key(key_cap)
+        return self.answer(t, integer(-7)) if key is None else self.allocate(t, quota, size, key)
+
+    def token_open(self, t, key_cap, cap):
+        key = self.key(key_cap)
+        if key is None:
+            return self.answer(t, integer(-7))
+        return self.answer(t, cap.with_field(0) if self.token(key, cap) else integer(-8))
+
+    def token_free(self, t, quota, key_cap, cap):
+        key = self.key(key_cap)
+        if key is None:
+            return self.answer(t, integer(-7))
+        found = self.token(key, cap)
+        if not found:
+            return self.answer(t, integer(-8))
+        return self.let_go(t, found) if found.quota == quota else self.answer(t, integer(-6))
 
     # -- the revoker
 

@@ -1,11 +1,12 @@
 """A plain, slow machine: it runs images by the rules of docs/use/machine.md, and knows nothing of the program.
 
-The heap is in heap.py: here native routines from 6 on trap as a word that is no instruction does.
+The heap is in heap.py, with its routines from 6 on.
 """
 from model.words import (CODE, EX, EXECUTABLE_ROOT, GL, GLOBALS, LD, LG, LM, M32, MC, MEMORY_ROOT, SD, SE, SEALING_ROOT,
                          SL, STACK, US, Cap, derive, integer, normal, round_length, unpack)
 
 LAST_ROUTINE = 5
+RECORD = 80  # the bytes of the record of a trap
 
 
 # ---- the machine
@@ -49,13 +50,15 @@ class Machine:
             if p.own:
                 p.globals_entry = add(kind="globals", base=p.globals, length=p.size)
             p.slot_entries = [add(kind="slot", row=row, at=p.base + 8 * n) for n, (_, row, _) in enumerate(p.slots)]
-            p.export_entries = []
-            for n, (_, row, _) in enumerate(p.exports):
+            p.export_entries, p.handler = [], 0
+            for n, (_, row, field) in enumerate(p.exports):
                 offset = int.from_bytes(row[0:4], "little")
                 stack = int.from_bytes(row[4:8], "little")
                 e = add(kind="export", owner=o, code=p.base + 8 * len(p.slots) + offset, stack=stack, args=row[8],
                         posture=row[9], passes=row[10] == 1, at=(p.table + 16 + 16 * n) if p.own else 0)
                 p.export_entries.append(e)
+                if p.own and field.rstrip(b"\0") == b"handler":
+                    p.handler = e
                 assert int.from_bytes(row[12:16], "little") == e, (row[12:16], e)
         stacks = [add(kind="stack", base=t[2], length=t[3]) for t in image.threads]
         self.back = derive(EXECUTABLE_ROOT, 65552, 8, GL | LD | MC | EX, 65552, 5, 0)
@@ -87,7 +90,7 @@ class Machine:
             th.regs[2] = derive(MEMORY_ROOT, t[2], t[3], STACK, t[2] + t[3], 0, stacks[n])
             th.regs[3] = p.cgp
             f = Row()
-            f.actor, f.export, f.top, f.saved = t[4], e, t[2] + t[3], None
+            f.actor, f.export, f.top, f.saved, f.handling = t[4], e, t[2] + t[3], None, False
             th.frames = [f]  # innermost last
             th.most = t[7]
             th.priority = t[6]
@@ -212,7 +215,7 @@ class Machine:
                 deed = self.execute(t)
             except Trap as why:
                 self.count["traps"] += 1
-                self.unwind(t)
+                self.trapped(t, why)
                 deed = "trap", None, " ".join(map(str, why.told))
             if deed:
                 kind, entry, rest = deed
@@ -249,9 +252,30 @@ class Machine:
     def unwind(self, t):
         self.leave(t, integer(M32), integer(0))
 
+    def trapped(self, t, why):
+        """Into the error handler of the frame's compartment, where it has one, was not yet entered and has room."""
+        th = self.threads[t]
+        f = th.frames[-1]
+        p = self.i.owners[f.actor]
+        at = (th.regs[2].address & ~15) - RECORD
+        if not p.handler or f.handling or self.stack_code(th) or at < th.base:
+            self.unwind(t)
+            return
+        for n, word in enumerate([c.address for c in th.regs] + [th.pcc.address, *why.told]):
+            self.poke(at + 4 * n, 4, word)
+        stack = th.regs[2].at(at)
+        th.regs = [Cap() for _ in range(16)]
+        th.regs[1], th.regs[2], th.regs[3] = self.back, stack, p.cgp
+        th.regs[10:13] = map(integer, why.told)
+        th.pcc, th.off, f.handling = p.code.at(self.rows[p.handler].code), None, True
+
     def give_back(self, t):
         th = self.threads[t]
         f = th.frames[-1]
+        if f.handling:
+            value = th.regs[11].address if th.regs[10].address == 1 else M32
+            self.leave(t, integer(value), integer(0))
+            return
         keep = (lambda c: c) if self.rows[f.export].passes else (lambda c: c.put(tag=False))
         self.leave(t, keep(th.regs[10]), keep(th.regs[11]))
 
@@ -312,6 +336,17 @@ class Machine:
                 self.answer(t, integer(len(woken)))
         return None
 
+    def stack_code(self, th):
+        """The code of the first check of c2 that fails, which the switch and the entry of an error handler make."""
+        c2 = th.regs[2]
+        if not c2.tag:
+            return 2
+        if c2.field:
+            return 3
+        if not c2.perms & SL:
+            return 19
+        return None if c2.bounds()[0] == th.base and th.base <= c2.address <= th.frames[-1].top else 1
+
     def switch(self, t):
         th = self.threads[t]
         c6, c2 = th.regs[6], th.regs[2]
@@ -319,14 +354,9 @@ class Machine:
             raise cap_trap(2, 6)
         if c6.seal != 9:
             raise cap_trap(3, 6)
-        if not c2.tag:
-            raise cap_trap(2, 2)
-        if c2.field:
-            raise cap_trap(3, 2)
-        if not c2.perms & SL:
-            raise cap_trap(19, 2)
-        if not (c2.bounds()[0] == th.base and th.base <= c2.address <= th.frames[-1].top):
-            raise cap_trap(1, 2)
+        code = self.stack_code(th)
+        if code:
+            raise cap_trap(code, 2)
         length = c2.address - th.base
         e = next(e for e in list(range(4, 15)) + [14] if length >> e <= 511)
         top = th.base + (length >> e << e)
@@ -339,7 +369,7 @@ class Machine:
             self.answer(t, integer(-11))
             return None
         f = Row()
-        f.actor, f.export, f.top = x.owner, export, top
+        f.actor, f.export, f.top, f.handling = x.owner, export, top, False
         f.saved = tuple(th.regs[n] for n in (1, 2, 3, 8, 9))
         old = th.regs
         keep = (lambda c: c) if x.passes else (lambda c: c.put(tag=False))

@@ -9,6 +9,8 @@ pub struct Object {
     pub quota: u32,
     pub length: u32,
     pub live: bool,
+    /// Of a key 0, of a token its key's number.
+    pub key: Option<u32>,
 }
 
 pub struct Heap {
@@ -42,7 +44,13 @@ impl Heap {
     }
 
     /// Base and number of a new object and its length, or the code of the refusal.
-    pub fn allocate(&mut self, quota: u32, size: u32, limit: u32) -> Result<(u32, u32, u32), u32> {
+    pub fn allocate(
+        &mut self,
+        quota: u32,
+        size: u32,
+        limit: u32,
+        key: Option<u32>,
+    ) -> Result<(u32, u32, u32), u32> {
         if size == 0 || size > self.length {
             return Err(4);
         }
@@ -55,7 +63,7 @@ impl Heap {
             return Err(if self.has_quarantined() { 5 } else { 3 });
         };
         let (length, number) = (length as u32, self.next);
-        self.objects.insert(base, Object { number, quota, length, live: true });
+        self.objects.insert(base, Object { number, quota, length, live: true, key });
         self.charges[quota as usize] += length + 8;
         self.next += 1;
         Ok((base, number, length))
@@ -70,6 +78,12 @@ impl Heap {
         let rest = [(begin, base - 8), (base + length as u32, end)];
         self.free.splice(n..=n, rest.into_iter().filter(|(begin, end)| begin < end));
         Some(base)
+    }
+
+    /// The live object with exactly this base and top.
+    pub fn whole(&self, base: u32, top: u64) -> Option<&Object> {
+        let found = self.objects.get(&base)?;
+        (found.live && u64::from(base) + u64::from(found.length) == top).then_some(found)
     }
 
     /// The live object of a quota with exactly this base and top is quarantined: its number and length.

@@ -1,5 +1,6 @@
 //! Frames and native routines: docs/use/machine.md, "Native routines" and "Calls between compartments".
 
+use crate::heap::Object;
 use crate::machine::{Entry, Frame, Machine, Status, Trap};
 use crate::words::{Cap, LOAD_DATA, MEMORY_ROOT, STACK_RIGHTS, STORE_LOCAL};
 
@@ -20,6 +21,9 @@ fn require(holds: bool, trap: Trap) -> Result<(), Trap> {
 fn negative(code: u32) -> Cap {
     Cap::integer(code.wrapping_neg())
 }
+
+/// The type of keys and tokens.
+const TOKEN: u32 = 11;
 
 /// A new object's capability has these rights.
 const HEAP_RIGHTS: u16 = crate::words::GLOBALS_RIGHTS;
@@ -85,7 +89,7 @@ impl Machine {
             self.give_back();
             return Ok(());
         }
-        require(number <= 8, Trap(2, 0, 0))?;
+        require(number <= 12, Trap(2, 0, 0))?;
         let link = &self.now.registers[1];
         require(link.tag, refused(2, 1))?;
         require(matches!(link.seal(), 4 | 5), refused(3, 1))?;
@@ -98,6 +102,7 @@ impl Machine {
             },
             4 => self.wait()?,
             5 => self.wake()?,
+            11 => self.token_open(),
             _ => self.by_quota(number),
         }
         Ok(())
@@ -208,28 +213,43 @@ impl Machine {
         }
         let (root, limit) = (quota.root, self.entries[quota.root as usize].limit);
         match number {
-            6 => self.allocate(root, limit),
+            6 => self.allocate(root, limit, self.now.registers[11].address, None),
             7 => self.free(root),
+            9 => self.allocate(root, limit, 8, Some(0)),
+            10 => match self.key(&self.now.registers[12]) {
+                Some(key) => self.allocate(root, limit, self.now.registers[11].address, Some(key)),
+                None => self.answer(negative(7)),
+            },
+            12 => self.token_free(root),
             _ => self.answer(Cap::integer(limit - self.heap.charges[root as usize])),
         }
     }
 
-    fn allocate(&mut self, quota: u32, limit: u32) {
-        match self.heap.allocate(quota, self.now.registers[11].address, limit) {
+    /// An object, sealed where it is a key or a token.
+    fn allocate(&mut self, quota: u32, limit: u32, size: u32, key: Option<u32>) {
+        match self.heap.allocate(quota, size, limit, key) {
             Err(code) => self.answer(negative(code)),
             Ok((base, number, length)) => {
                 let live = self.heap.charges[quota as usize];
                 self.tell("allocate", Some(quota), format_args!("n{number} {base:08x} {length} {live}"));
-                self.answer(Cap::derived(MEMORY_ROOT, (base, length), HEAP_RIGHTS, base, 0, (quota, number)));
+                let kind = if key.is_some() { TOKEN } else { 0 };
+                self.answer(Cap::derived(MEMORY_ROOT, (base, length), HEAP_RIGHTS, base, kind, (quota, number)));
             }
         }
     }
 
     fn free(&mut self, quota: u32) {
         let whole = self.now.registers[11];
-        let lawful = whole.tag && whole.field() == 0;
-        let freed = if lawful { self.heap.free(quota, whole.base, whole.top) } else { None };
-        let Some((number, length)) = freed else {
+        if whole.tag && whole.field() == 0 {
+            self.let_go(quota, whole);
+        } else {
+            self.answer(negative(6));
+        }
+    }
+
+    /// The live object of a quota that a capability is the whole of is freed.
+    fn let_go(&mut self, quota: u32, whole: Cap) {
+        let Some((number, length)) = self.heap.free(quota, whole.base, whole.top) else {
             return self.answer(negative(6));
         };
         let (base, top) = (whole.base, whole.base + length);
@@ -240,5 +260,42 @@ impl Machine {
         let live = self.heap.charges[quota as usize];
         self.tell("free", Some(quota), format_args!("n{number} {base:08x} {length} {live}"));
         self.answer(Cap::integer(0));
+    }
+
+    // ---- keys and tokens
+
+    /// The live object that a capability is the whole of, where it is sealed as a key or a token.
+    fn sealed(&self, c: &Cap) -> Option<&Object> {
+        if c.tag && c.seal() == TOKEN {
+            self.heap.whole(c.base, c.top)
+        } else {
+            None
+        }
+    }
+
+    fn key(&self, c: &Cap) -> Option<u32> {
+        self.sealed(c).filter(|object| object.key == Some(0)).map(|object| object.number)
+    }
+
+    fn is_token(&self, key: u32, c: &Cap) -> bool {
+        self.sealed(c).is_some_and(|object| object.key == Some(key))
+    }
+
+    fn token_open(&mut self) {
+        let token = self.now.registers[11];
+        match self.key(&self.now.registers[10]) {
+            None => self.answer(negative(7)),
+            Some(key) if self.is_token(key, &token) => self.answer(token.with_field(0)),
+            Some(_) => self.answer(negative(8)),
+        }
+    }
+
+    fn token_free(&mut self, quota: u32) {
+        let token = self.now.registers[12];
+        match self.key(&self.now.registers[11]) {
+            None => self.answer(negative(7)),
+            Some(key) if self.is_token(key, &token) => self.let_go(quota, token),
+            Some(_) => self.answer(negative(8)),
+        }
     }
 }

@@ -1,9 +1,9 @@
 -- The numbers of an image's entries are sums over the members before.
-use Rattle.std.proofs.Common.{ℕ, zero, suc, ◌≡◌, ◌+◌, ◌*◌, ◌<◌, ◌≤◌, List, [], ◌∷◌, length, take, Some, slice_get, All, refl, ap, sym, ◌∙◌, arith}
+use Rattle.std.proofs.Common.{ℕ, zero, suc, ◌≡◌, ◌+◌, ◌<◌, ◌≤◌, List, [], ◌∷◌, length, take, Some, slice_get, All, refl, arith}
 use Rattle.std.specs.Prelude.{slice_index_or}
 use Rattle.def_profile.specs.declared.limits.TheConstants.{MOST_COMPARTMENT_ENTRIES, MOST_LIBRARY_ENTRIES}
 use Rattle.def_image.specs.Parts.{CodeRow, CompartmentRow, ThreadRow, PartsRow}
-use Rattle.def_image.specs.Members.{number_in, compartment_entries, library_entries, first_library, first_stack, code_number, globals_number, library_number, stack_number}
+use Rattle.def_image.specs.Members.{number_in, compartment_entries, library_entries, first_stack, stack_number}
 use Rattle.def_image.specs.Sizes.{sum_of}
 use Rattle.def_image.specs.Sound.{Sound}
 

@@ -1,5 +1,5 @@
 -- Where the parts of a sound image end.
-use Rattle.std.proofs.Common.{ℕ, ◌≡◌, ◌+◌, ◌*◌, ◌<◌, ◌≤◌, ◌^◌, length, Some, slice_get, arith}
+use Rattle.std.proofs.Common.{ℕ, ◌≡◌, ◌+◌, ◌*◌, ◌<◌, ◌≤◌, length, Some, slice_get, arith}
 use Rattle.std.proofs.lemmas.Option.{slice_get_within}
 use Rattle.def_profile.specs.declared.limits.TheConstants.{RAM_END}
 use Rattle.def_image.specs.Parts.{GateRow, CodeRow, CompartmentRow, ThreadRow, PartsRow}
@@ -7,7 +7,7 @@ use Rattle.def_image.specs.Members.{text_base, gate_address}
 use Rattle.def_image.specs.Regions.{table_size, table_length}
 use Rattle.def_image.specs.Sound.{Sound, CodeFits}
 use Rattle.law_grants.specs.Fits.{Lies}
-use Rattle.law_grants.proofs.Lying.{own_there, library_there, stack_there, sealed_there}
+use Rattle.law_grants.proofs.Lying.{own_there, library_there, stack_there}
 use Rattle.law_grants.proofs.Making.{length_above}
 
 ends : (p : PartsRow) → Sound p → (base size : ℕ) → Lies p base size → base + size ≤ RAM_END

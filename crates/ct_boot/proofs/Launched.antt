@@ -1,21 +1,19 @@
 -- The engine that starts over booted memory, with its heap.
-use Rattle.std.proofs.Common.{ℕ, suc, ◌≡◌, ◌+◌, ◌-◌, ◌*◌, ◌≤◌, ◌<◌, inl, inr, true, cond, nat_le, nat_lt, List, [], ◌∷◌, length, map, Some, slice_get, slice_index_or, refl, sym, ap, ◌∙◌, subst, arith}
+use Rattle.std.proofs.Common.{ℕ, ◌≡◌, ◌+◌, ◌-◌, ◌*◌, ◌≤◌, ◌<◌, inl, inr, true, cond, nat_le, nat_lt, List, [], ◌∷◌, length, Some, slice_index_or, refl, sym, ap, ◌∙◌, subst, arith}
 use Rattle.law_lists.proofs.Tests.{both_left, both_right, eq_tells}
 use Rattle.std.proofs.lemmas.Bool.{leb-true, ltb-true}
 use Rattle.def_memory.specs.declared.Granule.{Granule}
 use Rattle.def_memory.specs.Granules.{plain, held}
 use Rattle.def_machine.specs.Image.{address_of, trusted_end}
-use Rattle.def_machine.specs.Objects.{Each}
 use Rattle.def_machine.specs.State.{Thread, outermost}
 use Rattle.def_chunks.specs.Heaps.{HeapRow}
 use Rattle.def_image.specs.Parts.{ThreadRow, PartsRow}
-use Rattle.def_image.specs.Regions.{trusted_region, area_size}
+use Rattle.def_image.specs.Regions.{trusted_region}
 use Rattle.def_image.specs.Sound.{Sound}
 use Rattle.def_boot.specs.Boot.{boot_state, first_thread, image_of}
 use Rattle.def_boot.specs.Contents.{boot_cap, content_at, granules_in, region_at}
 use Rattle.def_boot.specs.Made.{return_sentry}
 use Rattle.law_listed.proofs.Blocks.{present}
-use Rattle.law_grants.proofs.Lying.{stack_there}
 use Rattle.law_laid.proofs.Found.{found, none_there}
 use Rattle.law_booted.proofs.Contents.{booted_in}
 use Rattle.law_started.proofs.Granules.{same_granule, granules_end}

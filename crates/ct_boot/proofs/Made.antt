@@ -1,12 +1,11 @@
 -- What boot makes, for the numbers of owners, slots and threads.
-use Rattle.std.proofs.Common.{ℕ, List, ◌≡◌, ◌+◌, ◌*◌, ◌<◌, ◌^◌, Some, slice_get, refl, ap, sym, ◌∙◌, subst, arith}
+use Rattle.std.proofs.Common.{ℕ, List, ◌≡◌, ◌+◌, ◌*◌, ◌<◌, Some, slice_get, ap, sym, ◌∙◌, subst, arith}
 use Rattle.ct_entry.specs.declared.rows.Gate.{Gate}
-use Rattle.ct_entry.specs.declared.rows.Owner.{Owner}
 use Rattle.ct_entry.specs.declared.rows.Owner.TheVariants.{Compartment, Library}
 use Rattle.def_words.specs.declared.Cap.{Cap}
 use Rattle.def_words.specs.Derive.{executable_root, memory_root}
 use Rattle.def_reach.specs.Roots.{gate_for}
-use Rattle.def_image.specs.Parts.{SlotRow, GateRow, CodeRow, CompartmentRow, ThreadRow, PartsRow}
+use Rattle.def_image.specs.Parts.{GateRow, CodeRow, CompartmentRow, ThreadRow, PartsRow}
 use Rattle.def_image.specs.Members.{compartment, library, text_base, gate_address, code_number, globals_number, library_number, stack_number, library_gate_number}
 use Rattle.def_image.specs.Sound.{Sound}
 use Rattle.def_boot.specs.Entries.{code_row, globals_row, stack_row}
@@ -21,7 +20,7 @@ use Rattle.law_boot_words.specs.Booting.{Puts}
 use Rattle.law_boot_words.specs.Booting.{PutsBytes}
 use Rattle.law_boot_words.proofs.Putting.{compartment_is, library_is, puts_slot, puts_library_slot}
 use Rattle.ct_boot.proofs.Fits.{gate_end}
-use Rattle.ct_boot.specs.Slots.{slot_cap, SlotPut, SlotsPut}
+use Rattle.ct_boot.specs.Slots.{slot_cap, SlotsPut}
 
 pub code_is : (p : PartsRow) (b : ℕ) (c : CompartmentRow) → slice_get p.compartments b ≡ Some c → made_as executable_root (code_number p b) (code_row (Compartment b) c.code) c.code.base 0 ≡ made_for p (code_number p b)
 code_is p b c is = sym (compartment_of p b c is).code.made_is

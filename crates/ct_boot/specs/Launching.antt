@@ -56,6 +56,7 @@ launched p limits = record {
   region = region_of (image_of p);
   areas = areas_of p;
   objects = [];
+  tokens = [];
   next = 1;
   front = None;
   heap_base = p.heap;

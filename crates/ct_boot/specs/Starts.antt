@@ -4,7 +4,7 @@ use Rattle.def_machine.specs.State as state
 use Rattle.def_machine.specs.State.{Frame}
 use Rattle.def_step.specs.Instructions.{actor_of}
 use Rattle.def_image.specs.Parts.{PartsRow}
-use Rattle.def_boot.specs.Boot.{boot_state, first_threads}
+use Rattle.def_boot.specs.Boot.{boot_state}
 use Rattle.def_memory.specs.Granules.{plain}
 use Rattle.def_boot.specs.Made.{return_sentry}
 use Rattle.ct_boot.specs.declared.start.First.{First}

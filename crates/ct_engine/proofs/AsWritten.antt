@@ -1,21 +1,27 @@
--- Calls and frames' ends over what is seen, as the machine's definitions write them.
-use Rattle.std.proofs.Common.{ℕ, ◌≡◌, List, [], ◌∷◌, Option, None, ap, ◌∙◌}
+-- Calls, frames' ends and error handlers over what is seen, as the machine's definitions write them.
+use Rattle.std.proofs.Common.{ℕ, ◌≡◌, ◌+◌, true, false, cond, List, [], ◌∷◌, Option, None, refl, sym, ap, ◌∙◌}
 use Rattle.def_words.specs.declared.Cap.{Cap}
+use Rattle.def_words.specs.declared.Trap.{Trap}
+use Rattle.def_words.specs.Capability.{with_address}
 use Rattle.def_memory.specs.declared.Granule.{Granule}
-use Rattle.def_memory.specs.Granules.{plain}
+use Rattle.def_memory.specs.Granules.{plain, held}
 use Rattle.def_memory.specs.Ranges.{zeroed_from}
 use Rattle.std.proofs.Math.ListN.{set}
-use Rattle.def_machine.specs.Image.{Image, stack_base, frames_most}
-use Rattle.def_machine.specs.State.{State, Thread, Frame, nobody}
+use Rattle.def_reach.specs.Roots.{gate_for}
+use Rattle.def_boot.specs.Made.{return_sentry}
+use Rattle.def_machine.specs.Image.{Image, made_cap, code_entry, globals_entry, handler_entry, stack_base, frames_most}
+use Rattle.def_machine.specs.State.{State, Thread, Frame, nobody, register}
 use Rattle.def_machine.specs.State as state
 use Rattle.def_machine.specs.Memory.{filtered_in}
 use Rattle.def_machine.specs.Frames.{given, entered_by, answer, answer_by, left_with, left_by}
 use Rattle.def_step.specs.Switch.{Enters, switch_of, frame_top}
+use Rattle.def_step.specs.Handlers.{Handed, handed, is_handled, is_handled_by, handled_by, record_words, words_written}
 use Rattle.ct_areas.specs.Threads as areas
 use Rattle.ct_exports.specs.Exports.{callee_of}
 use Rattle.ct_engine.specs.Seen.{Seen, thread, area_at}
-use Rattle.ct_engine.specs.Calls.{HeadStands, switch_at, switched, after_call, ended_by, returned, ended_with}
-use Rattle.ct_engine.specs.Written.{Shows, written, callee_thread}
+use Rattle.ct_engine.specs.Calls.{HeadStands, head_at, switch_at, switched, after_call, ended_by, returned, ended_with}
+use Rattle.ct_engine.specs.Handling.{is_handled_of, is_handled_at, handed_at, record_place, handler_begun, after_trap}
+use Rattle.ct_engine.specs.Written.{Shows, written, callee_thread, handler_seen}
 use Rattle.ct_engine.proofs.Entering.{given_made}
 
 pub comes_is : (i : Image) (m : State) (s : Seen) (t : ℕ) → Shows i m s t
@@ -79,3 +85,52 @@ last_is i m s t v f h frames =
       ap (λ l. ended_by s t (λ x. answer_by i.entries (thread s t) x 10) (λ x. answer_by i.entries (thread s t) x 11) l) one ∙ over,
       ap (λ l. ended_by s t (λ x. plain v) (λ x. plain 0) l) one ∙ over,
     )
+
+-- ---- an error handler
+
+pub handled_comes : (i : Image) (m : State) (s : Seen) (t : ℕ) (f : Frame) (fs : List Frame) → Shows i m s t → (state.thread m t).frames ≡ f ∷ fs
+    → is_handled_at s t (handler_entry i f.actor) ≡ is_handled i (stack_base i t) (state.thread m t) f
+handled_comes i m s t f fs h frames =
+    let handler : ℕ = handler_entry i f.actor in
+    ap (λ (l : List Frame). is_handled_of s t handler l) (frames_is i m s t (f ∷ fs) h frames)
+    ∙ ap (λ n. is_handled_by handler n (thread s t) f) h.stack
+    ∙ ap (λ (u : Thread). is_handled_by handler (stack_base i t) u f) h.thread
+
+-- what it gets, where the export is of this compartment
+pub handed_made : (i : Image) (s : Seen) (t actor : ℕ) → HeadStands i s t (handler_entry i actor) → callee_of i.entries (handler_entry i actor) ≡ actor
+    → handed_at s i.entries (handler_entry i actor) ≡ handed i actor
+handed_made i s t actor h own =
+    let handler : ℕ = handler_entry i actor in
+    let code : ℕ = (gate_for i.entries.gates handler).code in
+    let head : ℕ = head_at s i.entries handler in
+    let pcc : held s.granules head ≡ made_cap i (code_entry i actor) = h.code ∙ ap (λ b. made_cap i (code_entry i b)) own in
+    let globals : held s.granules (head + 1) ≡ made_cap i (globals_entry i actor) = h.globals ∙ ap (λ b. made_cap i (globals_entry i b)) own in
+    all_made (with_address (held s.granules head) code) return_sentry (held s.granules (head + 1))
+    (with_address (made_cap i (code_entry i actor)) code) (made_cap i 0) (made_cap i (globals_entry i actor))
+    (ap (λ c. with_address c code) pcc) (sym h.back) globals
+  where
+    all_made : (p b g q c l : Cap) → p ≡ q → b ≡ c → g ≡ l
+        → (let x : Handed = record { pcc = p; back = b; globals = g } in x) ≡ record { pcc = q; back = c; globals = l }
+    all_made p b g q c l one two three = rw (one, two, three) refl
+
+pub handler_enters : (i : Image) (m : State) (s : Seen) (t : ℕ) (why : Trap) (f : Frame) (fs : List Frame) → Shows i m s t → HeadStands i s t (handler_entry i f.actor)
+    → callee_of i.entries (handler_entry i f.actor) ≡ f.actor → (state.thread m t).frames ≡ f ∷ fs → is_handled i (stack_base i t) (state.thread m t) f ≡ true
+    → after_trap s i.entries t (handler_entry i f.actor) why ≡ handler_seen i m s t why f fs
+handler_enters i m s t why f fs h heads own frames is =
+    let handler : ℕ = handler_entry i f.actor in
+    let begun : List Frame → Seen = λ l. handler_begun s i.entries t handler why l in
+    let put : ℕ → List Granule → Thread → Handed → Seen = λ n gs u g. record s {
+      granules = words_written gs (record_place n (register u 2)) (record_words u why);
+      threads = set s.threads t (handled_by g u why f fs);
+    } in
+    ap (λ b. cond b (begun (thread s t).frames) s) (handled_comes i m s t f fs h frames ∙ is)
+    ∙ ap begun (frames_is i m s t (f ∷ fs) h frames)
+    ∙ ap (λ g. put s.region.ram s.granules (thread s t) g) (handed_made i s t f.actor heads own)
+    ∙ ap (λ u. put s.region.ram s.granules u (handed i f.actor)) h.thread
+    ∙ ap (λ n. put n s.granules (state.thread m t) (handed i f.actor)) h.ram
+    ∙ ap (λ gs. put i.ram gs (state.thread m t) (handed i f.actor)) h.granules
+
+pub handler_stays : (i : Image) (m : State) (s : Seen) (t : ℕ) (why : Trap) (f : Frame) (fs : List Frame) → Shows i m s t → (state.thread m t).frames ≡ f ∷ fs
+    → is_handled i (stack_base i t) (state.thread m t) f ≡ false → after_trap s i.entries t (handler_entry i f.actor) why ≡ s
+handler_stays i m s t why f fs h frames is =
+    ap (λ b. cond b (handler_begun s i.entries t (handler_entry i f.actor) why (thread s t).frames) s) (handled_comes i m s t f fs h frames ∙ is)

@@ -15,7 +15,7 @@ use Rattle.ct_engine.proofs.HeapStays.{HeapStays, heap_keeps, heap_holds}
 use Rattle.std.proofs.Math.ListN.{get_or}
 use Rattle.ct_areas.specs.declared.thread.Thread as row
 use Rattle.ct_engine.specs.declared.rows.Rows.{Rows}
-use Rattle.ct_engine.specs.Seen.{Seen, hides, threads_of, seen, thread, with_granules, region_hides, seen_by, seen_of, hidden}
+use Rattle.ct_engine.specs.Seen.{Seen, hides, threads_of, seen, thread, with_granules, region_hides, seen_by, hidden}
 use Rattle.ct_engine.specs.Kept.{StackLies, Holds}
 use Rattle.ct_engine.proofs.Lists.{areas_same, threads_same, how_many}
 use Rattle.ct_engine.proofs.Whole.{hidden_is}
@@ -48,6 +48,7 @@ away_holds gs hs rows holds size same = record {
   runs = holds.runs;
   stacks = subst (λ n. Each (StackLies rows.region rows.heap.range.base (8 * n)) (map (λ (t : row.Thread). t.area) rows.list.items)) (sym size) holds.stacks;
   heap = heap_holds gs hs rows.region rows.heap rows.front holds.heap size (heap_stays gs hs rows holds same);
+  room = holds.room;
 }
 
 pub away_seen : (gs hs : List Granule) (rows : Rows) → Holds gs rows → length hs ≡ length gs → HiddenStays gs hs rows → seen hs rows ≡ with_granules (seen gs rows) (veiled (hidden gs rows) hs)

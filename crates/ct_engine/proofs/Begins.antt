@@ -5,7 +5,7 @@ use Rattle.std.proofs.lemmas.Bool.{cases_eq}
 use Rattle.law_lists.proofs.Tests.{lt_tells}
 use Rattle.def_words.specs.declared.Cap.{Cap}
 use Rattle.def_memory.specs.declared.Granule.{Granule}
-use Rattle.def_memory.specs.Granules.{plain, granule_at, held, holding}
+use Rattle.def_memory.specs.Granules.{plain, held, holding}
 use Rattle.def_areas.specs.Areas.{frame_place}
 use Rattle.def_areas.specs.Touches.{Touches}
 use Rattle.law_areas.proofs.Writes.{put_other, put_same}

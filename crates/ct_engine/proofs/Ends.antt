@@ -1,25 +1,17 @@
 -- The running thread's row changes, and goes on or ends.
-use Rattle.std.proofs.Common.{ℕ, zero, suc, ◌≡◌, ◌-◌, ◌<◌, ◌≤◌, inl, inr, Bool, true, false, cond, nat_lt, List, [], ◌∷◌, length, map, Option, Some, None, refl, sym, ap, ◌∙◌, arith, subst}
+use Rattle.std.proofs.Common.{ℕ, zero, suc, ◌≡◌, ◌<◌, Bool, true, false, cond, List, [], ◌∷◌, length, map, Option, Some, None, refl, sym, ap, ◌∙◌, arith, subst}
 use Rattle.std.proofs.Math.ListN.{get_or, set}
-use Rattle.def_profile.specs.declared.layout.TheConstants.{AREA_HEAD}
-use Rattle.law_lists.proofs.Tests.{lt_tells}
-use Rattle.law_areas.proofs.Frames.{frames_count}
 use Rattle.def_memory.specs.declared.Granule.{Granule}
-use Rattle.def_machine.specs.State.{Thread, Frame, nobody, outermost}
+use Rattle.def_machine.specs.State.{nobody}
 use Rattle.def_machine.specs.Slices.{is_number}
-use Rattle.def_areas.specs.Areas.{caller_actor, caller_top, caller_handling}
 use Rattle.def_areas.specs.Touches.{Touches}
 use Rattle.ct_areas.specs.declared.thread.Area.{Area}
 use Rattle.ct_areas.specs.declared.thread.Thread as row
-use Rattle.ct_areas.specs.Threads.{HasArea, area_begin, area_end, frames_most, living, thread_of}
-use Rattle.ct_areas.specs.Parts.{pushed, shallower, inner_frame, outer_frames, inner_place}
-use Rattle.ct_areas.proofs.Places.{depth_tells, alive_is}
-use Rattle.ct_areas.proofs.Rows.{frames_are}
+use Rattle.ct_areas.specs.Threads.{area_begin, area_end, thread_of}
 use Rattle.ct_engine.specs.declared.rows.Rows.{Rows}
-use Rattle.ct_engine.specs.Seen.{seen_of}
 use Rattle.ct_engine.specs.Kept.{IsKept, AreasFrom, Holds}
 use Rattle.ct_engine.proofs.Lists.{OthersRun}
-use Rattle.ct_engine.proofs.Whole.{itself, other, runs_it, thread_is, depth_is, seen_turn, areas_turn, running_kept, some_is, none_is}
+use Rattle.ct_engine.proofs.Whole.{itself, other, runs_it, areas_turn, some_is, none_is}
 
 pub ended_is : (gs : List Granule) (runs : Bool) (u : row.Thread) → u.depth ≡ 0 → thread_of gs runs u ≡ nobody
 ended_is gs runs u e = rw e refl

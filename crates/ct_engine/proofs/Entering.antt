@@ -236,7 +236,7 @@ high_fits gs rows t r e export high holds runs is may enters =
     omega (arith, under, top)
 
 -- nothing
-same_seen : (gs hs : List Granule) (rows : Rows) (t : ℕ) (r q : row.Thread) → Holds gs rows → rows.running ≡ Some t → r ≡ get_or rows.list.items t r
+pub same_seen : (gs hs : List Granule) (rows : Rows) (t : ℕ) (r q : row.Thread) → Holds gs rows → rows.running ≡ Some t → r ≡ get_or rows.list.items t r
     → Touches (area_begin r.area) (area_end r.area) gs hs → q.area ≡ r.area → thread_of hs true q ≡ thread_of gs true r
     → seen_of hs rows (set rows.list.items t q) rows.running ≡ seen gs rows
 same_seen gs hs rows t r q holds runs is touches place same =

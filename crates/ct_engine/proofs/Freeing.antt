@@ -1,5 +1,5 @@
 -- A free, over all that is seen: the object is zeroed and marked, and the running thread's registers pass the load filter.
-use Rattle.std.proofs.Common.{ℕ, zero, suc, ◌≡◌, ◌+◌, ◌-◌, ◌*◌, ◌≤◌, ◌<◌, ◌==◌, ◌&&◌, ◌||◌, ◌⊎◌, inl, inr, Bool, true, false, not, nat_eq, nat_le, nat_lt, List, [], ◌∷◌, length, map, Some, None, refl, sym, ap, ◌∙◌, subst, arith}
+use Rattle.std.proofs.Common.{ℕ, zero, suc, ◌≡◌, ◌+◌, ◌-◌, ◌*◌, ◌≤◌, ◌<◌, ◌==◌, ◌&&◌, ◌||◌, ◌⊎◌, inl, inr, Bool, true, false, not, nat_eq, nat_le, nat_lt, List, [], ◌∷◌, map, Some, None, refl, sym, ap, ◌∙◌, subst, arith}
 use Rattle.std.specs.Prelude.{find}
 use Rattle.std.proofs.Math.ListN.{get_or, set}
 use Rattle.std.proofs.lemmas.Bool.{and_parts}
@@ -8,9 +8,10 @@ use Rattle.def_words.specs.declared.Cap.{Cap}
 use Rattle.def_memory.specs.declared.Granule.{Granule}
 use Rattle.def_memory.specs.Ranges.{is_tagged, zeroed_from, marked_from}
 use Rattle.def_machine.specs.Image.{Image}
-use Rattle.def_machine.specs.State.{State, Object, Thread, Status, nobody}
+use Rattle.def_machine.specs.State.{State, Object, Thread, Token, Status, nobody}
 use Rattle.def_machine.specs.Threads.{with_status, with_statuses}
-use Rattle.def_machine.specs.Heap as heap
+use Rattle.def_step.specs.Quotas as quotas
+use Rattle.def_step.specs.Quotas.{without_row}
 use Rattle.def_machine.specs.Memory.{filtered_in}
 use Rattle.def_machine.specs.Objects.{Each, charges, quarantine}
 use Rattle.def_hidden.specs.Hidden.{is_live_at}
@@ -26,15 +27,17 @@ use Rattle.law_heaped.proofs.Objects.{covers, covers_tells, object_vanishes}
 use Rattle.ct_heap.specs.declared.rows.Object as told
 use Rattle.ct_heap.specs.Lookups.{spans_of, whole_of}
 use Rattle.ct_heap.specs.Effects.{Frees}
+use Rattle.ct_token.specs.Table.{Table}
 use Rattle.ct_engine.specs.declared.rows.Rows.{Rows}
 use Rattle.ct_engine.specs.Seen.{Seen, region_hides, seen, sifted}
 use Rattle.ct_engine.specs.Kept.{IsClear, Holds}
-use Rattle.ct_engine.specs.Grants.{WasWhole, whole_in, quarantined, freed, freed_by}
+use Rattle.ct_engine.specs.Grants.{WasWhole, whole_in, quarantined, let_go, freed, freed_by}
 use Rattle.ct_engine.specs.Written.{state_with}
 use Rattle.ct_engine.proofs.Clear.{zero_clear}
 use Rattle.ct_engine.proofs.Veils.{seen_both}
 use Rattle.ct_engine.proofs.HeapTurns.{with_heap, HeapTurns, turned_holds, turned_seen}
 use Rattle.ct_engine.proofs.Granted.{seen_as, hides_by, veil_by}
+use Rattle.ct_engine.proofs.Tables.{with_table, table_holds}
 
 -- ---- an object that is found by its quota and its bounds
 
@@ -54,13 +57,13 @@ spans_tells quota base top r e =
     record { quota_is = same_number r.quota quota one.1; base_is = same_number r.base base two.1; top_is = same_number (r.base + r.length) top last.1 }
 
 -- it is the first, or one of the others
-found_first : (p : Object → Bool) (q r : Object) (os : List Object) → p q ≡ true → find p (q ∷ os) ≡ Some r → q ≡ r
+pub found_first : (p : Object → Bool) (q r : Object) (os : List Object) → p q ≡ true → find p (q ∷ os) ≡ Some r → q ≡ r
 found_first p q r os is_it e = let is : Some q ≡ Some r = rw is_it at e in cc
 
-found_later : (p : Object → Bool) (q r : Object) (os : List Object) → p q ≡ false → find p (q ∷ os) ≡ Some r → find p os ≡ Some r
+pub found_later : (p : Object → Bool) (q r : Object) (os : List Object) → p q ≡ false → find p (q ∷ os) ≡ Some r → find p os ≡ Some r
 found_later p q r os isnt e = rw isnt at e
 
-found_passes : (p : Object → Bool) (r : Object) (os : List Object) → find p os ≡ Some r → p r ≡ true
+pub found_passes : (p : Object → Bool) (r : Object) (os : List Object) → find p os ≡ Some r → p r ≡ true
 found_passes p r [] e = absurd (let clash : None ≡ Some r = e in cc)
 found_passes p r (q ∷ os) e = elim (bool_tells (p q)) [
   | inl is_it ↦ subst (λ x. p x ≡ true) (found_first p q r os is_it e) is_it
@@ -75,7 +78,7 @@ found_each P p r (q ∷ os) each e = elim (bool_tells (p q)) [
   | inr isnt ↦ found_each P p r os each.1 (found_later p q r os isnt e)
 ]
 
-whole_says : (quota base top : ℕ) (os : List Object) (r : Object) → whole_of quota base top os ≡ Some r → Whole quota base top r
+pub whole_says : (quota base top : ℕ) (os : List Object) (r : Object) → whole_of quota base top os ≡ Some r → Whole quota base top r
 whole_says quota base top os r e = spans_tells quota base top r (found_passes (spans_of quota base top) r os e)
 
 -- ---- what is live
@@ -199,11 +202,12 @@ freed_turns gs hs rows n quota base top number place long live l f =
       same = f.same;
     }
 
-pub freed_holds : (gs hs : List Granule) (rows : Rows) (n : HeapRow) (quota base top number place long live : ℕ) → Holds gs rows → Laid n hs
-    → Frees rows.heap n gs hs quota base top number place long live → Holds hs (with_heap rows n rows.front)
-freed_holds gs hs rows n quota base top number place long live holds laid f =
-    turned_holds gs hs rows n rows.front holds (freed_turns gs hs rows n quota base top number place long live holds.heap.laid f) laid
-    (freed_clear rows.heap n gs hs quota base top number place long live holds.heap.laid holds.heap.clear f) holds.heap.within
+pub freed_holds : (gs hs : List Granule) (rows : Rows) (n : HeapRow) (k : Table) (quota base top number place long live : ℕ) → Holds gs rows → Laid n hs
+    → Frees rows.heap n gs hs quota base top number place long live → k.room ≡ rows.tokens.room → Holds hs (with_table (with_heap rows n rows.front) k)
+freed_holds gs hs rows n k quota base top number place long live holds laid f same =
+    table_holds hs (with_heap rows n rows.front) k
+    (turned_holds gs hs rows n rows.front holds (freed_turns gs hs rows n quota base top number place long live holds.heap.laid f) laid
+    (freed_clear rows.heap n gs hs quota base top number place long live holds.heap.laid holds.heap.clear f) holds.heap.within) same
 
 freed_seen : (gs hs : List Granule) (rows : Rows) (n : HeapRow) (quota base top number place long live : ℕ) → Holds gs rows → (f : Frees rows.heap n gs hs quota base top number place long live)
     → seen hs (with_heap rows n rows.front) ≡ quarantined (seen gs rows) f.object
@@ -240,30 +244,40 @@ registers_with f (x ∷ ts) (s ∷ ss) zero = refl
 registers_with f (x ∷ ts) (s ∷ ss) (suc t) = ap (λ us. with_status x s ∷ us) (registers_with f ts ss t)
 
 pub freed_shown : (i : Image) (m : State) (s : Seen) (statuses : List Status) (t : ℕ) (r : Object) → s.region.ram ≡ i.ram
-    → heap.freed i (state_with m s statuses) t r ≡ state_with m (freed s t r) statuses
+    → quotas.let_go i (state_with m s statuses) t r ≡ state_with m (freed s t r) statuses
 freed_shown i m s statuses t r ram =
     let here : State = state_with m s statuses in
     let wiped : ℕ → List Granule = λ n. marked_from (r.base - 8) (r.base + r.length) true n (zeroed_from r.base (r.base + r.length) n s.granules) in
     let filters : ℕ → List Cap → List Cap = λ n cs. map (filtered_in n (wiped n)) cs in
-    let put : List Granule → List Thread → State = λ gs ts. record here { granules = gs; objects = quarantine r.number s.objects; threads = ts } in
+    let put : List Granule → List Thread → State = λ gs ts. record here { granules = gs; objects = quarantine r.number s.objects; tokens = without_row r.number s.tokens; threads = ts } in
     let old : Thread = get_or (with_statuses s.threads statuses) t nobody in
     ap (λ n. put (wiped n) (set (with_statuses s.threads statuses) t (record old { registers = filters n old.registers }))) (sym ram)
     ∙ ap (put (wiped s.region.ram)) (registers_with (filters s.region.ram) s.threads statuses t)
 
--- ---- the call: memory is freed, and then the registers pass
+-- ---- the call: memory is freed, the object's row goes, and then the registers pass
 
-pub free_is : (gs hs : List Granule) (rows : Rows) (n : HeapRow) (v z : Seen) (t quota base top number place long live : ℕ) → seen gs rows ≡ v → Holds gs rows
-    → Frees rows.heap n gs hs quota base top number place long live → z ≡ sifted (seen hs (with_heap rows n rows.front)) t → z ≡ freed_by v t (whole_in v quota base top)
-free_is gs hs rows n v z t quota base top number place long live is holds f sift =
-    sift ∙ ap (λ x. sifted x t) (freed_seen gs hs rows n quota base top number place long live holds f)
+-- without the object, and without its row
+gone_seen : (gs hs : List Granule) (rows : Rows) (n : HeapRow) (k : Table) (quota base top number place long live : ℕ) → Holds gs rows
+    → (f : Frees rows.heap n gs hs quota base top number place long live) → k.rows ≡ without_row number rows.tokens.rows
+    → seen hs (with_table (with_heap rows n rows.front) k) ≡ let_go (seen gs rows) f.object
+gone_seen gs hs rows n k quota base top number place long live holds f gone =
+    let with_rows : Seen → List Token → Seen = λ x ks. record x { tokens = ks } in
+    ap (λ x. with_rows x k.rows) (freed_seen gs hs rows n quota base top number place long live holds f)
+    ∙ ap (with_rows (quarantined (seen gs rows) f.object)) (gone ∙ ap (λ m. without_row m rows.tokens.rows) f.number_is)
+
+pub free_is : (gs hs : List Granule) (rows : Rows) (n : HeapRow) (k : Table) (v z : Seen) (t quota base top number place long live : ℕ) → seen gs rows ≡ v → Holds gs rows
+    → Frees rows.heap n gs hs quota base top number place long live → k.rows ≡ without_row number rows.tokens.rows
+    → z ≡ sifted (seen hs (with_table (with_heap rows n rows.front) k)) t → z ≡ freed_by v t (whole_in v quota base top)
+free_is gs hs rows n k v z t quota base top number place long live is holds f gone sift =
+    sift ∙ ap (λ x. sifted x t) (gone_seen gs hs rows n k quota base top number place long live holds f gone)
     ∙ ap (freed_by (seen gs rows) t) (sym f.is)
     ∙ ap (λ x. freed_by x t (whole_in x quota base top)) is
 
-pub free_told : (gs hs : List Granule) (rows : Rows) (n : HeapRow) (v z : Seen) (t quota base top : ℕ) (o : told.Object) → seen gs rows ≡ v
-    → Frees rows.heap n gs hs quota base top o.number o.base o.length o.live → z ≡ sifted (seen hs (with_heap rows n rows.front)) t → WasWhole v z quota base top o
-free_told gs hs rows n v z t quota base top o is f sift =
+pub free_told : (gs hs : List Granule) (rows : Rows) (n : HeapRow) (k : Table) (v z : Seen) (t quota base top : ℕ) (o : told.Object) → seen gs rows ≡ v
+    → Frees rows.heap n gs hs quota base top o.number o.base o.length o.live → z ≡ sifted (seen hs (with_table (with_heap rows n rows.front) k)) t → WasWhole v z quota base top o
+free_told gs hs rows n k v z t quota base top o is f sift =
     let w = whole_says quota base top (objects_of rows.heap gs) f.object f.is in
-    let here : WasWhole (seen gs rows) (sifted (seen hs (with_heap rows n rows.front)) t) quota base top o = record {
+    let here : WasWhole (seen gs rows) (sifted (seen hs (with_table (with_heap rows n rows.front) k)) t) quota base top o = record {
       object = f.object;
       is = f.is;
       told = record {
@@ -273,4 +287,4 @@ free_told gs hs rows n v z t quota base top o is f sift =
         live = f.live_is ∙ ap (λ q. charges q (objects_of n hs)) (sym w.quota_is);
       };
     } in
-    subst (λ x. WasWhole v x quota base top o) (sym sift) (subst (λ x. WasWhole x (sifted (seen hs (with_heap rows n rows.front)) t) quota base top o) is here)
+    subst (λ x. WasWhole v x quota base top o) (sym sift) (subst (λ x. WasWhole x (sifted (seen hs (with_table (with_heap rows n rows.front) k)) t) quota base top o) is here)

@@ -32,7 +32,7 @@ running_is gs rows t r holds runs is =
     ∙ alive_is gs true r ((running_kept gs rows t r holds runs is).kept.alive refl)
 
 -- it has an innermost frame, of its row's compartment
-running_frames : (gs : List Granule) (rows : Rows) (t : ℕ) (r : row.Thread) → Holds gs rows → rows.running ≡ Some t → r ≡ get_or rows.list.items t r
+pub running_frames : (gs : List Granule) (rows : Rows) (t : ℕ) (r : row.Thread) → Holds gs rows → rows.running ≡ Some t → r ≡ get_or rows.list.items t r
     → (thread (seen gs rows) t).frames ≡ inner_frame gs r ∷ outer_frames gs r
 running_frames gs rows t r holds runs is =
     let alive : 0 < r.depth = (running_kept gs rows t r holds runs is).kept.alive refl in
@@ -100,6 +100,7 @@ own_holds gs rows t r q f to value holds runs is gone = record {
   runs = λ u e. (let lt = holds.runs u e in let size = length-set rows.list.items t q in omega (arith, lt, size));
   stacks = stacks_turn gs gs rows t r q holds (holds.runs t runs) is refl (ap (λ (u : row.Thread). u.area) gone);
   heap = holds.heap;
+  room = holds.room;
 }
 
 pub own_seen : (gs : List Granule) (rows : Rows) (t : ℕ) (r q : row.Thread) (f : Cap → Cap) (to : ℕ) (value : Cap) → Holds gs rows → rows.running ≡ Some t

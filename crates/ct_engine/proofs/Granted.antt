@@ -1,11 +1,11 @@
--- An allocation, over all that is seen: objects and memory, and the answer that is written.
-use Rattle.std.proofs.Common.{ℕ, ◌⊎◌, Result, Ok, Err, MatchResult, OnErr, ◌/◌, ◌≡◌, ◌+◌, ◌-◌, ◌*◌, ◌≤◌, ◌<◌, ◌==◌, ◌||◌, inl, inr, Bool, true, false, cond, nat_lt, List, length, Some, None, refl, sym, ap, ◌∙◌, subst, arith}
+-- An allocation, over all that is seen: objects and memory, and the answer, which is the written one.
+use Rattle.std.proofs.Common.{ℕ, ◌⊎◌, Result, Ok, Err, MatchResult, OnErr, Option, ◌/◌, ◌≡◌, ◌+◌, ◌-◌, ◌*◌, ◌≤◌, ◌<◌, ◌==◌, ◌||◌, inl, inr, Bool, true, false, cond, nat_lt, List, Some, None, refl, sym, ap, ◌∙◌, subst, arith}
 use Rattle.law_lists.proofs.Tests.{bool_tells, lt_tells, eq_tells}
 use Rattle.def_memory.specs.declared.Granule.{Granule}
 use Rattle.def_machine.specs.Image.{Image, root}
 use Rattle.def_machine.specs.State as state
 use Rattle.def_machine.specs.State.{State}
-use Rattle.def_machine.specs.Objects.{charges, placed_among, has_quarantined}
+use Rattle.def_machine.specs.Objects.{live_object, charges, placed_among, has_quarantined}
 use Rattle.def_machine.specs.Heap as heap
 use Rattle.def_machine.specs.Heap.{length_for, charge_for, Fits, IsPlaceFor, place_of}
 use Rattle.def_hidden.specs.Hidden.{is_live_at}
@@ -27,7 +27,7 @@ use Rattle.ct_heap.specs.Effects.{Same, Allocates, Refuses, made}
 use Rattle.ct_engine.specs.declared.rows.Rows.{Rows}
 use Rattle.ct_engine.specs.Seen.{Seen, region_hides, seen, limit_at}
 use Rattle.ct_engine.specs.Kept.{IsClear, Holds}
-use Rattle.ct_engine.specs.Grants.{new_object, with_object, after_allocation, refused_as, allocation_told}
+use Rattle.ct_engine.specs.Grants.{new_object, with_object, after_allocation, heap_alone, at_place_in, allocation_in, refused_as, allocation_told}
 use Rattle.ct_engine.specs.Written.{HasHeap, SharesObjects}
 use Rattle.ct_engine.proofs.Clear.{clear_tags}
 use Rattle.ct_engine.proofs.Veils.{seen_both}
@@ -86,7 +86,7 @@ allocated_turns gs hs rows n quota size number base long live a = record {
   same = a.same;
 }
 
-allocated_seen : (gs hs : List Granule) (rows : Rows) (n : HeapRow) (quota size number base long live : ℕ) → Holds gs rows → Allocates rows.heap n gs hs quota size number base long live
+pub allocated_seen : (gs hs : List Granule) (rows : Rows) (n : HeapRow) (quota size number base long live : ℕ) → Holds gs rows → Allocates rows.heap n gs hs quota size number base long live
     → seen hs (with_heap rows n rows.front) ≡ with_object (seen gs rows) (new_object (seen gs rows) quota size base)
 allocated_seen gs hs rows n quota size number base long live holds a =
     let h : HeapRow = rows.heap in
@@ -122,8 +122,8 @@ fits_in i ram os long base f = record { eight = f.eight; aligned = f.aligned; lo
 fits_out : (i : Image) (ram : ℕ) (os : List state.Object) (long base : ℕ) → Fits (record i { ram = ram }) os long base → Fits i os long base
 fits_out i ram os long base f = record { eight = f.eight; aligned = f.aligned; low = f.low; high = f.high; apart = f.apart }
 
-heap_of : (i : Image) (gs : List Granule) (rows : Rows) → HasHeap i (seen gs rows) → IsHeapOf (record i { ram = rows.heap.range.ram }) rows.heap.range
-heap_of i gs rows has = record { ram = refl; base = has.base; end = has.end }
+heap_here : (gs : List Granule) (rows : Rows) → IsHeapOf (record (heap_alone (seen gs rows)) { ram = rows.heap.range.ram }) rows.heap.range
+heap_here gs rows = record { ram = refl; base = refl; end = refl }
 
 -- the least lawful place is the one that is written
 place_is : (i : Image) (os : List state.Object) (long base : ℕ) → 0 < long → IsPlaceFor i os long base → place_of i os long ≡ Some base
@@ -150,29 +150,28 @@ no_place_is i os long some none = elim (option_tells (place_of i os long)) [
 -- ---- the answer, from what it asks in turn
 
 -- the size is neither zero nor above the heap's length
-sized : (i : Image) (gs : List Granule) (rows : Rows) (size : ℕ) → HasHeap i (seen gs rows) → 0 < size → size ≤ rows.heap.range.length → ((size == 0) || nat_lt (i.heap_end - i.heap_base) size) ≡ false
-sized i gs rows size has some most =
-    let base = has.base in
-    let end = has.end in
+sized : (base long size : ℕ) → 0 < size → size ≤ long → ((size == 0) || nat_lt (base + long - base) size) ≡ false
+sized base long size some most =
     let nonzero : (size == 0) ≡ false = elim (eq_tells size 0) [ inl a ↦ absurd (let z = a.1 in omega (arith, z, some)) | inr a ↦ a.0 ] in
-    let inside : nat_lt (i.heap_end - i.heap_base) size ≡ false = elim (lt_tells (i.heap_end - i.heap_base) size) [ inl a ↦ absurd (let over = a.1 in omega (arith, over, most, base, end)) | inr a ↦ a.0 ] in
-    ap (λ b. b || nat_lt (i.heap_end - i.heap_base) size) nonzero ∙ inside
+    let inside : nat_lt (base + long - base) size ≡ false = elim (lt_tells (base + long - base) size) [ inl a ↦ absurd (let over = a.1 in omega (arith, over, most)) | inr a ↦ a.0 ] in
+    ap (λ b. b || nat_lt (base + long - base) size) nonzero ∙ inside
 
-unsized : (i : Image) (gs : List Granule) (rows : Rows) (size : ℕ) → HasHeap i (seen gs rows) → (size ≡ 0) ⊎ (rows.heap.range.length < size) → ((size == 0) || nat_lt (i.heap_end - i.heap_base) size) ≡ true
-unsized i gs rows size has (inl zero_) = ap (λ b. b || nat_lt (i.heap_end - i.heap_base) size) (elim (eq_tells size 0) [ inl a ↦ a.0 | inr a ↦ absurd (a.1 zero_) ])
-unsized i gs rows size has (inr over) =
-    let base = has.base in
-    let end = has.end in
-    let past : nat_lt (i.heap_end - i.heap_base) size ≡ true = elim (lt_tells (i.heap_end - i.heap_base) size) [ inl a ↦ a.0 | inr a ↦ absurd (let le = a.1 in omega (arith, over, le, base, end)) ] in
-    or_last (size == 0) (nat_lt (i.heap_end - i.heap_base) size) past
+unsized : (base long size : ℕ) → (size ≡ 0) ⊎ (long < size) → ((size == 0) || nat_lt (base + long - base) size) ≡ true
+unsized base long size (inl zero_) = ap (λ b. b || nat_lt (base + long - base) size) (elim (eq_tells size 0) [ inl a ↦ a.0 | inr a ↦ absurd (a.1 zero_) ])
+unsized base long size (inr over) =
+    let past : nat_lt (base + long - base) size ≡ true = elim (lt_tells (base + long - base) size) [ inl a ↦ a.0 | inr a ↦ absurd (let le = a.1 in omega (arith, over, le)) ] in
+    or_last (size == 0) (nat_lt (base + long - base) size) past
   where
     or_last : (a b : Bool) → b ≡ true → (a || b) ≡ true
     or_last true b k = refl
     or_last false b k = k
 
--- the limit by its quota
-limit_is : (i : Image) (gs : List Granule) (rows : Rows) (quota : ℕ) → HasHeap i (seen gs rows) → (root i quota).limit ≡ (account rows.heap quota).limit
-limit_is i gs rows quota has = has.limits quota ∙ limit_of rows.heap.accounts quota
+-- the quota's limit is passed, or not
+within_limit : (limit own taken : ℕ) → limit ≡ own → taken ≤ own → nat_lt limit taken ≡ false
+within_limit limit own taken same le = elim (lt_tells limit taken) [ inl a ↦ absurd (let lt = a.1 in omega (arith, lt, le, same)) | inr a ↦ a.0 ]
+
+over_limit : (limit own taken : ℕ) → limit ≡ own → own < taken → nat_lt limit taken ≡ true
+over_limit limit own taken same over = elim (lt_tells limit taken) [ inl a ↦ a.0 | inr a ↦ absurd (let le = a.1 in omega (arith, over, le, same)) ]
 
 -- the tests, one after another
 after_tests : (size_ limit_ : Bool) (last : Allocation) → size_ ≡ false → limit_ ≡ false → cond size_ (Refused 4) (cond limit_ (Refused 2) last) ≡ last
@@ -184,57 +183,71 @@ second_test size_ limit_ last a b = rw (a, b) refl
 first_test : (size_ limit_ : Bool) (last : Allocation) → size_ ≡ true → cond size_ (Refused 4) (cond limit_ (Refused 2) last) ≡ Refused 4
 first_test size_ limit_ last a = rw a refl
 
-abbrev past_limit : Image → State → ℕ → ℕ → Bool
-past_limit i m quota size = nat_lt (root i quota).limit (charges quota m.objects + charge_for size)
+module _ (gs : List Granule) (rows : Rows) (quota size : ℕ) where
+  abbrev shown : Seen
+  shown = seen gs rows
 
-within_limit : (i : Image) (m : State) (gs : List Granule) (rows : Rows) (quota size : ℕ) → HasHeap i (seen gs rows) → m.objects ≡ objects_of rows.heap gs
-    → charges quota (objects_of rows.heap gs) + charge_for size ≤ (account rows.heap quota).limit → past_limit i m quota size ≡ false
-within_limit i m gs rows quota size has same le =
-    let limit = limit_is i gs rows quota has in
-    let charged : charges quota m.objects ≡ charges quota (objects_of rows.heap gs) = ap (charges quota) same in
-    elim (lt_tells (root i quota).limit (charges quota m.objects + charge_for size)) [ inl a ↦ absurd (let lt = a.1 in omega (arith, lt, le, limit, charged)) | inr a ↦ a.0 ]
+  abbrev over_size : Bool
+  over_size = (size == 0) || nat_lt (shown.heap_end - shown.heap_base) size
 
-over_limit : (i : Image) (m : State) (gs : List Granule) (rows : Rows) (quota size : ℕ) → HasHeap i (seen gs rows) → m.objects ≡ objects_of rows.heap gs
-    → (account rows.heap quota).limit < charges quota (objects_of rows.heap gs) + charge_for size → past_limit i m quota size ≡ true
-over_limit i m gs rows quota size has same over =
-    let limit = limit_is i gs rows quota has in
-    let charged : charges quota m.objects ≡ charges quota (objects_of rows.heap gs) = ap (charges quota) same in
-    elim (lt_tells (root i quota).limit (charges quota m.objects + charge_for size)) [ inl a ↦ a.0 | inr a ↦ absurd (let le = a.1 in omega (arith, over, le, limit, charged)) ]
+  abbrev past_limit : Bool
+  past_limit = nat_lt (limit_at shown quota) (charges quota shown.objects + charge_for size)
 
-new_as : (s : State) (n quota size base : ℕ) → s.next ≡ n
-    → heap.new_object s quota size base ≡ record { number = n; quota = quota; base = base; length = length_for size; charge = charge_for size; live = true; painted = false }
-new_as s n quota size base is = ap (λ m. let x : state.Object = record { number = m; quota = quota; base = base; length = length_for size; charge = charge_for size; live = true; painted = false } in x) is
+  abbrev at_last : Allocation
+  at_last = at_place_in shown quota size (place_of (heap_alone shown) shown.objects (length_for size))
 
-answer_made : (i : Image) (m : State) (gs hs : List Granule) (rows : Rows) (n : HeapRow) (quota size number base long live : ℕ) → HasHeap i (seen gs rows) → SharesObjects m (seen gs rows)
-    → Allocates rows.heap n gs hs quota size number base long live → allocation i m quota size ≡ Made (new_object (seen gs rows) quota size base)
-answer_made i m gs hs rows n quota size number base long live has shares a =
-    let os : List state.Object = objects_of rows.heap gs in
-    let p = a.place (record i { ram = rows.heap.range.ram }) (heap_of i gs rows has) in
-    let at : IsPlaceFor i os (length_for size) base = record {
-      fits = fits_out i rows.heap.range.ram os (length_for size) base p.fits;
-      least = λ b lt fits. p.least b lt (fits_in i rows.heap.range.ram os (length_for size) b fits);
-    } in
-    let is : place_of i m.objects (length_for size) ≡ Some base = ap (λ rs. place_of i rs (length_for size)) shares.objects ∙ place_is i os (length_for size) base (long_enough size a.some) at in
-    after_tests ((size == 0) || nat_lt (i.heap_end - i.heap_base) size) (past_limit i m quota size) (at_place m quota size (place_of i m.objects (length_for size)))
-    (sized i gs rows size has a.some a.most) (within_limit i m gs rows quota size has shares.objects a.within)
-    ∙ ap (at_place m quota size) is
-    ∙ ap (λ r. Made r) (new_as m rows.heap.next quota size base shares.next)
+  answer_made : (hs : List Granule) (n : HeapRow) (number base long live : ℕ) → Allocates rows.heap n gs hs quota size number base long live
+      → allocation_in shown quota size ≡ Made (new_object shown quota size base)
+  answer_made hs n number base long live a =
+      let ram : ℕ = rows.heap.range.ram in
+      let p = a.place (record (heap_alone shown) { ram = ram }) (heap_here gs rows) in
+      let at : IsPlaceFor (heap_alone shown) shown.objects (length_for size) base = record {
+        fits = fits_out (heap_alone shown) ram shown.objects (length_for size) base p.fits;
+        least = λ b lt fits. p.least b lt (fits_in (heap_alone shown) ram shown.objects (length_for size) b fits);
+      } in
+      after_tests over_size past_limit at_last (sized rows.heap.range.base rows.heap.range.length size a.some a.most)
+      (within_limit (limit_at shown quota) (account rows.heap quota).limit (charges quota shown.objects + charge_for size) (limit_of rows.heap.accounts quota) a.within)
+      ∙ ap (at_place_in shown quota size) (place_is (heap_alone shown) shown.objects (length_for size) base (long_enough size a.some) at)
 
-answer_refused : (i : Image) (m : State) (gs : List Granule) (rows : Rows) (quota size : ℕ) (why : HeapRefusal) → HasHeap i (seen gs rows) → SharesObjects m (seen gs rows)
-    → Refuses rows.heap gs quota size why → allocation i m quota size ≡ refused_as (seen gs rows) why
-answer_refused i m gs rows quota size Size has shares r =
-    first_test ((size == 0) || nat_lt (i.heap_end - i.heap_base) size) (past_limit i m quota size) (at_place m quota size (place_of i m.objects (length_for size))) (unsized i gs rows size has r)
-answer_refused i m gs rows quota size Quota has shares r =
-    second_test ((size == 0) || nat_lt (i.heap_end - i.heap_base) size) (past_limit i m quota size) (at_place m quota size (place_of i m.objects (length_for size)))
-    (sized i gs rows size has r.0 r.1) (over_limit i m gs rows quota size has shares.objects r.2)
-answer_refused i m gs rows quota size NoGap has shares r =
-    let os : List state.Object = objects_of rows.heap gs in
-    let none : (b : ℕ) → Fits i os (length_for size) b → ⊥ = λ b fits. r.3 (record i { ram = rows.heap.range.ram }) (heap_of i gs rows has) b (fits_in i rows.heap.range.ram os (length_for size) b fits) in
-    let is : place_of i m.objects (length_for size) ≡ None = ap (λ rs. place_of i rs (length_for size)) shares.objects ∙ no_place_is i os (length_for size) (long_enough size r.0) none in
-    after_tests ((size == 0) || nat_lt (i.heap_end - i.heap_base) size) (past_limit i m quota size) (at_place m quota size (place_of i m.objects (length_for size)))
-    (sized i gs rows size has r.0 r.1) (within_limit i m gs rows quota size has shares.objects r.2)
-    ∙ ap (at_place m quota size) is
-    ∙ ap (λ rs. Refused (cond (has_quarantined rs) 5 3)) shares.objects
+  answer_refused : (why : HeapRefusal) → Refuses rows.heap gs quota size why → allocation_in shown quota size ≡ refused_as shown why
+  answer_refused Size r = first_test over_size past_limit at_last (unsized rows.heap.range.base rows.heap.range.length size r)
+  answer_refused Quota r =
+      second_test over_size past_limit at_last (sized rows.heap.range.base rows.heap.range.length size r.0 r.1)
+      (over_limit (limit_at shown quota) (account rows.heap quota).limit (charges quota shown.objects + charge_for size) (limit_of rows.heap.accounts quota) r.2)
+  answer_refused NoGap r =
+      let ram : ℕ = rows.heap.range.ram in
+      let none : (b : ℕ) → Fits (heap_alone shown) shown.objects (length_for size) b → ⊥ =
+      λ b fits. r.3 (record (heap_alone shown) { ram = ram }) (heap_here gs rows) b (fits_in (heap_alone shown) ram shown.objects (length_for size) b fits) in
+      after_tests over_size past_limit at_last (sized rows.heap.range.base rows.heap.range.length size r.0 r.1)
+      (within_limit (limit_at shown quota) (account rows.heap quota).limit (charges quota shown.objects + charge_for size) (limit_of rows.heap.accounts quota) r.2)
+      ∙ ap (at_place_in shown quota size) (no_place_is (heap_alone shown) shown.objects (length_for size) (long_enough size r.0) none)
+
+-- ---- the written allocation
+
+made_as : (m : State) (s : Seen) (quota size base : ℕ) → SharesObjects m s → new_object s quota size base ≡ heap.new_object m quota size base
+made_as m s quota size base shares = ap (λ n. live_object n quota base (length_for size)) (sym shares.next)
+
+placed_as : (m : State) (s : Seen) (quota size : ℕ) (place : Option ℕ) → SharesObjects m s → at_place_in s quota size place ≡ at_place m quota size place
+placed_as m s quota size None shares = ap (λ rs. Refused (cond (has_quarantined rs) 5 3)) (sym shares.objects)
+placed_as m s quota size (Some base) shares = ap (λ r. Made r) (made_as m s quota size base shares)
+
+pub allocation_same : (i : Image) (m : State) (s : Seen) (quota size : ℕ) → HasHeap i s → SharesObjects m s → allocation_in s quota size ≡ allocation i m quota size
+allocation_same i m s quota size has shares =
+    let long : ℕ = length_for size in
+    let whole : ℕ → ℕ → ℕ → List state.Object → Allocation → Allocation =
+    λ base end limit os last. cond ((size == 0) || nat_lt (end - base) size) (Refused 4) (cond (nat_lt limit (charges quota os + charge_for size)) (Refused 2) last) in
+    let at : ℕ → ℕ → Image = λ base end. record (heap_alone s) { heap_base = base; heap_end = end } in
+    let place : place_of (heap_alone s) s.objects long ≡ place_of i m.objects long =
+    ap (λ base. place_of (at base s.heap_end) s.objects long) (sym has.base)
+    ∙ ap (λ end. place_of (at i.heap_base end) s.objects long) (sym has.end)
+    ∙ ap (λ os. place_of i os long) (sym shares.objects) in
+    let last : at_place_in s quota size (place_of (heap_alone s) s.objects long) ≡ at_place m quota size (place_of i m.objects long) =
+    ap (at_place_in s quota size) place ∙ placed_as m s quota size (place_of i m.objects long) shares in
+    ap (λ base. whole base s.heap_end (limit_at s quota) s.objects (at_place_in s quota size (place_of (heap_alone s) s.objects long))) (sym has.base)
+    ∙ ap (λ end. whole i.heap_base end (limit_at s quota) s.objects (at_place_in s quota size (place_of (heap_alone s) s.objects long))) (sym has.end)
+    ∙ ap (λ limit. whole i.heap_base i.heap_end limit s.objects (at_place_in s quota size (place_of (heap_alone s) s.objects long))) (sym (has.limits quota))
+    ∙ ap (λ os. whole i.heap_base i.heap_end (root i quota).limit os (at_place_in s quota size (place_of (heap_alone s) s.objects long))) (sym shares.objects)
+    ∙ ap (λ a. whole i.heap_base i.heap_end (root i quota).limit m.objects a) last
 
 -- ---- the call
 
@@ -262,13 +275,11 @@ seen_after gs hs rows n s quota size (Ok o) is holds a same =
 seen_after gs hs rows n s quota size (Err why) is holds a same = ap (λ x. seen hs (with_heap rows x rows.front)) same.0 ∙ ap (λ x. seen x rows) same.1 ∙ is
 
 pub answer_after : (gs hs : List Granule) (rows : Rows) (n : HeapRow) (s : Seen) (quota size : ℕ) (result : Result told.Object HeapRefusal) → seen gs rows ≡ s → Answers rows.heap n gs hs quota size result
-    → (i : Image) (m : State) → HasHeap i s → SharesObjects m s → allocation i m quota size ≡ allocation_told s quota size result
-answer_after gs hs rows n s quota size (Ok o) is a i m has shares =
-    answer_made i m gs hs rows n quota size o.number o.base o.length o.live (subst (λ x. HasHeap i x) (sym is) has) (subst (λ x. SharesObjects m x) (sym is) shares) a
-    ∙ ap (λ x. Made (new_object x quota size o.base)) is
-answer_after gs hs rows n s quota size (Err why) is a i m has shares =
-    answer_refused i m gs rows quota size why (subst (λ x. HasHeap i x) (sym is) has) (subst (λ x. SharesObjects m x) (sym is) shares) a
-    ∙ ap (λ x. refused_as x why) is
+    → allocation_in s quota size ≡ allocation_told s quota size result
+answer_after gs hs rows n s quota size (Ok o) is a =
+    subst (λ x. allocation_in x quota size ≡ Made (new_object x quota size o.base)) is (answer_made gs rows quota size hs n o.number o.base o.length o.live a)
+answer_after gs hs rows n s quota size (Err why) is a =
+    subst (λ x. allocation_in x quota size ≡ refused_as x why) is (answer_refused gs rows quota size why a)
 
 -- ---- what is left of a quota, and whether something is quarantined
 

@@ -1,15 +1,13 @@
 -- What leaves the heap, its objects, and what it hides, as they are.
-use Rattle.std.proofs.Common.{ℕ, ◌≡◌, ◌+◌, ◌*◌, ◌≤◌, ◌<◌, inl, inr, Bool, true, false, List, length, Option, unwrap_or, sym, ap, ◌∙◌, subst, arith}
-use Rattle.law_lists.proofs.Tests.{bool_tells, le_tells, lt_tells}
+use Rattle.std.proofs.Common.{ℕ, ◌≡◌, ◌+◌, ◌*◌, ◌≤◌, inl, inr, Bool, true, false, List, length, Option, unwrap_or, sym, ap, ◌∙◌, subst, arith}
+use Rattle.law_lists.proofs.Tests.{le_tells, lt_tells}
 use Rattle.def_words.specs.declared.Cap.{Cap}
 use Rattle.def_memory.specs.declared.Granule.{Granule}
-use Rattle.def_memory.specs.Granules.{plain, granule_at, held}
-use Rattle.def_memory.specs.Ranges.{is_tagged}
-use Rattle.def_machine.specs.State.{Object}
+use Rattle.def_memory.specs.Granules.{held}
 use Rattle.def_areas.specs.Touches.{Touches}
 use Rattle.def_chunks.specs.Heaps.{HeapRow, objects_of}
 use Rattle.law_chunks.specs.Kept.{KeepsHeap}
-use Rattle.law_heaped.specs.Heaped.{hides_heap, heap_hides}
+use Rattle.law_heaped.specs.Heaped.{heap_hides}
 use Rattle.law_heaped.proofs.Shown.{hidden_keeps, hides_same}
 use Rattle.law_heaped.proofs.Objects.{place_seen}
 use Rattle.ct_areas.specs.declared.thread.Thread as row

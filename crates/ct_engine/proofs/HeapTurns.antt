@@ -1,9 +1,9 @@
 -- A change of the heap, and of memory from the heap's base on: what is kept, and what is seen.
-use Rattle.std.proofs.Common.{ℕ, zero, suc, ◌≡◌, ◌+◌, ◌*◌, ◌<◌, ◌≤◌, List, [], ◌∷◌, length, map, Option, unwrap_or, refl, sym, ap, ◌∙◌, subst, arith}
+use Rattle.std.proofs.Common.{ℕ, zero, suc, ◌≡◌, ◌+◌, ◌*◌, ◌/◌, ◌<◌, ◌≤◌, List, [], ◌∷◌, length, map, Option, unwrap_or, refl, sym, ap, ◌∙◌, subst, arith}
 use Rattle.std.proofs.Math.ListN.{get_or}
 use Rattle.def_memory.specs.declared.Granule.{Granule}
 use Rattle.def_memory.specs.Granules.{held}
-use Rattle.def_machine.specs.State.{Thread, Object}
+use Rattle.def_machine.specs.State.{Thread}
 use Rattle.def_machine.specs.Objects.{Each}
 use Rattle.def_veil.specs.Veil.{veiled}
 use Rattle.def_chunks.specs.declared.rows.Range.{Range}
@@ -13,7 +13,7 @@ use Rattle.law_heaped.specs.Heaped.{hides_heap, heap_hides}
 use Rattle.ct_heap.specs.Effects.{Same}
 use Rattle.ct_areas.specs.declared.thread.Thread as row
 use Rattle.ct_engine.specs.declared.rows.Rows.{Rows}
-use Rattle.ct_engine.specs.Seen.{Seen, region_hides, hides_over, limits_in, threads_of, seen}
+use Rattle.ct_engine.specs.Seen.{Seen, region_hides, hides_over, limits_in, seen}
 use Rattle.ct_engine.specs.Kept.{IsClear, StackLies, Holds}
 use Rattle.ct_engine.proofs.Lists.{areas_same, threads_same}
 use Rattle.ct_engine.proofs.Veils.{veiled_both}
@@ -85,6 +85,7 @@ turned_holds gs hs rows n front holds t laid clear within =
         within = subst (λ m. unwrap_or front 0 ≤ 8 * m) (sym t.size) within;
         clear = clear;
       };
+      room = holds.room ∙ ap (λ (r : Range). r.length / 16) (sym t.same.range);
     }
 
 seen_as : (s : Seen) (gs gs' : List Granule) (ts ts' : List Thread) (b b' l l' : ℕ) (limits limits' : List ℕ)

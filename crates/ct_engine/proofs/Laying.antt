@@ -1,28 +1,27 @@
 -- Threads have started, and the heap is laid: what is seen of them, and what they keep.
-use Rattle.std.proofs.Common.{ℕ, ◌≡◌, ◌+◌, ◌*◌, ◌≤◌, ◌<◌, inl, inr, Bool, true, false, List, [], ◌∷◌, length, map, Option, None, unwrap_or, refl, sym, ap, ◌∙◌, arith, subst}
+use Rattle.std.proofs.Common.{ℕ, ◌≡◌, ◌+◌, ◌*◌, ◌/◌, ◌≤◌, ◌<◌, inl, inr, Bool, true, false, List, [], length, map, Option, None, unwrap_or, refl, sym, ap, ◌∙◌, arith, subst}
 use Rattle.law_lists.proofs.Tests.{bool_tells, le_tells, lt_tells}
 use Rattle.def_words.specs.declared.Cap.{Cap}
 use Rattle.def_memory.specs.declared.Granule.{Granule}
 use Rattle.def_memory.specs.Granules.{plain, granule_at, blank, held}
 use Rattle.def_memory.specs.Ranges.{is_tagged}
 use Rattle.def_machine.specs.Objects.{Each}
-use Rattle.def_machine.specs.State.{Thread, Object}
+use Rattle.def_machine.specs.State.{Thread, Object, Token}
 use Rattle.def_veil.specs.Veil.{veiled}
 use Rattle.law_veil.proofs.Granules.{veiled_is, seen_at}
 use Rattle.def_chunks.specs.declared.rows.Range.{Range}
 use Rattle.def_chunks.specs.Heaps.{HeapRow, objects_of, Laid}
 use Rattle.ct_heap.specs.Effects.{Stays, Same}
-use Rattle.law_heaped.specs.Heaped.{hides_heap, heap_hides}
+use Rattle.law_heaped.specs.Heaped.{hides_heap}
 use Rattle.law_heaped.specs.Objects.{Appears}
 use Rattle.law_heaped.proofs.Objects.{place_seen, object_appears}
 use Rattle.ct_areas.specs.declared.thread.Area.{Area}
-use Rattle.ct_areas.specs.declared.thread.Thread as row
 use Rattle.ct_engine.specs.declared.rows.Region.{Region}
 use Rattle.ct_engine.specs.declared.rows.Rows.{Rows}
 use Rattle.ct_engine.specs.declared.starting.Fresh.{Fresh}
-use Rattle.ct_engine.specs.Seen.{Seen, region_hides, hides_over, limits_in, threads_of, seen}
+use Rattle.ct_engine.specs.Seen.{Seen, region_hides, hides_over, threads_of, seen}
 use Rattle.ct_engine.specs.Kept.{AreasFrom, StackLies, IsClear, Holds}
-use Rattle.ct_engine.specs.Starts.{HaveBegun, MayStart, first_of, started}
+use Rattle.ct_engine.specs.Starts.{HaveBegun, MayStart, started}
 use Rattle.ct_engine.proofs.Lists.{areas_same, threads_same}
 use Rattle.ct_engine.proofs.Whole.{none_is}
 use Rattle.ct_engine.proofs.Stacks.{hidden_place}
@@ -40,6 +39,8 @@ pub record Lays (was gs hs : List Granule) (rows : Rows) (fs : List Fresh) (h : 
   pub stays : Stays h.range [] gs hs
   pub same : Same h rows.heap
   pub next : rows.heap.next ≡ 1
+  pub no_row : rows.tokens.rows ≡ []
+  pub room : rows.tokens.room ≡ h.range.length / 16
 
 -- ---- memory
 
@@ -124,21 +125,22 @@ region_same was gs hs rows fs h l m lo hi =
 
 -- ---- all that is seen
 
-seen_as : (s : Seen) (gs gs' : List Granule) (ts ts' : List Thread) (ps ps' : List Area) (os os' : List Object) (n n' b b' l l' : ℕ) (limits limits' : List ℕ) (run run' front front' : Option ℕ)
-    → gs ≡ gs' → ts ≡ ts' → ps ≡ ps' → os ≡ os' → n ≡ n' → b ≡ b' → l ≡ l' → limits ≡ limits' → run ≡ run' → front ≡ front'
-    → (let x : Seen = record s { granules = gs; threads = ts; running = run; front = front; areas = ps; objects = os; next = n; heap_base = b; heap_end = l; limits = limits } in x)
-    ≡ record s { granules = gs'; threads = ts'; running = run'; front = front'; areas = ps'; objects = os'; next = n'; heap_base = b'; heap_end = l'; limits = limits' }
-seen_as s gs gs' ts ts' ps ps' os os' n n' b b' l l' limits limits' run run' front front' p q r t u v w x y z = rw (p, q, r, t, u, v, w, x, y, z) refl
+seen_as : (s : Seen) (gs gs' : List Granule) (ts ts' : List Thread) (ps ps' : List Area) (os os' : List Object) (ks ks' : List Token) (n n' b b' l l' : ℕ) (limits limits' : List ℕ) (run run' front front' : Option ℕ)
+    → gs ≡ gs' → ts ≡ ts' → ps ≡ ps' → os ≡ os' → ks ≡ ks' → n ≡ n' → b ≡ b' → l ≡ l' → limits ≡ limits' → run ≡ run' → front ≡ front'
+    → (let x : Seen = record s { granules = gs; threads = ts; running = run; front = front; areas = ps; objects = os; tokens = ks; next = n; heap_base = b; heap_end = l; limits = limits } in x)
+    ≡ record s { granules = gs'; threads = ts'; running = run'; front = front'; areas = ps'; objects = os'; tokens = ks'; next = n'; heap_base = b'; heap_end = l'; limits = limits' }
+seen_as s gs gs' ts ts' ps ps' os os' ks ks' n n' b b' l l' limits limits' run run' front front' p q r t o u v w x y z = rw (p, q, r, t, o, u, v, w, x, y, z) refl
 
 pub laid_seen : (was gs hs : List Granule) (rows : Rows) (fs : List Fresh) (h : HeapRow) → Lays was gs hs rows fs h
     → seen hs rows ≡ started was rows.region fs h
 laid_seen was gs hs rows fs h l =
-    seen_as (started was rows.region fs h) _ _ _ _ _ _ _ _ _ _ _ _ _ _ _ _ _ _ _ _
+    seen_as (started was rows.region fs h) _ _ _ _ _ _ _ _ _ _ _ _ _ _ _ _ _ _ _ _ _ _
     (memory_is was gs hs rows fs h l)
     (ap (λ o. threads_of hs o 0 rows.list.items) l.none
     ∙ threads_same rows.region.ram gs hs None None 0 rows.region.trusted rows.region.end rows.list.items l.begun.areas (region_same was gs hs rows fs h l) (λ u lo. refl) ∙ l.begun.threads)
     l.begun.places
     l.objects
+    l.no_row
     l.next
     (ap (λ (r : Range). r.base) l.same.range)
     (ap (λ (r : Range). r.base + r.length) l.same.range)
@@ -183,4 +185,5 @@ laid_holds was gs hs rows fs h l =
         within = subst (λ o. unwrap_or o 0 ≤ 8 * length hs) (sym l.idle) (omega arith);
         clear = laid_clear was gs hs rows fs h l;
       };
+      room = l.room ∙ ap (λ (r : Range). r.length / 16) (sym l.same.range);
     }

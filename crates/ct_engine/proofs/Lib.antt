@@ -15,11 +15,14 @@ pub mod Laying
 pub mod Turning
 pub mod Entering
 pub mod Leaving
+pub mod Handlers
 pub mod AsWritten
 pub mod Sifting
 pub mod Quietly
 pub mod Clear
 pub mod Granted
+pub mod Tables
+pub mod Sealed
 pub mod Freeing
 pub mod Sweeps
 pub mod Sliced

@@ -2,16 +2,20 @@
 use Rattle.std.proofs.Common.{ℕ, zero, suc, ◌≡◌, ◌+◌, ◌*◌, ◌%◌, ◌<◌, ◌≤◌, ◌⊎◌, inl, inr, Bool, true, false, nat_le, nat_lt, List, [], ◌∷◌, length, map, Some, refl, sym, ap, ◌∙◌, arith, subst}
 use Rattle.std.proofs.Math.ListN.{get_or, set}
 use Rattle.std.proofs.lemmas.Bool.{leb-true}
-use Rattle.law_lists.proofs.Tests.{both_left, both_right, lt_tells}
+use Rattle.law_lists.proofs.Tests.{bool_tells, both_left, both_right, lt_tells}
 use Rattle.law_granules.proofs.Lists.{zeroed_length, zeroed_at}
 use Rattle.def_memory.specs.declared.Granule.{Granule}
-use Rattle.def_memory.specs.Granules.{granule_at, blank, held}
+use Rattle.def_words.specs.declared.Cap.{Cap}
+use Rattle.def_memory.specs.Granules.{granule_at, blank, held, holding_all}
 use Rattle.def_memory.specs.Ranges.{zeroed_from}
 use Rattle.def_machine.specs.State.{Thread, Frame}
 use Rattle.def_machine.specs.Objects.{Each}
 use Rattle.def_step.specs.Switch.{frame_top}
 use Rattle.def_areas.specs.Touches.{Touches}
+use Rattle.law_areas.proofs.Changes.{all_touches}
+use Rattle.law_areas.proofs.Writes.{all_length}
 use Rattle.law_veil.proofs.Granules.{zeroed_seen}
+use Rattle.law_held.proofs.Seen.{held_seen}
 use Rattle.ct_areas.specs.declared.thread.Area.{Area}
 use Rattle.ct_areas.specs.declared.thread.Thread as row
 use Rattle.ct_areas.specs.Threads.{thread_of}
@@ -105,7 +109,7 @@ ready_is gs rows t r holds runs is top =
       even = subst (λ n. n % 16 ≡ 0) here top.even;
     }
 
--- ---- one is zeroed
+-- ---- what isn't hidden
 
 pub hidden_place : (g : Region) (k : ℕ) → region_hides g k ≡ true → (g.trusted ≤ g.ram + 8 * k) × (g.ram + 8 * k < g.end)
 hidden_place g k hidden = (
@@ -116,18 +120,31 @@ hidden_place g k hidden = (
     below : (a b : ℕ) → nat_lt a b ≡ true → a < b
     below a b e = elim (lt_tells a b) [ inl x ↦ x.1 | inr x ↦ absurd (let clash : true ≡ false = sym e ∙ x.0 in cc) ]
 
+-- what stands in a stack
+stack_seen : (gs : List Granule) (rows : Rows) (a : Area) (j : ℕ) → Holds gs rows → StackLies rows.region rows.heap.range.base (8 * length gs) a
+    → a.stack ≤ rows.region.ram + 8 * j → rows.region.ram + 8 * j < a.stack + a.stack_length → hidden gs rows j ≡ false
+stack_seen gs rows a j holds s low high = elim (bool_tells (hidden gs rows j)) [
+  | inl is_hidden ↦ absurd (elim (hidden_cases gs rows j holds is_hidden) [
+    | inl region ↦
+        (let place = hidden_place rows.region j region in
+        let from = place.0 in
+        let to = place.1 in
+        elim s.apart [ inl x ↦ omega (arith, from, high, x) | inr x ↦ omega (arith, to, low, x) ])
+    | inr heap ↦ (let start = heap_low rows.heap gs j heap in let ram = holds.heap.ram in let before = s.before in omega (arith, start, ram, before, high))
+  ])
+  | inr open_ ↦ open_
+]
+
+never_hidden : (gs : List Granule) (rows : Rows) (j : ℕ) → hidden gs rows j ≡ true → hidden gs rows j ≡ false → ⊥
+never_hidden gs rows j is_hidden open_ = let clash : true ≡ false = sym is_hidden ∙ open_ in cc
+
+-- ---- one is zeroed
+
 stack_stays : (gs : List Granule) (rows : Rows) (a : Area) (high : ℕ) → Holds gs rows → StackLies rows.region rows.heap.range.base (8 * length gs) a → high ≤ a.stack + a.stack_length
     → HiddenStays gs (zeroed_from a.stack high rows.region.ram gs) rows
 stack_stays gs rows a high holds s le = λ k is_hidden.
     zeroed_at a.stack high rows.region.ram gs k (λ (g : Granule). g.cap ≡ held gs k)
-    (λ lo hi. absurd (elim (hidden_cases gs rows k holds is_hidden) [
-      | inl region ↦
-          (let place = hidden_place rows.region k region in
-          let from = place.0 in
-          let to = place.1 in
-          elim s.apart [ inl x ↦ omega (arith, from, hi, x, le) | inr x ↦ omega (arith, to, lo, x) ])
-      | inr heap ↦ (let low = heap_low rows.heap gs k heap in let ram = holds.heap.ram in let before = s.before in omega (arith, low, ram, before, le, hi))
-    ]))
+    (λ lo hi. absurd (never_hidden gs rows k is_hidden (stack_seen gs rows a k holds s lo (omega (arith, hi, le)))))
     (λ out. refl)
 
 pub zeroed_holds : (gs : List Granule) (rows : Rows) (a : Area) (high : ℕ) → Holds gs rows → StackLies rows.region rows.heap.range.base (8 * length gs) a
@@ -157,3 +174,40 @@ zeroed_touches lo hi from to place gs hs touches = record {
 
     never : (k : ℕ) → from ≤ place + 8 * k → place + 8 * k < to → (place + 8 * k < from) ⊎ (to ≤ place + 8 * k) → ⊥
     never k a b o = elim o [ inl c ↦ omega (arith, a, c) | inr c ↦ omega (arith, b, c) ]
+
+-- ---- words are written to one
+
+-- So many granules of a stack from k on.
+pub record InStack (rows : Rows) (a : Area) (k n : ℕ) : Type 0 where
+  pub low : a.stack ≤ rows.region.ram + 8 * k
+  pub high : rows.region.ram + 8 * (k + n) ≤ a.stack + a.stack_length
+
+words_stay : (gs : List Granule) (rows : Rows) (a : Area) (k : ℕ) (cs : List Cap) → Holds gs rows → StackLies rows.region rows.heap.range.base (8 * length gs) a
+    → InStack rows a k (length cs) → HiddenStays gs (holding_all gs k cs) rows
+words_stay gs rows a k cs holds s place = λ j is_hidden.
+    let low = place.low in
+    let high = place.high in
+    ap (λ (g : Granule). g.cap) ((all_touches gs k cs).rest j (elim (lt_tells j k) [
+      | inl below ↦ inl below.1
+      | inr above ↦ elim (lt_tells j (k + length cs)) [
+        | inl within ↦
+            (let from = above.1 in
+            let to = within.1 in
+            absurd (never_hidden gs rows j is_hidden (stack_seen gs rows a j holds s (omega (arith, low, from)) (omega (arith, high, to)))))
+        | inr past ↦ inr past.1
+      ]
+    ]))
+
+pub words_hold : (gs : List Granule) (rows : Rows) (a : Area) (k : ℕ) (cs : List Cap) → Holds gs rows → StackLies rows.region rows.heap.range.base (8 * length gs) a
+    → InStack rows a k (length cs) → Holds (holding_all gs k cs) rows
+words_hold gs rows a k cs holds s place =
+    away_holds gs (holding_all gs k cs) rows holds (all_length gs k cs) (words_stay gs rows a k cs holds s place)
+
+pub words_are_seen : (gs : List Granule) (rows : Rows) (a : Area) (k : ℕ) (cs : List Cap) → Holds gs rows → StackLies rows.region rows.heap.range.base (8 * length gs) a
+    → InStack rows a k (length cs) → seen (holding_all gs k cs) rows ≡ with_granules (seen gs rows) (holding_all (seen gs rows).granules k cs)
+words_are_seen gs rows a k cs holds s place =
+    let low = place.low in
+    let high = place.high in
+    away_seen gs (holding_all gs k cs) rows holds (all_length gs k cs) (words_stay gs rows a k cs holds s place)
+    ∙ ap (λ xs. with_granules (seen gs rows) xs)
+    (sym (held_seen (hidden gs rows) gs k cs (λ j from to. stack_seen gs rows a j holds s (omega (arith, low, from)) (omega (arith, high, to)))))

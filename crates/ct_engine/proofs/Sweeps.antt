@@ -204,6 +204,7 @@ slice_holds gs hs rows low high is holds inside =
         within = subst (λ n. high ≤ 8 * n) (sym (kept_length f 0 gs)) inside;
         clear = slice_clear rows.region.ram gs low high rows.heap holds.heap.laid holds.heap.clear;
       };
+      room = holds.room;
     } in
     subst (λ xs. Holds xs (with_front rows (Some high))) (sym (slice_kept rows.region.ram low high gs hs is)) kept
 

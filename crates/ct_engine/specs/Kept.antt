@@ -1,9 +1,11 @@
--- What an engine keeps: where the threads' areas lie, and what stands in them; and that chunks and heap agree.
-use Rattle.std.specs.Prelude.{ℕ, ◌+◌, ◌-◌, ◌*◌, ◌%◌, ◌≡◌, ◌≤◌, ◌<◌, ◌⊎◌, Bool, true, false, List, [], ◌∷◌, length, map, Option, Some, unwrap_or}
+-- What an engine keeps: where the threads' areas lie, and what stands in them; that chunks and heap agree; and that there
+-- is room for the rows of keys and tokens.
+use Rattle.std.specs.Prelude.{ℕ, ◌+◌, ◌-◌, ◌*◌, ◌/◌, ◌%◌, ◌≡◌, ◌≤◌, ◌<◌, ◌⊎◌, Bool, true, false, List, [], ◌∷◌, length, map, Option, Some, unwrap_or}
 use Rattle.def_words.specs.declared.Cap.{Cap}
 use Rattle.def_memory.specs.declared.Granule.{Granule}
 use Rattle.def_memory.specs.Granules.{plain, held}
 use Rattle.def_memory.specs.Ranges.{is_tagged}
+use Rattle.def_chunks.specs.declared.heads.TheConstants.{SLOT}
 use Rattle.def_chunks.specs.Heaps.{HeapRow, Laid}
 use Rattle.law_heaped.specs.Heaped.{heap_hides}
 use Rattle.def_machine.specs.Slices.{is_number}
@@ -75,10 +77,11 @@ pub record HeapHolds (gs : List Granule) (g : Region) (h : HeapRow) (front : Opt
   pub clear : IsClear h gs
 
 -- All areas in the region, the thread that runs is one of them, their stacks lie apart from the region and before the
--- heap, and the heap.
+-- heap, the heap, and room for a row of each object that it may have.
 pub record Holds (gs : List Granule) (r : Rows) : Type 0 where
   pub areas : AreasFrom r.region.ram gs r.running 0 r.region.trusted r.region.end r.list.items
   pub runs : (t : ℕ) → r.running ≡ Some t → t < length r.list.items
   pub stacks : Each (StackLies r.region r.heap.range.base (8 * length gs))
       (map (λ (t : row.Thread). t.area) r.list.items)
   pub heap : HeapHolds gs r.region r.heap r.front
+  pub room : r.tokens.room ≡ r.heap.range.length / SLOT

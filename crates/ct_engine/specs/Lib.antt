@@ -3,6 +3,7 @@ pub mod Kept
 pub mod Starts
 pub mod Steps
 pub mod Calls
+pub mod Handling
 pub mod Grants
 pub mod Sweeps
 pub mod Written

@@ -1,13 +1,13 @@
--- What contracts see of an engine: memory behind the veil, its threads as the machine's state has them, and its heap's
--- objects as rows.
-use Rattle.std.specs.Prelude.{ℕ, ◌+◌, ◌*◌, ◌&&◌, ◌||◌, Bool, nat_le, nat_lt, List, [], ◌∷◌, length, Option, Some, None, map, slice_set, slice_index_or}
+-- What contracts see of an engine: memory behind the veil, its threads as the machine's state has them, its heap's
+-- objects as rows, and the rows of those that are keys and tokens.
+use Rattle.std.specs.Prelude.{ℕ, ◌+◌, ◌*◌, ◌&&◌, ◌||◌, Bool, nat_le, nat_lt, List, [], ◌∷◌, Option, Some, map, slice_set, slice_index_or}
 use Rattle.def_profile.specs.declared.layout.TheConstants.{GRANULE}
 use Rattle.def_memory.specs.declared.Granule.{Granule}
 use Rattle.def_machine.specs.Image.{Image, trusted_end}
-use Rattle.def_machine.specs.State.{Thread, Object, nobody}
+use Rattle.def_machine.specs.State.{Thread, Object, Token, nobody}
 use Rattle.def_chunks.specs.declared.rows.Range.{Range}
 use Rattle.def_chunks.specs.declared.rows.Account.{Account}
-use Rattle.def_chunks.specs.Heaps.{HeapRow, objects_of}
+use Rattle.def_chunks.specs.Heaps.{objects_of}
 use Rattle.law_heaped.specs.Heaped.{hides_heap}
 use Rattle.def_machine.specs.Slices.{is_number}
 use Rattle.def_machine.specs.Threads.{picked_with, jumped}
@@ -37,9 +37,9 @@ threads_of gs running n [] = []
 threads_of gs running n (t ∷ ts) =
     thread_of gs (is_number running n) t ∷ threads_of gs running (n + 1) ts
 
--- `next` is the next object's number; `front` is the running sweep's, an offset in RAM in bytes; the heap's base and end
--- are addresses; `limits` are in bytes, by the quotas' numbers. Where areas, stacks and the heap lie, and what quotas may
--- take, never changes.
+-- `tokens` stand by their numbers; `next` is the next object's number; `front` is the running sweep's, an offset in RAM in
+-- bytes; the heap's base and end are addresses; `limits` are in bytes, by the quotas' numbers. Where areas, stacks and the
+-- heap lie, and what quotas may take, never changes.
 pub record Seen : Type 0 where
   pub granules : List Granule
   pub threads : List Thread
@@ -47,6 +47,7 @@ pub record Seen : Type 0 where
   pub region : Region
   pub areas : List Area
   pub objects : List Object
+  pub tokens : List Token
   pub next : ℕ
   pub front : Option ℕ
   pub heap_base : ℕ
@@ -76,6 +77,7 @@ seen_by objects r gs ts running = record {
   region = r.region;
   areas = map (λ (t : row.Thread). t.area) ts;
   objects = objects;
+  tokens = r.tokens.rows;
   next = r.heap.next;
   front = r.front;
   heap_base = r.heap.range.base;

@@ -65,6 +65,7 @@ started gs g fs h = record {
   region = g;
   areas = map (λ (f : Fresh). f.area) fs;
   objects = [];
+  tokens = [];
   next = 1;
   front = None;
   heap_base = h.range.base;

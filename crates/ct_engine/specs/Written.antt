@@ -1,11 +1,13 @@
 -- A state of the machine, and what is seen of an engine that holds the same.
 use Rattle.std.specs.Prelude.{ℕ, ◌≡◌, ◌<◌, List, length, Option, slice_set}
+use Rattle.def_words.specs.declared.Trap.{Trap}
 use Rattle.def_machine.specs.Image.{Image, root, stack_base, frames_most, area_of}
-use Rattle.def_machine.specs.State.{State, Thread, Status}
+use Rattle.def_machine.specs.State.{State, Thread, Frame, Status}
 use Rattle.def_machine.specs.State as state
 use Rattle.def_machine.specs.Threads.{with_statuses}
 use Rattle.def_machine.specs.Frames as machine
 use Rattle.def_reach.specs.Roots.{compartment_of}
+use Rattle.def_step.specs.Handlers.{handled, handler_entered}
 use Rattle.ct_areas.specs.Threads as areas
 use Rattle.ct_engine.specs.Seen.{Seen, thread, area_at, limit_at}
 
@@ -32,6 +34,11 @@ callee_thread i m t export high =
     machine.entered i (state.thread m t) (compartment_of (root i export).owner) export high
     (machine.given i (state.thread m t) t (compartment_of (root i export).owner) export high)
 
+-- and after the written entry of an error handler; who runs is as it was
+abbrev pub handler_seen : Image → State → Seen → ℕ → Trap → Frame → List Frame → Seen
+handler_seen i m s t why f fs = record (seen_so s t (handled i (state.thread m t) why f fs)
+    (handler_entered i m t why f fs)) { running = s.running }
+
 -- ---- the whole state
 
 -- the state where this is seen, whose threads have these statuses
@@ -41,6 +48,7 @@ state_with m s statuses = record m {
   threads = with_statuses s.threads statuses;
   running = s.running;
   objects = s.objects;
+  tokens = s.tokens;
   next = s.next;
   front = s.front;
 }

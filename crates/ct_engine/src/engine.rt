@@ -6,6 +6,7 @@ ghost use Rattle.def_profile.specs.declared.answers.TheConstants.{UNWOUND};
 ghost use Rattle.def_memory.specs.Accesses.{IsAccess, loaded};
 ghost use Rattle.def_machine.specs.State.{register};
 ghost use Rattle.def_step.specs.Instructions.{actor_of};
+ghost use Rattle.def_step.specs.Handlers.{handler_value};
 ghost use Rattle.def_veil.specs.Steps.{IsSeen, SeesAccess};
 ghost use Rattle.ct_engine.specs.Starts.{MayStart, started};
 ghost use Rattle.ct_engine.specs.Seen.{hides, thread, with_granules, with_running, resumed, went};
@@ -13,10 +14,12 @@ ghost use Rattle.ct_engine.specs.Steps.{space_in, next_in, NextInRange, HeapLies
 ghost use Rattle.ct_exports.specs.Exports.{AreSorted};
 ghost use Rattle.ct_switch.specs.Calls.{told};
 ghost use Rattle.ct_engine.specs.Calls.{TopLies, MayCall, switch_at, after_call, returned, ended_with};
+ghost use Rattle.ct_engine.specs.Handling.{MayHandle, is_handled_at, is_marked, after_trap};
 
 use crate::accesses::access;
 use crate::calls;
 use crate::fetching::next;
+use crate::handling::{handle, is_handling, value_in};
 use crate::rows::{Region, Rows};
 use crate::starting::{Fresh, start};
 use crate::steps::{actor, go, pcc, posture, register};
@@ -204,6 +207,41 @@ impl<M: Memory + Drop> Engine<M> {
         ensures is { self.new ≡ ended_with self.old t UNWOUND }
     {
         calls::end_with(&mut self.rows, &mut self.mem, t, e, UNWOUND)
+    }
+
+    /// The running thread trapped: its compartment's error handler, the export with this number, is entered where
+    /// *Handler* enters it; 0 is none. `false` exactly where it isn't entered; then nothing changes.
+    ///
+    /// Then the record of the trap stands on the thread's stack, and the thread goes on in the handler with interrupts
+    /// on; its innermost frame is marked. No memory is taken. docs/use/machine.md.
+    pub fn handle(&mut self, t: u32, e: &Entries, handler: u32, trap: Trap) -> bool
+        requires runs { self.old.running ≡ Some t }
+        requires may { MayHandle self.old t e.now handler }
+        ensures result { result ≡ is_handled_at self.old t handler }
+        ensures is { self.new ≡ after_trap self.old e.now t handler trap }
+    {
+        handle(&mut self.rows, &mut self.mem, t, e, handler, trap)
+    }
+
+    /// Whether the error handler of the running thread's innermost frame was entered.
+    pub fn is_handling(&self, t: u32) -> bool
+        requires { self.now.running ≡ Some t }
+        ensures { result ≡ is_marked (thread self.now t).frames }
+    {
+        is_handling(&self.rows, t)
+    }
+
+    /// The innermost frame of the running thread, whose error handler was entered, ends: where the address of c10 is 1
+    /// it is the return with c10 = that of c11 and c11 = 0, else the unwind. `false` exactly where the frame was the
+    /// thread's last. docs/use/machine.md.
+    pub fn end_handler(&mut self, t: u32, e: &Entries) -> bool
+        requires runs { self.old.running ≡ Some t }
+        requires top { TopLies self.old t }
+        ensures result { result ≡ nat_lt 1 (length (thread self.old t).frames) }
+        ensures is { self.new ≡ ended_with self.old t (handler_value (thread self.old t)) }
+    {
+        let value = value_in(&self.rows, t);
+        calls::end_with(&mut self.rows, &mut self.mem, t, e, value)
     }
 
     /// What stands at an address, where nothing is hidden: an instruction, the return, another native routine by its

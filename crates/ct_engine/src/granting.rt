@@ -2,13 +2,9 @@
 
 ghost use Rattle.std.specs.Prelude.{◌≡◌, ◌-◌, ◌≤◌, ◌<◌, Some, None, length, IfOk, MatchResult};
 ghost use Rattle.def_profile.specs.declared.limits.TheConstants.{MOST_STEPS};
-ghost use Rattle.def_machine.specs.Image.{Image};
 ghost use Rattle.def_machine.specs.Objects.{charges, has_quarantined};
-ghost use Rattle.def_machine.specs.State.{State};
-ghost use Rattle.def_step.specs.Quotas.{allocation};
-ghost use Rattle.ct_engine.specs.Grants.{new_object, after_allocation, allocation_told, IsTold, WasWhole, whole_in, freed_by};
+ghost use Rattle.ct_engine.specs.Grants.{new_object, after_allocation, allocation_in, allocation_told, IsTold, WasWhole, whole_in, freed_by};
 ghost use Rattle.ct_engine.specs.Seen.{limit_at};
-ghost use Rattle.ct_engine.specs.Written.{HasHeap, SharesObjects};
 
 use crate::engine::Engine;
 use crate::steps::sift;
@@ -25,8 +21,8 @@ impl<M: Memory + Drop> Engine<M> {
         requires quota { quota < length self.old.limits }
         requires few { self.old.next ≤ MOST_STEPS }
         ensures is { self.new ≡ after_allocation self.old quota size result }
-        ensures answer { (i : Image) (m : State) → HasHeap i self.old → SharesObjects m self.old
-            → allocation i m quota size ≡ allocation_told self.old quota size result }
+        ensures answer { allocation_in self.old quota size
+            ≡ allocation_told self.old quota size result }
         ensures told { IfOk result
             (λ o. IsTold self.new o (new_object self.old quota size o.base)) }
     {
@@ -34,8 +30,8 @@ impl<M: Memory + Drop> Engine<M> {
     }
 
     /// The live object of a quota with exactly these bounds, which are addresses, is freed: it is zeroed and
-    /// quarantined, its chunk is marked, and then the registers of the running thread pass the load filter.
-    /// `NotWhole` comes exactly where there is none; then nothing changes.
+    /// quarantined, its chunk is marked, its row goes where it is a key or a token, and then the registers of the
+    /// running thread pass the load filter. `NotWhole` comes exactly where there is none; then nothing changes.
     pub fn free(&mut self, t: u32, quota: u32, base: u32, top: u64) -> Result<Object, NotWhole>
         requires runs { self.old.running ≡ Some t }
         requires quota { quota < length self.old.limits }
@@ -45,6 +41,7 @@ impl<M: Memory + Drop> Engine<M> {
             (λ why. whole_in self.old quota base top ≡ None) }
     {
         let object = self.rows.heap.free(&mut self.mem, quota, base, top)?;
+        self.rows.tokens.drop_row(object.number);
         sift(&mut self.rows, &self.mem, t);
         Ok(object)
     }

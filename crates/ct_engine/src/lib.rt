@@ -2,11 +2,11 @@
 //! that firmware never sees.
 //!
 //! Contracts see memory behind one veil, over what threads keep and over the heap outside live objects; the threads of
-//! the machine's state and the heap's objects as its rows, which are functions of memory and of what is kept beside it
-//! (specs/Seen). A thread that stops and one that is picked change nothing of these but who runs, and what the load
-//! filter takes from the picked one; a store of what isn't hidden changes no thread and no object. An allocation, a free
-//! and a slice of a sweep are the changes that the machine's definitions say. docs/use/machine.md tells the layout in
-//! prose.
+//! the machine's state, the heap's objects and the keys and tokens among them as its rows, which are functions of memory
+//! and of what is kept beside it (specs/Seen). A thread that stops and one that is picked change nothing of these but
+//! who runs, and what the load filter takes from the picked one; a store of what isn't hidden changes no thread and no
+//! object. A call, a frame's end, an error handler's begin, an allocation, one with a row of a key or a token, a free and
+//! a slice of a sweep are the changes that the machine's definitions say. docs/use/machine.md tells the layout in prose.
 #![tactic(auto)]
 
 mod accesses;
@@ -14,8 +14,10 @@ mod calls;
 mod engine;
 mod fetching;
 mod granting;
+mod handling;
 mod quiet;
 mod rows;
+mod sealing;
 mod starting;
 mod steps;
 mod sweeping;
@@ -23,10 +25,10 @@ mod turns;
 mod written;
 
 pub use calls::callee_given;
-pub use ct_heap::{Heap, HeapRefusal, NotWhole, Object};
+pub use ct_heap::{Found, Heap, HeapRefusal, NotWhole, Object};
 pub use ct_switch::Called;
 pub use def_refusals::NoMemory;
 pub use engine::Engine;
 pub use rows::Region;
 pub use starting::Fresh;
-pub use written::{calls_written, ends_written, grants_written, sweeps_written};
+pub use written::{calls_written, ends_written, grants_written, handlers_written, sweeps_written};

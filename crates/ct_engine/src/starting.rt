@@ -15,6 +15,7 @@ use ct_cap::{Live, Posture};
 use ct_heap::Heap;
 use ct_mem::Memory;
 use ct_revoke::Front;
+use ct_token::Tokens;
 use def_refusals::NoMemory;
 use std::alloc::Global;
 
@@ -77,7 +78,8 @@ fn begin_all<M: Memory>(
 ) -> Result<Vec<Thread>, NoMemory>
     requires fresh { AreFresh region.ram (8 * length (M.granules mem.old)) region.trusted region.end
         fresh.now }
-    requires clear { (k : ℕ) → region_hides region k ≡ true → held (M.granules mem.old) k ≡ plain 0 }
+    requires clear { (k : ℕ) → region_hides region k ≡ true
+        → held (M.granules mem.old) k ≡ plain 0 }
     ensures { IfOk result (λ list. HaveBegun region (M.granules mem.old) (M.granules mem.new)
         list.items fresh.now) }
 {
@@ -103,6 +105,7 @@ pub(crate) fn start<M: Memory>(
         ≡ started (M.granules mem.old) region fresh.now heap) }
 {
     let list = begin_all(alloc, mem, region, fresh)?;
+    let tokens = Tokens::new(alloc, heap.length())?;
     let mut heap = heap;
     heap.lay(mem);
     Ok(Rows {
@@ -111,5 +114,6 @@ pub(crate) fn start<M: Memory>(
         running: None,
         heap,
         front: Front::idle(),
+        tokens,
     })
 }

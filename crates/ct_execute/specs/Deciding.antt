@@ -12,12 +12,12 @@ use Rattle.def_instr.specs.Table.{InRange}
 use Rattle.def_reach.specs.Roots.{root_of}
 use Rattle.def_machine.specs.State.{State, Thread, register}
 use Rattle.def_machine.specs.State as state
-use Rattle.def_machine.specs.Frames.{returned}
 use Rattle.def_step.specs.declared.Next.{Next}
 use Rattle.def_step.specs.declared.Next.TheVariants.{Returning, Instruction, Native as Routine, Nothing}
 use Rattle.def_profile.specs.declared.traps.TheConstants.{ILLEGAL_INSTRUCTION}
 use Rattle.def_step.specs.declared.Operands.{Operands}
 use Rattle.def_step.specs.Checks.{first_failed}
+use Rattle.def_step.specs.Handlers.{return_taken}
 use Rattle.def_step.specs.Devices.{Bank}
 use Rattle.def_step.specs.Accesses.{Space}
 use Rattle.def_step.specs.Operands.{operands_of, class_of}
@@ -75,7 +75,7 @@ decide e w p = decide_fetched e w p (first_failed (fetch_checks w.pcc))
 -- the decision on the whole state
 abbrev pub settle : Board → State → ℕ → Decision → State × Option Deed
 settle b s t (Goes d entry) = (put_done s t d, option_map (deed s t entry) d.act)
-settle b s t Returns = (returned b.image s t (state.thread s t).frames, None)
+settle b s t Returns = (return_taken b.image s t (state.thread s t).frames, None)
 settle b s t (Serves number) = served b s t (native b.image s t number)
 settle b s t (Traps why) = trapped b s t why
 

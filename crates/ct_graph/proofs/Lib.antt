@@ -1,7 +1,9 @@
 pub mod Lists
 pub mod Paths
 pub mod Relaxing
+pub mod Levels
 pub mod Owners
+pub mod Passing
 pub mod Steps
 pub mod Connects
 pub mod Orders

@@ -72,7 +72,7 @@ all_unknown : (n k : ℕ) → unknown n (replicate k n) ≡ k
 all_unknown n zero = refl
 all_unknown n (suc k) = let later : unknown n (replicate k n) ≡ k = all_unknown n k in let here : nat_eq n n ≡ true = eq-eqb n n refl in rw here (omega (arith, later))
 
-never : (n k v : ℕ) → slice_index_or (replicate k n) v n ≡ n
+pub never : (n k v : ℕ) → slice_index_or (replicate k n) v n ≡ n
 never n zero v = refl
 never n (suc k) zero = refl
 never n (suc k) (suc v) = never n k v

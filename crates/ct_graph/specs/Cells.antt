@@ -75,17 +75,29 @@ pub record IsLoose (joined : ℕ → ℕ → Bool) (n : ℕ) (ds : List ℕ) (v 
 abbrev pub NoneLoose : (ℕ → ℕ → Bool) → ℕ → List ℕ → Type 0
 NoneLoose joined n ds = (v x : ℕ) → joined v x ≡ true → far n ds x < n → far n ds v ≤ far n ds x + 1
 
--- the same of one row: a place that is `own` far
-pub record IsNearer (row : List Bool) (n : ℕ) (ds : List ℕ) (own value : ℕ) : Type 0 where
-  pub by : ℕ
-  pub joins : slice_index_or row by false ≡ true
-  pub there : far n ds by < n
-  pub is : value ≡ far n ds by + 1
-  pub nearer : value < own
+-- the places that are reached are at most `near` far, and each that is nearer has told those that
+-- have a step to it
+pub record HasLevels (joined : ℕ → ℕ → Bool) (n b near : ℕ) (ds : List ℕ) : Type 0 where
+  pub relaxed : Relaxed joined n b ds
+  pub known : (v : ℕ) → far n ds v < n → far n ds v ≤ near
+  pub closed : (v x : ℕ) → joined v x ≡ true → far n ds x < near → far n ds v ≤ far n ds x + 1
 
-abbrev pub NoneNearer : List Bool → ℕ → List ℕ → ℕ → Type 0
-NoneNearer row n ds own =
-    (x : ℕ) → slice_index_or row x false ≡ true → far n ds x < n → own ≤ far n ds x + 1
+-- the same in the midst of a level: those below a place that are just so far have told them too
+pub record IsLevel (joined : ℕ → ℕ → Bool) (n b near place : ℕ) (ds : List ℕ) : Type 0 where
+  pub relaxed : Relaxed joined n b ds
+  pub known : (v : ℕ) → far n ds v < n → far n ds v ≤ near + 1
+  pub closed : (v x : ℕ) → joined v x ≡ true → far n ds x < near → far n ds v ≤ far n ds x + 1
+  pub told : (v x : ℕ) → x < place → joined v x ≡ true → far n ds x ≡ near
+      → far n ds v ≤ near + 1
+
+-- of the places below a limit, those that weren't reached and have a step to x, which is `near` far,
+-- are one farther; the others stay as they were
+pub record IsSpread (joined : ℕ → ℕ → Bool) (n b x near limit : ℕ) (old new : List ℕ) : Type 0
+  where
+    pub relaxed : Relaxed joined n b new
+    pub kept : (v : ℕ) → far n old v < n → far n new v ≡ far n old v
+    pub fresh : (v : ℕ) → far n old v ≡ n → far n new v < n → far n new v ≡ near + 1
+    pub reached : (v : ℕ) → v < limit → joined v x ≡ true → far n new v < n
 
 -- the least place of one row that is nearer by one
 pub record IsNextIn (row : List Bool) (n : ℕ) (ds : List ℕ) (own y : ℕ) : Type 0 where

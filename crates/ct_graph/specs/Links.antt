@@ -1,12 +1,13 @@
 -- What the code reads of each row, and the steps of a path as tests on what it reads.
-use Rattle.std.specs.Prelude.{ℕ, ◌==◌, ◌&&◌, ◌||◌, Bool, not, List, map}
+use Rattle.std.specs.Prelude.{ℕ, ◌≡◌, ◌<◌, ◌==◌, ◌&&◌, ◌||◌, Bool, false, not, List, map, length, slice_index_or}
 use Rattle.std.specs.List.{list_any, filter}
 use Rattle.ct_entry.specs.declared.rows.Entry.{Entry}
+use Rattle.ct_entry.specs.declared.rows.Gate.{Gate}
 use Rattle.ct_entry.specs.declared.rows.Owner.{Owner}
 use Rattle.ct_entry.specs.Kinds.{is_call, is_shared, is_library_slot, is_compartment, is_library}
 use Rattle.ct_entry.specs.Listed.{Listed}
 use Rattle.def_words.specs.Permissions.{bit, memory_capability}
-use Rattle.def_reach.specs.Roots.{root_of}
+use Rattle.def_reach.specs.Roots.{root_of, gate_for}
 use Rattle.def_graph.specs.Reach.{same_owner}
 use Rattle.ct_graph.specs.declared.links.Link.{Link}
 
@@ -24,6 +25,11 @@ link_of e r = record {
 
 abbrev pub links_of : Listed → List Link
 links_of e = map (link_of e) e.rows
+
+-- for each number below a count, whether the gate of that export passes capabilities
+pub record ArePassing (gates : List Gate) (count : ℕ) (passes : List Bool) : Type 0 where
+  pub size : length passes ≡ count
+  pub each : (n : ℕ) → n < count → slice_index_or passes n false ≡ (gate_for gates n).capabilities
 
 abbrev pub own : List Link → Owner → List Link
 own ls o = filter (λ (l : Link). same_owner l.owner o) ls

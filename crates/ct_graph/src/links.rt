@@ -1,13 +1,12 @@
 //! What the graph reads of each row, and whether one owner has a step to another.
 
-ghost use Rattle.std.specs.Prelude.{ℕ, ◌≡◌, ◌==◌, ◌/◌, ◌%◌, ◌^◌, ◌<◌, List, Bool, map, IfOk, length};
+ghost use Rattle.std.specs.Prelude.{ℕ, ◌≡◌, ◌+◌, ◌==◌, ◌/◌, ◌%◌, ◌^◌, ◌<◌, List, Bool, map, IfOk, length, nat_lt, slice_set, if◌then◌else◌};
 ghost use Rattle.std.specs.List.{list_any, filter};
 ghost use Rattle.def_words.specs.Permissions.{bit};
 ghost use Rattle.ct_entry.specs.Kinds.{is_compartment, is_library, is_shared};
-ghost use Rattle.ct_entry.specs.Listed.{Listed};
-ghost use Rattle.def_reach.specs.Roots.{root_of, gate_for};
+ghost use Rattle.def_reach.specs.Roots.{root_of};
 ghost use Rattle.def_graph.specs.Reach.{same_owner};
-ghost use Rattle.ct_graph.specs.Links.{link_of, links_of, own, calls, brings, shares, meets, steps, holds};
+ghost use Rattle.ct_graph.specs.Links.{ArePassing, link_of, links_of, own, calls, brings, shares, meets, steps, holds};
 ghost use Rattle.std.specs.Prelude.{◌&&◌};
 
 use ct_entry::{Entries, Entry, Gate, Kind, Owner};
@@ -41,19 +40,49 @@ pub fn same(a: Owner, b: Owner) -> bool
 pub(crate) fn links(alloc: Global, entries: &Entries) -> Result<Vec<Link>, AllocError>
     ensures { IfOk result (λ v. v.items ≡ links_of entries.now) }
 {
+    let passes = passing(alloc, entries.gates.as_slice(), entries.rows.len() + 1)?;
     let mut all = Vec::new(alloc);
     for row in &entries.rows {
-        all.push(look_up(entries, *row))?;
+        all.push(look_up(entries, passes.as_slice(), *row))?;
     }
     Ok(all)
 }
 
+/// For each entry's number below a count, whether the gate of that export passes capabilities. The
+/// first gate of a number is the one that counts, so the last is noted first.
+fn passing(alloc: Global, gates: &[Gate], count: usize) -> Result<Vec<bool>, AllocError>
+    ensures { IfOk result (λ v. ArePassing gates.now count v.items) }
+{
+    let mut all = vec![in alloc; false; count]?;
+    let mut left = gates.len();
+    while left > 0 {
+        left -= 1;
+        note(&mut all, gates[left]);
+    }
+    Ok(all)
+}
+
+/// Notes a gate at its number, if that is below the count.
+fn note(all: &mut Vec<bool>, gate: Gate)
+    ensures { all.new.items
+        ≡ (if nat_lt gate.entry (length all.old.items)
+        then slice_set all.old.items gate.entry gate.capabilities
+        else all.old.items) }
+{
+    let number = gate.entry as usize;
+    if number >= all.len() {
+        return;
+    }
+    all[number] = gate.capabilities;
+}
+
 /// A row's link.
 #[tactic(auto, unfolding(def_words::specs::Permissions::bit))]
-fn look_up(entries: &Entries, row: Entry) -> Link
+fn look_up(entries: &Entries, passes: &[bool], row: Entry) -> Link
+    requires { ArePassing entries.now.gates (length entries.now.rows + 1) passes.now }
     ensures { result ≡ link_of entries.now row }
 {
-    let (target, passes) = named(entries.rows.as_slice(), entries.gates.as_slice(), row.of);
+    let (target, passes) = named(entries, passes, row.of);
     Link {
         owner: row.owner,
         kind: row.kind,
@@ -66,30 +95,18 @@ fn look_up(entries: &Entries, row: Entry) -> Link
 
 /// The owner of the entry of this number, and whether a call of it passes capabilities.
 #[tactic(auto, unfolding(def_reach::specs::Roots::root_of))]
-fn named(rows: &[Entry], gates: &[Gate], number: u32) -> (Owner, bool)
-    ensures { let e : Listed = record { rows = rows.now; gates = gates.now } in
-        ((root_of e number).owner ≡ result.0) × ((root_of e number).passes ≡ result.1) }
+fn named(entries: &Entries, passes: &[bool], number: u32) -> (Owner, bool)
+    requires { ArePassing entries.now.gates (length entries.now.rows + 1) passes.now }
+    ensures { ((root_of entries.now number).owner ≡ result.0)
+        × ((root_of entries.now number).passes ≡ result.1) }
 {
     if number == 0 {
         return (Owner::Trusted, false);
     }
-    match rows.get(number as usize - 1) {
-        Some(row) => (row.owner, passes(gates, number)),
+    match entries.rows.get(number as usize - 1) {
+        Some(row) => (row.owner, passes[number as usize]),
         None => (Owner::Trusted, false),
     }
-}
-
-/// Whether the gate of this export passes capabilities.
-#[tactic(auto, unfolding(def_reach::specs::Roots::gate_for))]
-fn passes(gates: &[Gate], number: u32) -> bool
-    ensures { result ≡ (gate_for gates.now number).capabilities }
-{
-    for gate in gates {
-        if gate.entry == number {
-            return gate.capabilities;
-        }
-    }
-    false
 }
 
 /// The links of one owner.

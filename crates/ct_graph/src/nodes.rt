@@ -6,6 +6,7 @@ ghost use Rattle.ct_entry.specs.declared.rows.Owner.{Owner};
 ghost use Rattle.ct_entry.specs.Listed.{Listed};
 ghost use Rattle.def_graph.specs.Reach.{same_owner};
 ghost use Rattle.def_graph.specs.Route.{precedes};
+ghost use Rattle.ct_graph.specs.Cells.{cell};
 ghost use Rattle.ct_graph.specs.Links.{own, steps};
 ghost use Rattle.ct_graph.specs.Nodes.{is_node, row_of, rows_of, with_node, nodes_of, IsPlaceFor, Stands};
 
@@ -138,4 +139,14 @@ pub(crate) fn rows(
         all.push(row(alloc, nodes[place], links[place].as_slice(), nodes, links)?)?;
     }
     Ok(all)
+}
+
+/// What stands in a row of steps at a place; no step past the end.
+pub(crate) fn cell_at(steps: &[Vec<bool>], from: usize, to: usize) -> bool
+    ensures { result ≡ cell (map (λ r. r.items) steps.now) from to }
+{
+    match steps.get(from) {
+        Some(row) => to < row.len() && row[to],
+        None => false,
+    }
 }

@@ -7,14 +7,14 @@ ghost use Rattle.ct_entry.specs.declared.rows.Owner.{Owner};
 ghost use Rattle.ct_entry.specs.declared.rows.Owner.TheVariants.{Trusted, Compartment};
 ghost use Rattle.def_graph.specs.Reach.{Reached, same_owner};
 ghost use Rattle.def_graph.specs.Route.{IsPath, Neighbours};
-ghost use Rattle.ct_graph.specs.Cells.{cell, IsDistance, far};
+ghost use Rattle.ct_graph.specs.Cells.{IsDistance, far};
 ghost use Rattle.ct_graph.specs.Nodes.{AllDistances, HasRows, HasStep, IsGraph, IsNear, IsRoute, NoStep, NotNear, node};
 ghost use Rattle.ct_graph.specs.declared.sharing.Ends.{Ends};
 ghost use Rattle.std.specs.Bool.{MatchBool};
 
 use crate::distances::distances;
 use crate::links::{links, same};
-use crate::nodes::{all_links, has_slots, nodes, place_of, rows};
+use crate::nodes::{all_links, cell_at, has_slots, nodes, place_of, rows};
 use crate::walk::walk;
 use ct_entry::{Comp, Entries, Entry, Gate, Owner};
 use def_refusals::NoMemory;
@@ -233,16 +233,6 @@ fn has_step(nodes: &[Owner], steps: &[Vec<bool>], a: Owner, b: Owner) -> bool
             Some(to) => cell_at(steps, from, to),
             None => false,
         },
-        None => false,
-    }
-}
-
-/// What stands in a row of steps at a place; no step past the end.
-fn cell_at(steps: &[Vec<bool>], from: usize, to: usize) -> bool
-    ensures { result ≡ cell (map (λ r. r.items) steps.now) from to }
-{
-    match steps.get(from) {
-        Some(row) => to < row.len() && row[to],
         None => false,
     }
 }

@@ -84,6 +84,13 @@ impl Heap {
         })
     }
 
+    /// How many bytes the heap has.
+    pub fn length(&self) -> u32
+        ensures { result ≡ self.now.range.length }
+    {
+        self.range.length
+    }
+
     /// Writes the first free chunk, which is the whole heap. A heap without a byte has none.
     pub fn lay<M: Memory>(&mut self, mem: &mut M)
         requires empty { Empty self.old }

@@ -1,20 +1,23 @@
--- What the code leaves of an instruction, and of a frame's end, is what the written step leaves.
-use Rattle.std.proofs.Common.{ℕ, ◌≡◌, ◌<◌, Bool, nat_lt, List, [], ◌∷◌, length, Option, None, option_map, refl, sym, ap, ◌∙◌, slice_set, arith}
+-- What the code leaves of an instruction, of a frame's end and of an error handler's entry is what the written step
+-- leaves.
+use Rattle.std.proofs.Common.{ℕ, ◌≡◌, ◌<◌, Bool, true, false, cond, nat_lt, List, [], ◌∷◌, length, Option, None, option_map, refl, sym, ap, ◌∙◌, slice_set, arith, subst}
 use Rattle.std.proofs.Math.ListN.{get_or, set}
 use Rattle.def_profile.specs.declared.answers.TheConstants.{UNWOUND}
 use Rattle.ct_entry.specs.Listed.{Listed}
 use Rattle.ct_entry.specs.declared.acts.Deed.{Deed}
 use Rattle.def_words.specs.declared.Cap.{Cap}
 use Rattle.def_words.specs.declared.Posture.{Posture}
+use Rattle.def_words.specs.declared.Trap as words
 use Rattle.def_memory.specs.declared.Granule.{Granule}
 use Rattle.def_memory.specs.Granules.{plain}
 use Rattle.def_sched.specs.declared.Status.TheVariants.{Ended}
-use Rattle.def_machine.specs.Image.{Image, stack_base}
-use Rattle.def_machine.specs.State.{State, Thread, Frame, DeviceState, Counts, thread, nobody}
+use Rattle.def_machine.specs.Image.{Image, handler_entry, stack_base}
+use Rattle.def_machine.specs.State.{State, Thread, Frame, DeviceState, Counts, thread, nobody, register}
 use Rattle.def_machine.specs.Threads.{with_statuses, jumped}
 use Rattle.def_machine.specs.Memory.{filtered_in}
 use Rattle.def_machine.specs.Frames as frames
 use Rattle.def_machine.specs.Frames.{left_with, left_by, answer_by}
+use Rattle.def_step.specs.Handlers.{Handed, handled, handled_by, handler_entered, handler_value, is_handled, is_handled_by, record_words, return_taken, trap_taken, words_written, handed}
 use Rattle.def_step.specs.Devices.{Bank}
 use Rattle.def_step.specs.Accesses.{Space}
 use Rattle.def_step.specs.Instructions.{actor_of, deed, space_of, executed}
@@ -25,22 +28,34 @@ use Rattle.ct_sched.specs.Sched.{SchedRow}
 use Rattle.ct_engine.specs.Seen as engine
 use Rattle.ct_engine.specs.Seen.{went, with_granules, area_at, Seen}
 use Rattle.ct_engine.specs.Steps.{space_in}
+use Rattle.ct_exports.specs.Exports.{callee_of}
+use Rattle.law_handlers.proofs.Entered.{says}
 use Rattle.ct_engine.specs.Calls as calls
+use Rattle.ct_engine.specs.Calls.{HeadStands}
+use Rattle.ct_engine.specs.Handling.{is_marked, is_handled_of, handed_at, record_place, handler_begun}
+use Rattle.ct_engine.proofs.AsWritten.{handed_made}
 use Rattle.ct_execute.specs.declared.ran.Ran.{Ran}
 use Rattle.ct_execute.specs.declared.ran.Ran.TheVariants.{Went, Returned, Native, Trapped}
 use Rattle.ct_execute.specs.Deciding.{Decision, Goes, Returns, Serves, Traps, decide, decision, settle, Decided, IfUnfinished}
 use Rattle.ct_execute.proofs.Executed.{executed_is}
 use Rattle.ct_machine.specs.Parts.{state_by, IsKept}
-use Rattle.ct_machine.specs.Going.{left_after, goes_after, status_after, deed_by, finished, IsDone, CameTo}
+use Rattle.ct_machine.specs.Going.{return_at, trap_at, goes_trapped, left_after, goes_after, status_after, deed_by, finished, IsDone, CameTo}
 use Rattle.ct_machine.proofs.Statuses.{thread_with, set_with, end_with, like_with}
 use Rattle.ct_machine.proofs.Keeping.{machine_by, two_more, unfinished_map}
 use Rattle.ct_machine.proofs.Taking.{ram_is, frames_with}
 
--- the stack stands where the image has it, and the actor is the frame's
-pub record Ends (i : Image) (e : Seen) (s : State) (t actor : ℕ) : Type 0 where
+-- the error handler of a compartment, where it has one: it is of that compartment, and its table's head is as boot made it
+pub record Handles (i : Image) (e : Seen) (t actor handler : ℕ) : Type 0 where
+  pub is : handler ≡ handler_entry i actor
+  pub own : (handler_entry i actor ≡ 0 → ⊥) → callee_of i.entries (handler_entry i actor) ≡ actor
+  pub heads : (handler_entry i actor ≡ 0 → ⊥) → HeadStands i e t (handler_entry i actor)
+
+-- the stack stands where the image has it, the actor is the frame's, and the error handler is the actor's
+pub record Ends (i : Image) (e : Seen) (s : State) (t actor handler : ℕ) : Type 0 where
   pub base : (area_at e t).stack ≡ stack_base i t
   pub some : 0 < length (engine.thread e t).frames
   pub acts : actor ≡ actor_of (thread s t).frames
+  pub handles : Handles i e t actor handler
 
 module _ (i : Image) (e : Seen) (r : SchedRow) (pending : Bool) (devices : List DeviceState) (time : ℕ) (c : Counts) (t : ℕ) (kept : IsKept i e r) where
   -- a thread goes on, and RAM and the devices change
@@ -86,13 +101,85 @@ module _ (i : Image) (e : Seen) (r : SchedRow) (pending : Bool) (devices : List 
       λ n. ap (λ (es : Listed). answer_by es (get_or e.threads t nobody) f n) same ∙ ap (λ (x : Thread). answer_by i.entries x f n) (sym (like_with e.threads r.statuses t Ended)) in
       rw (two_more (length fs), alike 10, alike 11) (ended_more f (g ∷ fs) (answer_by i.entries (get_or (with_statuses e.threads r.statuses) t nobody) f 10) (answer_by i.entries (get_or (with_statuses e.threads r.statuses) t nobody) f 11) base)
 
-  -- the unwind
-  unwound_by : (fs : List Frame) → (area_at e t).stack ≡ stack_base i t → 0 < length fs
-      → state_by ((calls.ended_by e t (λ f. plain UNWOUND) (λ f. plain 0) fs)) (status_after (nat_lt 1 (length fs)) r t) pending devices time c
-      ≡ frames.unwound i (state_by e r pending devices time c) t fs
-  unwound_by [] base some = absurd (omega (arith, some))
-  unwound_by (f ∷ []) base some = ended_one f base
-  unwound_by (f ∷ g ∷ fs) base some = rw (two_more (length fs)) (ended_more f (g ∷ fs) (plain UNWOUND) (plain 0) base)
+  -- the end with a value
+  valued_by : (value : ℕ) (fs : List Frame) → (area_at e t).stack ≡ stack_base i t → 0 < length fs
+      → state_by ((calls.ended_by e t (λ f. plain value) (λ f. plain 0) fs)) (status_after (nat_lt 1 (length fs)) r t) pending devices time c
+      ≡ frames.ended_with i (state_by e r pending devices time c) t value fs
+  valued_by value [] base some = absurd (omega (arith, some))
+  valued_by value (f ∷ []) base some = ended_one f base
+  valued_by value (f ∷ g ∷ fs) base some = rw (two_more (length fs)) (ended_more f (g ∷ fs) (plain value) (plain 0) base)
+
+  -- ---- where its error handler was entered, or not
+
+  -- a property of a choice and of another that goes by the same
+  either : (P : Bool → State → Type 0) (b d : Bool) (u v : State) → b ≡ d → (d ≡ true → P true u) → (d ≡ false → P false v) → P b (cond d u v)
+  either P true true u v same yes_case no_case = yes_case refl
+  either P false false u v same yes_case no_case = no_case refl
+  either P true false u v same yes_case no_case = absurd cc
+  either P false true u v same yes_case no_case = absurd cc
+
+  value_alike : handler_value (get_or e.threads t nobody) ≡ handler_value (get_or (with_statuses e.threads r.statuses) t nobody)
+  value_alike = ap (λ (x : Thread). handler_value x) (sym (like_with e.threads r.statuses t Ended))
+
+  return_by : (entries : Listed) (fs : List Frame) → entries ≡ i.entries → (area_at e t).stack ≡ stack_base i t → 0 < length fs
+      → state_by (cond (is_marked fs) (calls.ended_by e t (λ f. plain (handler_value (get_or e.threads t nobody))) (λ f. plain 0) fs)
+      (calls.ended_by e t (λ f. answer_by entries (get_or e.threads t nobody) f 10) (λ f. answer_by entries (get_or e.threads t nobody) f 11) fs)) (status_after (nat_lt 1 (length fs)) r t) pending devices time c
+      ≡ return_taken i (state_by e r pending devices time c) t fs
+  return_by entries [] same base some = absurd (omega (arith, some))
+  return_by entries (f ∷ fs) same base some =
+      either (λ b z. state_by (cond b (calls.ended_by e t (λ g. plain (handler_value (get_or e.threads t nobody))) (λ g. plain 0) (f ∷ fs))
+      (calls.ended_by e t (λ g. answer_by entries (get_or e.threads t nobody) g 10) (λ g. answer_by entries (get_or e.threads t nobody) g 11) (f ∷ fs))) (status_after (nat_lt 1 (length (f ∷ fs))) r t) pending devices time c ≡ z)
+      f.handling f.handling
+      (frames.ended_with i (state_by e r pending devices time c) t (handler_value (get_or (with_statuses e.threads r.statuses) t nobody)) (f ∷ fs))
+      (frames.returned i (state_by e r pending devices time c) t (f ∷ fs)) refl
+      (λ is. valued_by (handler_value (get_or e.threads t nobody)) (f ∷ fs) base some
+      ∙ ap (λ n. frames.ended_with i (state_by e r pending devices time c) t n (f ∷ fs)) value_alike)
+      (λ not_. returned_by entries (f ∷ fs) same base some)
+
+  -- a handler is entered where the written one is
+  handled_alike : (f : Frame) (handler : ℕ) → handler ≡ handler_entry i f.actor → (area_at e t).stack ≡ stack_base i t
+      → is_handled_by handler (area_at e t).stack (get_or e.threads t nobody) f ≡ is_handled i (stack_base i t) (get_or (with_statuses e.threads r.statuses) t nobody) f
+  handled_alike f handler is base =
+      ap (λ n. is_handled_by n (area_at e t).stack (get_or e.threads t nobody) f) is
+      ∙ ap (λ n. is_handled_by (handler_entry i f.actor) n (get_or e.threads t nobody) f) base
+      ∙ ap (λ (x : Thread). is_handled_by (handler_entry i f.actor) (stack_base i t) x f) (sym (like_with e.threads r.statuses t Ended))
+
+  handler_by : (entries : Listed) (handler : ℕ) (why : words.Trap) (f : Frame) (fs : List Frame) → entries ≡ i.entries → handler ≡ handler_entry i f.actor
+      → HeadStands i e t (handler_entry i f.actor) → callee_of i.entries (handler_entry i f.actor) ≡ f.actor
+      → state_by (handler_begun e entries t handler why (f ∷ fs)) r pending devices time c ≡ handler_entered i (state_by e r pending devices time c) t why f fs
+  handler_by entries handler why f fs same is heads own =
+      let old : Thread = get_or e.threads t nobody in
+      let new : Thread = get_or (with_statuses e.threads r.statuses) t nobody in
+      let whole : List Granule → List Thread → State = λ gs ts. record (state_by e r pending devices time c) { granules = gs; threads = ts } in
+      let written : ℕ → Thread → List Granule = λ n x. words_written e.granules (record_place n (register x 2)) (record_words x why) in
+      let begun : Handed → List Thread = λ h. with_statuses (set e.threads t (handled_by h (get_or e.threads t nobody) why f fs)) r.statuses in
+      let made : handed_at e entries handler ≡ handed i f.actor =
+      ap (λ (es : Listed). handed_at e es handler) same ∙ ap (λ n. handed_at e i.entries n) is ∙ handed_made i e t f.actor heads own in
+      let there : with_statuses (set e.threads t (handled_by (handed i f.actor) (get_or e.threads t nobody) why f fs)) r.statuses
+      ≡ set (with_statuses e.threads r.statuses) t (handled i (get_or (with_statuses e.threads r.statuses) t nobody) why f fs) =
+      set_with e.threads r.statuses t (handled_by (handed i f.actor) (get_or e.threads t nobody) why f fs) kept.statuses
+      ∙ ap (λ (x : Thread). set (with_statuses e.threads r.statuses) t (handled_by (handed i f.actor) x why f fs)) (sym (thread_with e.threads r.statuses t kept.statuses)) in
+      ap (λ (h : Handed). whole (written e.region.ram old) (begun h)) made
+      ∙ ap (λ n. whole (written n old) (begun (handed i f.actor))) (ram_is i e r kept)
+      ∙ ap (λ (x : Thread). whole (written i.ram x) (begun (handed i f.actor))) (sym (like_with e.threads r.statuses t Ended))
+      ∙ ap (λ (ts : List Thread). whole (written i.ram new) ts) there
+
+  trap_by : (entries : Listed) (handler : ℕ) (why : words.Trap) (fs : List Frame) → entries ≡ i.entries → (area_at e t).stack ≡ stack_base i t → Handles i e t (actor_of fs) handler
+      → 0 < length fs
+      → state_by (cond (is_handled_of e t handler fs) (handler_begun e entries t handler why fs) (calls.ended_by e t (λ f. plain UNWOUND) (λ f. plain 0) fs))
+      (status_after (cond (is_handled_of e t handler fs) true (nat_lt 1 (length fs))) r t) pending devices time c
+      ≡ trap_taken i (state_by e r pending devices time c) t why fs
+  trap_by entries handler why [] same base handles some = absurd (omega (arith, some))
+  trap_by entries handler why (f ∷ fs) same base handles some =
+      either (λ b z. state_by (cond b (handler_begun e entries t handler why (f ∷ fs)) (calls.ended_by e t (λ g. plain UNWOUND) (λ g. plain 0) (f ∷ fs)))
+      (status_after (cond b true (nat_lt 1 (length (f ∷ fs)))) r t) pending devices time c ≡ z)
+      (is_handled_by handler (area_at e t).stack (get_or e.threads t nobody) f) (is_handled i (stack_base i t) (get_or (with_statuses e.threads r.statuses) t nobody) f)
+      (handler_entered i (state_by e r pending devices time c) t why f fs) (frames.unwound i (state_by e r pending devices time c) t (f ∷ fs))
+      (handled_alike f handler handles.is base)
+      (λ on.
+      let has = (says i (state_by e r pending devices time c) t f on).some in
+      handler_by entries handler why f fs same handles.is (handles.heads has) (handles.own has))
+      (λ off. valued_by UNWOUND (f ∷ fs) base some)
 
 module _ (i : Image) (entries : Listed) (e : Seen) (r : SchedRow) (k : Bank) (pending : Bool) (time : ℕ) (c : Counts) (t : ℕ) (kept : IsKept i e r) (same : entries ≡ i.entries) where
   abbrev board : Board
@@ -148,31 +235,35 @@ module _ (i : Image) (entries : Listed) (e : Seen) (r : SchedRow) (k : Bank) (pe
   -- ---- what is left to do
 
   module _ (base : (area_at e t).stack ≡ stack_base i t) (some : 0 < length (engine.thread e t).frames) where
-    returns_as : state_by (calls.returned e entries t) (status_after (nat_lt 1 (length (engine.thread e t).frames)) r t) pending k.states time c
-        ≡ frames.returned i here t (thread here t).frames
+    returns_as : state_by (return_at e entries t) (status_after (nat_lt 1 (length (engine.thread e t).frames)) r t) pending k.states time c
+        ≡ return_taken i here t (thread here t).frames
     returns_as =
-        returned_by i e r pending k.states time c t kept entries (engine.thread e t).frames same base some
-        ∙ ap (λ (fs : List Frame). frames.returned i here t fs) (sym (frames_with e.threads r.statuses t))
+        return_by i e r pending k.states time c t kept entries (engine.thread e t).frames same base some
+        ∙ ap (λ (fs : List Frame). return_taken i here t fs) (sym (frames_with e.threads r.statuses t))
 
-    unwinds_as : state_by (calls.ended_with e t UNWOUND) (status_after (nat_lt 1 (length (engine.thread e t).frames)) r t) pending k.states time c
-        ≡ frames.unwound i here t (thread here t).frames
-    unwinds_as =
-        unwound_by i e r pending k.states time c t kept (engine.thread e t).frames base some
-        ∙ ap (λ (fs : List Frame). frames.unwound i here t fs) (sym (frames_with e.threads r.statuses t))
+    traps_as : (handler : ℕ) (why : words.Trap) → Handles i e t (actor_of (thread here t).frames) handler
+        → state_by (trap_at e entries t handler why) (status_after (goes_trapped e t handler) r t) pending k.states time c
+        ≡ trap_taken i here t why (thread here t).frames
+    traps_as handler why handles =
+        trap_by i e r pending k.states time c t kept entries handler why (engine.thread e t).frames same base
+        (subst (λ n. Handles i e t n handler) (ap actor_of (frames_with e.threads r.statuses t)) handles) some
+        ∙ ap (λ (fs : List Frame). trap_taken i here t why fs) (sym (frames_with e.threads r.statuses t))
 
-  abbrev after : ℕ → Ran → State × Option Deed
-  after actor ran = (
-    state_by (left_after ran e entries t) (status_after (goes_after ran e t) r t) pending k.states time (with_deed c (deed_by t actor ran)),
+  abbrev after : ℕ → ℕ → Ran → State × Option Deed
+  after actor handler ran = (
+    state_by (left_after ran e entries t handler) (status_after (goes_after ran e t handler) r t) pending k.states time (with_deed c (deed_by t actor ran)),
     deed_by t actor ran,
   )
 
-  finishes : (actor : ℕ) (ran : Ran) → IsDone ran → IfUnfinished ran (Ends i e here t actor) → after actor ran ≡ noted (finished board t actor here ran)
-  finishes actor (Went act entry) done h = refl
-  finishes actor Returned done h = ap (λ (x : State). noted (x, None)) (returns_as h.base h.some)
-  finishes actor (Native number) done h = absurd done
-  finishes actor (Trapped why) done h = rw h.acts (ap (λ (x : State). noted (x, deed_by t (actor_of (thread here t).frames) (Trapped why))) (unwinds_as h.base h.some))
+  finishes : (actor handler : ℕ) (ran : Ran) → IsDone ran → IfUnfinished ran (Ends i e here t actor handler) → after actor handler ran ≡ noted (finished board t actor here ran)
+  finishes actor handler (Went act entry) done h = refl
+  finishes actor handler Returned done h = ap (λ (x : State). noted (x, None)) (returns_as h.base h.some)
+  finishes actor handler (Native number) done h = absurd done
+  finishes actor handler (Trapped why) done h =
+      let handles : Handles i e t (actor_of (thread here t).frames) handler = subst (λ n. Handles i e t n handler) h.acts h.handles in
+      rw h.acts (ap (λ (x : State). noted (x, deed_by t (actor_of (thread here t).frames) (Trapped why))) (traps_as h.base h.some handler why handles))
 
-  pub finished_so : (e'' : Seen) (r'' : SchedRow) (c'' : Counts) (actor : ℕ) (ran : Ran) (d : Option Deed) → IsDone ran → IfUnfinished ran (Ends i e here t actor)
-      → e'' ≡ left_after ran e entries t → r'' ≡ status_after (goes_after ran e t) r t → d ≡ deed_by t actor ran → c'' ≡ with_deed c d
+  pub finished_so : (e'' : Seen) (r'' : SchedRow) (c'' : Counts) (actor handler : ℕ) (ran : Ran) (d : Option Deed) → IsDone ran → IfUnfinished ran (Ends i e here t actor handler)
+      → e'' ≡ left_after ran e entries t handler → r'' ≡ status_after (goes_after ran e t handler) r t → d ≡ deed_by t actor ran → c'' ≡ with_deed c d
       → (state_by e'' r'' pending k.states time c'', d) ≡ noted (finished board t actor here ran)
-  finished_so e'' r'' c'' actor ran d done h left status deed_is counts = rw (left, status, counts, deed_is) (finishes actor ran done h)
+  finished_so e'' r'' c'' actor handler ran d done h left status deed_is counts = rw (left, status, counts, deed_is) (finishes actor handler ran done h)

@@ -9,7 +9,7 @@ use Rattle.ct_entry.specs.declared.acts.Act.{Act}
 use Rattle.ct_entry.specs.declared.acts.Deed.{Deed}
 use Rattle.ct_entry.specs.declared.acts.Act.TheVariants.{Allocate, Free}
 use Rattle.ct_entry.specs.declared.rows.Kind.TheVariants as kind
-use Rattle.def_profile.specs.declared.layout.TheConstants.{CHUNK_HEAD}
+use Rattle.def_profile.specs.declared.layout.TheConstants.{CHUNK_HEAD, GRANULE}
 use Rattle.def_words.specs.declared.Cap.{Cap}
 use Rattle.def_words.specs.declared.Trap.{Trap}
 use Rattle.def_words.specs.Authority.{cap_address}
@@ -18,6 +18,7 @@ use Rattle.def_words.specs.Seals.{cap_seal}
 use Rattle.def_memory.specs.declared.Granule.{Granule}
 use Rattle.def_memory.specs.Ranges.{zeroed_from, marked_from}
 use Rattle.def_reach.specs.Roots.{Listing, is_quota}
+use Rattle.def_machine.specs.Rows.{RowsFit}
 use Rattle.def_confined.specs.Capabilities.{Rooted}
 use Rattle.def_confined.specs.Confined.{Confined}
 use Rattle.def_facts.specs.Facts.{Facts}
@@ -34,6 +35,7 @@ use Rattle.def_step.specs.Routines as routine
 use Rattle.def_step.specs.Routines.{Leaves, code}
 use Rattle.def_step.specs.Quotas as quotas
 use Rattle.def_step.specs.Quotas.{Allocation, Refused, Made, is_quota_cap, whole_of, allocation}
+use Rattle.def_step.specs.Tokens as tokens
 use Rattle.def_step.specs.Instructions.{actor_of, deed_told, ran}
 use Rattle.def_machine.specs.Board.{MachineRow}
 use Rattle.law_jumps.proofs.Moves.{in_rooted}
@@ -42,8 +44,10 @@ use Rattle.ct_engine.specs.Seen as engine
 use Rattle.ct_execute.specs.declared.ran.Ran.{Ran}
 use Rattle.ct_execute.specs.declared.ran.Ran.TheVariants.{Went}
 use Rattle.ct_engine.specs.Seen.{Seen, limit_at, sifted}
-use Rattle.ct_engine.specs.Grants.{with_object, quarantined, freed}
+use Rattle.ct_engine.specs.Grants.{with_object, with_sealed, allocation_in, quarantined, let_go, freed}
+use Rattle.ct_engine.proofs.Granted.{allocation_same}
 use Rattle.ct_services.specs.Granted as granted
+use Rattle.ct_services.specs.Sealed as sealed
 use Rattle.ct_services.specs.Served.{answered_in}
 use Rattle.ct_machine.specs.declared.engine.Engine.TheInside.{Inside}
 use Rattle.ct_machine.specs.Parts.{state_by, IsCounted, IsKept}
@@ -129,6 +133,15 @@ module _ (i : Image) (e : Seen) (r : SchedRow) (k : Bank) (pending : Bool) (time
   serves_told : (most : ℕ) (v : Cap) → e.next ≤ most → Serves most (granted.tells e t v) (routine.tells here t v)
   serves_told most v few = serves_as most e here None v kept few refl
 
+  -- where the check of c1 passes
+  serves_return : (most : ℕ) (p : Seen × Ran) (x : routine.Ran) → e.next ≤ most → Serves most p x
+      → Serves most (granted.checked (first_failed (return_checks (register (engine.thread e t) 1))) e p) (routine.checked (return_checks (register (thread here t) 1)) x)
+  serves_return most p x few h =
+      let alike : by_trap (first_failed (return_checks (register (engine.thread e t) 1))) x ≡ routine.checked (return_checks (register (thread here t) 1)) x =
+      ap (λ (z : Cap). by_trap (first_failed (return_checks z)) x) (register_alike i e r k pending time c t kept 1) ∙ sym (checked_once (return_checks (register (thread here t) 1)) x) in
+      subst (λ (y : routine.Ran). Serves most (granted.checked (first_failed (return_checks (register (engine.thread e t) 1))) e p) y) alike
+      (serves_checked most (first_failed (return_checks (register (engine.thread e t) 1))) p x few h)
+
   -- -1 where c10 is no quota
   serves_quota : (most : ℕ) (p : Seen × Ran) (x : routine.Ran) → e.next ≤ most → Serves most p x → Serves most (granted.by_quota e t p) (quotas.by_quota here t x)
   serves_quota most p x few h =
@@ -165,17 +178,22 @@ module _ (i : Image) (e : Seen) (r : SchedRow) (k : Bank) (pending : Bool) (time
 
   -- ---- allocate
 
+  -- an allocation comes to what the written one comes to
+  comes : (q size : ℕ) → allocation_in e q size ≡ allocation i here q size
+  comes q size = allocation_same i here e q size kept.heap (record { objects = refl; next = refl })
+
   serves_allocation : (a : Allocation) → Serves (e.next + 1) (granted.allocated e t a) (quotas.allocated here t a)
   serves_allocation (Refused n) = serves_told (e.next + 1) (code n) (omega arith)
   serves_allocation (Made o) =
       serves_as (e.next + 1) (with_object e o) (heap.with_object here o) (Some (o.quota, Allocate o.number o.base o.length (charges o.quota (with_object e o).objects))) (heap.object_cap o)
       (stays_kept i e (with_object e o) r r.statuses kept (record { region = refl; areas = refl; size = refl; threads = refl; heap_base = refl; heap_end = refl; limits = refl }) refl kept.ready) (omega arith) refl
 
-  pub serves_allocate : (p : Seen × Ran) → p ≡ granted.by_quota e t (granted.allocated e t (allocation i here (granted.quota_in e t) (cap_address (register (engine.thread e t) 11))))
+  pub serves_allocate : (p : Seen × Ran) → p ≡ granted.by_quota e t (granted.allocated e t (allocation_in e (granted.quota_in e t) (cap_address (register (engine.thread e t) 11))))
       → Serves (e.next + 1) p (quotas.allocate i here t)
   serves_allocate p is =
-      let asked : allocation i here (granted.quota_in e t) (cap_address (register (engine.thread e t) 11)) ≡ allocation i here (quotas.quota_in here t) (cap_address (register (thread here t) 11)) =
-      ap (λ q. allocation i here q (cap_address (register (engine.thread e t) 11))) quota_alike
+      let asked : allocation_in e (granted.quota_in e t) (cap_address (register (engine.thread e t) 11)) ≡ allocation i here (quotas.quota_in here t) (cap_address (register (thread here t) 11)) =
+      comes (granted.quota_in e t) (cap_address (register (engine.thread e t) 11))
+      ∙ ap (λ q. allocation i here q (cap_address (register (engine.thread e t) 11))) quota_alike
       ∙ ap (λ (z : Cap). allocation i here (quotas.quota_in here t) (cap_address z)) (register_alike i e r k pending time c t kept 11) in
       let a : Allocation = allocation i here (quotas.quota_in here t) (cap_address (register (thread here t) 11)) in
       subst (λ (q : Seen × Ran). Serves (e.next + 1) q (quotas.allocate i here t)) (sym (is ∙ ap (λ (x : Allocation). granted.by_quota e t (granted.allocated e t x)) asked))
@@ -188,9 +206,9 @@ module _ (i : Image) (e : Seen) (r : SchedRow) (k : Bank) (pending : Bool) (time
       marked_length (o.base - CHUNK_HEAD) (o.base + o.length) true e.region.ram (zeroed_from o.base (o.base + o.length) e.region.ram e.granules)
       ∙ zeroed_length o.base (o.base + o.length) e.region.ram e.granules
 
-  quarantined_kept : (o : Object) → IsKept i (quarantined e o) r
-  quarantined_kept o =
-      stays_kept i e (quarantined e o) r r.statuses kept (record { region = refl; areas = refl; size = quarantined_size o; threads = refl; heap_base = refl; heap_end = refl; limits = refl }) refl kept.ready
+  gone_kept : (o : Object) → IsKept i (let_go e o) r
+  gone_kept o =
+      stays_kept i e (let_go e o) r r.statuses kept (record { region = refl; areas = refl; size = quarantined_size o; threads = refl; heap_base = refl; heap_end = refl; limits = refl }) refl kept.ready
 
   freed_kept : (o : Object) → IsKept i (freed e t o) r
   freed_kept o =
@@ -205,13 +223,14 @@ module _ (i : Image) (e : Seen) (r : SchedRow) (k : Bank) (pending : Bool) (time
   freed_over o n = record here {
     granules = emptied o n;
     objects = quarantine o.number e.objects;
+    tokens = quotas.without_row o.number e.tokens;
     threads = set (with_statuses e.threads r.statuses) t (record (get_or (with_statuses e.threads r.statuses) t nobody) {
       registers = map (filtered_in i.ram (emptied o n)) (get_or (with_statuses e.threads r.statuses) t nobody).registers;
     });
   }
 
   freed_is : (o : Object) → state_by (freed e t o) r pending k.states time c ≡ quotas.let_go i here t o
-  freed_is o = sifted_is i (quarantined e o) r k pending time c t (quarantined_kept o) ∙ ap (freed_over o) (ram_is i e r kept)
+  freed_is o = sifted_is i (let_go e o) r k pending time c t (gone_kept o) ∙ ap (freed_over o) (ram_is i e r kept)
 
   serves_freed : (o : Option Object) → Serves e.next (granted.freed_as e t o) (quotas.freed_as i here t o)
   serves_freed None = serves_told e.next (code 6) (omega arith)
@@ -237,6 +256,98 @@ module _ (i : Image) (e : Seen) (r : SchedRow) (k : Bank) (pending : Bool) (time
       subst (λ (q : Seen × Ran). Serves e.next q (quotas.remaining i here t)) (sym (is ∙ ap (λ n. granted.by_quota e t (granted.tells e t (integer n))) same))
       (serves_quota e.next (granted.tells e t (integer left)) (routine.tells here t (integer left)) (omega arith) (serves_told e.next (integer left) (omega arith)))
 
+  -- ---- a key and a token
+
+  serves_sealed : (key : Option ℕ) (a : Allocation) → Serves (e.next + 1) (sealed.made_token e t key a) (tokens.made_token here t key a)
+  serves_sealed key (Refused n) = serves_told (e.next + 1) (code n) (omega arith)
+  serves_sealed key (Made o) =
+      serves_as (e.next + 1) (with_sealed e o key) (heap.with_object (tokens.with_row here o key) o)
+      (Some (o.quota, Allocate o.number o.base o.length (charges o.quota (with_sealed e o key).objects))) (tokens.sealed_token o)
+      (stays_kept i e (with_sealed e o key) r r.statuses kept (record { region = refl; areas = refl; size = refl; threads = refl; heap_base = refl; heap_end = refl; limits = refl }) refl kept.ready) (omega arith) refl
+
+  pub serves_token_key : (p : Seen × Ran) → p ≡ granted.by_quota e t (sealed.made_token e t None (allocation_in e (granted.quota_in e t) GRANULE)) → Serves (e.next + 1) p (tokens.token_key i here t)
+  serves_token_key p is =
+      let a : Allocation = allocation i here (quotas.quota_in here t) GRANULE in
+      let asked : allocation_in e (granted.quota_in e t) GRANULE ≡ allocation i here (quotas.quota_in here t) GRANULE =
+      comes (granted.quota_in e t) GRANULE ∙ ap (λ q. allocation i here q GRANULE) quota_alike in
+      subst (λ (q : Seen × Ran). Serves (e.next + 1) q (tokens.token_key i here t))
+      (sym (is ∙ ap (λ (x : Allocation). granted.by_quota e t (sealed.made_token e t None x)) asked))
+      (serves_quota (e.next + 1) (sealed.made_token e t None a) (tokens.made_token here t None a) (omega arith) (serves_sealed None a))
+
+  -- -7 where the argument is no live key
+  serves_by_key : (most : ℕ) (o : Option Object) (p : ℕ → Seen × Ran) (x : ℕ → routine.Ran) → e.next ≤ most → ((n : ℕ) → Serves most (p n) (x n))
+      → Serves most (sealed.by_key e t o p) (tokens.by_key here t o x)
+  serves_by_key most None p x few h = serves_told most (code 7) few
+  serves_by_key most (Some key) p x few h = h key.number
+
+  abbrev seen_in : ℕ → Cap
+  seen_in n = register (engine.thread e t) n
+
+  abbrev held_in : ℕ → Cap
+  held_in n = register (thread here t) n
+
+  alike_in : (n : ℕ) → seen_in n ≡ held_in n
+  alike_in n = register_alike i e r k pending time c t kept n
+
+  pub serves_token_new : (p : Seen × Ran)
+      → p ≡ granted.by_quota e t (sealed.by_key e t (sealed.key_of e (seen_in 12)) (λ key. sealed.made_token e t (Some key) (allocation_in e (granted.quota_in e t) (cap_address (seen_in 11)))))
+      → Serves (e.next + 1) p (tokens.token_new i here t)
+  serves_token_new p is =
+      let asked : Allocation → Cap → Seen × Ran = λ a x. granted.by_quota e t (sealed.by_key e t (sealed.key_of e x) (λ key. sealed.made_token e t (Some key) a)) in
+      let quota : ℕ = quotas.quota_in here t in
+      let a : Allocation = allocation i here quota (cap_address (held_in 11)) in
+      let told : allocation_in e (granted.quota_in e t) (cap_address (seen_in 11)) ≡ a =
+      comes (granted.quota_in e t) (cap_address (seen_in 11))
+      ∙ ap (λ q. allocation i here q (cap_address (seen_in 11))) quota_alike
+      ∙ ap (λ y. allocation i here quota (cap_address y)) (alike_in 11) in
+      let same : p ≡ asked a (held_in 12) = is ∙ ap (λ (z : Allocation). asked z (seen_in 12)) told ∙ ap (λ x. asked a x) (alike_in 12) in
+      let o : Option Object = tokens.key_of here (held_in 12) in
+      subst (λ (q : Seen × Ran). Serves (e.next + 1) q (tokens.token_new i here t)) (sym same)
+      (serves_quota (e.next + 1) (sealed.by_key e t o (λ key. sealed.made_token e t (Some key) a)) (tokens.by_key here t o (λ key. tokens.made_token here t (Some key) a)) (omega arith)
+      (serves_by_key (e.next + 1) o (λ key. sealed.made_token e t (Some key) a) (λ key. tokens.made_token here t (Some key) a) (omega arith) (λ n. serves_sealed (Some n) a)))
+
+  -- ---- a token is opened
+
+  serves_opened : (x : Cap) (o : Option Object) → Serves e.next (sealed.opens e t x o) (tokens.opens here t x o)
+  serves_opened x None = serves_told e.next (code 8) (omega arith)
+  serves_opened x (Some o) = serves_told e.next (tokens.opened_token x) (omega arith)
+
+  pub serves_token_open : (p : Seen × Ran)
+      → p ≡ granted.checked (first_failed (return_checks (seen_in 1))) e (sealed.by_key e t (sealed.key_of e (seen_in 10)) (λ key. sealed.opens e t (seen_in 11) (sealed.token_of e key (seen_in 11))))
+      → Serves e.next p (tokens.token_open here t)
+  serves_token_open p is =
+      let asked : Cap → Cap → Seen × Ran = λ x y. granted.checked (first_failed (return_checks (seen_in 1))) e (sealed.by_key e t (sealed.key_of e x) (λ key. sealed.opens e t y (sealed.token_of e key y))) in
+      let same : p ≡ asked (held_in 10) (held_in 11) = is ∙ ap (λ x. asked x (seen_in 11)) (alike_in 10) ∙ ap (λ y. asked (held_in 10) y) (alike_in 11) in
+      let o : Option Object = tokens.key_of here (held_in 10) in
+      let given : Cap = held_in 11 in
+      subst (λ (q : Seen × Ran). Serves e.next q (tokens.token_open here t)) (sym same)
+      (serves_return e.next (sealed.by_key e t o (λ key. sealed.opens e t given (sealed.token_of e key given))) (tokens.by_key here t o (λ key. tokens.opens here t given (tokens.token_of here key given))) (omega arith)
+      (serves_by_key e.next o (λ key. sealed.opens e t given (sealed.token_of e key given)) (λ key. tokens.opens here t given (tokens.token_of here key given)) (omega arith)
+      (λ n. serves_opened given (tokens.token_of here n given))))
+
+  -- ---- a token is freed
+
+  serves_token_freed : (quota : ℕ) (o : Option Object) → Serves e.next (sealed.frees_token e t quota o) (tokens.frees_token i here t quota o)
+  serves_token_freed quota None = serves_told e.next (code 8) (omega arith)
+  serves_token_freed quota (Some o) =
+      serves_if e.next (o.quota == quota) (granted.gives_back e t o) (granted.tells e t (code 6)) (quotas.gives_back i here t o) (routine.tells here t (code 6))
+      (serves_freed (Some o)) (serves_told e.next (code 6) (omega arith))
+
+  pub serves_token_free : (p : Seen × Ran)
+      → p ≡ granted.by_quota e t (sealed.by_key e t (sealed.key_of e (seen_in 11)) (λ key. sealed.frees_token e t (granted.quota_in e t) (sealed.token_of e key (seen_in 12))))
+      → Serves e.next p (tokens.token_free i here t)
+  serves_token_free p is =
+      let asked : ℕ → Cap → Cap → Seen × Ran = λ q x y. granted.by_quota e t (sealed.by_key e t (sealed.key_of e x) (λ key. sealed.frees_token e t q (sealed.token_of e key y))) in
+      let quota : ℕ = quotas.quota_in here t in
+      let same : p ≡ asked quota (held_in 11) (held_in 12) =
+      is ∙ ap (λ q. asked q (seen_in 11) (seen_in 12)) quota_alike ∙ ap (λ x. asked quota x (seen_in 12)) (alike_in 11) ∙ ap (λ y. asked quota (held_in 11) y) (alike_in 12) in
+      let o : Option Object = tokens.key_of here (held_in 11) in
+      let given : Cap = held_in 12 in
+      subst (λ (q : Seen × Ran). Serves e.next q (tokens.token_free i here t)) (sym same)
+      (serves_quota e.next (sealed.by_key e t o (λ key. sealed.frees_token e t quota (sealed.token_of e key given))) (tokens.by_key here t o (λ key. tokens.frees_token i here t quota (tokens.token_of here key given))) (omega arith)
+      (serves_by_key e.next o (λ key. sealed.frees_token e t quota (sealed.token_of e key given)) (λ key. tokens.frees_token i here t quota (tokens.token_of here key given)) (omega arith)
+      (λ n. serves_token_freed quota (tokens.token_of here n given))))
+
 -- ---- of an engine that is open, and keeps what a machine keeps
 
 module _ {M : Type 0} (i : Inside M) (t : ℕ) (held : IsKept i.plan i.threads i.sched × IsCounted i.counts i.time i.threads.next) where
@@ -250,7 +361,7 @@ module _ {M : Type 0} (i : Inside M) (t : ℕ) (held : IsKept i.plan i.threads i
   pub named_in : (m : MachineRow) → whole ≡ m → MayGoOn m → granted.NamesQuota i.threads t
   named_in m is may = names_quota_in i.plan i.threads i.sched i.bus i.pending i.time i.counts t held.0 m is may
 
-  pub allocated_in : (p : Seen × Ran) → p ≡ granted.by_quota i.threads t (granted.allocated i.threads t (allocation i.plan whole.state (granted.quota_in i.threads t) (cap_address (register (engine.thread i.threads t) 11))))
+  pub allocated_in : (p : Seen × Ran) → p ≡ granted.by_quota i.threads t (granted.allocated i.threads t (allocation_in i.threads (granted.quota_in i.threads t) (cap_address (register (engine.thread i.threads t) 11))))
       → ServesIn (i.threads.next + 1) p (quotas.allocate i.plan whole.state t)
   allocated_in p is = serves_allocate i.plan i.threads i.sched i.bus i.pending i.time i.counts t held.0 p is
 
@@ -259,6 +370,32 @@ module _ {M : Type 0} (i : Inside M) (t : ℕ) (held : IsKept i.plan i.threads i
 
   pub remaining_in : (p : Seen × Ran) → p ≡ granted.by_quota i.threads t (granted.tells i.threads t (integer (granted.left_in i.threads t))) → ServesIn i.threads.next p (quotas.remaining i.plan whole.state t)
   remaining_in p is = serves_remaining i.plan i.threads i.sched i.bus i.pending i.time i.counts t held.0 p is
+
+  -- each row is of a live object
+  pub rows_in : (m : MachineRow) → whole ≡ m → MayGoOn m → RowsFit i.threads.objects i.threads.tokens
+  rows_in m is may = (subst MayGoOn (sym is) may).rows
+
+  abbrev register_in : ℕ → Cap
+  register_in n = register (engine.thread i.threads t) n
+
+  pub token_key_in : (p : Seen × Ran) → p ≡ granted.by_quota i.threads t (sealed.made_token i.threads t None (allocation_in i.threads (granted.quota_in i.threads t) GRANULE))
+      → ServesIn (i.threads.next + 1) p (tokens.token_key i.plan whole.state t)
+  token_key_in p is = serves_token_key i.plan i.threads i.sched i.bus i.pending i.time i.counts t held.0 p is
+
+  pub token_new_in : (p : Seen × Ran)
+      → p ≡ granted.by_quota i.threads t (sealed.by_key i.threads t (sealed.key_of i.threads (register_in 12)) (λ key. sealed.made_token i.threads t (Some key) (allocation_in i.threads (granted.quota_in i.threads t) (cap_address (register_in 11)))))
+      → ServesIn (i.threads.next + 1) p (tokens.token_new i.plan whole.state t)
+  token_new_in p is = serves_token_new i.plan i.threads i.sched i.bus i.pending i.time i.counts t held.0 p is
+
+  pub token_open_in : (p : Seen × Ran)
+      → p ≡ granted.checked (first_failed (return_checks (register_in 1))) i.threads (sealed.by_key i.threads t (sealed.key_of i.threads (register_in 10)) (λ key. sealed.opens i.threads t (register_in 11) (sealed.token_of i.threads key (register_in 11))))
+      → ServesIn i.threads.next p (tokens.token_open whole.state t)
+  token_open_in p is = serves_token_open i.plan i.threads i.sched i.bus i.pending i.time i.counts t held.0 p is
+
+  pub token_free_in : (p : Seen × Ran)
+      → p ≡ granted.by_quota i.threads t (sealed.by_key i.threads t (sealed.key_of i.threads (register_in 11)) (λ key. sealed.frees_token i.threads t (granted.quota_in i.threads t) (sealed.token_of i.threads key (register_in 12))))
+      → ServesIn i.threads.next p (tokens.token_free i.plan whole.state t)
+  token_free_in p is = serves_token_free i.plan i.threads i.sched i.bus i.pending i.time i.counts t held.0 p is
 
   -- a routine came to the same in the machine that this is
   pub came_in : (w : Image → State → ℕ → routine.Ran) (most : ℕ) (p : Seen × Ran) (m : MachineRow) → whole ≡ m → ServesIn most p (w i.plan whole.state t)

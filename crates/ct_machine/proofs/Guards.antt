@@ -1,9 +1,9 @@
 -- A machine that starts is guarded, and every event keeps it so.
 use Rattle.std.proofs.Common.{◌≡◌, Bool, true, false, refl, ap, subst, sym}
 use Rattle.ct_entry.specs.declared.acts.Happened.{Happened}
-use Rattle.def_board.specs.Guarded.{Guarded}
+use Rattle.def_guarded.specs.Guarded.{Guarded}
+use Rattle.def_machine.specs.Rows.{RowsFit}
 use Rattle.def_confined.specs.Telling.{IsLicensedEvent}
-use Rattle.def_hidden.specs.Hidden.{Blank}
 use Rattle.def_machine.specs.State.{State}
 use Rattle.def_step.specs.declared.Event.{Event}
 use Rattle.def_step.specs.declared.Event.TheVariants.{Step}
@@ -11,27 +11,40 @@ use Rattle.def_machine.specs.Board.{Board, MachineRow}
 use Rattle.def_step.specs.Events.{happens}
 use Rattle.def_image.specs.Parts.{PartsRow}
 use Rattle.def_image.specs.Sound.{Sound}
-use Rattle.def_boot.specs.Boot.{booted_machine}
+use Rattle.def_boot.specs.Boot.{booted_machine, boot_state}
 use Rattle.law_grants.proofs.Wiring.{wired}
+use Rattle.law_grants.proofs.Ranges.{inside}
 use Rattle.law_grants.proofs.Holding.{holds}
 use Rattle.law_booted.proofs.Whole.{partitioned}
 use Rattle.law_started.proofs.Shutting.{shut}
 use Rattle.law_started.proofs.Whole.{keeps}
 use Rattle.law_started.proofs.Settling.{boot_settles}
 use Rattle.law_started.proofs.Blanking.{blank}
+use Rattle.law_started.proofs.Tokening.{boot_tokened}
 use Rattle.law_settled.proofs.Events.{event_settles}
 use Rattle.law_blank.proofs.Events.{event_blank}
+use Rattle.law_tokens.proofs.Events.{event_fit}
+use Rattle.law_tokens.proofs.Whole.{event_tokened}
 use Rattle.law_events.proofs.Events.{event_keeps, deed_licensed, span_licensed}
 use Rattle.ct_machine.specs.Going.{silence}
+
+-- boot makes no key and no token
+no_rows : (p : PartsRow) → RowsFit (boot_state p).objects (boot_state p).tokens
+unfolding boot_state
+no_rows p = record { differ = tt; live = tt }
 
 pub at_boot : (p : PartsRow) → Sound p → Guarded (booted_machine p)
 at_boot p s = record {
   partitioned = partitioned p s;
   facts = holds p s;
   wired = wired p s;
+  inside = inside p s;
   shut = shut p s;
   keeps = keeps p s;
   settled = boot_settles p;
+  blank = blank p s;
+  rows = no_rows p;
+  tokened = boot_tokened p s;
 }
 
 pub after_event : (m : MachineRow) (e : Event) → Guarded m → Guarded (record { board = m.board; state = (happens m.board m.state e).0 })
@@ -39,9 +52,13 @@ after_event m e g = record {
   partitioned = g.partitioned;
   facts = g.facts;
   wired = g.wired;
+  inside = g.inside;
   shut = g.shut;
   keeps = event_keeps m.board m.state e g.partitioned g.facts g.wired g.keeps;
   settled = event_settles m.board m.state e g.facts.settled g.settled;
+  blank = event_blank m.board m.state e g.partitioned g.wired g.shut g.keeps g.blank;
+  rows = event_fit m.board m.state e g.partitioned g.keeps g.rows;
+  tokened = event_tokened m.board m.state e g.partitioned g.facts g.wired g.keeps g.rows g.tokened;
 }
 
 pub event_licensed : (m : MachineRow) (e : Event) → Guarded m → IsLicensedEvent m.board.image.entries (happens m.board m.state e).1
@@ -64,31 +81,17 @@ told_by m n e h g same told =
 pub booted_by : (p : PartsRow) (m : MachineRow) → Sound p → m ≡ booted_machine p → Guarded m
 booted_by p m s is = subst Guarded (sym is) (at_boot p s)
 
--- ---- what is hidden is zero
-
-abbrev pub IsBlank : MachineRow → Type 0
-IsBlank m = Blank m.board.image m.state
-
-pub blank_by : (m n : MachineRow) (e : Event) → Guarded m → IsBlank m → n.state ≡ (happens m.board m.state e).0 → n.board ≡ m.board → IsBlank n
-blank_by m n e g hidden state board = whole n.board n.state board state
-  where
-    whole : (b : Board) (s : State) → b ≡ m.board → s ≡ (happens m.board m.state e).0 → Blank b.image s
-    whole b s is_board is_state = rw (is_board, is_state) (event_blank m.board m.state e g.partitioned g.wired g.shut g.keeps hidden)
-
-pub blank_booted : (p : PartsRow) (m : MachineRow) → Sound p → m ≡ booted_machine p → IsBlank m
-blank_booted p m s is = subst IsBlank (sym is) (blank p s)
-
 -- ---- a step that tells nothing, or nothing
 
-same_by : (m n : MachineRow) → n.state ≡ m.state → n.board ≡ m.board → Guarded m × IsBlank m → Guarded n × IsBlank n
+same_by : (m n : MachineRow) → n.state ≡ m.state → n.board ≡ m.board → Guarded m → Guarded n
 same_by m n state board h = whole n.board n.state board state
   where
-    whole : (b : Board) (s : State) → b ≡ m.board → s ≡ m.state → Guarded (record { board = b; state = s }) × Blank b.image s
+    whole : (b : Board) (s : State) → b ≡ m.board → s ≡ m.state → Guarded (record { board = b; state = s })
     whole b s is_board is_state = rw (is_board, is_state) h
 
 pub quietly_by : (m n : MachineRow) (went : Bool) → (went ≡ true → (n.state, silence) ≡ happens m.board m.state Step) → (went ≡ false → n.state ≡ m.state) → n.board ≡ m.board
-    → Guarded m × IsBlank m → Guarded n × IsBlank n
+    → Guarded m → Guarded n
 quietly_by m n true is same board h =
     let state : n.state ≡ (happens m.board m.state Step).0 = ap (λ (r : State × Happened). r.0) (is refl) in
-    (kept_by m n Step h.0 state board, blank_by m n Step h.0 h.1 state board)
+    kept_by m n Step h state board
 quietly_by m n false is same board h = same_by m n (same refl) board h

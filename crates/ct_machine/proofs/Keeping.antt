@@ -1,22 +1,26 @@
 -- What is kept beside the state is kept by a step.
-use Rattle.std.proofs.Common.{ℕ, zero, suc, ◌*◌, ◌≡◌, ◌==◌, ◌<◌, ◌&&◌, Bool, true, false, inl, inr, nat_lt, map, List, [], ◌∷◌, length, Option, Some, None, refl, sym, ap, ◌∙◌, subst, slice_index_or, arith}
+use Rattle.std.proofs.Common.{ℕ, zero, suc, ◌*◌, ◌≡◌, ◌==◌, ◌<◌, ◌&&◌, Bool, true, false, cond, inl, inr, nat_lt, map, List, [], ◌∷◌, length, Option, Some, None, refl, sym, ap, ◌∙◌, subst, slice_index_or, arith}
 use Rattle.std.proofs.Math.ListN.{set}
 use Rattle.std.proofs.lemmas.List.{length-set, length-map}
-use Rattle.law_lists.proofs.Tests.{bool_tells, lt_tells}
+use Rattle.law_lists.proofs.Tests.{bool_tells, lt_tells, chosen}
 use Rattle.law_lists.proofs.Finds.{find_tells}
 use Rattle.ct_entry.specs.Listed.{Listed}
 use Rattle.def_words.specs.declared.Cap.{Cap}
+use Rattle.def_profile.specs.declared.answers.TheConstants.{UNWOUND}
+use Rattle.def_memory.specs.Granules.{plain}
+use Rattle.law_areas.proofs.Writes.{all_length}
 use Rattle.law_granules.proofs.Lists.{zeroed_length}
 use Rattle.def_sched.specs.declared.Status.{Status}
 use Rattle.def_sched.specs.declared.Status.TheVariants.{Ready, Sleeping, Waiting, Ended}
 use Rattle.def_sched.specs.Statuses.{status_of, is_ready, after_tick}
 use Rattle.def_sched.specs.Picks.{pick, is_foremost}
 use Rattle.def_machine.specs.Image.{Image}
-use Rattle.def_machine.specs.State.{State, Thread, Frame, Counts, nobody}
+use Rattle.def_machine.specs.State.{State, Thread, Frame, Counts, nobody, register}
 use Rattle.def_machine.specs.Memory.{filtered_in}
 use Rattle.def_machine.specs.Frames.{left_with}
 use Rattle.def_words.specs.declared.Trap.{Trap}
 use Rattle.def_step.specs.Devices.{Bank}
+use Rattle.def_step.specs.Handlers.{handler_value, record_words}
 use Rattle.def_step.specs.Switch.{Switched, Trapped as NotMade, TooDeep, NoStack, Enters}
 use Rattle.def_machine.specs.Board.{MachineRow}
 use Rattle.ct_entry.specs.declared.acts.Deed.{Deed}
@@ -26,7 +30,8 @@ use Rattle.ct_engine.specs.Seen as engine
 use Rattle.ct_engine.specs.Seen.{area_at, resumed, with_running, Seen}
 use Rattle.ct_engine.specs.Written.{HasHeap}
 use Rattle.ct_engine.specs.Steps.{IsHeapPlaced}
-use Rattle.ct_engine.specs.Calls.{switched, ended_by}
+use Rattle.ct_engine.specs.Calls.{switched, ended_by, ended_with, returned}
+use Rattle.ct_engine.specs.Handling.{is_marked, is_handled_at, record_place, handler_begun}
 use Rattle.ct_execute.specs.declared.ran.Ran.{Ran}
 use Rattle.ct_execute.specs.declared.ran.Ran.TheVariants.{Went, Returned, Native, Trapped}
 use Rattle.ct_execute.specs.Deciding.{Decision, Goes, Returns, Serves, Traps, Decided, IfUnfinished, Stays}
@@ -134,11 +139,22 @@ ended_next e t first second [] = refl
 ended_next e t first second (f ∷ []) = refl
 ended_next e t first second (f ∷ g ∷ fs) = refl
 
-pub left_next : (ran : Ran) (e : Seen) (entries : Listed) (t : ℕ) → (left_after ran e entries t).next ≡ e.next
-left_next (Went act entry) e entries t = refl
-left_next Returned e entries t = ended_next e t _ _ (engine.thread e t).frames
-left_next (Native number) e entries t = refl
-left_next (Trapped why) e entries t = ended_next e t _ _ (engine.thread e t).frames
+begun_next : (e : Seen) (entries : Listed) (t handler : ℕ) (why : Trap) (fs : List Frame) → (handler_begun e entries t handler why fs).next ≡ e.next
+begun_next e entries t handler why [] = refl
+begun_next e entries t handler why (f ∷ fs) = refl
+
+either_next : (e x y : Seen) (b : Bool) → x.next ≡ e.next → y.next ≡ e.next → (cond b x y).next ≡ e.next
+either_next e x y b one two = chosen (λ (z : Seen). z.next ≡ e.next) b x y (λ is. one) (λ not_. two)
+
+pub left_next : (ran : Ran) (e : Seen) (entries : Listed) (t handler : ℕ) → (left_after ran e entries t handler).next ≡ e.next
+left_next (Went act entry) e entries t handler = refl
+left_next Returned e entries t handler =
+    either_next e (ended_with e t (handler_value (engine.thread e t))) (returned e entries t) (is_marked (engine.thread e t).frames)
+    (ended_next e t _ _ (engine.thread e t).frames) (ended_next e t _ _ (engine.thread e t).frames)
+left_next (Native number) e entries t handler = refl
+left_next (Trapped why) e entries t handler =
+    either_next e (handler_begun e entries t handler why (engine.thread e t).frames) (ended_with e t UNWOUND) (is_handled_at e t handler)
+    (begun_next e entries t handler why (engine.thread e t).frames) (ended_next e t _ _ (engine.thread e t).frames)
 
 -- ---- an instruction
 
@@ -174,12 +190,29 @@ ended_kept i e r t first second (f ∷ g ∷ fs) kept some =
     rw (two_more (length fs))
     (switched_kept i e r t f.top (left_with (filtered_in e.region.ram e.granules) (engine.thread e t) f (g ∷ fs) (first f) (second f)) e.running r.statuses kept refl kept.ready)
 
-pub left_kept : (i : Image) (e : Seen) (r : SchedRow) (entries : Listed) (t : ℕ) (ran : Ran) → IsKept i e r → IfUnfinished ran (0 < length (engine.thread e t).frames)
-    → IsKept i (left_after ran e entries t) (status_after (goes_after ran e t) r t)
-left_kept i e r entries t (Went act entry) kept some = kept
-left_kept i e r entries t Returned kept some = ended_kept i e r t _ _ (engine.thread e t).frames kept some
-left_kept i e r entries t (Native number) kept some = kept
-left_kept i e r entries t (Trapped why) kept some = ended_kept i e r t _ _ (engine.thread e t).frames kept some
+-- a handler is entered
+begun_kept : (i : Image) (e : Seen) (r : SchedRow) (entries : Listed) (t handler : ℕ) (why : Trap) (fs : List Frame) → IsKept i e r → IsKept i (handler_begun e entries t handler why fs) r
+begun_kept i e r entries t handler why [] kept = kept
+begun_kept i e r entries t handler why (f ∷ fs) kept =
+    same_kept i e (handler_begun e entries t handler why (f ∷ fs)) r kept refl
+    (all_length e.granules (record_place e.region.ram (register (engine.thread e t) 2)) (map plain (record_words (engine.thread e t) why))) (length-set e.threads t _) kept.ready
+
+-- by whether it is
+trap_kept : (i : Image) (r : SchedRow) (t : ℕ) (x y : Seen) (b more : Bool) → IsKept i x r → IsKept i y (status_after more r t) → IsKept i (cond b x y) (status_after (cond b true more) r t)
+trap_kept i r t x y true more one two = one
+trap_kept i r t x y false more one two = two
+
+pub left_kept : (i : Image) (e : Seen) (r : SchedRow) (entries : Listed) (t handler : ℕ) (ran : Ran) → IsKept i e r → IfUnfinished ran (0 < length (engine.thread e t).frames)
+    → IsKept i (left_after ran e entries t handler) (status_after (goes_after ran e t handler) r t)
+left_kept i e r entries t handler (Went act entry) kept some = kept
+left_kept i e r entries t handler Returned kept some =
+    chosen (λ (x : Seen). IsKept i x (status_after (nat_lt 1 (length (engine.thread e t).frames)) r t)) (is_marked (engine.thread e t).frames)
+    (ended_with e t (handler_value (engine.thread e t))) (returned e entries t)
+    (λ is. ended_kept i e r t _ _ (engine.thread e t).frames kept some) (λ not_. ended_kept i e r t _ _ (engine.thread e t).frames kept some)
+left_kept i e r entries t handler (Native number) kept some = kept
+left_kept i e r entries t handler (Trapped why) kept some =
+    trap_kept i r t (handler_begun e entries t handler why (engine.thread e t).frames) (ended_with e t UNWOUND) (is_handled_at e t handler) (nat_lt 1 (length (engine.thread e t).frames))
+    (begun_kept i e r entries t handler why (engine.thread e t).frames kept) (ended_kept i e r t _ _ (engine.thread e t).frames kept some)
 
 -- ---- of what is to be done, where something is
 
@@ -190,11 +223,11 @@ unfinished_map (Native number) P Q f h = f h
 unfinished_map (Trapped why) P Q f h = f h
 
 -- where the thread has no frame left it has one to end
-pub over_unfinished : (ran : Ran) (e : Seen) (t : ℕ) (P : Type 0) → goes_after ran e t ≡ false → IfUnfinished ran P → P
-over_unfinished (Went act entry) e t P over h = absurd cc
-over_unfinished Returned e t P over h = h
-over_unfinished (Native number) e t P over h = absurd cc
-over_unfinished (Trapped why) e t P over h = h
+pub over_unfinished : (ran : Ran) (e : Seen) (t handler : ℕ) (P : Type 0) → goes_after ran e t handler ≡ false → IfUnfinished ran P → P
+over_unfinished (Went act entry) e t handler P over h = absurd cc
+over_unfinished Returned e t handler P over h = h
+over_unfinished (Native number) e t handler P over h = absurd cc
+over_unfinished (Trapped why) e t handler P over h = h
 
 -- ---- turns
 

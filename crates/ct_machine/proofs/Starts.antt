@@ -176,6 +176,6 @@ started_kept p i e r s image engine placed rows = (
 )
 
 -- what is kept of a sound image
-pub plan_of : (p value : PartsRow) (entries : Listed) (ram heap sweep : ℕ) → Sound p → value ≡ p → entries ≡ entries_of p → ram ≡ p.ram → heap ≡ p.heap → sweep ≡ p.sweep → IsPlan value entries ram heap sweep
+pub plan_of : (p value : PartsRow) (entries : Listed) (handlers : List ℕ) (ram heap sweep : ℕ) → Sound p → value ≡ p → entries ≡ entries_of p → handlers ≡ (image_of p).handlers → ram ≡ p.ram → heap ≡ p.heap → sweep ≡ p.sweep → IsPlan value entries handlers ram heap sweep
 unfolding image_of
-plan_of p value entries ram heap sweep s is same begins heaps slices = rw (is, begins, heaps, slices) (record { sound = s; entries_are = same; ram_is = refl; heap_is = refl; sweep_is = refl })
+plan_of p value entries handlers ram heap sweep s is same own begins heaps slices = rw (is, begins, heaps, slices) (record { sound = s; entries_are = same; handlers_are = own; ram_is = refl; heap_is = refl; sweep_is = refl })

@@ -6,7 +6,7 @@ use Rattle.def_words.specs.declared.Cap.{Cap}
 use Rattle.def_words.specs.declared.Posture.{Posture}
 use Rattle.def_memory.specs.declared.Granule.{Granule}
 use Rattle.def_sched.specs.declared.Status.TheVariants.{Ready}
-use Rattle.def_board.specs.Guarded.{Guarded}
+use Rattle.def_guarded.specs.Guarded.{Guarded}
 use Rattle.def_confined.specs.Keeps.{Keeps}
 use Rattle.def_confined.specs.Partitioned.{Partitioned}
 use Rattle.def_facts.specs.Facts.{RootsAway}
@@ -26,7 +26,6 @@ use Rattle.law_sweeps.proofs.Moves.{clock_beside}
 use Rattle.law_sweeps.specs.Clean.{SavedClean, StoppedClean, IsClean}
 use Rattle.law_sweeps.proofs.Ending.{ends_clean}
 use Rattle.law_heaped.proofs.Slices.{kept_length}
-use Rattle.ct_areas.specs.declared.thread.Area.{Area}
 use Rattle.ct_sched.specs.Sched.{SchedRow}
 use Rattle.ct_engine.specs.Seen as engine
 use Rattle.ct_engine.specs.Written.{HasAreas}

@@ -1,5 +1,5 @@
 -- The running thread carries on: what that asks, what an instruction or a native routine came to, and what is left
--- where its frame ends.
+-- where its frame ends, or where its error handler is entered.
 use Rattle.std.specs.Prelude.{ℕ, ◌+◌, ◌≡◌, ◌<◌, ◌&&◌, Bool, true, false, not, length, map, nat_lt, Option, Some, None, option_map, slice_set, cond}
 use Rattle.def_profile.specs.declared.answers.TheConstants.{UNWOUND}
 use Rattle.ct_entry.specs.Listed.{Listed}
@@ -7,17 +7,18 @@ use Rattle.ct_entry.specs.declared.acts.Deed.{Deed}
 use Rattle.ct_entry.specs.declared.acts.Happened.{Happened}
 use Rattle.ct_entry.specs.declared.acts.Act.TheVariants.{Call, Trap}
 use Rattle.def_words.specs.declared.Trap as words
+use Rattle.def_machine.specs.Rows.{RowsFit}
 use Rattle.def_confined.specs.Keeps.{Keeps}
 use Rattle.def_confined.specs.Partitioned.{Partitioned}
 use Rattle.def_facts.specs.Facts.{Facts, RootsAway}
 use Rattle.def_hidden.specs.Hidden.{Shut}
-use Rattle.def_machine.specs.Frames as frames
 use Rattle.def_machine.specs.State as state
 use Rattle.def_machine.specs.State.{State}
 use Rattle.def_machine.specs.Threads.{timed}
 use Rattle.def_sched.specs.declared.Status.TheVariants.{Ended}
 use Rattle.def_sched.specs.Statuses.{asleep}
 use Rattle.def_machine.specs.Board.{MachineRow, Board}
+use Rattle.def_step.specs.Handlers.{handler_value, return_taken}
 use Rattle.def_step.specs.Instructions.{actor_of, trapped, served}
 use Rattle.def_step.specs.Native.{native}
 use Rattle.def_step.specs.Routines as routine
@@ -27,17 +28,19 @@ use Rattle.ct_switch.specs.declared.calls.Called.{Called}
 use Rattle.ct_switch.specs.declared.calls.Called.TheVariants as called
 use Rattle.ct_engine.specs.Seen.{Seen, thread}
 use Rattle.ct_engine.specs.Calls.{returned, ended_with}
+use Rattle.ct_engine.specs.Handling.{is_marked, is_handled_at, handler_begun}
 use Rattle.ct_execute.specs.declared.ran.Ran.{Ran}
 use Rattle.ct_execute.specs.declared.ran.Ran.TheVariants.{Went, Returned, Native, Trapped}
 use Rattle.ct_execute.specs.Deciding.{IfUnfinished}
 use Rattle.ct_execute.specs.Quiet.{goes_quietly}
 
--- No entry reaches what is hidden, capabilities of boot are what their entries say, and the state is confined, with what
--- stands beside.
+-- No entry reaches what is hidden, capabilities of boot are what their entries say, the state is confined, with what
+-- stands beside, and each row of a key or a token is of a live object.
 pub record MayGoOn (m : MachineRow) : Type 0 where
   pub shut : Shut m.board.image
   pub facts : Facts m.board.image
   pub keeps : Keeps m.board.image m.state
+  pub rows : RowsFit m.state.objects m.state.tokens
 
 -- Thread t runs, and has a frame.
 pub record Runs (m : MachineRow) (t : ℕ) : Type 0 where
@@ -108,18 +111,34 @@ ran_by_call (called.Trapped why) = Trapped why
 
 -- ---- where its innermost frame ends
 
-abbrev pub left_after : Ran → Seen → Listed → ℕ → Seen
-left_after (Went act entry) s e t = s
-left_after Returned s e t = returned s e t
-left_after (Native number) s e t = s
-left_after (Trapped why) s e t = ended_with s t UNWOUND
+-- by a return: where the frame's error handler was entered, with what that answers
+abbrev pub return_at : Seen → Listed → ℕ → Seen
+return_at s e t =
+    cond (is_marked (thread s t).frames) (ended_with s t (handler_value (thread s t)))
+    (returned s e t)
+
+-- and by a trap: this error handler is entered, or it is unwound
+abbrev pub trap_at : Seen → Listed → ℕ → ℕ → words.Trap → Seen
+trap_at s e t handler why =
+    cond (is_handled_at s t handler) (handler_begun s e t handler why (thread s t).frames)
+    (ended_with s t UNWOUND)
+
+abbrev pub goes_trapped : Seen → ℕ → ℕ → Bool
+goes_trapped s t handler =
+    cond (is_handled_at s t handler) true (nat_lt 1 (length (thread s t).frames))
+
+abbrev pub left_after : Ran → Seen → Listed → ℕ → ℕ → Seen
+left_after (Went act entry) s e t handler = s
+left_after Returned s e t handler = return_at s e t
+left_after (Native number) s e t handler = s
+left_after (Trapped why) s e t handler = trap_at s e t handler why
 
 -- whether the thread has a frame left
-abbrev pub goes_after : Ran → Seen → ℕ → Bool
-goes_after (Went act entry) s t = true
-goes_after Returned s t = nat_lt 1 (length (thread s t).frames)
-goes_after (Native number) s t = true
-goes_after (Trapped why) s t = nat_lt 1 (length (thread s t).frames)
+abbrev pub goes_after : Ran → Seen → ℕ → ℕ → Bool
+goes_after (Went act entry) s t handler = true
+goes_after Returned s t handler = nat_lt 1 (length (thread s t).frames)
+goes_after (Native number) s t handler = true
+goes_after (Trapped why) s t handler = goes_trapped s t handler
 
 -- a thread without frames has ended for the scheduler too
 abbrev pub status_after : Bool → SchedRow → ℕ → SchedRow
@@ -144,10 +163,10 @@ deed_by t actor (Trapped why) =
 -- ---- the written step, from what its instruction came to
 
 -- What is left to do in this state, where `actor` was the innermost frame's compartment before the instruction: a frame
--- ends, or a native routine runs; and the deed is told.
+-- ends, or its error handler is entered, or a native routine runs; and the deed is told.
 abbrev pub finished : Board → ℕ → ℕ → State → Ran → State × Option Deed
 finished b t actor s (Went act entry) = (s, deed_by t actor (Went act entry))
-finished b t actor s Returned = (frames.returned b.image s t (state.thread s t).frames, None)
+finished b t actor s Returned = (return_taken b.image s t (state.thread s t).frames, None)
 finished b t actor s (Native number) = served b s t (native b.image s t number)
 finished b t actor s (Trapped why) = trapped b s t why
 

@@ -1,5 +1,5 @@
 -- What the machine's state is, from what the code keeps of it, and what is kept beside it.
-use Rattle.std.specs.Prelude.{ℕ, ◌+◌, ◌*◌, ◌^◌, ◌≡◌, ◌≤◌, ◌<◌, Bool, true, List, [], length, Some}
+use Rattle.std.specs.Prelude.{ℕ, ◌+◌, ◌*◌, ◌^◌, ◌≡◌, ◌≤◌, ◌<◌, Bool, true, List, length, Some}
 use Rattle.def_profile.specs.declared.limits.TheConstants.{MOST_STEPS}
 use Rattle.def_sched.specs.declared.Status.TheVariants.{Ready}
 use Rattle.def_sched.specs.Statuses.{status_of}
@@ -13,7 +13,7 @@ use Rattle.ct_engine.specs.Steps.{IsHeapPlaced}
 use Rattle.ct_boot.specs.Placed.{ArePlaced}
 use Rattle.ct_sched.specs.Sched.{SchedRow}
 
--- The statuses of threads and the order of their last picks are the scheduler's. There is no token yet.
+-- The statuses of threads and the order of their last picks are the scheduler's.
 abbrev pub state_by : Seen → SchedRow → Bool → List DeviceState → ℕ → Counts → State
 state_by e r pending devices time counts = record {
   granules = e.granules;
@@ -22,7 +22,7 @@ state_by e r pending devices time counts = record {
   pending = pending;
   objects = e.objects;
   next = e.next;
-  tokens = [];
+  tokens = e.tokens;
   front = e.front;
   devices = devices;
   time = time;

@@ -36,11 +36,12 @@ rows_of p = record {
 abbrev pub limits_of : Listed → List ℕ
 limits_of e = 0 ∷ map (λ (r : Entry). r.limit) e.rows
 
--- what is kept of a sound image: its entries, where RAM and its heap begin, and how many granules a slice of a sweep
--- passes
-pub record IsPlan (p : PartsRow) (entries : Listed) (ram heap sweep : ℕ) : Type 0 where
+-- what is kept of a sound image: its entries, the numbers of its compartments' error handlers, where RAM and its heap
+-- begin, and how many granules a slice of a sweep passes
+pub record IsPlan (p : PartsRow) (entries : Listed) (handlers : List ℕ) (ram heap sweep : ℕ) : Type 0 where
   pub sound : Sound p
   pub entries_are : entries ≡ (image_of p).entries
+  pub handlers_are : handlers ≡ (image_of p).handlers
   pub ram_is : ram ≡ (image_of p).ram
   pub heap_is : heap ≡ (image_of p).heap_base
   pub sweep_is : sweep ≡ (image_of p).sweep

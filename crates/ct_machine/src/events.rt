@@ -2,7 +2,7 @@
 
 ghost use Rattle.std.specs.Prelude.{◌≡◌, ◌≤◌, ◌<◌, IsTrue, true, false};
 ghost use Rattle.def_profile.specs.declared.limits.TheConstants.{MOST_STEPS};
-ghost use Rattle.def_board.specs.Guarded.{Guarded};
+ghost use Rattle.def_guarded.specs.Guarded.{Guarded};
 ghost use Rattle.def_machine.specs.Heap.{swept};
 ghost use Rattle.def_step.specs.Events.{happens, is_lawful, one_more_step};
 ghost use Rattle.def_step.specs.declared.Event.TheVariants as event;

@@ -1,13 +1,16 @@
 //! The running thread carries on.
 
-ghost use Rattle.std.specs.Prelude.{◌≡◌, ◌≤◌, ◌<◌, Some, length, false};
+ghost use Rattle.std.specs.Prelude.{◌≡◌, ◌≤◌, ◌<◌, Some, length, false, nat_lt};
 ghost use Rattle.def_step.specs.Events.{run_on, noted};
 ghost use Rattle.def_step.specs.Instructions.{executed};
+ghost use Rattle.ct_engine.specs.Seen.{thread};
 ghost use Rattle.ct_engine.specs.Calls.{TopLies};
+ghost use Rattle.ct_engine.specs.Handling.{MayHandle};
 ghost use Rattle.ct_execute.specs.Deciding.{IfUnfinished, RanInRange};
 ghost use Rattle.ct_exports.specs.Exports.{AreSorted};
 ghost use Rattle.ct_machine.specs.Going.{MayGoOn, Runs, MayEnd, CameTo, IsDone, finished};
-ghost use Rattle.ct_machine.specs.Going.{left_after, goes_after, status_after, deed_by, is_quiet};
+ghost use Rattle.ct_machine.specs.Going.{return_at, trap_at, goes_trapped, left_after, goes_after, status_after};
+ghost use Rattle.ct_machine.specs.Going.{deed_by, is_quiet};
 ghost use Rattle.ct_machine.specs.Parts.{deeds_of};
 
 use crate::engine::Engine;
@@ -16,21 +19,62 @@ use ct_entry::{Act, Deed, Entries};
 use ct_execute::{Ran, execute};
 use ct_mem::Memory;
 use ct_sched::Sched;
+use def_words::Trap;
 
-/// Where the running thread returned or trapped, its innermost frame ends. `false` exactly where it
-/// has none left.
-fn leave<M: Memory + Drop>(threads: &mut Threads<M>, t: u32, entries: &Entries, ran: Ran) -> bool
-    requires runs { IfUnfinished ran
-        ((threads.old.running ≡ Some t) × TopLies threads.old t) }
+/// The running thread returned: its innermost frame ends, by its error handler where that was entered. `false` exactly
+/// where it has none left.
+fn hand_back<M: Memory + Drop>(threads: &mut Threads<M>, t: u32, entries: &Entries) -> bool
+    requires runs { threads.old.running ≡ Some t }
+    requires top { TopLies threads.old t }
     requires sorted { AreSorted entries.now.gates }
-    ensures result { result ≡ goes_after ran threads.old t }
+    ensures result { result ≡ nat_lt 1 (length (thread threads.old t).frames) }
+    ensures is { threads.new ≡ return_at threads.old entries.now t }
+{
+    if threads.is_handling(t) {
+        return threads.end_handler(t, entries);
+    }
+    threads.give_back(t, entries)
+}
+
+/// The running thread trapped: it enters its compartment's error handler, this export, or its innermost frame is
+/// unwound. `false` exactly where it has none left.
+fn take_trap<M: Memory + Drop>(
+    threads: &mut Threads<M>,
+    t: u32,
+    entries: &Entries,
+    handler: u32,
+    trap: Trap,
+) -> bool
+    requires runs { threads.old.running ≡ Some t }
+    requires may { MayHandle threads.old t entries.now handler }
+    ensures result { result ≡ goes_trapped threads.old t handler }
+    ensures is { threads.new ≡ trap_at threads.old entries.now t handler trap }
+{
+    if threads.handle(t, entries, handler, trap) {
+        return true;
+    }
+    threads.unwind(t, entries)
+}
+
+/// Where the running thread returned or trapped, its innermost frame ends, or its compartment's error handler, this
+/// export, is entered. `false` exactly where it has no frame left.
+fn leave<M: Memory + Drop>(
+    threads: &mut Threads<M>,
+    t: u32,
+    entries: &Entries,
+    handler: u32,
+    ran: Ran,
+) -> bool
+    requires { IfUnfinished ran
+        ((threads.old.running ≡ Some t) × MayHandle threads.old t entries.now handler) }
+    ensures result { result ≡ goes_after ran threads.old t handler }
     ensures is { threads.new
-        ≡ left_after ran threads.old entries.now t }
+        ≡ left_after ran threads.old entries.now t handler }
 {
     match ran {
         Ran::Went { .. } | Ran::Native { .. } => true,
-        Ran::Returned => threads.give_back(t, entries),
-        Ran::Trapped { .. } => threads.unwind(t, entries),
+        Ran::Returned => hand_back(threads, t, entries),
+        Ran::Trapped { trap } => take_trap(threads, t, entries, handler, trap),
     }
 }
 
@@ -113,8 +157,8 @@ impl<M: Memory + Drop> Engine<M> {
         }
     }
 
-    /// What is left of a step after its instruction and its native routine: where it returned or trapped
-    /// its innermost frame ends, and what it did counts.
+    /// What is left of a step after its instruction and its native routine: where it returned its innermost
+    /// frame ends, where it trapped that frame's compartment handles it, and what it did counts.
     #[inline(never)]
     fn finish(&mut self, t: u32, actor: u32, ran: Ran) -> Option<Deed>
         requires done { IsDone ran }
@@ -124,7 +168,8 @@ impl<M: Memory + Drop> Engine<M> {
             ≡ noted (finished self.old.board t actor self.old.state ran) }
         ensures board { self.new.board ≡ self.old.board }
     {
-        let goes = leave(&mut self.threads, t, self.plan.entries(), ran);
+        let handler = self.plan.handler(actor);
+        let goes = leave(&mut self.threads, t, self.plan.entries(), handler, ran);
         note_end(&mut self.sched, t, goes);
         let deed = deed_of(t, actor, ran);
         self.counts.note(deed);

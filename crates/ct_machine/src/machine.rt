@@ -1,20 +1,18 @@
 //! The machine: an engine whose state is confined.
 
 ghost use Rattle.std.specs.Prelude.{ℕ, ◌≡◌, ◌≤◌, List, IsTrue, IfOk, true, false};
-ghost use Rattle.def_board.specs.Guarded.{Guarded};
+ghost use Rattle.def_guarded.specs.Guarded.{Guarded};
 ghost use Rattle.def_boot.specs.Boot.{booted_machine};
 ghost use Rattle.def_confined.specs.Telling.{AllLicensed, IsLicensedEvent};
 ghost use Rattle.def_machine.specs.Image.{root};
 ghost use Rattle.def_machine.specs.Objects.{charges};
 ghost use Rattle.def_step.specs.declared.Event as events;
 ghost use Rattle.def_step.specs.declared.Event.TheVariants.{Step, Sweep};
-ghost use Rattle.def_safety.specs.Accesses.{UsesReach};
-ghost use Rattle.def_safety.specs.Calls.{CleanEvent};
+ghost use Rattle.def_events.specs.Upheld.{Upholds};
 ghost use Rattle.def_safety.specs.Each.{EachEvent};
-ghost use Rattle.def_safety.specs.Temporal.{AllocatesFresh, UsesLive};
 ghost use Rattle.def_step.specs.Events.{told, happens, run, is_lawful, end_of, totals_of};
 ghost use Rattle.law_boot_words.specs.Booting.{empty_granules};
-ghost use Rattle.def_safety.specs.Chunks.{SweptBeforeReuse};
+ghost use Rattle.def_safety.specs.Chunks.{SweptBeforeReuse, UnusedAfterFree};
 ghost use Rattle.ct_machine.specs.Going.{silence, steps_quietly};
 
 use crate::engine::Engine;
@@ -28,23 +26,22 @@ use std::marker::Model;
 
 /// An image that runs, over some memory.
 ///
-/// Contracts see it as its board, which never changes, and its state. Its type keeps the state
-/// *Confined* (docs/claims/confinement.md), and what is hidden zero, whatever the code bytes are.
+/// Contracts see it as its board, which never changes, and its state. Its type keeps it guarded, whatever the
+/// code bytes are: the state is *Confined*, and what is hidden is zero (docs/claims/confinement.md).
 #[derive(Drop)]
 pub struct Machine<M: Memory + Drop> {
     engine: Engine<M>,
 }
 
 impl<M: Memory + Drop> Model for Machine<M> {
-    ghost use Rattle.def_board.specs.Guarded.{Guarded};
-    ghost use Rattle.def_hidden.specs.Hidden.{Blank};
+    ghost use Rattle.def_guarded.specs.Guarded.{Guarded};
     ghost use Rattle.def_machine.specs.Board.{MachineRow};
 
     ghost Value = { MachineRow };
 
     ghost view = { λ m. m.engine };
 
-    ghost invariant = { λ m. Guarded m.engine × Blank m.engine.board.image m.engine.state };
+    ghost invariant = { λ m. Guarded m.engine };
 }
 
 impl<M: Memory + Drop> Machine<M> {
@@ -133,23 +130,20 @@ impl<M: Memory + Drop> Machine<M> {
         self.engine.step_quietly()
     }
 
-    /// Whatever events come next, one after another: calls are clean, each access goes through a capability
-    /// whose root's owner reaches the actor, and each deed and each span with interrupts off is licensed by
-    /// the image's entries. No access goes through a capability of a freed object; a new object reads as zero,
-    /// and no other capability that isn't empty covers it; a chunk is handed out again only after a whole
-    /// sweep that began after its free; and no quota is charged with more than its limit. A law, told of the
-    /// machine as it is now: nothing is done. docs/claims/theorems.md.
+    /// Whatever events come next, one after another: calls are clean, and each access goes through a capability
+    /// whose root's owner reaches the actor. No access goes through a capability of a freed object; a new object
+    /// reads as zero, and no other capability that isn't empty covers it. A frame's error handler is entered where a
+    /// trap is told that enters it, and only once. So much of each event; and each deed and each span with
+    /// interrupts off is licensed by the image's entries, after a free that is told no access goes through a
+    /// capability of its object, a chunk is handed out again only after a whole sweep that began after its free, and
+    /// no quota is charged with more than its limit. A law, told of the machine as it is now: nothing is done.
+    /// docs/claims/theorems.md.
     pub fn whatever_comes(&self)
-        ensures calls { (es : List events.Event)
-            → EachEvent (CleanEvent self.now.board) self.now.board self.now.state es }
-        ensures accesses { (es : List events.Event)
-            → EachEvent (λ z e. UsesReach self.now.board z) self.now.board self.now.state es }
+        ensures safe { (es : List events.Event)
+            → EachEvent (Upholds self.now.board) self.now.board self.now.state es }
         ensures licensed { (es : List events.Event) → AllLicensed self.now.board.image.entries
             (told self.now.board self.now.state es) }
-        ensures unused { (es : List events.Event)
-            → EachEvent (λ z e. UsesLive self.now.board z) self.now.board self.now.state es }
-        ensures fresh { (es : List events.Event)
-            → EachEvent (AllocatesFresh self.now.board) self.now.board self.now.state es }
+        ensures unused { UnusedAfterFree self.now.board self.now.state }
         ensures swept { SweptBeforeReuse self.now.board self.now.state }
         ensures quotas { (es : List events.Event) (q : ℕ)
             → charges q (run self.now.board self.now.state es).objects

@@ -1,11 +1,12 @@
 //! What never changes in a run.
 
-ghost use Rattle.std.specs.Prelude.{◌≡◌, IfOk};
+ghost use Rattle.std.specs.Prelude.{◌≡◌, IfOk, slice_index_or};
 ghost use Rattle.def_boot.specs.Boot.{image_of};
 ghost use Rattle.ct_exports.specs.Exports.{AreSorted};
+ghost use Rattle.def_machine.specs.Image.{handler_entry};
 ghost use Rattle.law_callable.specs.Showing.{IsOfSound};
 
-use ct_entries::entries;
+use ct_entries::{entries, handlers};
 use ct_entry::Entries;
 use ct_image::Image;
 use ct_known::Known;
@@ -13,13 +14,24 @@ use def_refusals::NoMemory;
 use std::alloc::Global;
 use std::marker::Model;
 
-/// The entries of an image, where its RAM and its heap begin, and how many granules a slice of a sweep passes. The
-/// image itself isn't kept.
+/// The number at an index; 0 past the end.
+fn number_of(numbers: &[u32], index: u32) -> u32
+    ensures { result ≡ slice_index_or numbers.now index 0 }
+{
+    match numbers.get(index as usize) {
+        Some(number) => *number,
+        None => 0,
+    }
+}
+
+/// The entries of an image, the numbers of its compartments' error handlers, where its RAM and its heap begin, and how
+/// many granules a slice of a sweep passes. The image itself isn't kept.
 ///
 /// Contracts see it as the machine's image.
 #[derive(Drop)]
 pub(crate) struct Plan {
     entries: Entries,
+    handlers: Vec<u32>,
     ram: u32,
     heap: u32,
     sweep: u32,
@@ -35,7 +47,8 @@ impl Model for Plan {
 
     ghost view = { λ p. image_of p.image.value };
 
-    ghost invariant = { λ p. IsPlan p.image.value p.entries p.ram p.heap p.sweep };
+    ghost invariant = { λ p. IsPlan p.image.value p.entries p.handlers.items p.ram p.heap
+        p.sweep };
 }
 
 impl Plan {
@@ -44,9 +57,11 @@ impl Plan {
         ensures { IfOk result (λ p. p ≡ image_of image.now) }
     {
         let entries = entries(alloc, image)?;
+        let handlers = handlers(alloc, image)?;
         let parts = image.parts();
         Ok(Plan {
             entries,
+            handlers,
             ram: parts.ram,
             heap: parts.heap,
             sweep: parts.sweep,
@@ -61,6 +76,13 @@ impl Plan {
         ensures sound { IsOfSound self.now }
     {
         &self.entries
+    }
+
+    /// The number of the export that is a compartment's error handler; 0 where it has none.
+    pub(crate) fn handler(&self, compartment: u32) -> u32
+        ensures { result ≡ handler_entry self.now compartment }
+    {
+        number_of(self.handlers.as_slice(), compartment)
     }
 
     /// Where RAM begins.

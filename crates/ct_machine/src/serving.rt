@@ -1,10 +1,12 @@
 //! Native routines of the running thread.
 
 ghost use Rattle.std.specs.Prelude.{◌≡◌, ◌≤◌};
+ghost use Rattle.def_profile.specs.declared.native.TheConstants as numbers;
 ghost use Rattle.def_step.specs.Instructions.{ran, served};
 ghost use Rattle.def_step.specs.Native.{native};
 ghost use Rattle.def_step.specs.Quotas as quotas;
 ghost use Rattle.def_step.specs.Routines as routine;
+ghost use Rattle.def_step.specs.Tokens as tokens;
 ghost use Rattle.ct_engine.specs.Steps.{IsRoutine};
 ghost use Rattle.ct_machine.specs.Going.{MayGoOn, Runs, CameTo, IsDone, ran_by_service, ran_by_call, rests_for};
 
@@ -12,8 +14,13 @@ use crate::engine::Engine;
 use ct_entry::Act;
 use ct_execute::Ran;
 use ct_mem::Memory;
-use ct_services::{Called, allocate, free, remaining, rest, switch, wait, wake};
-use def_profile::native::{ALLOCATE, FREE, SLEEP, SWITCH, WAIT, WAKE, YIELD};
+use ct_services::{
+    Called, allocate, free, remaining, rest, switch, token_free, token_key, token_new, token_open,
+    wait, wake,
+};
+use def_profile::native::{
+    ALLOCATE, FREE, REMAINING, SLEEP, SWITCH, TOKEN_KEY, TOKEN_NEW, TOKEN_OPEN, WAIT, WAKE, YIELD,
+};
 use def_words::Trap;
 
 /// What a service came to: a check that failed, or nothing that is told.
@@ -152,6 +159,86 @@ impl<M: Memory + Drop> Engine<M> {
         remaining(&mut self.threads, t)
     }
 
+    /// Token_key.
+    fn token_key(&mut self, t: u32) -> Ran
+        requires may { MayGoOn self.old }
+        requires runs { Runs self.old t }
+        requires made { self.old.state.next ≤ self.old.state.counts.steps }
+        ensures came { CameTo self.old self.new t result
+            (ran self.old.board self.old.state t
+            (tokens.token_key self.old.board.image self.old.state t)) }
+        ensures done { IsDone result }
+    {
+        token_key(&mut self.threads, t)
+    }
+
+    /// Token_new.
+    fn token_new(&mut self, t: u32) -> Ran
+        requires may { MayGoOn self.old }
+        requires runs { Runs self.old t }
+        requires made { self.old.state.next ≤ self.old.state.counts.steps }
+        ensures came { CameTo self.old self.new t result
+            (ran self.old.board self.old.state t
+            (tokens.token_new self.old.board.image self.old.state t)) }
+        ensures done { IsDone result }
+    {
+        token_new(&mut self.threads, t)
+    }
+
+    /// Token_open.
+    fn token_open(&mut self, t: u32) -> Ran
+        requires may { MayGoOn self.old }
+        requires runs { Runs self.old t }
+        ensures came { CameTo self.old self.new t result
+            (ran self.old.board self.old.state t
+            (tokens.token_open self.old.state t)) }
+        ensures done { IsDone result }
+    {
+        token_open(&mut self.threads, t)
+    }
+
+    /// Token_free.
+    fn token_free(&mut self, t: u32) -> Ran
+        requires may { MayGoOn self.old }
+        requires runs { Runs self.old t }
+        ensures came { CameTo self.old self.new t result
+            (ran self.old.board self.old.state t
+            (tokens.token_free self.old.board.image self.old.state t)) }
+        ensures done { IsDone result }
+    {
+        token_free(&mut self.threads, t)
+    }
+
+    /// The native routine of a number from allocate's on.
+    fn serve_heap(&mut self, t: u32, number: u32) -> Ran
+        requires may { MayGoOn self.old }
+        requires runs { Runs self.old t }
+        requires routine { IsRoutine number }
+        requires heap { numbers.ALLOCATE ≤ number }
+        requires made { self.old.state.next ≤ self.old.state.counts.steps }
+        ensures came { CameTo self.old self.new t result
+            (served self.old.board self.old.state t
+            (native self.old.board.image self.old.state t number)) }
+        ensures done { IsDone result }
+    {
+        if number == ALLOCATE {
+            self.allocate(t)
+        } else if number == FREE {
+            self.free(t)
+        } else if number == REMAINING {
+            self.remaining(t)
+        } else if number == TOKEN_KEY {
+            self.token_key(t)
+        } else if number == TOKEN_NEW {
+            self.token_new(t)
+        } else if number == TOKEN_OPEN {
+            self.token_open(t)
+        } else {
+            // Only token_free is left.
+            self.token_free(t)
+        }
+    }
+
     /// The native routine of a number, which isn't the return's.
     #[inline(never)]
     pub(crate) fn serve(&mut self, t: u32, number: u32) -> Ran
@@ -174,13 +261,9 @@ impl<M: Memory + Drop> Engine<M> {
             self.wait(t)
         } else if number == WAKE {
             self.wake(t)
-        } else if number == ALLOCATE {
-            self.allocate(t)
-        } else if number == FREE {
-            self.free(t)
         } else {
-            // Only remaining is left.
-            self.remaining(t)
+            // Those of the heap are left.
+            self.serve_heap(t, number)
         }
     }
 }

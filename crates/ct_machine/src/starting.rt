@@ -2,10 +2,9 @@
 
 ghost use Rattle.std.specs.Prelude.{ℕ, ◌≡◌, ◌≤◌, ◌*◌, IfOk, Some, length, slice_get};
 ghost use Rattle.def_profile.specs.declared.limits.TheConstants.{MOST_PRIORITY};
-ghost use Rattle.def_board.specs.Guarded.{Guarded};
+ghost use Rattle.def_guarded.specs.Guarded.{Guarded};
 ghost use Rattle.def_boot.specs.Boot.{booted_machine, image_of};
 ghost use Rattle.def_boot.specs.Gates.{entries_of};
-ghost use Rattle.def_hidden.specs.Hidden.{Blank};
 ghost use Rattle.def_image.specs.Parts.{ThreadRow};
 ghost use Rattle.def_image.specs.Sound.{Sound};
 ghost use Rattle.law_boot_words.specs.Booting.{empty_granules};
@@ -164,7 +163,6 @@ impl<M: Memory + Drop> Engine<M> {
         requires empty { M.granules mem ≡ empty_granules image.now }
         ensures booted { IfOk result (λ m. m ≡ booted_machine image.now) }
         ensures guarded { IfOk result (λ m. Guarded m) }
-        ensures blank { IfOk result (λ m. Blank m.board.image m.state) }
     {
         let Ok(plan) = Plan::of(alloc, image) else {
             drop(mem);

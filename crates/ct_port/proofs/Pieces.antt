@@ -2,15 +2,15 @@
 use Rattle.std.proofs.Common.{◌≡◌, ℕ, ◌==◌, true, List, [], ◌∷◌, ◌++◌, length, Option, Some, None, refl, ◌∙◌, ap, sym, subst, arith}
 use Rattle.std.proofs.lemmas.Bool.{eqb-true}
 use Rattle.std.proofs.lemmas.List.{append_assoc, append-nil}
-use Rattle.def_port.specs.Bytes.{Rose, Appends}
+use Rattle.def_port.specs.Bytes.{FaultsRose, Appends, SinkView}
 use Rattle.def_port.specs.Writes.{Writes, WriteFails}
 use Rattle.ct_port.proofs.Added.{appends_both}
 
-pub both : (old mid new : Option (List ℕ)) (f g h : ℕ) (first second : List ℕ) → Writes old mid f g first → Writes mid new g h second → Writes old new f h (first ++ second)
-both old mid new f g h first second a b = record { added = appends_both old mid new first second a.added b.added; same = b.same ∙ a.same }
+pub both : (old mid new : SinkView) (first second : List ℕ) → Writes old mid first → Writes mid new second → Writes old new (first ++ second)
+both old mid new first second a b = record { added = appends_both old.bytes mid.bytes new.bytes first second a.added b.added; same = b.same ∙ a.same }
 
-pub first_fails : (old new : Option (List ℕ)) (f g : ℕ) (first second : List ℕ) → WriteFails old new f g first → WriteFails old new f g (first ++ second)
-first_fails old new f g first second a = record {
+pub first_fails : (old new : SinkView) (first second : List ℕ) → WriteFails old new first → WriteFails old new (first ++ second)
+first_fails old new first second a = record {
   added = record {
     part = a.added.part;
     rest = a.added.rest ++ second;
@@ -20,25 +20,25 @@ first_fails old new f g first second a = record {
   rose = a.rose;
 }
 
-pub second_fails : (old mid new : Option (List ℕ)) (f g h : ℕ) (first second : List ℕ) → Writes old mid f g first → WriteFails mid new g h second → WriteFails old new f h (first ++ second)
-second_fails old mid new f g h first second a b = record {
+pub second_fails : (old mid new : SinkView) (first second : List ℕ) → Writes old mid first → WriteFails mid new second → WriteFails old new (first ++ second)
+second_fails old mid new first second a b = record {
   added = record {
     part = first ++ b.added.part;
     rest = b.added.rest;
     whole = append_assoc first b.added.part b.added.rest ∙ ap (λ t. first ++ t) b.added.whole;
-    added = appends_both old mid new first b.added.part a.added b.added.added;
+    added = appends_both old.bytes mid.bytes new.bytes first b.added.part a.added b.added.added;
   };
-  rose = let P : ℕ → Type 0 = λ n. Rose n h in subst P a.same b.rose;
+  rose = let P : ℕ → Type 0 = λ n. FaultsRose n new.faults in subst P a.same b.rose;
 }
 
 appends_none : (old : Option (List ℕ)) → Appends old old []
 appends_none None = tt
 appends_none (Some before) = ap (λ t. Some t) (sym (append-nil before))
 
-pub nothing : (old : Option (List ℕ)) (faults : ℕ) → Writes old old faults faults []
-nothing old faults = record { added = appends_none old; same = refl }
+pub nothing : (old : SinkView) → Writes old old []
+nothing old = record { added = appends_none old.bytes; same = refl }
 
 -- a line that is empty needs no write
-pub wrote_nothing : (old : Option (List ℕ)) (faults : ℕ) (text : List ℕ) → (length text == 0) ≡ true → Writes old old faults faults text
-wrote_nothing old faults [] empty = nothing old faults
-wrote_nothing old faults (c ∷ cs) empty = let none : length (c ∷ cs) ≡ 0 = eqb-true (length (c ∷ cs)) 0 empty in absurd (omega (arith, none))
+pub wrote_nothing : (old : SinkView) (text : List ℕ) → (length text == 0) ≡ true → Writes old old text
+wrote_nothing old [] empty = nothing old
+wrote_nothing old (c ∷ cs) empty = let none : length (c ∷ cs) ≡ 0 = eqb-true (length (c ∷ cs)) 0 empty in absurd (omega (arith, none))

@@ -4,7 +4,7 @@
 
 ghost use Rattle.std.specs.Prelude.{ℕ, ◌≡◌, ◌≢◌, ◌+◌, ◌≤◌, ◌<◌, ◌^◌, length, take, drop, List, [], MatchResult, IfOk, IfErr, IfSome, Some, None};
 ghost use Rattle.def_port.specs.Bytes.{Appends, AppendsPart};
-ghost use Rattle.def_port.specs.Told.{Silent};
+ghost use Rattle.def_port.specs.Forms.{disk_view};
 
 use crate::lists::{Reading, note};
 use crate::{Folder, Sink};
@@ -46,21 +46,17 @@ impl<'a, R: Files> DiskFolder<'a, R> {
 }
 
 impl<'a, R: Files> Folder for DiskFolder<'a, R> {
-    ghost file = { λ _ _. Silent };
-
-    ghost faults = { λ f. f.faults };
-
-    ghost calls = { λ f. f.calls };
+    ghost shows = { disk_view };
 
     fn read(&mut self, alloc: Global, name: &str, limit: u64) -> Result<Vec<u8>, ReadError> {
         match read_file(self.runtime, alloc, name, limit) {
             Ok(bytes) => {
-                note(&mut self.calls, alloc, name, false)?;
+                note(&mut self.calls, alloc, name, limit, false)?;
                 Ok(bytes)
             }
             Err(ReadError::NoMemory) => Err(ReadError::NoMemory),
             Err(ReadError::Failed) => {
-                note(&mut self.calls, alloc, name, true)?;
+                note(&mut self.calls, alloc, name, limit, true)?;
                 self.failures = self.failures.saturating_add(1);
                 Err(ReadError::Failed)
             }
@@ -121,9 +117,9 @@ pub struct WriterSink<W: Write + Drop> {
 }
 
 impl<W: Write + Drop> Model for WriterSink<W> {
-    ghost use Rattle.def_port.specs.Forms.{WriterRow};
+    ghost use Rattle.def_port.specs.Bytes.{SinkView};
 
-    ghost Value = { WriterRow };
+    ghost Value = { SinkView };
 
     ghost view = { λ s. record { bytes = W.contents s.writer; faults = s.failures } };
 }
@@ -141,9 +137,7 @@ impl<W: Write + Drop> WriterSink<W> {
 }
 
 impl<W: Write + Drop> Sink for WriterSink<W> {
-    ghost bytes = { λ s. s.bytes };
-
-    ghost faults = { λ s. s.faults };
+    ghost shows = { λ s. s };
 
     fn write(&mut self, piece: &[u8]) -> Result<(), WriteFailed> {
         match write_whole(&mut self.writer, piece) {

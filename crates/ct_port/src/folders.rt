@@ -2,8 +2,9 @@
 
 ghost use Rattle.std.specs.Prelude.{ℕ, ◌≡◌, ◌∷◌, [], ◌++◌, ◌≤◌, ◌^◌, List, MatchResult, OnOk, OnErr, Some, if◌then◌else◌, true, false};
 ghost use Rattle.std.specs.Str.{bytes_eq};
-ghost use Rattle.def_port.specs.Forms.{FolderRow, FailsAsTold, file_of, told_as, fails_next};
+ghost use Rattle.def_port.specs.Forms.{FolderRow, FailsAsTold, file_of, folder_view};
 ghost use Rattle.def_port.specs.Reads.{Reads, ReadFails};
+ghost use Rattle.def_port.specs.Told.{TellsSame};
 
 use crate::Folder;
 use crate::lists::{Reading, StoredFile, find, front, has_number, note, put};
@@ -75,22 +76,14 @@ impl FolderMem {
 }
 
 impl Folder for FolderMem {
-    ghost file = { λ f name. told_as (file_of f.files name) };
-
-    ghost faults = { λ f. f.faults };
-
-    ghost calls = { λ f. f.calls };
+    ghost shows = { folder_view };
 
     fn read(&mut self, alloc: Global, name: &str, limit: u64) -> Result<Vec<u8>, ReadError>
         requires { limit ≤ 2 ^ 32 }
         ensures answer { MatchResult result
-            (λ v.
-            Reads name.now limit (told_as (file_of self.old.files name.now)) self.old.calls
-            self.new.calls self.old.faults self.new.faults v.items)
-            (λ e.
-            ReadFails name.now self.old.calls self.new.calls self.old.faults self.new.faults e) }
-        ensures same { (n : List ℕ)
-            → told_as (file_of self.new.files n) ≡ told_as (file_of self.old.files n) }
+            (λ v. Reads name.now limit (folder_view self.old) (folder_view self.new) v.items)
+            (λ e. ReadFails name.now limit (folder_view self.old) (folder_view self.new) e) }
+        ensures same { TellsSame (folder_view self.old) (folder_view self.new) }
         ensures cause { FailsAsTold self.old name.now result }
         ensures files { self.new.files ≡ self.old.files }
         ensures fails { self.new.fails ≡ self.old.fails }
@@ -100,11 +93,11 @@ impl Folder for FolderMem {
         match find(self.files.as_slice(), name) {
             Some(bytes) if !listed => {
                 let bytes = front(alloc, bytes, limit)?;
-                note(&mut self.calls, alloc, name, false)?;
+                note(&mut self.calls, alloc, name, limit, false)?;
                 Ok(bytes)
             }
             _ => {
-                note(&mut self.calls, alloc, name, true)?;
+                note(&mut self.calls, alloc, name, limit, true)?;
                 self.faults = self.faults.saturating_add(1);
                 Err(ReadError::Failed)
             }

@@ -25,10 +25,11 @@ impl Model for StoredFile {
     ghost view = { λ f. record { name = string_bytes f.name; bytes = f.bytes.items } };
 }
 
-/// A read that came: the name, and whether it failed.
+/// A read that came: the name, the limit, and whether it failed.
 #[derive(Drop)]
 pub struct Reading {
     name: String,
+    limit: u64,
     failed: bool,
 }
 
@@ -38,7 +39,7 @@ impl Model for Reading {
 
     ghost Value = { Call };
 
-    ghost view = { λ c. record { name = string_bytes c.name; failed = c.failed } };
+    ghost view = { λ c. record { name = string_bytes c.name; limit = c.limit; failed = c.failed } };
 }
 
 /// The bytes of the first file of this name.
@@ -98,13 +99,18 @@ pub fn note(
     calls: &mut Vec<Reading>,
     alloc: Global,
     name: &str,
+    limit: u64,
     failed: bool,
 ) -> Result<(), AllocError>
-    ensures ok { OnOk result (calls.new.items ≡ recorded calls.old.items name.now failed) }
+    ensures ok { OnOk result (calls.new.items ≡ recorded calls.old.items name.now limit failed) }
     ensures err { OnErr result (calls.new.items ≡ calls.old.items) }
 {
     let name = String::from_str(alloc, name)?;
-    calls.push(Reading { name, failed })?;
+    calls.push(Reading {
+        name,
+        limit,
+        failed,
+    })?;
     Ok(())
 }
 

@@ -1,25 +1,22 @@
 //! The two traits that everything above reads and writes through.
 
-ghost use Rattle.std.specs.Prelude.{ℕ, ◌≡◌, ◌≤◌, ◌^◌, List, Option, MatchResult};
-ghost use Rattle.def_port.specs.Told.{Told, Call};
+ghost use Rattle.std.specs.Prelude.{◌≤◌, ◌^◌, MatchResult};
+ghost use Rattle.def_port.specs.Bytes.{SinkView};
+ghost use Rattle.def_port.specs.Told.{FolderView, TellsSame};
 ghost use Rattle.def_port.specs.Reads.{Reads, ReadFails};
-ghost use Rattle.def_port.specs.Writes.{Writes, WriteFails};
+ghost use Rattle.def_port.specs.Writes.{WriteAnswers};
 
 use def_port::{ReadError, WriteFailed};
 use std::alloc::Global;
 
 /// Files that are read by name.
 ///
-/// `file` is what it tells of a name: nothing, that there is no such file, or the file's bytes.
-/// `faults` is a count that a failing read raises and no other answer changes; it never falls, and
-/// stands still at 2^64 - 1. `calls` lists the reads so far, each with its name and whether it
-/// failed.
+/// `shows` is what is seen of it. `file` is what it tells of a name: nothing, that there is no such
+/// file, or the file's bytes. `calls` lists the reads so far, each with its name, its limit and
+/// whether it failed. `faults` is a count that a failing read raises and no other answer changes; it
+/// never falls, and stands still at 2^64 - 1.
 pub trait Folder {
-    ghost file: { Self → List ℕ → Told };
-
-    ghost faults: { Self → ℕ };
-
-    ghost calls: { Self → List Call };
+    ghost shows: { Self → FolderView };
 
     /// Gives the whole file where it has at most `limit` bytes, else its first `limit + 1` bytes.
     ///
@@ -28,31 +25,20 @@ pub trait Folder {
     fn read(&mut self, alloc: Global, name: &str, limit: u64) -> Result<Vec<u8>, ReadError>
         requires { limit ≤ 2 ^ 32 }
         ensures answer { MatchResult result
-            (λ v.
-            Reads name.now limit (file self.old name.now) (calls self.old) (calls self.new)
-            (faults self.old) (faults self.new) v.items)
-            (λ e.
-            ReadFails name.now (calls self.old) (calls self.new) (faults self.old)
-            (faults self.new) e) }
-        ensures same { (n : List ℕ) → file self.new n ≡ file self.old n };
+            (λ v. Reads name.now limit (shows self.old) (shows self.new) v.items)
+            (λ e. ReadFails name.now limit (shows self.old) (shows self.new) e) }
+        ensures same { TellsSame (shows self.old) (shows self.new) };
 }
 
 /// Output that is written in pieces.
 ///
-/// `bytes` is all that was taken so far, where the sink tells it. `faults` is as a folder's.
+/// `shows` is what is seen of it: `bytes` is all that was taken so far, where the sink tells it, and
+/// `faults` is as a folder's.
 pub trait Sink {
-    ghost bytes: { Self → Option (List ℕ) };
-
-    ghost faults: { Self → ℕ };
+    ghost shows: { Self → SinkView };
 
     /// Takes the whole piece, or fails with a prefix of it taken; it fails only where the count of
     /// faults rose.
     fn write(&mut self, piece: &[u8]) -> Result<(), WriteFailed>
-        ensures { MatchResult result
-            (λ _.
-            Writes (bytes self.old) (bytes self.new) (faults self.old) (faults self.new)
-            piece.now)
-            (λ _.
-            WriteFails (bytes self.old) (bytes self.new) (faults self.old) (faults self.new)
-            piece.now) };
+        ensures { WriteAnswers (shows self.old) (shows self.new) piece.now result };
 }

@@ -3,8 +3,8 @@
 ghost use Rattle.std.specs.Prelude.{ℕ, ◌≡◌, ◌∷◌, [], ◌++◌, ◌+◌, ◌-◌, ◌^◌, min, length, take, List, MatchResult, OnOk, OnErr, if◌then◌else◌, true, false, IsTrue, IsOk, IfOk, ◌↔◌, ◌≤◌, Some, nat_le};
 ghost use Rattle.std.specs.Vec.{vec_capacity};
 ghost use Rattle.def_port.specs.Bytes.{AppendsPart};
-ghost use Rattle.def_port.specs.Forms.{SinkRow, written, succeeds};
-ghost use Rattle.def_port.specs.Writes.{Writes, WriteFails};
+ghost use Rattle.def_port.specs.Forms.{SinkRow, sink_view, written, succeeds};
+ghost use Rattle.def_port.specs.Writes.{WriteAnswers};
 
 use crate::Sink;
 use crate::lists::has_number;
@@ -81,19 +81,11 @@ impl SinkMem {
 }
 
 impl Sink for SinkMem {
-    ghost bytes = { λ s. Some s.bytes };
-
-    ghost faults = { λ s. s.faults };
+    ghost shows = { sink_view };
 
     #[tactic(auto, using(crate::proofs::Parts::part_of, crate::proofs::Parts::nothing_of))]
     fn write(&mut self, piece: &[u8]) -> Result<(), WriteFailed>
-        ensures answer { MatchResult result
-            (λ _.
-            Writes (Some self.old.bytes) (Some self.new.bytes) self.old.faults self.new.faults
-            piece.now)
-            (λ _.
-            WriteFails (Some self.old.bytes) (Some self.new.bytes) self.old.faults
-            self.new.faults piece.now) }
+        ensures answer { WriteAnswers (sink_view self.old) (sink_view self.new) piece.now result }
         ensures state { self.new ≡ written self.old piece.now }
         ensures cause { IsOk result ↔ (succeeds self.old piece.now ≡ true) }
     {

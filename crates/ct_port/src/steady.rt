@@ -2,10 +2,10 @@
 
 ghost use Rattle.std.specs.Prelude.{ℕ, ◌≡◌, ◌+◌, ◌-◌, ◌≤◌, ◌^◌, min, length, List, [], MatchResult, OnOk, OnErr, IsOk, Some, None, if◌then◌else◌, true, false};
 ghost use Rattle.std.specs.Str.{bytes_eq};
-ghost use Rattle.def_port.specs.Told.{File};
-ghost use Rattle.def_port.specs.Forms.{SteadyRow, NeverFails, file_of, steady_as};
+ghost use Rattle.def_port.specs.Told.{TellsSame};
+ghost use Rattle.def_port.specs.Forms.{SteadyRow, NeverFails, file_of, steady_sink, steady_view};
 ghost use Rattle.def_port.specs.Reads.{Reads, ReadFails};
-ghost use Rattle.def_port.specs.Writes.{Writes, WriteFails};
+ghost use Rattle.def_port.specs.Writes.{WriteAnswers};
 
 use crate::lists::{Reading, StoredFile, find, front, note, put};
 use crate::{Folder, Sink};
@@ -54,22 +54,14 @@ impl SteadyFolder {
 }
 
 impl Folder for SteadyFolder {
-    ghost file = { λ f name. File (steady_as (file_of f.files name)) };
-
-    ghost faults = { λ _. 0 };
-
-    ghost calls = { λ f. f.calls };
+    ghost shows = { steady_view };
 
     fn read(&mut self, alloc: Global, name: &str, limit: u64) -> Result<Vec<u8>, ReadError>
         requires { limit ≤ 2 ^ 32 }
         ensures answer { MatchResult result
-            (λ v.
-            Reads name.now limit (File (steady_as (file_of self.old.files name.now)))
-            self.old.calls self.new.calls 0 0 v.items)
-            (λ e. ReadFails name.now self.old.calls self.new.calls 0 0 e) }
-        ensures same { (n : List ℕ)
-            → File (steady_as (file_of self.new.files n))
-            ≡ File (steady_as (file_of self.old.files n)) }
+            (λ v. Reads name.now limit (steady_view self.old) (steady_view self.new) v.items)
+            (λ e. ReadFails name.now limit (steady_view self.old) (steady_view self.new) e) }
+        ensures same { TellsSame (steady_view self.old) (steady_view self.new) }
         ensures never { NeverFails result }
         ensures files { self.new.files ≡ self.old.files }
     {
@@ -77,7 +69,7 @@ impl Folder for SteadyFolder {
             Some(bytes) => front(alloc, bytes, limit)?,
             None => Vec::new(alloc),
         };
-        note(&mut self.calls, alloc, name, false)?;
+        note(&mut self.calls, alloc, name, limit, false)?;
         Ok(bytes)
     }
 }
@@ -114,14 +106,10 @@ impl SteadySink {
 }
 
 impl Sink for SteadySink {
-    ghost bytes = { λ _. None };
-
-    ghost faults = { λ _. 0 };
+    ghost shows = { λ _. steady_sink };
 
     fn write(&mut self, piece: &[u8]) -> Result<(), WriteFailed>
-        ensures answer { MatchResult result
-            (λ _. Writes None None 0 0 piece.now)
-            (λ _. WriteFails None None 0 0 piece.now) }
+        ensures answer { WriteAnswers steady_sink steady_sink piece.now result }
         ensures never { IsOk result }
         ensures taken { self.new ≡ min (self.old + length piece.now) (2 ^ 64 - 1) }
     {

@@ -5,7 +5,7 @@ use Rattle.std.proofs.Math.Seq.{drop-cons}
 use Rattle.std.proofs.lemmas.List.{append_assoc, append-nil, map-append}
 use Rattle.def_port.specs.Told.{Told, Call}
 use Rattle.def_port.specs.Reads.{recorded}
-use Rattle.def_program.specs.Ends.{IsFile}
+use Rattle.def_program.specs.Calls.{IsFile, most}
 use Rattle.def_program.specs.Answers.{Read, contents, read_call, read_calls}
 use Rattle.ct_reading.specs.Whole.{names_of, Front}
 
@@ -20,7 +20,7 @@ abbrev pub one_read : List ℕ → List ℕ → Read
 one_read name bytes = record { name = name; bytes = bytes }
 
 pub one_more : (told : List ℕ → Told) (names : List (List ℕ)) (before mid after : List Call) (done : List Read) (name : List ℕ) (left : List (List ℕ)) (bytes : List ℕ)
-    → Front told names before mid done (name ∷ left) → IsFile (told name) bytes → after ≡ recorded mid name false
+    → Front told names before mid done (name ∷ left) → IsFile (told name) bytes → after ≡ recorded mid name most false
     → Front told names before after (done ++ one_read name bytes ∷ []) left
 one_more told names before mid after done name left bytes f file call = record {
   whole = ap (λ (t : List (List ℕ)). t ++ left) (map-append (λ (r : Read). r.name) done (one_read name bytes ∷ []))

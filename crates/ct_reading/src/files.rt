@@ -1,6 +1,7 @@
 //! Files that are read whole.
 
-ghost use Rattle.std.specs.Prelude.{◌≡◌, ℕ, List, map, MatchResult};
+ghost use Rattle.std.specs.Prelude.{map, MatchResult};
+ghost use Rattle.def_port.specs.Told.{TellsSame};
 ghost use Rattle.def_program.specs.Turns as spec;
 ghost use Rattle.ct_reading.specs.Whole.{AllGiven, NotGiven, SomeGiven, WasGiven, texts};
 
@@ -32,13 +33,9 @@ pub fn read_file<'a, F: Folder>(
     folder: &mut F,
 ) -> Result<Vec<u8>, Stop<'a>>
     ensures answer { MatchResult result
-        (λ v.
-        WasGiven name.now (F.file folder.old name.now) (F.calls folder.old)
-        (F.calls folder.new) (F.faults folder.old) (F.faults folder.new) v.items)
-        (λ stop.
-        NotGiven name.now (F.file folder.old name.now) (F.calls folder.old)
-        (F.calls folder.new) (F.faults folder.old) (F.faults folder.new) stop) }
-    ensures same { (n : List ℕ) → F.file folder.new n ≡ F.file folder.old n }
+        (λ v. WasGiven name.now (F.shows folder.old) (F.shows folder.new) v.items)
+        (λ stop. NotGiven name.now (F.shows folder.old) (F.shows folder.new) stop) }
+    ensures same { TellsSame (F.shows folder.old) (F.shows folder.new) }
 {
     let bytes = match folder.read(alloc, name, MOST) {
         Ok(bytes) => bytes,
@@ -59,12 +56,10 @@ fn read_files<'a, F: Folder>(
 ) -> Result<Vec<Vec<u8>>, Stop<'a>>
     ensures answer { MatchResult result
         (λ v.
-        AllGiven (F.file folder.old) (texts names.now) (F.calls folder.old) (F.calls folder.new)
-        (F.faults folder.old) (F.faults folder.new) (map (λ t. t.items) v.items))
-        (λ stop.
-        SomeGiven (F.file folder.old) (texts names.now) (F.calls folder.old)
-        (F.calls folder.new) (F.faults folder.old) (F.faults folder.new) stop) }
-    ensures same { (n : List ℕ) → F.file folder.new n ≡ F.file folder.old n }
+        AllGiven (texts names.now) (F.shows folder.old) (F.shows folder.new)
+        (map (λ t. t.items) v.items))
+        (λ stop. SomeGiven (texts names.now) (F.shows folder.old) (F.shows folder.new) stop) }
+    ensures same { TellsSame (F.shows folder.old) (F.shows folder.new) }
 {
     let mut all = Vec::new(alloc);
     for name in names {
@@ -89,13 +84,11 @@ pub fn read_sources<'a, F: Folder>(
 ) -> Result<Vec<Vec<u8>>, Stop<'a>>
     ensures answer { MatchResult result
         (λ v.
-        AllGiven (F.file folder.old) (spec.source_names desc.now) (F.calls folder.old)
-        (F.calls folder.new) (F.faults folder.old) (F.faults folder.new)
+        AllGiven (spec.source_names desc.now) (F.shows folder.old) (F.shows folder.new)
         (map (λ t. t.items) v.items))
         (λ stop.
-        SomeGiven (F.file folder.old) (spec.source_names desc.now) (F.calls folder.old)
-        (F.calls folder.new) (F.faults folder.old) (F.faults folder.new) stop) }
-    ensures same { (n : List ℕ) → F.file folder.new n ≡ F.file folder.old n }
+        SomeGiven (spec.source_names desc.now) (F.shows folder.old) (F.shows folder.new) stop) }
+    ensures same { TellsSame (F.shows folder.old) (F.shows folder.new) }
 {
     match source_names(alloc, desc) {
         Ok(names) => read_files(alloc, names.as_slice(), folder),

@@ -6,7 +6,7 @@ use Rattle.def_port.specs.Told.{Told, Call}
 use Rattle.def_description.specs.Rows.{DescRow}
 use Rattle.def_description.specs.WellFormed.{WellFormed}
 use Rattle.def_program.specs.Commands.{Command, generated_by, file_of, reads_image}
-use Rattle.def_program.specs.Ends.{Ends, IsFile}
+use Rattle.def_program.specs.Calls.{CallRecord, IsFile}
 use Rattle.def_program.specs.Turns.{Turn, Asks, FollowsBy, Follows, OfFirst, OfSources, OfDescription, source_names}
 use Rattle.def_program.specs.Answers.{Read, contents, read_call, read_calls, WereDue, WasDue, LastRead}
 use Rattle.ct_reading.specs.Whole.{names_of}
@@ -35,7 +35,7 @@ past_all (x ∷ done) = past_all done
 
 -- ---- the first file
 
-no_read_due : (e : Ends) (c : Command) → WereDue e c []
+no_read_due : (e : CallRecord) (c : Command) → WereDue e c []
 no_read_due e c k r is = absurd (let clash : None ≡ Some r = is in cc)
 
 -- of a command that reads files its own is due, and then what that file decides
@@ -45,37 +45,37 @@ own_due c none = subst (λ o. FollowsBy c o [] (Asks (file_of c))) (sym none) re
 pub own_follows : (c : Command) → generated_by c ≡ None → (bytes : List ℕ) (files : List (List ℕ)) (t : Turn) → OfFirst (reads_image c) c bytes files t → Follows c (bytes ∷ files) t
 own_follows c none bytes files t due = subst (λ o. FollowsBy c o (bytes ∷ files) t) (sym none) due
 
-pub nothing_due : (e : Ends) (c : Command) → generated_by c ≡ None → LastRead e c [] (file_of c)
+pub nothing_due : (e : CallRecord) (c : Command) → generated_by c ≡ None → LastRead e c [] (file_of c)
 nothing_due e c none = record { due = no_read_due e c; asked = own_due c none }
 
-pub none_due : (e : Ends) (c : Command) → WereDue e c []
+pub none_due : (e : CallRecord) (c : Command) → WereDue e c []
 none_due e c = no_read_due e c
 
 some_read : (x r : Read) → Some x ≡ Some r → x ≡ r
 some_read x r is = cc
 
-pub first_due : (e : Ends) (c : Command) → generated_by c ≡ None → (bytes : List ℕ) → IsFile (e.told (file_of c)) bytes → WereDue e c (first_read c bytes ∷ [])
+pub first_due : (e : CallRecord) (c : Command) → generated_by c ≡ None → (bytes : List ℕ) → IsFile (e.folder.file (file_of c)) bytes → WereDue e c (first_read c bytes ∷ [])
 first_due e c none bytes file zero r is =
     subst (λ (x : Read). WasDue e c (first_read c bytes ∷ []) zero x) (some_read (first_read c bytes) r is) (record { asked = own_due c none; file = file })
 first_due e c none bytes file (suc k) r is = absurd (let clash : None ≡ Some r = is in cc)
 
 -- ---- sources
 
-module _ (e : Ends) (c : Command) (none : generated_by c ≡ None) (bytes : List ℕ) (d : DescRow) (kind : reads_image c ≡ false) (lawful : WellFormed bytes d)
-    (file : IsFile (e.told (file_of c)) bytes) where
+module _ (e : CallRecord) (c : Command) (none : generated_by c ≡ None) (bytes : List ℕ) (d : DescRow) (kind : reads_image c ≡ false) (lawful : WellFormed bytes d)
+    (file : IsFile (e.folder.file (file_of c)) bytes) where
   pub of_first : (sources : List (List ℕ)) (t : Turn) → OfDescription c bytes sources t → Follows c (bytes ∷ sources) t
   of_first sources t due = own_follows c none bytes sources t (subst (λ b. OfFirst b c bytes sources t) (sym kind) due)
 
   asks : (sources : List (List ℕ)) (name : List ℕ) → slice_get (source_names d) (length sources) ≡ Some name → Follows c (bytes ∷ sources) (Asks name)
   asks sources name is = of_first sources (Asks name) (inr (d, (lawful, subst (λ o. OfSources c d (take (length (source_names d)) sources) (drop (length (source_names d)) sources) o (Asks name)) (sym is) refl)))
 
-  file_at : (done : List Read) (k : ℕ) (r : Read) → AllByRecursion (λ (x : Read). IsFile (e.told x.name) x.bytes) done → slice_get done k ≡ Some r → IsFile (e.told r.name) r.bytes
+  file_at : (done : List Read) (k : ℕ) (r : Read) → AllByRecursion (λ (x : Read). IsFile (e.folder.file x.name) x.bytes) done → slice_get done k ≡ Some r → IsFile (e.folder.file r.name) r.bytes
   file_at [] k r all is = absurd (let clash : None ≡ Some r = is in cc)
-  file_at (x ∷ done) zero r all is = subst (λ (y : Read). IsFile (e.told y.name) y.bytes) (some_read x r is) all.0
+  file_at (x ∷ done) zero r all is = subst (λ (y : Read). IsFile (e.folder.file y.name) y.bytes) (some_read x r is) all.0
   file_at (x ∷ done) (suc k) r all is = file_at done k r all.1 is
 
   pub sources_due : (done : List Read) (left : List (List ℕ)) → names_of done ++ left ≡ source_names d
-      → AllByRecursion (λ (x : Read). IsFile (e.told x.name) x.bytes) done → WereDue e c (first_read c bytes ∷ done)
+      → AllByRecursion (λ (x : Read). IsFile (e.folder.file x.name) x.bytes) done → WereDue e c (first_read c bytes ∷ done)
   sources_due done left names all zero r is =
       subst (λ (x : Read). WasDue e c (first_read c bytes ∷ done) zero x) (some_read (first_read c bytes) r is) (record { asked = own_due c none; file = file })
   sources_due done left names all (suc k) r is = record {
@@ -84,7 +84,7 @@ module _ (e : Ends) (c : Command) (none : generated_by c ≡ None) (bytes : List
   }
 
   pub next_due : (done : List Read) (name : List ℕ) (rest : List (List ℕ)) → names_of done ++ name ∷ rest ≡ source_names d
-      → AllByRecursion (λ (x : Read). IsFile (e.told x.name) x.bytes) done → LastRead e c (first_read c bytes ∷ done) name
+      → AllByRecursion (λ (x : Read). IsFile (e.folder.file x.name) x.bytes) done → LastRead e c (first_read c bytes ∷ done) name
   next_due done name rest names all = record {
     due = sources_due done (name ∷ rest) names all;
     asked = asks (contents done) name (subst (λ ns. slice_get ns (length (contents done)) ≡ Some name) names (next_at done name rest));
@@ -106,7 +106,7 @@ get_front (y ∷ ys) x (suc k) r is = elim (get_front ys x k r is) [
 ]
 
 -- a file that was due after others, and was given whole
-pub one_more_due : (e : Ends) (c : Command) (rs : List Read) (x : Read) → WereDue e c rs → Follows c (contents rs) (Asks x.name) → IsFile (e.told x.name) x.bytes
+pub one_more_due : (e : CallRecord) (c : Command) (rs : List Read) (x : Read) → WereDue e c rs → Follows c (contents rs) (Asks x.name) → IsFile (e.folder.file x.name) x.bytes
     → WereDue e c (rs ++ x ∷ [])
 one_more_due e c rs x due asked file k r is = elim (get_front rs x k r is) [
   | inl there ↦
@@ -116,7 +116,7 @@ one_more_due e c rs x due asked file k r is = elim (get_front rs x k r is) [
       let next : Follows c (contents rs) (Asks r.name) = subst (λ (y : Read). Follows c (contents rs) (Asks y.name)) last.0 asked in
       record {
         asked = subst (λ fs. Follows c (contents fs) (Asks r.name)) (sym last.1) next;
-        file = subst (λ (y : Read). IsFile (e.told y.name) y.bytes) last.0 file;
+        file = subst (λ (y : Read). IsFile (e.folder.file y.name) y.bytes) last.0 file;
       }
 ]
 

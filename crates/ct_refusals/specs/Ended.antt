@@ -1,46 +1,45 @@
--- How a call ends after the files that were read so far: at once, or after one more.
+-- How a call ends after the files that were read so far: at once, or after one more. What is seen of the folder and of
+-- the sink is that after these files, and at the call's end.
 use Rattle.std.specs.Prelude.{◌≡◌, ℕ, ◌⊎◌, List, [], ◌∷◌}
+use Rattle.def_port.specs.Bytes.{SinkView}
+use Rattle.def_port.specs.Told.{FolderView}
 use Rattle.def_program.specs.declared.Status.{Status}
-use Rattle.def_program.specs.Ends.{Ends}
 use Rattle.def_program.specs.Turns.{Turn}
 use Rattle.def_program.specs.Turns as turn
 use Rattle.ct_reading.specs.declared.files.Stop.{Stop}
 use Rattle.ct_reading.specs.Whole.{WasGiven, NotGiven}
 use Rattle.ct_refusals.specs.Settled.{Settles}
-use Rattle.ct_refusals.specs.Stopped.{Refuses}
-
--- the dialogue ended with what is due, as the sink tells
-abbrev pub SettlesIn : (Turn → Type 0) → Ends → Status → Type 0
-SettlesIn Due e result =
-    Settles Due e.bytes e.bytes_after e.write_faults e.write_faults_after result
+use Rattle.ct_refusals.specs.Stopped.{RefusesFile}
 
 -- no file was read
-pub record EndsAtOnce (Due : List (List ℕ) → Turn → Type 0) (e : Ends) (result : Status)
-    : Type 0 where
-  pub calls : e.calls_after ≡ e.calls
-  pub same : e.read_faults_after ≡ e.read_faults
-  pub settles : SettlesIn (Due []) e result
+pub record EndsAtOnce (Due : List (List ℕ) → Turn → Type 0) (folder folder_after : FolderView)
+    (sink sink_after : SinkView) (result : Status) : Type 0 where
+  pub calls : folder_after.calls ≡ folder.calls
+  pub same : folder_after.faults ≡ folder.faults
+  pub settles : Settles (Due []) sink sink_after result
 
 -- one file was due, and was given whole
-pub record EndsAfter (Due : List (List ℕ) → Turn → Type 0) (e : Ends) (result : Status)
-    : Type 0 where
+pub record EndsAfter (Due : List (List ℕ) → Turn → Type 0) (folder folder_after : FolderView)
+    (sink sink_after : SinkView) (result : Status) : Type 0 where
   pub name : List ℕ
   pub asked : Due [] (turn.Asks name)
   pub bytes : List ℕ
-  pub given : WasGiven name (e.told name) e.calls e.calls_after e.read_faults e.read_faults_after
-      bytes
-  pub settles : SettlesIn (Due (bytes ∷ [])) e result
+  pub given : WasGiven name folder folder_after bytes
+  pub settles : Settles (Due (bytes ∷ [])) sink sink_after result
 
 -- one file was due, and wasn't given
-pub record EndsWithout (Due : List (List ℕ) → Turn → Type 0) (e : Ends) (result : Status)
-    : Type 0 where
+pub record EndsWithout (Due : List (List ℕ) → Turn → Type 0) (folder folder_after : FolderView)
+    (sink sink_after : SinkView) (result : Status) : Type 0 where
   pub name : List ℕ
   pub asked : Due [] (turn.Asks name)
   pub stop : Stop
-  pub why : NotGiven name (e.told name) e.calls e.calls_after e.read_faults e.read_faults_after stop
-  pub refused : Refuses stop e.bytes e.bytes_after e.write_faults e.write_faults_after result
+  pub why : NotGiven name folder folder_after stop
+  pub refused : RefusesFile stop sink sink_after result
 
 -- what is due after some more files decides how the call ends
-abbrev pub EndsBy : (List (List ℕ) → Turn → Type 0) → Ends → Status → Type 0
-EndsBy Due e result =
-    EndsAtOnce Due e result ⊎ EndsAfter Due e result ⊎ EndsWithout Due e result
+abbrev pub EndsBy : (List (List ℕ) → Turn → Type 0) → FolderView → FolderView → SinkView
+    → SinkView → Status → Type 0
+EndsBy Due folder folder_after sink sink_after result =
+    EndsAtOnce Due folder folder_after sink sink_after result
+    ⊎ EndsAfter Due folder folder_after sink sink_after result
+    ⊎ EndsWithout Due folder folder_after sink sink_after result

@@ -1,10 +1,11 @@
 -- What ends the dialogue: a text of the last turn, or want of memory.
-use Rattle.std.specs.Prelude.{ℕ, List, Option, ◌⊎◌}
+use Rattle.std.specs.Prelude.{ℕ, List, ◌⊎◌}
+use Rattle.def_port.specs.Bytes.{SinkView}
 use Rattle.def_program.specs.declared.Status.{Status}
 use Rattle.def_program.specs.declared.Status.TheVariants as status
 use Rattle.def_program.specs.Turns.{Turn}
 use Rattle.def_program.specs.Turns as turn
-use Rattle.ct_refusals.specs.Closing.{Closes, Silent}
+use Rattle.ct_refusals.specs.Closing.{Closes, WroteNothing}
 
 -- the statuses that a last turn may have
 abbrev pub IsLast : Status → Type 0
@@ -24,15 +25,13 @@ IsLast status.Denied = Unit {0}
 IsLast status.Policy = Unit {0}
 
 -- the call ends with a turn that is due, and its text was written or a write failed
-pub record Settled (Due : Turn → Type 0) (old new : Option (List ℕ)) (faults now : ℕ)
-    (result : Status) : Type 0 where
+pub record Settled (Due : Turn → Type 0) (before after : SinkView) (result : Status) : Type 0 where
   pub status : Status
   pub text : List ℕ
   pub last : IsLast status
   pub due : Due (turn.Ends status text)
-  pub closes : Closes old new faults now text status result
+  pub closes : Closes before after text status result
 
 -- or memory was wanted before
-abbrev pub Settles : (Turn → Type 0) → Option (List ℕ) → Option (List ℕ) → ℕ → ℕ → Status → Type 0
-Settles Due old new faults now result =
-    Settled Due old new faults now result ⊎ Silent old new faults now result
+abbrev pub Settles : (Turn → Type 0) → SinkView → SinkView → Status → Type 0
+Settles Due before after result = Settled Due before after result ⊎ WroteNothing before after result

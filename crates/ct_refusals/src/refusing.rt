@@ -5,7 +5,7 @@ ghost use Rattle.def_program.specs.declared.Status.TheVariants as status;
 ghost use Rattle.def_program.specs.Lines as spec;
 ghost use Rattle.def_program.specs.Lines.{refused, numbered};
 ghost use Rattle.ct_refusals.specs.Closing.{Closes};
-ghost use Rattle.ct_refusals.specs.Stopped.{Refuses};
+ghost use Rattle.ct_refusals.specs.Stopped.{RefusesFile};
 
 use crate::lines::{description_line, line_end, line_front, line_of_two, owner_name};
 use crate::writing::{close, close_named};
@@ -18,7 +18,7 @@ use def_program::Status;
 
 /// Refuses words that aren't a form.
 pub fn refuse_usage<S: Sink>(sink: &mut S) -> Status
-    ensures { Closes (S.bytes sink.old) (S.bytes sink.new) (S.faults sink.old) (S.faults sink.new)
+    ensures { Closes (S.shows sink.old) (S.shows sink.new)
         spec.usage_line status.Usage result }
 {
     close(b"refused 1 usage\n", Status::Usage, sink)
@@ -26,7 +26,7 @@ pub fn refuse_usage<S: Sink>(sink: &mut S) -> Status
 
 /// Refuses a file that can't be read.
 fn refuse_read<S: Sink>(name: &str, sink: &mut S) -> Status
-    ensures { Closes (S.bytes sink.old) (S.bytes sink.new) (S.faults sink.old) (S.faults sink.new)
+    ensures { Closes (S.shows sink.old) (S.shows sink.new)
         (spec.read_line name.now) status.ReadFault result }
 {
     close_named(b"refused 2 read ", name, b"\n", Status::ReadFault, sink)
@@ -34,7 +34,7 @@ fn refuse_read<S: Sink>(name: &str, sink: &mut S) -> Status
 
 /// Refuses a file that is too large.
 fn refuse_large<S: Sink>(name: &str, sink: &mut S) -> Status
-    ensures { Closes (S.bytes sink.old) (S.bytes sink.new) (S.faults sink.old) (S.faults sink.new)
+    ensures { Closes (S.shows sink.old) (S.shows sink.new)
         (spec.large_line name.now) status.TooLarge result }
 {
     close_named(b"refused 3 large ", name, b"\n", Status::TooLarge, sink)
@@ -42,8 +42,7 @@ fn refuse_large<S: Sink>(name: &str, sink: &mut S) -> Status
 
 /// Refuses a file that isn't given; where memory was wanted nothing is written, and `NoMemory` comes.
 pub fn refuse_file<S: Sink>(stop: Stop, sink: &mut S) -> Status
-    ensures { Refuses stop.entry (S.bytes sink.old) (S.bytes sink.new) (S.faults sink.old)
-        (S.faults sink.new) result }
+    ensures { RefusesFile stop.entry (S.shows sink.old) (S.shows sink.new) result }
 {
     match stop {
         Stop::Unread(name) => refuse_read(name, sink),
@@ -54,7 +53,7 @@ pub fn refuse_file<S: Sink>(stop: Stop, sink: &mut S) -> Status
 
 /// Refuses a description, by the rule that it breaks and the place where it does.
 pub fn refuse_description<S: Sink>(fault: Fault, sink: &mut S) -> Status
-    ensures { Closes (S.bytes sink.old) (S.bytes sink.new) (S.faults sink.old) (S.faults sink.new)
+    ensures { Closes (S.shows sink.old) (S.shows sink.new)
         (spec.description_line fault) status.Description result }
 {
     close(
@@ -66,7 +65,7 @@ pub fn refuse_description<S: Sink>(fault: Fault, sink: &mut S) -> Status
 
 /// Refuses a source, by the fault's number and the line that is at fault.
 fn refuse_source<S: Sink>(owner: &str, number: u32, line: u32, sink: &mut S) -> Status
-    ensures { Closes (S.bytes sink.old) (S.bytes sink.new) (S.faults sink.old) (S.faults sink.new)
+    ensures { Closes (S.shows sink.old) (S.shows sink.new)
         (refused (codes "5")
         (codes "assembly" ∷ numbered (codes "A") number ∷ owner.now ∷ decimal line ∷ []))
         status.Assembly result }
@@ -84,7 +83,7 @@ fn refuse_source<S: Sink>(owner: &str, number: u32, line: u32, sink: &mut S) -> 
 
 /// Refuses to link, by what stands before the owner's name, the name, and a number after it.
 fn refuse_owner<S: Sink>(text: &[u8], owner: &str, number: u32, sink: &mut S) -> Status
-    ensures { Closes (S.bytes sink.old) (S.bytes sink.new) (S.faults sink.old) (S.faults sink.new)
+    ensures { Closes (S.shows sink.old) (S.shows sink.new)
         (text.now ++ (owner.now ++ 32 ∷ (decimal number ++ 10 ∷ []))) status.Link result }
 {
     let rest = line_end(number);
@@ -93,7 +92,7 @@ fn refuse_owner<S: Sink>(text: &[u8], owner: &str, number: u32, sink: &mut S) ->
 
 /// Refuses regions that don't fit RAM, by the bytes that are needed and those that are there.
 fn refuse_room<S: Sink>(needed: u64, has: u64, sink: &mut S) -> Status
-    ensures { Closes (S.bytes sink.old) (S.bytes sink.new) (S.faults sink.old) (S.faults sink.new)
+    ensures { Closes (S.shows sink.old) (S.shows sink.new)
         (spec.link_line (codes "L2") (decimal needed) has) status.Link result }
 {
     let line = line_of_two("refused 6 link L2 ", needed, has);
@@ -103,7 +102,7 @@ fn refuse_room<S: Sink>(needed: u64, has: u64, sink: &mut S) -> Status
 /// Refuses a description and its sources; where memory was wanted nothing is written, and `NoMemory`
 /// comes.
 pub fn refuse_link<S: Sink>(desc: &Desc, fault: LinkFault, sink: &mut S) -> Status
-    ensures { Closes (S.bytes sink.old) (S.bytes sink.new) (S.faults sink.old) (S.faults sink.new)
+    ensures { Closes (S.shows sink.old) (S.shows sink.new)
         (spec.link_text desc.now fault) (spec.link_status fault) result }
 {
     match fault {
@@ -128,7 +127,7 @@ pub fn refuse_link<S: Sink>(desc: &Desc, fault: LinkFault, sink: &mut S) -> Stat
 
 /// Refuses an image, by the fault's number and its place in bytes.
 pub fn refuse_image<S: Sink>(number: u32, place: u32, sink: &mut S) -> Status
-    ensures { Closes (S.bytes sink.old) (S.bytes sink.new) (S.faults sink.old) (S.faults sink.new)
+    ensures { Closes (S.shows sink.old) (S.shows sink.new)
         (spec.image_line number place) status.Image result }
 {
     let line = line_of_two("refused 7 image I", number as u64, place as u64);
@@ -137,7 +136,7 @@ pub fn refuse_image<S: Sink>(number: u32, place: u32, sink: &mut S) -> Status
 
 /// Refuses a script, by the fault's number and the line that is at fault.
 pub fn refuse_script<S: Sink>(number: u32, line: u32, sink: &mut S) -> Status
-    ensures { Closes (S.bytes sink.old) (S.bytes sink.new) (S.faults sink.old) (S.faults sink.new)
+    ensures { Closes (S.shows sink.old) (S.shows sink.new)
         (spec.script_line number line) status.Script result }
 {
     let line = line_of_two("refused 8 script S", number as u64, line as u64);
@@ -146,7 +145,7 @@ pub fn refuse_script<S: Sink>(number: u32, line: u32, sink: &mut S) -> Status
 
 /// Refuses a name that stands for nothing.
 pub fn refuse_name<S: Sink>(sink: &mut S) -> Status
-    ensures { Closes (S.bytes sink.old) (S.bytes sink.new) (S.faults sink.old) (S.faults sink.new)
+    ensures { Closes (S.shows sink.old) (S.shows sink.new)
         spec.name_line status.Name result }
 {
     close(b"refused 11 name\n", Status::Name, sink)
@@ -154,7 +153,7 @@ pub fn refuse_name<S: Sink>(sink: &mut S) -> Status
 
 /// Refuses a policy, by the fault's number and the line that is at fault.
 pub fn refuse_policy<S: Sink>(number: u32, line: u32, sink: &mut S) -> Status
-    ensures { Closes (S.bytes sink.old) (S.bytes sink.new) (S.faults sink.old) (S.faults sink.new)
+    ensures { Closes (S.shows sink.old) (S.shows sink.new)
         (spec.policy_line number line) status.Policy result }
 {
     let line = line_of_two("refused 13 policy P", number as u64, line as u64);

@@ -10,8 +10,7 @@ use def_program::Status;
 /// Writes two pieces.
 #[tactic(auto, using(ct_port::proofs::Pieces::both, ct_port::proofs::Pieces::first_fails, ct_port::proofs::Pieces::second_fails))]
 fn write_both<S: Sink>(first: &[u8], second: &[u8], sink: &mut S) -> Result<(), WriteFailed>
-    ensures { WriteAnswers (S.bytes sink.old) (S.bytes sink.new)
-        (S.faults sink.old) (S.faults sink.new) (first.now ++ second.now) result }
+    ensures { WriteAnswers (S.shows sink.old) (S.shows sink.new) (first.now ++ second.now) result }
 {
     match sink.write(first) {
         Ok(()) => sink.write(second),
@@ -27,8 +26,7 @@ fn write_named<S: Sink>(
     rest: &[u8],
     sink: &mut S,
 ) -> Result<(), WriteFailed>
-    ensures { WriteAnswers (S.bytes sink.old) (S.bytes sink.new)
-        (S.faults sink.old) (S.faults sink.new) (text.now ++ (name.now ++ rest.now)) result }
+    ensures { WriteAnswers (S.shows sink.old) (S.shows sink.new) (text.now ++ (name.now ++ rest.now)) result }
 {
     match sink.write(text) {
         Ok(()) => write_both(name.as_bytes(), rest, sink),
@@ -45,7 +43,7 @@ pub(crate) fn close_named<S: Sink>(
     status: Status,
     sink: &mut S,
 ) -> Status
-    ensures { Closes (S.bytes sink.old) (S.bytes sink.new) (S.faults sink.old) (S.faults sink.new)
+    ensures { Closes (S.shows sink.old) (S.shows sink.new)
         (text.now ++ (name.now ++ rest.now)) status result }
 {
     match write_named(text, name, rest, sink) {
@@ -56,7 +54,7 @@ pub(crate) fn close_named<S: Sink>(
 
 /// Writes a text, and ends with a status; with `WriteFault` where the write failed.
 pub fn close<S: Sink>(text: &[u8], status: Status, sink: &mut S) -> Status
-    ensures { Closes (S.bytes sink.old) (S.bytes sink.new) (S.faults sink.old) (S.faults sink.new)
+    ensures { Closes (S.shows sink.old) (S.shows sink.new)
         text.now status result }
 {
     match sink.write(text) {

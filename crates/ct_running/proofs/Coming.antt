@@ -4,6 +4,7 @@ use Rattle.std.proofs.lemmas.List.{append-nil}
 use Rattle.std.proofs.lemmas.Grind.{flat_map-append}
 use Rattle.std.specs.List.{flat_map}
 use Rattle.ct_entry.specs.declared.acts.Happened.{Happened}
+use Rattle.def_port.specs.Bytes.{SinkView}
 use Rattle.def_port.specs.Writes.{Writes, WriteFails}
 use Rattle.def_machine.specs.State.{State}
 use Rattle.def_step.specs.declared.Event.{Event}
@@ -40,64 +41,64 @@ one_event b s e = refl
 
 -- ---- coming
 
-pub none_came : (m : MachineRow) (k : ℕ) (before : Option (List ℕ)) (faults : ℕ) → Came m m k [] before before faults faults
+pub none_came : (m : MachineRow) (k : ℕ) (before : SinkView) → Came m m k [] before before
 unfolding run told
-none_came m k before faults = record { board = refl; state = refl; written = pieces.nothing before faults }
+none_came m k before = record { board = refl; state = refl; written = pieces.nothing before }
 
-pub one_came : (m n : MachineRow) (k : ℕ) (e : Event) (h : Happened) (before after : Option (List ℕ)) (faults now : ℕ)
+pub one_came : (m n : MachineRow) (k : ℕ) (e : Event) (h : Happened) (before after : SinkView)
     → n.state ≡ (happens m.board m.state e).0 → h ≡ (happens m.board m.state e).1 → n.board ≡ m.board
-    → Writes before after faults now (trace_line k h) → Came m n k (e ∷ []) before after faults now
-one_came m n k e h before after faults now state told board w = record {
+    → Writes before after (trace_line k h) → Came m n k (e ∷ []) before after
+one_came m n k e h before after state told board w = record {
   board = board;
   state = state ∙ sym (one_event m.board m.state e);
-  written = subst (λ t. Writes before after faults now t) (ap (λ x. trace_line k x) told ∙ sym (one_line m k e)) w;
+  written = subst (λ t. Writes before after t) (ap (λ x. trace_line k x) told ∙ sym (one_line m k e)) w;
 }
 
-pub one_fails : (m : MachineRow) (k : ℕ) (e : Event) (h : Happened) (before after : Option (List ℕ)) (faults now : ℕ)
+pub one_fails : (m : MachineRow) (k : ℕ) (e : Event) (h : Happened) (before after : SinkView)
     → h ≡ (happens m.board m.state e).1
-    → WriteFails before after faults now (trace_line k h) → WriteFails before after faults now (lines_of m k (e ∷ []))
-one_fails m k e h before after faults now told w = subst (λ t. WriteFails before after faults now t) (ap (λ x. trace_line k x) told ∙ sym (one_line m k e)) w
+    → WriteFails before after (trace_line k h) → WriteFails before after (lines_of m k (e ∷ []))
+one_fails m k e h before after told w = subst (λ t. WriteFails before after t) (ap (λ x. trace_line k x) told ∙ sym (one_line m k e)) w
 
 -- an event that tells nothing, of which nothing is written
-pub silent_came : (m n : MachineRow) (k : ℕ) (e : Event) (before : Option (List ℕ)) (faults : ℕ) → Passed m n (e ∷ []) → (happens m.board m.state e).1 ≡ silence → Came m n k (e ∷ []) before before faults faults
+pub silent_came : (m n : MachineRow) (k : ℕ) (e : Event) (before : SinkView) → Passed m n (e ∷ []) → (happens m.board m.state e).1 ≡ silence → Came m n k (e ∷ []) before before
 unfolding trace_line
-silent_came m n k e before faults passed silent = record {
+silent_came m n k e before passed silent = record {
   board = passed.board;
   state = passed.state;
-  written = subst (λ t. Writes before before faults faults t) (ap (λ x. trace_line k x) (sym silent) ∙ sym (one_line m k e)) (pieces.nothing before faults);
+  written = subst (λ t. Writes before before t) (ap (λ x. trace_line k x) (sym silent) ∙ sym (one_line m k e)) (pieces.nothing before);
 }
 
-pub both_came : (m n o : MachineRow) (k : ℕ) (es fs : List Event) (before mid after : Option (List ℕ)) (f g h : ℕ)
-    → Came m n k es before mid f g → Came n o k fs mid after g h → Came m o k (es ++ fs) before after f h
-both_came m n o k es fs before mid after f g h a b = record {
+pub both_came : (m n o : MachineRow) (k : ℕ) (es fs : List Event) (before mid after : SinkView)
+    → Came m n k es before mid → Came n o k fs mid after → Came m o k (es ++ fs) before after
+both_came m n o k es fs before mid after a b = record {
   board = b.board ∙ a.board;
   state = b.state ∙ (rw (a.board, a.state) refl) ∙ sym (run_append m.board m.state es fs);
-  written = subst (λ t. Writes before after f h t) (sym (lines_append m n k es fs a.board a.state)) (pieces.both before mid after f g h (lines_of m k es) (lines_of n k fs) a.written b.written);
+  written = subst (λ t. Writes before after t) (sym (lines_append m n k es fs a.board a.state)) (pieces.both before mid after (lines_of m k es) (lines_of n k fs) a.written b.written);
 }
 
-pub first_failed : (m : MachineRow) (k : ℕ) (es fs : List Event) (before after : Option (List ℕ)) (f g : ℕ)
-    → WriteFails before after f g (lines_of m k es) → WriteFails before after f g (lines_of m k (es ++ fs))
-first_failed m k es fs before after f g w =
+pub first_failed : (m : MachineRow) (k : ℕ) (es fs : List Event) (before after : SinkView)
+    → WriteFails before after (lines_of m k es) → WriteFails before after (lines_of m k (es ++ fs))
+first_failed m k es fs before after w =
     let there : MachineRow = record { board = m.board; state = run m.board m.state es } in
-    subst (λ t. WriteFails before after f g t) (sym (lines_append m there k es fs refl refl)) (pieces.first_fails before after f g (lines_of m k es) (lines_of there k fs) w)
+    subst (λ t. WriteFails before after t) (sym (lines_append m there k es fs refl refl)) (pieces.first_fails before after (lines_of m k es) (lines_of there k fs) w)
 
-pub second_failed : (m n : MachineRow) (k : ℕ) (es fs : List Event) (before mid after : Option (List ℕ)) (f g h : ℕ)
-    → Came m n k es before mid f g → WriteFails mid after g h (lines_of n k fs) → WriteFails before after f h (lines_of m k (es ++ fs))
-second_failed m n k es fs before mid after f g h a w =
-    subst (λ t. WriteFails before after f h t) (sym (lines_append m n k es fs a.board a.state)) (pieces.second_fails before mid after f g h (lines_of m k es) (lines_of n k fs) a.written w)
+pub second_failed : (m n : MachineRow) (k : ℕ) (es fs : List Event) (before mid after : SinkView)
+    → Came m n k es before mid → WriteFails mid after (lines_of n k fs) → WriteFails before after (lines_of m k (es ++ fs))
+second_failed m n k es fs before mid after a w =
+    subst (λ t. WriteFails before after t) (sym (lines_append m n k es fs a.board a.state)) (pieces.second_fails before mid after (lines_of m k es) (lines_of n k fs) a.written w)
 
 -- ---- what was counted
 
-came_kinds : (m n : MachineRow) (k : ℕ) (es : List Event) (before after : Option (List ℕ)) (f g : ℕ) → Came m n k es before after f g → kinds n.state.counts ≡ all_more es (kinds m.state.counts)
-came_kinds m n k es before after f g c = ap (λ (s : State). kinds s.counts) c.state ∙ run_kinds m.board m.state es
+came_kinds : (m n : MachineRow) (k : ℕ) (es : List Event) (before after : SinkView) → Came m n k es before after → kinds n.state.counts ≡ all_more es (kinds m.state.counts)
+came_kinds m n k es before after c = ap (λ (s : State). kinds s.counts) c.state ∙ run_kinds m.board m.state es
 
-pub ticked_steps : (m n : MachineRow) (due : Bool) (k : ℕ) (before after : Option (List ℕ)) (f g : ℕ) → Came m n k (ticks_if due) before after f g → n.state.counts.steps ≡ m.state.counts.steps
-ticked_steps m n true k before after f g c = ap (λ (x : Kinds). x.steps) (came_kinds m n k (Tick ∷ []) before after f g c)
-ticked_steps m n false k before after f g c = ap (λ (x : Kinds). x.steps) (came_kinds m n k [] before after f g c)
+pub ticked_steps : (m n : MachineRow) (due : Bool) (k : ℕ) (before after : SinkView) → Came m n k (ticks_if due) before after → n.state.counts.steps ≡ m.state.counts.steps
+ticked_steps m n true k before after c = ap (λ (x : Kinds). x.steps) (came_kinds m n k (Tick ∷ []) before after c)
+ticked_steps m n false k before after c = ap (λ (x : Kinds). x.steps) (came_kinds m n k [] before after c)
 
-pub ticked_sweeps : (m n : MachineRow) (due : Bool) (k : ℕ) (before after : Option (List ℕ)) (f g : ℕ) → Came m n k (ticks_if due) before after f g → n.state.counts.sweeps ≡ m.state.counts.sweeps
-ticked_sweeps m n true k before after f g c = ap (λ (x : Kinds). x.sweeps) (came_kinds m n k (Tick ∷ []) before after f g c)
-ticked_sweeps m n false k before after f g c = ap (λ (x : Kinds). x.sweeps) (came_kinds m n k [] before after f g c)
+pub ticked_sweeps : (m n : MachineRow) (due : Bool) (k : ℕ) (before after : SinkView) → Came m n k (ticks_if due) before after → n.state.counts.sweeps ≡ m.state.counts.sweeps
+ticked_sweeps m n true k before after c = ap (λ (x : Kinds). x.sweeps) (came_kinds m n k (Tick ∷ []) before after c)
+ticked_sweeps m n false k before after c = ap (λ (x : Kinds). x.sweeps) (came_kinds m n k [] before after c)
 
 -- bytes count as inputs alone
 inputs_more : (gs : List Given) (es : List Event) (k : Kinds) → all_more (map input_of gs ++ es) k ≡ all_more es (record k { inputs = k.inputs + length gs })
@@ -106,38 +107,38 @@ inputs_more (g ∷ gs) es k =
     inputs_more gs es (record k { inputs = k.inputs + 1 })
     ∙ ap (λ n. all_more es (record k { inputs = n })) (let same : k.inputs + 1 + length gs ≡ k.inputs + suc (length gs) = omega arith in same)
 
-pub inputs_kinds : (m n : MachineRow) (gs : List Given) (k : ℕ) (before after : Option (List ℕ)) (f g : ℕ) → Came m n k (map input_of gs) before after f g
+pub inputs_kinds : (m n : MachineRow) (gs : List Given) (k : ℕ) (before after : SinkView) → Came m n k (map input_of gs) before after
     → kinds n.state.counts ≡ record (kinds m.state.counts) { inputs = m.state.counts.inputs + length gs }
-inputs_kinds m n gs k before after f g c =
-    came_kinds m n k (map input_of gs) before after f g c
+inputs_kinds m n gs k before after c =
+    came_kinds m n k (map input_of gs) before after c
     ∙ ap (λ es. all_more es (kinds m.state.counts)) (sym (append-nil (map input_of gs)))
     ∙ inputs_more gs [] (kinds m.state.counts)
 
-pub came_devices : (m n : MachineRow) (k : ℕ) (es : List Event) (before after : Option (List ℕ)) (f g : ℕ) → Came m n k es before after f g → length n.state.devices ≡ length m.state.devices
-came_devices m n k es before after f g c = ap (λ (s : State). length s.devices) c.state ∙ run_keeps m.board m.state es
+pub came_devices : (m n : MachineRow) (k : ℕ) (es : List Event) (before after : SinkView) → Came m n k es before after → length n.state.devices ≡ length m.state.devices
+came_devices m n k es before after c = ap (λ (s : State). length s.devices) c.state ∙ run_keeps m.board m.state es
 
 -- a whole round
-round_kinds : (m n : MachineRow) (gs : List Given) (due : Bool) (k : ℕ) (before after : Option (List ℕ)) (f g : ℕ) → Came m n k (round_of gs due) before after f g
+round_kinds : (m n : MachineRow) (gs : List Given) (due : Bool) (k : ℕ) (before after : SinkView) → Came m n k (round_of gs due) before after
     → kinds n.state.counts ≡ all_more (ticks_if due ++ Sweep ∷ Step ∷ []) (record (kinds m.state.counts) { inputs = m.state.counts.inputs + length gs })
-round_kinds m n gs due k before after f g c =
-    came_kinds m n k (round_of gs due) before after f g c ∙ inputs_more gs (ticks_if due ++ Sweep ∷ Step ∷ []) (kinds m.state.counts)
+round_kinds m n gs due k before after c =
+    came_kinds m n k (round_of gs due) before after c ∙ inputs_more gs (ticks_if due ++ Sweep ∷ Step ∷ []) (kinds m.state.counts)
 
-pub round_steps : (m n : MachineRow) (gs : List Given) (due : Bool) (k : ℕ) (before after : Option (List ℕ)) (f g : ℕ) → Came m n k (round_of gs due) before after f g → n.state.counts.steps ≡ m.state.counts.steps + 1
-round_steps m n gs true k before after f g c = ap (λ (x : Kinds). x.steps) (round_kinds m n gs true k before after f g c)
-round_steps m n gs false k before after f g c = ap (λ (x : Kinds). x.steps) (round_kinds m n gs false k before after f g c)
+pub round_steps : (m n : MachineRow) (gs : List Given) (due : Bool) (k : ℕ) (before after : SinkView) → Came m n k (round_of gs due) before after → n.state.counts.steps ≡ m.state.counts.steps + 1
+round_steps m n gs true k before after c = ap (λ (x : Kinds). x.steps) (round_kinds m n gs true k before after c)
+round_steps m n gs false k before after c = ap (λ (x : Kinds). x.steps) (round_kinds m n gs false k before after c)
 
-pub round_sweeps : (m n : MachineRow) (gs : List Given) (due : Bool) (k : ℕ) (before after : Option (List ℕ)) (f g : ℕ) → Came m n k (round_of gs due) before after f g → n.state.counts.sweeps ≡ m.state.counts.sweeps + 1
-round_sweeps m n gs true k before after f g c = ap (λ (x : Kinds). x.sweeps) (round_kinds m n gs true k before after f g c)
-round_sweeps m n gs false k before after f g c = ap (λ (x : Kinds). x.sweeps) (round_kinds m n gs false k before after f g c)
+pub round_sweeps : (m n : MachineRow) (gs : List Given) (due : Bool) (k : ℕ) (before after : SinkView) → Came m n k (round_of gs due) before after → n.state.counts.sweeps ≡ m.state.counts.sweeps + 1
+round_sweeps m n gs true k before after c = ap (λ (x : Kinds). x.sweeps) (round_kinds m n gs true k before after c)
+round_sweeps m n gs false k before after c = ap (λ (x : Kinds). x.sweeps) (round_kinds m n gs false k before after c)
 
-pub round_inputs : (m n : MachineRow) (gs : List Given) (due : Bool) (k : ℕ) (before after : Option (List ℕ)) (f g : ℕ) → Came m n k (round_of gs due) before after f g → n.state.counts.inputs ≡ m.state.counts.inputs + length gs
-round_inputs m n gs true k before after f g c = ap (λ (x : Kinds). x.inputs) (round_kinds m n gs true k before after f g c)
-round_inputs m n gs false k before after f g c = ap (λ (x : Kinds). x.inputs) (round_kinds m n gs false k before after f g c)
+pub round_inputs : (m n : MachineRow) (gs : List Given) (due : Bool) (k : ℕ) (before after : SinkView) → Came m n k (round_of gs due) before after → n.state.counts.inputs ≡ m.state.counts.inputs + length gs
+round_inputs m n gs true k before after c = ap (λ (x : Kinds). x.inputs) (round_kinds m n gs true k before after c)
+round_inputs m n gs false k before after c = ap (λ (x : Kinds). x.inputs) (round_kinds m n gs false k before after c)
 
-pub round_ticks : (m n : MachineRow) (gs : List Given) (due : Bool) (k : ℕ) (before after : Option (List ℕ)) (f g : ℕ) → Came m n k (round_of gs due) before after f g → n.state.counts.ticks ≤ m.state.counts.ticks + 1
-round_ticks m n gs true k before after f g c =
-    let same : n.state.counts.ticks ≡ m.state.counts.ticks + 1 = ap (λ (x : Kinds). x.ticks) (round_kinds m n gs true k before after f g c) in
+pub round_ticks : (m n : MachineRow) (gs : List Given) (due : Bool) (k : ℕ) (before after : SinkView) → Came m n k (round_of gs due) before after → n.state.counts.ticks ≤ m.state.counts.ticks + 1
+round_ticks m n gs true k before after c =
+    let same : n.state.counts.ticks ≡ m.state.counts.ticks + 1 = ap (λ (x : Kinds). x.ticks) (round_kinds m n gs true k before after c) in
     omega (arith, same)
-round_ticks m n gs false k before after f g c =
-    let same : n.state.counts.ticks ≡ m.state.counts.ticks = ap (λ (x : Kinds). x.ticks) (round_kinds m n gs false k before after f g c) in
+round_ticks m n gs false k before after c =
+    let same : n.state.counts.ticks ≡ m.state.counts.ticks = ap (λ (x : Kinds). x.ticks) (round_kinds m n gs false k before after c) in
     omega (arith, same)

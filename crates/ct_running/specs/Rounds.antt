@@ -1,9 +1,9 @@
 -- What a run does in parts: some events, and the lines of what they did.
-use Rattle.std.specs.Prelude.{ℕ, ◌≡◌, ◌+◌, ◌*◌, ◌<◌, ◌≤◌, ◌⊎◌, ◌++◌, Bool, suc, List, [], ◌∷◌, All, length, map, Option, if◌then◌else◌}
+use Rattle.std.specs.Prelude.{ℕ, ◌≡◌, ◌+◌, ◌*◌, ◌<◌, ◌≤◌, ◌⊎◌, ◌++◌, Bool, suc, List, [], ◌∷◌, All, length, map, if◌then◌else◌}
 use Rattle.std.specs.List.{flat_map}
 use Rattle.def_profile.specs.declared.limits.TheConstants.{MOST_STEPS}
 use Rattle.def_port.specs.Writes.{Writes}
-use Rattle.def_port.specs.Bytes.{AppendsBefore}
+use Rattle.def_port.specs.Bytes.{AppendsBefore, SinkView}
 use Rattle.def_machine.specs.State.{State, Counts}
 use Rattle.def_step.specs.declared.Event.{Event}
 use Rattle.def_step.specs.declared.Event.TheVariants.{Tick, Sweep, Step}
@@ -45,11 +45,11 @@ abbrev pub lines_of : MachineRow → ℕ → List Event → List ℕ
 lines_of m k events = flat_map (trace_line k) (told m.board m.state events)
 
 -- these events came, and their lines were written
-pub record Came (old new : MachineRow) (k : ℕ) (events : List Event)
-    (before after : Option (List ℕ)) (faults now : ℕ) : Type 0 where
+pub record Came (old new : MachineRow) (k : ℕ) (events : List Event) (before after : SinkView)
+    : Type 0 where
   pub board : new.board ≡ old.board
   pub state : new.state ≡ run old.board old.state events
-  pub written : Writes before after faults now (lines_of old k events)
+  pub written : Writes before after (lines_of old k events)
 
 -- these events came, and nothing was written of them
 pub record Passed (old new : MachineRow) (events : List Event) : Type 0 where
@@ -65,6 +65,7 @@ pub record IsLeft (quantum done left : ℕ) : Type 0 where
 
 -- the run of a machine that was so first came to its end: the summary is left to be written
 pub record IsOver (first m : MachineRow) (script : List Due) (quantum limit : ℕ)
-    (before now : Option (List ℕ)) (faults counted : ℕ) : Type 0 where
-  pub written : AppendsBefore before now (last_line m.state) (run_lines first script quantum limit)
-  pub same : counted ≡ faults
+    (before after : SinkView) : Type 0 where
+  pub written : AppendsBefore before.bytes after.bytes (last_line m.state)
+      (run_lines first script quantum limit)
+  pub same : after.faults ≡ before.faults

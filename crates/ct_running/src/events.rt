@@ -25,11 +25,9 @@ fn write_event<M: Memory + Drop, S: Sink>(
     requires { IsTrue (is_lawful machine.old.state event) }
     ensures { MatchResult result
         (λ _.
-        Came machine.old machine.new number (event ∷ []) (S.bytes sink.old) (S.bytes sink.new)
-        (S.faults sink.old) (S.faults sink.new))
+        Came machine.old machine.new number (event ∷ []) (S.shows sink.old) (S.shows sink.new))
         (λ _.
-        WriteFails (S.bytes sink.old) (S.bytes sink.new) (S.faults sink.old)
-        (S.faults sink.new) (lines_of machine.old number (event ∷ []))) }
+        WriteFails (S.shows sink.old) (S.shows sink.new) (lines_of machine.old number (event ∷ []))) }
 {
     let happened = machine.advance(event);
     write_happened(&happened, number, sink)
@@ -45,11 +43,9 @@ fn write_inputs<M: Memory + Drop, S: Sink>(
     requires { HasInputs machine.old.state givens.now }
     ensures { MatchResult result
         (λ _.
-        Came machine.old machine.new number (map input_of givens.now) (S.bytes sink.old)
-        (S.bytes sink.new) (S.faults sink.old) (S.faults sink.new))
+        Came machine.old machine.new number (map input_of givens.now) (S.shows sink.old) (S.shows sink.new))
         (λ _.
-        WriteFails (S.bytes sink.old) (S.bytes sink.new) (S.faults sink.old)
-        (S.faults sink.new) (lines_of machine.old number (map input_of givens.now))) }
+        WriteFails (S.shows sink.old) (S.shows sink.new) (lines_of machine.old number (map input_of givens.now))) }
 {
     for given in givens {
         let event = Event::Input {
@@ -74,11 +70,9 @@ fn write_tick<M: Memory + Drop, S: Sink>(
     requires { machine.old.state.counts.ticks < MOST_STEPS }
     ensures { MatchResult result
         (λ _.
-        Came machine.old machine.new number (ticks_if due) (S.bytes sink.old)
-        (S.bytes sink.new) (S.faults sink.old) (S.faults sink.new))
+        Came machine.old machine.new number (ticks_if due) (S.shows sink.old) (S.shows sink.new))
         (λ _.
-        WriteFails (S.bytes sink.old) (S.bytes sink.new) (S.faults sink.old)
-        (S.faults sink.new) (lines_of machine.old number (ticks_if due))) }
+        WriteFails (S.shows sink.old) (S.shows sink.new) (lines_of machine.old number (ticks_if due))) }
 {
     if due {
         return write_event(machine, Event::Tick, number, sink);
@@ -105,11 +99,9 @@ fn write_step<M: Memory + Drop, S: Sink>(
     requires sweeps { machine.old.state.counts.sweeps < MOST_STEPS }
     ensures { MatchResult result
         (λ _.
-        Came machine.old machine.new number (Sweep ∷ Step ∷ []) (S.bytes sink.old)
-        (S.bytes sink.new) (S.faults sink.old) (S.faults sink.new))
+        Came machine.old machine.new number (Sweep ∷ Step ∷ []) (S.shows sink.old) (S.shows sink.new))
         (λ _.
-        WriteFails (S.bytes sink.old) (S.bytes sink.new) (S.faults sink.old)
-        (S.faults sink.new) (lines_of machine.old number (Sweep ∷ Step ∷ []))) }
+        WriteFails (S.shows sink.old) (S.shows sink.new) (lines_of machine.old number (Sweep ∷ Step ∷ []))) }
 {
     make_sweep(machine);
     if machine.step_quietly() {
@@ -129,10 +121,9 @@ fn write_due<M: Memory + Drop, S: Sink>(
     ensures { MatchResult result
         (λ _.
         Came machine.old machine.new number (ticks_if due ++ Sweep ∷ Step ∷ [])
-        (S.bytes sink.old) (S.bytes sink.new) (S.faults sink.old) (S.faults sink.new))
+        (S.shows sink.old) (S.shows sink.new))
         (λ _.
-        WriteFails (S.bytes sink.old) (S.bytes sink.new) (S.faults sink.old)
-        (S.faults sink.new) (lines_of machine.old number (ticks_if due ++ Sweep ∷ Step ∷ []))) }
+        WriteFails (S.shows sink.old) (S.shows sink.new) (lines_of machine.old number (ticks_if due ++ Sweep ∷ Step ∷ []))) }
 {
     match write_tick(machine, due, number, sink) {
         Ok(()) => write_step(machine, number, sink),
@@ -152,11 +143,9 @@ pub(crate) fn write_round<M: Memory + Drop, S: Sink>(
     requires inputs { HasInputs machine.old.state givens.now }
     ensures { MatchResult result
         (λ _.
-        Came machine.old machine.new number (round_of givens.now due) (S.bytes sink.old)
-        (S.bytes sink.new) (S.faults sink.old) (S.faults sink.new))
+        Came machine.old machine.new number (round_of givens.now due) (S.shows sink.old) (S.shows sink.new))
         (λ _.
-        WriteFails (S.bytes sink.old) (S.bytes sink.new) (S.faults sink.old)
-        (S.faults sink.new) (lines_of machine.old number (round_of givens.now due))) }
+        WriteFails (S.shows sink.old) (S.shows sink.new) (lines_of machine.old number (round_of givens.now due))) }
 {
     match write_inputs(machine, givens, number, sink) {
         Ok(()) => write_due(machine, due, number, sink),

@@ -16,8 +16,7 @@ use ct_trace::{Line, line_of, summary_of};
 /// Writes a line that isn't empty.
 #[tactic(auto, using(ct_port::proofs::Pieces::wrote_nothing))]
 fn write_line<S: Sink>(line: &Line, sink: &mut S) -> Result<(), WriteFailed>
-    ensures { WriteAnswers (S.bytes sink.old) (S.bytes sink.new) (S.faults sink.old)
-        (S.faults sink.new) line.now.bytes result }
+    ensures { WriteAnswers (S.shows sink.old) (S.shows sink.new) line.now.bytes result }
 {
     if line.is_empty() {
         return Ok(());
@@ -28,8 +27,7 @@ fn write_line<S: Sink>(line: &Line, sink: &mut S) -> Result<(), WriteFailed>
 /// Writes the lines of something that happened.
 #[inline(never)]
 fn write_all<S: Sink>(happened: &Happened, number: u32, sink: &mut S) -> Result<(), WriteFailed>
-    ensures { WriteAnswers (S.bytes sink.old) (S.bytes sink.new) (S.faults sink.old)
-        (S.faults sink.new) (trace_line number happened.now) result }
+    ensures { WriteAnswers (S.shows sink.old) (S.shows sink.new) (trace_line number happened.now) result }
 {
     write_line(&line_of(happened, number), sink)
 }
@@ -42,8 +40,7 @@ pub(crate) fn write_happened<S: Sink>(
     number: u32,
     sink: &mut S,
 ) -> Result<(), WriteFailed>
-    ensures { WriteAnswers (S.bytes sink.old) (S.bytes sink.new) (S.faults sink.old)
-        (S.faults sink.new) (trace_line number happened.now) result }
+    ensures { WriteAnswers (S.shows sink.old) (S.shows sink.new) (trace_line number happened.now) result }
 {
     match happened.deed {
         Some(_) => write_all(happened, number, sink),
@@ -69,8 +66,7 @@ pub(crate) fn write_last<M: Memory + Drop, S: Sink>(
     machine: &Machine<M>,
     sink: &mut S,
 ) -> Result<(), WriteFailed>
-    ensures { WriteAnswers (S.bytes sink.old) (S.bytes sink.new) (S.faults sink.old)
-        (S.faults sink.new) (last_line machine.now.state) result }
+    ensures { WriteAnswers (S.shows sink.old) (S.shows sink.new) (last_line machine.now.state) result }
 {
     let totals = machine.totals(end_here(machine));
     let line = summary_of(&totals);

@@ -32,11 +32,9 @@ pub(crate) fn write_rounds<M: Memory + Drop, S: Sink>(
     requires script { IsPlayable script.now machine.old.state }
     ensures { MatchResult result
         (λ _.
-        IsOver machine.old machine.new script.now quantum limit (S.bytes sink.old)
-        (S.bytes sink.new) (S.faults sink.old) (S.faults sink.new))
+        IsOver machine.old machine.new script.now quantum limit (S.shows sink.old) (S.shows sink.new))
         (λ _.
-        WriteFails (S.bytes sink.old) (S.bytes sink.new) (S.faults sink.old)
-        (S.faults sink.new) (run_lines machine.old script.now quantum limit)) }
+        WriteFails (S.shows sink.old) (S.shows sink.new) (run_lines machine.old script.now quantum limit)) }
 {
     let mut left = quantum;
     for done in 0..limit {

@@ -2,3 +2,4 @@ pub mod Answers
 pub mod Switching
 pub mod Held
 pub mod Granted
+pub mod Sealed

@@ -18,7 +18,7 @@ use Rattle.ct_heap.specs.declared.rows.HeapRefusal.TheVariants.{Size, Quota, NoG
 use Rattle.ct_engine.specs.Seen.{thread, Seen, limit_at}
 use Rattle.ct_execute.specs.declared.ran.Ran.{Ran}
 use Rattle.ct_execute.specs.declared.ran.Ran.TheVariants.{Went, Trapped}
-use Rattle.ct_engine.specs.Grants.{with_object, freed, IsTold}
+use Rattle.ct_engine.specs.Grants.{with_object, freed}
 use Rattle.ct_services.specs.Served.{answered_in}
 
 -- ---- the running thread's arguments
@@ -54,6 +54,11 @@ by_quota s t ran =
     checked (first_failed (return_checks (register (thread s t) 1))) s
     (if is_quota_cap (register (thread s t) 10) then ran else tells s t (code NO_QUOTA))
 
+-- the thread goes on with an answer, and an object's allocation is told, as the heap tells it
+abbrev pub handed_out : Seen → ℕ → ℕ → heap.Object → Cap → Seen × Ran
+handed_out s t quota o value =
+    (answered_in s t value, Went (Some (Allocate o.number o.base o.length o.live)) quota)
+
 -- ---- allocate
 
 -- a refusal's code
@@ -62,16 +67,17 @@ refusal_code Size waits = 4
 refusal_code Quota waits = 2
 refusal_code NoGap waits = if waits then 5 else 3
 
-abbrev pub hands_out : Seen → ℕ → Object → Seen × Ran
-hands_out s t r = (
-  answered_in (with_object s r) t (object_cap r),
+-- the object stands among the others, and its capability, as it is handed out, is the answer
+abbrev pub hands_out : Seen → ℕ → Object → Cap → Seen × Ran
+hands_out s t r c = (
+  answered_in (with_object s r) t c,
   Went (Some (Allocate r.number r.base r.length (charges r.quota (with_object s r).objects)))
       r.quota,
 )
 
 abbrev pub allocated : Seen → ℕ → Allocation → Seen × Ran
 allocated s t (Refused n) = tells s t (code n)
-allocated s t (Made r) = hands_out s t r
+allocated s t (Made r) = hands_out s t r (object_cap r)
 
 -- ---- free
 
@@ -84,12 +90,6 @@ gives_back s t r = (
 abbrev pub freed_as : Seen → ℕ → Option Object → Seen × Ran
 freed_as s t None = tells s t (code NO_OBJECT)
 freed_as s t (Some r) = gives_back s t r
-
--- a capability is of a live object of the quota, which was freed, and it is told so
-pub record WasNamed (s new : Seen) (quota : ℕ) (c : Cap) (o : heap.Object) : Type 0 where
-  pub object : Object
-  pub is : whole_of s.objects quota c ≡ Some object
-  pub told : IsTold new o object
 
 -- the object that c11 is the whole capability of, live and charged to the quota
 abbrev pub object_in : Seen → ℕ → Option Object

@@ -1,20 +1,20 @@
 //! Allocate, free and remaining.
 
-ghost use Rattle.std.specs.Prelude.{◌≡◌, ◌≤◌, ◌<◌, Some, None, length, if◌then◌else◌, MatchResult};
+ghost use Rattle.std.specs.Prelude.{◌≡◌, ◌≤◌, ◌<◌, Some, None, length, if◌then◌else◌};
 ghost use Rattle.def_profile.specs.declared.limits.TheConstants.{MOST_STEPS};
 ghost use Rattle.def_words.specs.Authority.{cap_address, cap_base};
 ghost use Rattle.def_profile.specs.declared.rights.TheConstants as rights;
 ghost use Rattle.def_words.specs.Capability.{integer};
 ghost use Rattle.def_words.specs.Derive.{derive, memory_root};
-ghost use Rattle.def_machine.specs.Image.{Image};
-ghost use Rattle.def_machine.specs.State.{State, register};
+ghost use Rattle.def_machine.specs.Objects.{has_quarantined};
+ghost use Rattle.def_machine.specs.State.{register};
 ghost use Rattle.def_step.specs.Checks.{first_failed};
-ghost use Rattle.def_step.specs.Quotas.{allocation, is_quota_cap, whole_of};
+ghost use Rattle.def_step.specs.Quotas.{is_quota_cap, whole_of};
+ghost use Rattle.def_step.specs.Routines as routines;
 ghost use Rattle.def_step.specs.Switch.{return_checks};
 ghost use Rattle.ct_engine.specs.Seen.{thread};
-ghost use Rattle.ct_engine.specs.Grants.{freed_by};
-ghost use Rattle.ct_engine.specs.Written.{HasHeap, SharesObjects};
-ghost use Rattle.ct_services.specs.Granted.{NamesQuota, quota_in, object_in, left_in, named_by, by_quota, allocated, freed_as, tells, refusal_code, WasNamed};
+ghost use Rattle.ct_engine.specs.Grants.{allocation_in, whole_in};
+ghost use Rattle.ct_services.specs.Granted.{NamesQuota, quota_in, object_in, left_in, named_by, by_quota, handed_out, allocated, freed_as, tells, refusal_code};
 
 use crate::answering::{answer, code};
 use ct_cap::{Live, Shadow, Trap, derive};
@@ -38,7 +38,7 @@ fn quota_of(c: Live) -> Option<u32>
 }
 
 /// The quota's entry that c10 names, or none where c10 is no quota. The error is the check of c1 that fails.
-fn quota_named<M: Memory + Drop>(engine: &Engine<M>, t: u32) -> Result<Option<u32>, Trap>
+pub(crate) fn quota_named<M: Memory + Drop>(engine: &Engine<M>, t: u32) -> Result<Option<u32>, Trap>
     requires { engine.now.running ≡ Some t }
     ensures { result
         ≡ named_by (first_failed (return_checks (register (thread engine.now t) 1)))
@@ -50,11 +50,12 @@ fn quota_named<M: Memory + Drop>(engine: &Engine<M>, t: u32) -> Result<Option<u3
     Ok(quota_of(engine.register(t, 10)))
 }
 
-/// The capability of an object: its quota's entry is the root, its number the source.
+/// The capability of an object, sealed as a type where that isn't 0: its quota's entry is the root, its number the
+/// source.
 #[tactic(auto, unfolding(def_words::specs::Derive::memory_root))]
-fn capability(quota: u32, object: Object) -> Live
+pub(crate) fn capability(quota: u32, object: Object, kind: u32) -> Live
     ensures { result
-        ≡ derive memory_root object.base object.length rights.HEAP_RIGHTS object.base 0
+        ≡ derive memory_root object.base object.length rights.HEAP_RIGHTS object.base kind
         (record { root = quota; source = object.number }) }
 {
     derive(
@@ -63,7 +64,7 @@ fn capability(quota: u32, object: Object) -> Live
         object.length,
         HEAP_RIGHTS,
         object.base,
-        0,
+        kind,
         Shadow {
             root: quota,
             source: object.number,
@@ -72,7 +73,7 @@ fn capability(quota: u32, object: Object) -> Live
 }
 
 /// The running thread goes on with an answer, and nothing else happened.
-fn tell<M: Memory + Drop>(engine: &mut Engine<M>, t: u32, value: Live) -> Ran
+pub(crate) fn tell<M: Memory + Drop>(engine: &mut Engine<M>, t: u32, value: Live) -> Ran
     requires { engine.old.running ≡ Some t }
     ensures { (engine.new, result) ≡ tells engine.old t value }
 {
@@ -94,34 +95,53 @@ fn refused(why: HeapRefusal, waits: bool) -> u32
     }
 }
 
+/// The running thread goes on with -2 to -5 after an allocation was refused, and nothing else happened.
+pub(crate) fn decline<M: Memory + Drop>(engine: &mut Engine<M>, t: u32, why: HeapRefusal) -> Ran
+    requires { engine.old.running ≡ Some t }
+    ensures { (engine.new, result)
+        ≡ tells engine.old t
+        (routines.code (refusal_code why (has_quarantined engine.old.objects))) }
+{
+    let waits = engine.quarantined();
+    tell(engine, t, code(refused(why, waits)))
+}
+
+/// The running thread goes on with an object's capability, as it is handed out, and the object is told.
+pub(crate) fn hand_out<M: Memory + Drop>(
+    engine: &mut Engine<M>,
+    t: u32,
+    quota: u32,
+    object: Object,
+    value: Live,
+) -> Ran
+    requires { engine.old.running ≡ Some t }
+    ensures { (engine.new, result) ≡ handed_out engine.old t quota object value }
+{
+    answer(engine, t, value);
+    Ran::Went {
+        act: Some(Act::Allocate {
+            number: object.number,
+            base: object.base,
+            length: object.length,
+            live: object.live,
+        }),
+        entry: quota,
+    }
+}
+
 /// An object of as many bytes as c11's address says is charged to a quota.
 fn grant<M: Memory + Drop>(engine: &mut Engine<M>, t: u32, quota: u32) -> Ran
     requires runs { engine.old.running ≡ Some t }
     requires quota { quota < length engine.old.limits }
     requires few { engine.old.next ≤ MOST_STEPS }
-    ensures { (i : Image) (m : State) → HasHeap i engine.old → SharesObjects m engine.old
-        → (engine.new, result)
+    ensures { (engine.new, result)
         ≡ allocated engine.old t
-        (allocation i m quota (cap_address (register (thread engine.old t) 11))) }
+        (allocation_in engine.old quota (cap_address (register (thread engine.old t) 11))) }
 {
     let size = engine.register(t, 11).address();
     match engine.allocate(quota, size) {
-        Ok(object) => {
-            answer(engine, t, capability(quota, object));
-            Ran::Went {
-                act: Some(Act::Allocate {
-                    number: object.number,
-                    base: object.base,
-                    length: object.length,
-                    live: object.live,
-                }),
-                entry: quota,
-            }
-        }
-        Err(why) => {
-            let waits = engine.quarantined();
-            tell(engine, t, code(refused(why, waits)))
-        }
+        Ok(object) => hand_out(engine, t, quota, object, capability(quota, object, 0)),
+        Err(why) => decline(engine, t, why),
     }
 }
 
@@ -135,11 +155,10 @@ pub fn allocate<M: Memory + Drop>(engine: &mut Engine<M>, t: u32) -> Ran
     requires runs { engine.old.running ≡ Some t }
     requires quota { NamesQuota engine.old t }
     requires few { engine.old.next ≤ MOST_STEPS }
-    ensures { (i : Image) (m : State) → HasHeap i engine.old → SharesObjects m engine.old
-        → (engine.new, result)
+    ensures { (engine.new, result)
         ≡ by_quota engine.old t
         (allocated engine.old t
-        (allocation i m (quota_in engine.old t)
+        (allocation_in engine.old (quota_in engine.old t)
         (cap_address (register (thread engine.old t) 11)))) }
 {
     match quota_named(engine, t) {
@@ -151,41 +170,26 @@ pub fn allocate<M: Memory + Drop>(engine: &mut Engine<M>, t: u32) -> Ran
 
 /// Where a capability begins.
 #[tactic(auto, unfolding(def_words::specs::Authority::cap_bounds))]
-fn base_of(c: Live) -> u32
+pub(crate) fn base_of(c: Live) -> u32
     ensures { result ≡ cap_base c }
 {
     c.bounds.base as u32
 }
 
-/// The live object of a quota that a capability is the whole of, tagged and unsealed, is freed.
-fn give_back<M: Memory + Drop>(
+/// The live object of a quota with exactly these bounds is freed, and the running thread goes on with 0; with -6
+/// where there is none.
+pub(crate) fn free_whole<M: Memory + Drop>(
     engine: &mut Engine<M>,
     t: u32,
     quota: u32,
-    c: Live,
-) -> Result<Object, NotWhole>
+    base: u32,
+    top: u64,
+) -> Ran
     requires runs { engine.old.running ≡ Some t }
     requires quota { quota < length engine.old.limits }
-    ensures is { engine.new ≡ freed_by engine.old t (whole_of engine.old.objects quota c) }
-    ensures told { MatchResult result
-        (λ o. WasNamed engine.old engine.new quota c o)
-        (λ why. whole_of engine.old.objects quota c ≡ None) }
+    ensures { (engine.new, result) ≡ freed_as engine.old t (whole_in engine.old quota base top) }
 {
-    if !c.cap.tag || c.seal != 0 {
-        return Err(NotWhole);
-    }
-    engine.free(t, quota, base_of(c), c.bounds.top)
-}
-
-/// The object that c11 names is freed.
-fn take_back<M: Memory + Drop>(engine: &mut Engine<M>, t: u32, quota: u32) -> Ran
-    requires runs { engine.old.running ≡ Some t }
-    requires quota { quota < length engine.old.limits }
-    requires named { quota ≡ quota_in engine.old t }
-    ensures { (engine.new, result) ≡ freed_as engine.old t (object_in engine.old t) }
-{
-    let c = engine.register(t, 11);
-    match give_back(engine, t, quota, c) {
+    match engine.free(t, quota, base, top) {
         Ok(object) => {
             answer(engine, t, Live::integer(0));
             Ran::Went {
@@ -200,6 +204,30 @@ fn take_back<M: Memory + Drop>(engine: &mut Engine<M>, t: u32, quota: u32) -> Ra
         }
         Err(NotWhole) => tell(engine, t, code(NO_OBJECT)),
     }
+}
+
+/// The live object of a quota that a capability is the whole of, tagged and unsealed, is freed.
+fn free_named<M: Memory + Drop>(engine: &mut Engine<M>, t: u32, quota: u32, c: Live) -> Ran
+    requires runs { engine.old.running ≡ Some t }
+    requires quota { quota < length engine.old.limits }
+    ensures { (engine.new, result)
+        ≡ freed_as engine.old t (whole_of engine.old.objects quota c) }
+{
+    if !c.cap.tag || c.seal != 0 {
+        return tell(engine, t, code(NO_OBJECT));
+    }
+    free_whole(engine, t, quota, base_of(c), c.bounds.top)
+}
+
+/// The object that c11 names is freed.
+fn take_back<M: Memory + Drop>(engine: &mut Engine<M>, t: u32, quota: u32) -> Ran
+    requires runs { engine.old.running ≡ Some t }
+    requires quota { quota < length engine.old.limits }
+    requires named { quota ≡ quota_in engine.old t }
+    ensures { (engine.new, result) ≡ freed_as engine.old t (object_in engine.old t) }
+{
+    let c = engine.register(t, 11);
+    free_named(engine, t, quota, c)
 }
 
 /// Free: the live object that c11, tagged and unsealed, is the whole capability of, and that is charged to the quota

@@ -1,5 +1,5 @@
 //! Native routines: what the switch, yield, sleep, wait and wake make of the running thread and of the
-//! scheduler, and allocate, free and remaining of it and of the heap.
+//! scheduler, and allocate, free, remaining and those of keys and tokens of it and of the heap.
 //!
 //! Contracts say over what is seen of an engine what the written routines of def_step say over the machine's state: a
 //! check of c1, and of the word that c10 names, that fails is the answer and nothing changes; else the thread goes on
@@ -11,6 +11,7 @@ mod answering;
 mod calling;
 mod granting;
 mod resting;
+mod sealing;
 mod words;
 
 pub use answering::answer;
@@ -18,3 +19,4 @@ pub use calling::switch;
 pub use ct_engine::Called;
 pub use granting::{allocate, free, remaining};
 pub use resting::{rest, wait, wake};
+pub use sealing::{token_free, token_key, token_new, token_open};

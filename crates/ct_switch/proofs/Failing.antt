@@ -30,7 +30,7 @@ abbrev pub AllPass : List Check → Type 0
 AllPass [] = Unit {0}
 AllPass (c ∷ cs) = (c.0 ≡ true) × AllPass cs
 
-all_pass : (cs : List Check) → first_failed cs ≡ None → AllPass cs
+pub all_pass : (cs : List Check) → first_failed cs ≡ None → AllPass cs
 all_pass [] none = tt
 all_pass (c ∷ cs) none = let p = first_passes c cs none in (p.0, all_pass cs p.1)
 

@@ -29,7 +29,9 @@ pub enum Called {
 }
 
 /// The offset of the head of a callee's export table from RAM's begin.
-fn head_of<M: Memory>(t: &Thread, mem: &M, e: &Entries, x: &Export) -> u32
+///
+/// Condition: the export can be called, in RAM that begins at a multiple of 16.
+pub fn head_of<M: Memory>(t: &Thread, mem: &M, e: &Entries, x: &Export) -> u32
     requires callable { IsCallable e.now t.now.area.ram (8 * length (M.granules mem.now))
         x.now.number }
     requires callee { x.now.callee ≡ callee_of e.now x.now.number }

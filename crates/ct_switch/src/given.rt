@@ -44,7 +44,7 @@ impl Model for Start {
 
 /// The return sentry: the return's native entry, of type 5, with the trusted part's number.
 #[tactic(auto, unfolding(def_words::specs::Derive::executable_root))]
-fn return_sentry() -> Live
+pub fn return_sentry() -> Live
     ensures { result ≡ return_sentry }
 {
     derive(

@@ -10,7 +10,7 @@ mod deciding;
 mod ends;
 mod given;
 
-pub use calls::{Called, call};
+pub use calls::{Called, call, head_of};
 pub use ct_areas::{Area, Thread, resume, save};
 pub use ends::{end_with, give_back, unwind};
-pub use given::heads_give;
+pub use given::{heads_give, return_sentry};

@@ -11,5 +11,5 @@ mod rows;
 mod sealing;
 mod tokens;
 
-pub use sealing::{opened, sealed};
+pub use sealing::opened;
 pub use tokens::Tokens;

@@ -1,23 +1,10 @@
-//! The seal of keys and tokens put on and taken off.
+//! The seal of a token taken off.
 
-ghost use Rattle.std.specs.Prelude.{◌≡◌, false};
-ghost use Rattle.def_profile.specs.declared.seals.TheConstants.{TOKEN_TYPE};
+ghost use Rattle.std.specs.Prelude.{◌≡◌};
 ghost use Rattle.def_step.specs.Tokens.{opened_token};
 ghost use Rattle.def_words.specs.Capability.{cap_of};
-ghost use Rattle.def_words.specs.Derive.{sealed_as};
-ghost use Rattle.def_words.specs.Permissions.{execute, has};
 
-use ct_cap::{Cap, Live, expand, open, seal};
-use def_profile::seals::TOKEN_TYPE;
-
-/// A capability without EX sealed as a key or a token; tag, root and source stay.
-#[tactic(auto, unfolding(def_words::specs::Capability::sealed_by))]
-pub fn sealed(c: Live) -> Live
-    requires { has c execute ≡ false }
-    ensures { result ≡ sealed_as c TOKEN_TYPE }
-{
-    with_word(c, seal(c, Live::integer(TOKEN_TYPE)).cap.word)
-}
+use ct_cap::{Cap, Live, expand, open};
 
 /// A capability without its seal; tag, root and source stay.
 pub fn opened(c: Live) -> Live

@@ -6,11 +6,12 @@ use Rattle.def_description.specs.Rows.{DescRow}
 use Rattle.def_description.specs.WellFormed.{WellFormed}
 use Rattle.def_link.specs.Linked.{linked}
 use Rattle.def_link.specs.Owners.{compartment_unit, numbered, units_of}
+use Rattle.def_port.specs.Bytes.{SinkView}
+use Rattle.def_port.specs.Told.{FolderView}
 use Rattle.def_gen.specs.Description.{firmware}
 use Rattle.def_gen.specs.Numbers.{count_of}
 use Rattle.def_gen.specs.Sources.{sources}
 use Rattle.def_program.specs.Commands.{Command}
-use Rattle.def_program.specs.Ends.{Ends}
 use Rattle.def_program.specs.Turns.{OfLinked, OfNumber}
 use Rattle.def_program.specs.declared.Status.{Status}
 use Rattle.law_description.proofs.Judging.{same_rows}
@@ -42,8 +43,8 @@ pub linkable : (seed : ℕ) (d : DescRow) (texts : List (List ℕ)) → d ≡ ro
 linkable seed d texts rows given =
     subst (λ (x : DescRow). IsLinkable x texts) (sym rows) (subst (λ (ts : List (List ℕ)). IsLinkable (rows_of (firmware seed)) ts) (sym given) (linkable_seed seed))
 
-pub linked_number : (c : Command) (seed : ℕ) (d : DescRow) (texts : List (List ℕ)) (e : Ends) (result : Status) → d ≡ rows_of (firmware seed) → texts ≡ sources seed
-    → EndsBy (OfLinked c d (linked d texts)) e result → EndsBy (OfNumber c seed) e result
-linked_number c seed d texts e result rows given s =
-    subst (λ (ts : List (List ℕ)). EndsBy (OfLinked c (rows_of (firmware seed)) (linked (rows_of (firmware seed)) ts)) e result) given
-    (subst (λ (x : DescRow). EndsBy (OfLinked c x (linked x texts)) e result) rows s)
+pub linked_number : (c : Command) (seed : ℕ) (d : DescRow) (texts : List (List ℕ)) (folder folder_after : FolderView) (sink sink_after : SinkView) (result : Status) → d ≡ rows_of (firmware seed) → texts ≡ sources seed
+    → EndsBy (OfLinked c d (linked d texts)) folder folder_after sink sink_after result → EndsBy (OfNumber c seed) folder folder_after sink sink_after result
+linked_number c seed d texts folder folder_after sink sink_after result rows given s =
+    subst (λ (ts : List (List ℕ)). EndsBy (OfLinked c (rows_of (firmware seed)) (linked (rows_of (firmware seed)) ts)) folder folder_after sink sink_after result) given
+    (subst (λ (x : DescRow). EndsBy (OfLinked c x (linked x texts)) folder folder_after sink sink_after result) rows s)

@@ -2,12 +2,12 @@
 use Rattle.std.proofs.Common.{◌≡◌, ℕ, ◌+◌, ◌<◌, ◌≤◌, ◌^◌, List, [], ◌∷◌, ◌++◌, length, map, Option, Some, None, refl, sym, ap, ◌∙◌, subst, arith}
 use Rattle.std.specs.List.{AllByRecursion}
 use Rattle.std.proofs.lemmas.List.{append-nil}
-use Rattle.def_port.specs.Told.{Told, Call}
+use Rattle.def_port.specs.Told.{Told, FolderView}
 use Rattle.def_description.specs.Rows.{CodeRow, CompartmentRow, LibraryRow, DescRow}
 use Rattle.def_description.specs.WellFormed.{WellFormed}
 use Rattle.def_link.specs.Owners.{Unit as OwnerUnit, compartment_unit, library_unit, numbered, units_of}
 use Rattle.def_program.specs.Answers.{Read, contents}
-use Rattle.def_program.specs.Ends.{IsFile, most}
+use Rattle.def_program.specs.Calls.{IsFile, most}
 use Rattle.def_program.specs.Turns.{with_file, files_in, source_names}
 use Rattle.law_wellformed.proofs.Lawfuls.{bytes_lawful}
 use Rattle.ct_objects.specs.Objects.{file_of, files_of, IsLinkable}
@@ -54,15 +54,15 @@ short : (told : List ℕ → Told) (done : List Read) → AllByRecursion (λ (r 
 short told [] all = tt
 short told (r ∷ done) all = (let size : length r.bytes ≤ most = all.0.size in omega (arith, size), short told done all.1)
 
-pub linkable : (bytes : List ℕ) (d : DescRow) (told : List ℕ → Told) (before after : List Call) (faults now : ℕ) (sources : List (List ℕ))
-    → WellFormed bytes d → AllGiven told (source_names d) before after faults now sources → IsLinkable d sources
-linkable bytes d told before after faults now sources lawful all =
+pub linkable : (bytes : List ℕ) (d : DescRow) (before after : FolderView) (sources : List (List ℕ))
+    → WellFormed bytes d → AllGiven (source_names d) before after sources → IsLinkable d sources
+linkable bytes d before after sources lawful all =
     let names : names_of all.done ≡ source_names d = sym (append-nil (names_of all.done)) ∙ all.front.whole in
     let counted : length (contents all.done) ≡ files_of (units_of d) = as_many all.done ∙ ap length names ∙ names_counted d in
     record {
       lawful = bytes_lawful bytes d lawful;
       sourced = record {
         each = subst (λ (ts : List (List ℕ)). length ts ≡ files_of (units_of d)) all.given counted;
-        short = subst (λ (ts : List (List ℕ)). AllByRecursion (λ (t : List ℕ). length t < 2 ^ 32) ts) all.given (short told all.done all.front.files);
+        short = subst (λ (ts : List (List ℕ)). AllByRecursion (λ (t : List ℕ). length t < 2 ^ 32) ts) all.given (short before.file all.done all.front.files);
       };
     }

@@ -1,6 +1,6 @@
 -- The file of a form is the one that it names.
 use Rattle.std.proofs.Common.{◌≡◌, ℕ, List, Some, None, refl, subst}
-use Rattle.def_port.specs.Told.{Told, Call}
+use Rattle.def_port.specs.Told.{FolderView}
 use Rattle.def_program.specs.Commands.{generated_by, file_of}
 use Rattle.ct_words.specs.declared.Task.{Task}
 use Rattle.ct_words.specs.declared.Task.TheVariants.{Audit, Image, Run, RunImage, Why, Upgrade, Check, Demo}
@@ -18,14 +18,10 @@ file_is name Upgrade none = refl
 file_is name (Check policy) none = refl
 file_is name (Demo number) none = absurd (let clash : Some number ≡ None = none in cc)
 
-pub given_by : (name : List ℕ) (task : Task) → generated_by (command_for name task) ≡ None → (told : List ℕ → Told) (before after : List Call) (faults now : ℕ) (bytes : List ℕ)
-    → WasGiven name (told name) before after faults now bytes
-    → WasGiven (file_of (command_for name task)) (told (file_of (command_for name task))) before after faults now bytes
-given_by name task none told before after faults now bytes w =
-    subst (λ (n : List ℕ). WasGiven n (told n) before after faults now bytes) (file_is name task none) w
+pub given_by : (name : List ℕ) (task : Task) → generated_by (command_for name task) ≡ None → (before after : FolderView) (bytes : List ℕ)
+    → WasGiven name before after bytes → WasGiven (file_of (command_for name task)) before after bytes
+given_by name task none before after bytes w = subst (λ (n : List ℕ). WasGiven n before after bytes) (file_is name task none) w
 
-pub refused_by : (name : List ℕ) (task : Task) → generated_by (command_for name task) ≡ None → (told : List ℕ → Told) (before after : List Call) (faults now : ℕ) (stop : Stop)
-    → NotGiven name (told name) before after faults now stop
-    → NotGiven (file_of (command_for name task)) (told (file_of (command_for name task))) before after faults now stop
-refused_by name task none told before after faults now stop w =
-    subst (λ (n : List ℕ). NotGiven n (told n) before after faults now stop) (file_is name task none) w
+pub refused_by : (name : List ℕ) (task : Task) → generated_by (command_for name task) ≡ None → (before after : FolderView) (stop : Stop)
+    → NotGiven name before after stop → NotGiven (file_of (command_for name task)) before after stop
+refused_by name task none before after stop w = subst (λ (n : List ℕ). NotGiven n before after stop) (file_is name task none) w

@@ -3,6 +3,7 @@ use Rattle.std.proofs.Common.{◌≡◌, ◌==◌, ℕ, List, [], ◌∷◌, len
 use Rattle.std.proofs.lemmas.Bool.{eqb-true}
 use Rattle.ct_entry.specs.declared.rows.Owner.{Owner}
 use Rattle.def_image.specs.Parts.{PartsRow}
+use Rattle.def_port.specs.Bytes.{SinkView}
 use Rattle.def_image.specs.Accepted.{IsImage}
 use Rattle.def_description.specs.Rows.{DescRow}
 use Rattle.def_description.specs.WellFormed.{fault}
@@ -22,8 +23,8 @@ use Rattle.def_script.specs.declared.ScriptFault.TheVariants as scripts
 use Rattle.def_script.specs.Script as script
 use Rattle.def_script.specs.Script.{Due}
 use Rattle.def_program.specs.Runs.{run_text}
-use Rattle.def_program.specs.Lines.{allow_line, link_status, name_line}
-use Rattle.def_program.specs.Turns.{Turn, Ends, OfImage, OfParts, OfLinked, OfDescription, OfRun, OfScript, OfText, Looked}
+use Rattle.def_program.specs.Lines.{allow_line, link_status, link_text, name_line}
+use Rattle.def_program.specs.Turns.{Turn, Ends, OfImage, OfParts, OfLinked, OfDescription, OfRun, OfScript, OfText, NamesFound}
 use Rattle.ct_description.specs.declared.DescFault.{DescFault}
 use Rattle.ct_description.specs.declared.DescFault.TheVariants as description
 use Rattle.ct_description.specs.Answers.{Refused}
@@ -35,18 +36,18 @@ use Rattle.ct_refusals.specs.Closing.{Closes}
 use Rattle.ct_refusals.specs.Settled.{IsLast, Settles}
 use Rattle.ct_refusals.proofs.Endings.{ends_with}
 use Rattle.ct_why.specs.Found.{IsFound}
-use Rattle.ct_top.specs.Done.{Amiss, IsDone, Faulty, Flawed, Judges, Unlinked, Unruly, wants_memory}
+use Rattle.ct_top.specs.Done.{IsDone, IsRefusal, Judges, description_turn, image_turn, link_turn, policy_turn, script_turn, wants_memory}
 
 -- ---- done
 
-pub is_done : (Due : Turn → Type 0) (text : List ℕ) (old new : Option (List ℕ)) (faults now : ℕ) (result : Status)
-    → Due (Ends status.Done text) → IsDone old new faults now text result → Settles Due old new faults now result
-is_done Due text old new faults now result due (inl closes) = ends_with Due status.Done text old new faults now result tt due closes
-is_done Due text old new faults now result due (inr silent) = inr silent
+pub is_done : (Due : Turn → Type 0) (text : List ℕ) (before after : SinkView) (result : Status)
+    → Due (Ends status.Done text) → IsDone before after text result → Settles Due before after result
+is_done Due text before after result due (inl closes) = ends_with Due status.Done text before after result tt due closes
+is_done Due text before after result due (inr silent) = inr silent
 
 -- ---- names
 
-found_line : (p : PartsRow) (o : Option Owner) (c : Option ℕ) (text : List ℕ) → IsFound p o c (Some text) → Looked p o c (Ends status.Done text)
+found_line : (p : PartsRow) (o : Option Owner) (c : Option ℕ) (text : List ℕ) → IsFound p o c (Some text) → NamesFound p o c (Ends status.Done text)
 found_line p (Some owner) (Some c) text found =
     let is : Some text ≡ Some found.0 = found.1 in
     let same : text ≡ found.0 = cc in
@@ -54,29 +55,29 @@ found_line p (Some owner) (Some c) text found =
 found_line p (Some owner) None text found = absurd (let none : Some text ≡ None = found in cc)
 found_line p None c text found = absurd (let none : Some text ≡ None = found in cc)
 
-found_none : (p : PartsRow) (o : Option Owner) (c : Option ℕ) → IsFound p o c None → Looked p o c (Ends status.Name name_line)
+found_none : (p : PartsRow) (o : Option Owner) (c : Option ℕ) → IsFound p o c None → NamesFound p o c (Ends status.Name name_line)
 found_none p (Some owner) (Some c) found = absurd (let none : None ≡ Some found.0 = found.1 in cc)
 found_none p (Some owner) None found = refl
 found_none p None c found = refl
 
-pub named : (p : PartsRow) (o : Option Owner) (c : Option ℕ) (text : List ℕ) (old new : Option (List ℕ)) (faults now : ℕ) (result : Status)
-    → IsFound p o c (Some text) → Closes old new faults now text status.Done result → Settles (Looked p o c) old new faults now result
-named p o c text old new faults now result found closes =
-    ends_with (Looked p o c) status.Done text old new faults now result tt (found_line p o c text found) closes
+pub named : (p : PartsRow) (o : Option Owner) (c : Option ℕ) (text : List ℕ) (before after : SinkView) (result : Status)
+    → IsFound p o c (Some text) → Closes before after text status.Done result → Settles (NamesFound p o c) before after result
+named p o c text before after result found closes =
+    ends_with (NamesFound p o c) status.Done text before after result tt (found_line p o c text found) closes
 
-pub unnamed : (p : PartsRow) (o : Option Owner) (c : Option ℕ) (old new : Option (List ℕ)) (faults now : ℕ) (result : Status)
-    → IsFound p o c None → Closes old new faults now name_line status.Name result → Settles (Looked p o c) old new faults now result
-unnamed p o c old new faults now result found closes =
-    ends_with (Looked p o c) status.Name name_line old new faults now result tt (found_none p o c found) closes
+pub unnamed : (p : PartsRow) (o : Option Owner) (c : Option ℕ) (before after : SinkView) (result : Status)
+    → IsFound p o c None → Closes before after name_line status.Name result → Settles (NamesFound p o c) before after result
+unnamed p o c before after result found closes =
+    ends_with (NamesFound p o c) status.Name name_line before after result tt (found_none p o c found) closes
 
 -- ---- faults
 
-pub description_fault : (c : Command) (bytes : List ℕ) (sources : List (List ℕ)) (e : DescFault) (t : Turn) → Refused bytes e → Faulty e t → OfDescription c bytes sources t
-description_fault c bytes sources (description.At number part index item) t refused due = inl (fault number (place part index item), (refused, due))
+pub description_fault : (c : Command) (bytes : List ℕ) (sources : List (List ℕ)) (e : DescFault) (t : Turn) → Refused bytes e → IsRefusal (description_turn e) t → OfDescription c bytes sources t
+description_fault c bytes sources (description.At number part index item) t refused due = inl (record { fault = fault number (place part index item); is = refused; due = due })
 description_fault c bytes sources description.NoMemory t refused due = elim due [ ]
 
-pub image_fault : (c : Command) (bytes : List ℕ) (more : List (List ℕ)) (e : ImageFault) (t : Turn) → Refuses bytes e → Flawed e t → OfImage c bytes more t
-image_fault c bytes more (image.At number place) t refused due = inl (record { number = number; place = place; fault = refused; due = due })
+pub image_fault : (c : Command) (bytes : List ℕ) (more : List (List ℕ)) (e : ImageFault) (t : Turn) → Refuses bytes e → IsRefusal (image_turn e) t → OfImage c bytes more t
+image_fault c bytes more (image.At number place) t refused due = inl (record { fault = record { number = number; place = place }; is = refused; due = due })
 image_fault c bytes more image.NoMemory t refused due = elim due [ ]
 
 pub image_parts : (c : Command) (bytes : List ℕ) (p : PartsRow) (more : List (List ℕ)) (t : Turn) → IsImage bytes p → OfParts c p more t → OfImage c bytes more t
@@ -85,17 +86,25 @@ image_parts c bytes p more t is due = inr (p, (is, due))
 pub linked_parts : (c : Command) (d : DescRow) (r : Result PartsRow LinkFault) (p : PartsRow) (more : List (List ℕ)) (t : Turn) → r ≡ Ok p → OfParts c p more t → OfLinked c d r more t
 linked_parts c d r p more t is due = subst (λ (x : Result PartsRow LinkFault). OfLinked c d x more t) (sym is) due
 
-link_is : (r : Result PartsRow LinkFault) (e : LinkFault) → object.Refuses r e → wants_memory e ≡ false → r ≡ Err e
-link_is r (link.Asm owner number line) refused some = refused
-link_is r (link.Export owner item) refused some = refused
-link_is r (link.NoRoom needed has) refused some = refused
-link_is r (link.Import owner line) refused some = refused
-link_is r (link.Initial owner) refused some = refused
-link_is r link.NoMemory refused some = absurd (let clash : true ≡ false = some in cc)
+refused_link : (c : Command) (d : DescRow) (r : Result PartsRow LinkFault) (e : LinkFault) (more : List (List ℕ)) (t : Turn) → r ≡ Err e
+    → t ≡ Ends (link_status e) (link_text d e) → OfLinked c d r more t
+refused_link c d r e more t is due = subst (λ (x : Result PartsRow LinkFault). OfLinked c d x more t) (sym is) due
 
-pub link_fault : (c : Command) (d : DescRow) (r : Result PartsRow LinkFault) (e : LinkFault) (more : List (List ℕ)) (t : Turn) → object.Refuses r e → Unlinked d e t → OfLinked c d r more t
-link_fault c d r e more t refused due =
-    subst (λ (x : Result PartsRow LinkFault). OfLinked c d x more t) (sym (link_is r e refused due.1)) due.0
+pub link_fault : (c : Command) (d : DescRow) (r : Result PartsRow LinkFault) (e : LinkFault) (more : List (List ℕ)) (t : Turn) → object.Refuses r e → IsRefusal (link_turn d e) t → OfLinked c d r more t
+link_fault c d r (link.Asm owner number line) more t refused due = refused_link c d r (link.Asm owner number line) more t refused due
+link_fault c d r (link.Export owner item) more t refused due = refused_link c d r (link.Export owner item) more t refused due
+link_fault c d r (link.NoRoom needed has) more t refused due = refused_link c d r (link.NoRoom needed has) more t refused due
+link_fault c d r (link.Import owner line) more t refused due = refused_link c d r (link.Import owner line) more t refused due
+link_fault c d r (link.Initial owner) more t refused due = refused_link c d r (link.Initial owner) more t refused due
+link_fault c d r link.NoMemory more t refused due = elim due [ ]
+
+pub link_due : (d : DescRow) (e : LinkFault) → wants_memory e ≡ false → IsRefusal (link_turn d e) (Ends (link_status e) (link_text d e))
+link_due d (link.Asm owner number line) some = refl
+link_due d (link.Export owner item) some = refl
+link_due d (link.NoRoom needed has) some = refl
+link_due d (link.Import owner line) some = refl
+link_due d (link.Initial owner) some = refl
+link_due d link.NoMemory some = absurd (let clash : true ≡ false = some in cc)
 
 pub link_last : (e : LinkFault) → wants_memory e ≡ false → IsLast (link_status e)
 link_last (link.Asm owner number line) some = tt
@@ -107,35 +116,35 @@ link_last link.NoMemory some = absurd (let clash : true ≡ false = some in cc)
 
 -- ---- policies
 
-pub text_fault : (p : PartsRow) (text : List ℕ) (e : PolicyFault) (t : Turn) → IsCause p text e → Unruly e t → OfText p text t
-text_fault p text (policy.At number line) t fault due = inl (record { number = number; line = line; fault = fault; due = due })
+pub text_fault : (p : PartsRow) (text : List ℕ) (e : PolicyFault) (t : Turn) → IsCause p text e → IsRefusal (policy_turn e) t → OfText p text t
+text_fault p text (policy.At number line) t fault due = inl (record { fault = record { number = number; place = line }; is = fault; due = due })
 text_fault p text policy.NoMemory t fault due = elim due [ ]
 
 pub text_judged : (p : PartsRow) (text : List ℕ) (rulings : List Ruling) (lines : List ℕ) (t : Turn) → Reads p text rulings → AllDenied p 1 rulings lines → Judges lines t → OfText p text t
 text_judged p text rulings lines t reads denied due = inr (record { rulings = rulings; reads = reads; text = lines; denied = denied; due = due })
 
-pub allowed : (lines : List ℕ) (old new : Option (List ℕ)) (faults now : ℕ) (result : Status)
-    → (length lines == 0) ≡ true → Closes old new faults now allow_line status.Done result → Settles (Judges lines) old new faults now result
-allowed [] old new faults now result none closes = ends_with (Judges []) status.Done allow_line old new faults now result tt refl closes
-allowed (c ∷ cs) old new faults now result none closes = absurd (let empty : length (c ∷ cs) ≡ 0 = eqb-true (length (c ∷ cs)) 0 none in omega (arith, empty))
+pub allowed : (lines : List ℕ) (before after : SinkView) (result : Status)
+    → (length lines == 0) ≡ true → Closes before after allow_line status.Done result → Settles (Judges lines) before after result
+allowed [] before after result none closes = ends_with (Judges []) status.Done allow_line before after result tt refl closes
+allowed (c ∷ cs) before after result none closes = absurd (let empty : length (c ∷ cs) ≡ 0 = eqb-true (length (c ∷ cs)) 0 none in omega (arith, empty))
 
-pub denied : (lines : List ℕ) (old new : Option (List ℕ)) (faults now : ℕ) (result : Status)
-    → (length lines == 0) ≡ false → Closes old new faults now lines status.Denied result → Settles (Judges lines) old new faults now result
-denied [] old new faults now result some closes = absurd (let clash : true ≡ false = some in cc)
-denied (c ∷ cs) old new faults now result some closes = ends_with (Judges (c ∷ cs)) status.Denied (c ∷ cs) old new faults now result tt refl closes
+pub denied : (lines : List ℕ) (before after : SinkView) (result : Status)
+    → (length lines == 0) ≡ false → Closes before after lines status.Denied result → Settles (Judges lines) before after result
+denied [] before after result some closes = absurd (let clash : true ≡ false = some in cc)
+denied (c ∷ cs) before after result some closes = ends_with (Judges (c ∷ cs)) status.Denied (c ∷ cs) before after result tt refl closes
 
 -- ---- scripts
 
-pub script_fault : (p : PartsRow) (limit : ℕ) (text : List ℕ) (e : ScriptFault) (t : Turn) → script.IsCause p.devices text e → Amiss e t → OfScript p limit text t
-script_fault p limit text (scripts.At number line) t cause due = inl (record { number = number; line = line; fault = cause; due = due })
+pub script_fault : (p : PartsRow) (limit : ℕ) (text : List ℕ) (e : ScriptFault) (t : Turn) → script.IsCause p.devices text e → IsRefusal (script_turn e) t → OfScript p limit text t
+script_fault p limit text (scripts.At number line) t cause due = inl (record { fault = record { number = number; place = line }; is = cause; due = due })
 script_fault p limit text scripts.NoMemory t cause due = elim due [ ]
 
-pub script_played : (p : PartsRow) (limit : ℕ) (text : List ℕ) (dues : List Due) (old new : Option (List ℕ)) (faults now : ℕ) (result : Status)
-    → script.Reads p.devices text dues → Closes old new faults now (run_text p dues limit) status.Done result → Settles (OfScript p limit text) old new faults now result
-script_played p limit text dues old new faults now result reads closes =
-    ends_with (OfScript p limit text) status.Done (run_text p dues limit) old new faults now result tt (inr (record { dues = dues; reads = reads; due = refl })) closes
+pub script_played : (p : PartsRow) (limit : ℕ) (text : List ℕ) (dues : List Due) (before after : SinkView) (result : Status)
+    → script.Reads p.devices text dues → Closes before after (run_text p dues limit) status.Done result → Settles (OfScript p limit text) before after result
+script_played p limit text dues before after result reads closes =
+    ends_with (OfScript p limit text) status.Done (run_text p dues limit) before after result tt (inr (record { dues = dues; reads = reads; due = refl })) closes
 
 -- a run without a script
-pub played : (p : PartsRow) (limit : ℕ) (old new : Option (List ℕ)) (faults now : ℕ) (result : Status)
-    → Closes old new faults now (run_text p [] limit) status.Done result → Settles (OfRun p limit None []) old new faults now result
-played p limit old new faults now result closes = ends_with (OfRun p limit None []) status.Done (run_text p [] limit) old new faults now result tt refl closes
+pub played : (p : PartsRow) (limit : ℕ) (before after : SinkView) (result : Status)
+    → Closes before after (run_text p [] limit) status.Done result → Settles (OfRun p limit None []) before after result
+played p limit before after result closes = ends_with (OfRun p limit None []) status.Done (run_text p [] limit) before after result tt refl closes

@@ -1,5 +1,6 @@
 -- What the parts of a call answer to one another.
-use Rattle.std.specs.Prelude.{◌≡◌, ℕ, Bool, true, false, List, Option, ◌⊎◌}
+use Rattle.std.specs.Prelude.{◌≡◌, ℕ, Bool, true, false, List, Option, Some, None, ◌⊎◌}
+use Rattle.def_port.specs.Bytes.{SinkView}
 use Rattle.def_program.specs.declared.Status.{Status}
 use Rattle.def_program.specs.declared.Status.TheVariants.{Done}
 use Rattle.def_program.specs.declared.Status.TheVariants as status
@@ -18,43 +19,51 @@ use Rattle.ct_description.specs.declared.DescFault.{DescFault}
 use Rattle.ct_description.specs.declared.DescFault.TheVariants as description
 use Rattle.ct_image.specs.declared.fault.ImageFault.{ImageFault}
 use Rattle.ct_image.specs.declared.fault.ImageFault.TheVariants as image
-use Rattle.ct_refusals.specs.Closing.{Closes, Silent}
+use Rattle.ct_refusals.specs.Closing.{Closes, WroteNothing}
 
 -- the text was written and the call is done, or a write failed; or memory was wanted before
-abbrev pub IsDone : Option (List ℕ) → Option (List ℕ) → ℕ → ℕ → List ℕ → Status → Type 0
-IsDone old new faults now text result =
-    Closes old new faults now text Done result ⊎ Silent old new faults now result
+abbrev pub IsDone : SinkView → SinkView → List ℕ → Status → Type 0
+IsDone before after text result =
+    Closes before after text Done result ⊎ WroteNothing before after result
 
--- ---- refusals
+-- ---- refusals: the turn that is due of a fault; none of want of memory
 
--- the turn that refuses bytes that are no description
-abbrev pub Faulty : DescFault → Turn → Type 0
-Faulty (description.At number part index item) t =
-    t ≡ Ends status.Description (description_line (fault number (place part index item)))
-Faulty description.NoMemory t = ⊥
+-- of bytes that are no description
+abbrev pub description_turn : DescFault → Option Turn
+description_turn (description.At number part index item) =
+    Some (Ends status.Description (description_line (fault number (place part index item))))
+description_turn description.NoMemory = None
 
--- the turn that refuses bytes that are no image
-abbrev pub Flawed : ImageFault → Turn → Type 0
-Flawed (image.At number place) t = t ≡ Ends status.Image (image_line number place)
-Flawed image.NoMemory t = ⊥
+-- of bytes that are no image
+abbrev pub image_turn : ImageFault → Option Turn
+image_turn (image.At number place) = Some (Ends status.Image (image_line number place))
+image_turn image.NoMemory = None
 
 abbrev pub wants_memory : LinkFault → Bool
 wants_memory link.NoMemory = true
 wants_memory _ = false
 
--- the turn that refuses a description and sources that don't link
-abbrev pub Unlinked : DescRow → LinkFault → Turn → Type 0
-Unlinked d e t = (t ≡ Ends (link_status e) (link_text d e)) × (wants_memory e ≡ false)
+-- of a description and sources that don't link
+abbrev pub link_turn : DescRow → LinkFault → Option Turn
+link_turn d link.NoMemory = None
+link_turn d e = Some (Ends (link_status e) (link_text d e))
 
--- the turn that refuses a text that is no script
-abbrev pub Amiss : ScriptFault → Turn → Type 0
-Amiss (script.At number line) t = t ≡ Ends status.Script (script_line number line)
-Amiss script.NoMemory t = ⊥
+-- of a text that is no script
+abbrev pub script_turn : ScriptFault → Option Turn
+script_turn (script.At number line) = Some (Ends status.Script (script_line number line))
+script_turn script.NoMemory = None
 
--- the turn that refuses a text that is no policy
-abbrev pub Unruly : PolicyFault → Turn → Type 0
-Unruly (policy.At number line) t = t ≡ Ends status.Policy (policy_line number line)
-Unruly policy.NoMemory t = ⊥
+-- of a text that is no policy
+abbrev pub policy_turn : PolicyFault → Option Turn
+policy_turn (policy.At number line) = Some (Ends status.Policy (policy_line number line))
+policy_turn policy.NoMemory = None
+
+-- the turn is the refusal that is due
+abbrev pub IsRefusal : Option Turn → Turn → Type 0
+IsRefusal None t = ⊥
+IsRefusal (Some due) t = t ≡ due
+
+-- ---- policies
 
 -- the turn of the lines that deny a policy
 abbrev pub Judges : List ℕ → Turn → Type 0

@@ -5,9 +5,8 @@ ghost use Rattle.def_image.specs.Parts.{upgraded};
 ghost use Rattle.def_image.specs.Spelling.{image_bytes};
 ghost use Rattle.def_lines.specs.Report.{report_line};
 ghost use Rattle.def_program.specs.declared.Status.TheVariants as status;
-ghost use Rattle.def_program.specs.Ends.{ends};
 ghost use Rattle.def_program.specs.Paths.{compartment_named, owner_named};
-ghost use Rattle.def_program.specs.Turns.{Looked, OfParts, OfPolicy};
+ghost use Rattle.def_program.specs.Turns.{NamesFound, OfParts, OfPolicy};
 ghost use Rattle.ct_refusals.specs.Ended.{EndsBy};
 ghost use Rattle.ct_refusals.specs.Settled.{Settles};
 ghost use Rattle.ct_words.specs.Forms.{IsShort, command_for};
@@ -36,8 +35,7 @@ pub(crate) fn report_of(alloc: Global, image: &Image) -> Result<String, NoMemory
 
 /// Writes the report line of an image.
 fn audit<S: Sink>(alloc: Global, image: &Image, sink: &mut S) -> Status
-    ensures { IsDone (S.bytes sink.old) (S.bytes sink.new) (S.faults sink.old)
-        (S.faults sink.new) (report_line image.now) result }
+    ensures { IsDone (S.shows sink.old) (S.shows sink.new) (report_line image.now) result }
 {
     match report_of(alloc, image) {
         Ok(line) => close(line.as_bytes(), Status::Done, sink),
@@ -47,8 +45,7 @@ fn audit<S: Sink>(alloc: Global, image: &Image, sink: &mut S) -> Status
 
 /// Writes the bytes of an image.
 fn write_image<S: Sink>(alloc: Global, image: &Image, sink: &mut S) -> Status
-    ensures { IsDone (S.bytes sink.old) (S.bytes sink.new) (S.faults sink.old)
-        (S.faults sink.new) (image_bytes image.now) result }
+    ensures { IsDone (S.shows sink.old) (S.shows sink.new) (image_bytes image.now) result }
 {
     match ct_image::write(alloc, image) {
         Ok(bytes) => close(bytes.as_slice(), Status::Done, sink),
@@ -58,8 +55,7 @@ fn write_image<S: Sink>(alloc: Global, image: &Image, sink: &mut S) -> Status
 
 /// Writes the bytes of an image in the last version of the format, with its sweep rate.
 fn upgrade<S: Sink>(alloc: Global, image: &Image, sink: &mut S) -> Status
-    ensures { IsDone (S.bytes sink.old) (S.bytes sink.new) (S.faults sink.old)
-        (S.faults sink.new) (image_bytes (upgraded image.now)) result }
+    ensures { IsDone (S.shows sink.old) (S.shows sink.new) (image_bytes (upgraded image.now)) result }
 {
     match image.copy(alloc) {
         Ok(copy) => write_image(alloc, &copy.upgraded(), sink),
@@ -94,9 +90,9 @@ fn why<S: Sink>(
     sink: &mut S,
 ) -> Status
     ensures { Settles
-        (Looked image.now (owner_named image.now owner.now)
+        (NamesFound image.now (owner_named image.now owner.now)
         (compartment_named image.now compartment.now))
-        (S.bytes sink.old) (S.bytes sink.new) (S.faults sink.old) (S.faults sink.new) result }
+        (S.shows sink.old) (S.shows sink.new) result }
 {
     let found = match why_line(alloc, image, owner, compartment) {
         Ok(found) => found,
@@ -117,8 +113,7 @@ fn check<F: Folder, S: Sink>(
     sink: &mut S,
 ) -> Status
     ensures { EndsBy (OfPolicy policy.now image.now)
-        (ends F.file F.calls F.faults S.bytes S.faults [] folder.old folder.new sink.old sink.new)
-        result }
+        (F.shows folder.old) (F.shows folder.new) (S.shows sink.old) (S.shows sink.new) result }
 {
     let text = match read_file(alloc, policy, folder) {
         Ok(text) => text,
@@ -138,8 +133,7 @@ pub fn finish<F: Folder, S: Sink>(
     requires { IsShort task }
     ensures { (name : List ℕ)
         → EndsBy (OfParts (command_for name task.entry) image.now)
-        (ends F.file F.calls F.faults S.bytes S.faults [] folder.old folder.new sink.old sink.new)
-        result }
+        (F.shows folder.old) (F.shows folder.new) (S.shows sink.old) (S.shows sink.new) result }
 {
     match task {
         Task::Audit => audit(alloc, image, sink),

@@ -5,14 +5,14 @@ ghost use Rattle.def_link.specs.Linked.{linked};
 ghost use Rattle.def_program.specs.declared.Status.TheVariants as status;
 ghost use Rattle.def_program.specs.Answers.{Answers};
 ghost use Rattle.def_program.specs.Commands.{form_of, generated_by};
-ghost use Rattle.def_program.specs.Ends.{ends};
+ghost use Rattle.def_program.specs.Calls.{call_record};
 ghost use Rattle.def_program.specs.Turns.{OfImage, OfLinked, OfNumber};
 ghost use Rattle.ct_objects.specs.Objects.{IsLinkable};
 ghost use Rattle.ct_refusals.specs.Ended.{EndsBy};
 ghost use Rattle.ct_refusals.specs.Settled.{Settles};
 ghost use Rattle.ct_words.specs.Forms.{IsShort, command_for, command_of};
 ghost use Rattle.ct_top.specs.Done as done;
-ghost use Rattle.ct_top.specs.Done.{Faulty, Flawed, Unlinked};
+ghost use Rattle.ct_top.specs.Done.{IsRefusal, description_turn, image_turn, link_turn};
 
 use crate::commands::finish;
 use ct_description::DescFault;
@@ -30,8 +30,8 @@ use std::alloc::{AllocError, Global};
 
 /// Writes the line of bytes that are no description.
 fn refuse_description<S: Sink>(fault: DescFault, sink: &mut S) -> Status
-    ensures { Settles (Faulty fault)
-        (S.bytes sink.old) (S.bytes sink.new) (S.faults sink.old) (S.faults sink.new) result }
+    ensures { Settles (IsRefusal (description_turn fault))
+        (S.shows sink.old) (S.shows sink.new) result }
 {
     match fault {
         DescFault::At {
@@ -49,8 +49,8 @@ fn refuse_description<S: Sink>(fault: DescFault, sink: &mut S) -> Status
 
 /// Writes the line of bytes that are no image.
 fn refuse_image<S: Sink>(fault: ImageFault, sink: &mut S) -> Status
-    ensures { Settles (Flawed fault)
-        (S.bytes sink.old) (S.bytes sink.new) (S.faults sink.old) (S.faults sink.new) result }
+    ensures { Settles (IsRefusal (image_turn fault))
+        (S.shows sink.old) (S.shows sink.new) result }
 {
     match fault {
         ImageFault::At { number, place } => ct_refusals::refuse_image(number, place, sink),
@@ -70,8 +70,8 @@ fn wants_memory(fault: LinkFault) -> bool
 
 /// Writes the line of a description and sources that don't link.
 fn refuse_link<S: Sink>(desc: &Desc, fault: LinkFault, sink: &mut S) -> Status
-    ensures { Settles (Unlinked desc.now fault)
-        (S.bytes sink.old) (S.bytes sink.new) (S.faults sink.old) (S.faults sink.new) result }
+    ensures { Settles (IsRefusal (link_turn desc.now fault))
+        (S.shows sink.old) (S.shows sink.new) result }
 {
     if wants_memory(fault) {
         return Status::NoMemory;
@@ -91,8 +91,7 @@ fn of_image<F: Folder, S: Sink>(
     requires small { length bytes.now < 2 ^ 32 }
     ensures { (name : List ℕ)
         → EndsBy (OfImage (command_for name task.entry) bytes.now)
-        (ends F.file F.calls F.faults S.bytes S.faults [] folder.old folder.new sink.old sink.new)
-        result }
+        (F.shows folder.old) (F.shows folder.new) (S.shows sink.old) (S.shows sink.new) result }
 {
     match ct_image::accept(alloc, bytes) {
         Ok(image) => finish(alloc, task, &image, folder, sink),
@@ -113,8 +112,7 @@ fn of_sources<F: Folder, S: Sink>(
     requires linkable { IsLinkable desc.now sources.now }
     ensures { (name : List ℕ)
         → EndsBy (OfLinked (command_for name task.entry) desc.now (linked desc.now sources.now))
-        (ends F.file F.calls F.faults S.bytes S.faults [] folder.old folder.new sink.old sink.new)
-        result }
+        (F.shows folder.old) (F.shows folder.new) (S.shows sink.old) (S.shows sink.new) result }
 {
     match link(alloc, desc, sources) {
         Ok(image) => finish(alloc, task, &image, folder, sink),
@@ -145,8 +143,7 @@ fn of_number<F: Folder, S: Sink>(
     requires { IsShort task }
     ensures { (name : List ℕ)
         → EndsBy (OfNumber (command_for name task.entry) number)
-        (ends F.file F.calls F.faults S.bytes S.faults [] folder.old folder.new sink.old sink.new)
-        result }
+        (F.shows folder.old) (F.shows folder.new) (S.shows sink.old) (S.shows sink.new) result }
 {
     let made = match generate(alloc, number) {
         Ok(made) => made,
@@ -177,8 +174,8 @@ pub fn perform<F: Folder, S: Sink>(
 ) -> Status
     requires { IsShort form.now.task }
     ensures { (words : List (List ℕ)) → form_of words ≡ Some (command_of form.now)
-        → Answers (ends F.file F.calls F.faults S.bytes S.faults
-        words folder.old folder.new sink.old sink.new) result }
+        → Answers (call_record words (F.shows folder.old) (F.shows folder.new)
+        (S.shows sink.old) (S.shows sink.new)) result }
 {
     match form.task.number() {
         Some(number) => of_number(alloc, form.task, number, folder, sink),
@@ -191,8 +188,8 @@ fn of_files<F: Folder, S: Sink>(alloc: Global, form: &Form, folder: &mut F, sink
     requires short { IsShort form.now.task }
     requires reads { generated_by (command_of form.now) ≡ None }
     ensures { (words : List (List ℕ)) → form_of words ≡ Some (command_of form.now)
-        → Answers (ends F.file F.calls F.faults S.bytes S.faults
-        words folder.old folder.new sink.old sink.new) result }
+        → Answers (call_record words (F.shows folder.old) (F.shows folder.new)
+        (S.shows sink.old) (S.shows sink.new)) result }
 {
     let bytes = match read_file(alloc, form.name, folder) {
         Ok(bytes) => bytes,

@@ -12,10 +12,12 @@ ghost use Rattle.std.specs.Prelude.{◌≡◌, ℕ, List, Some, map, string_byte
 ghost use Rattle.def_image.specs.Parts.{PartsRow};
 ghost use Rattle.def_program.specs.Answers.{Answers};
 ghost use Rattle.def_program.specs.Commands.{Command, form_of as form_in};
-ghost use Rattle.def_program.specs.Ends.{ends};
+ghost use Rattle.def_program.specs.Calls.{call_record};
 ghost use Rattle.def_program.specs.Licences.{IsLicensedCommand, StandFor};
 ghost use Rattle.def_program.specs.Safe.{IsSafeCommand};
 ghost use Rattle.def_program.specs.Completing.{Completes, CompletesDemo, RefusesMisuse};
+ghost use Rattle.def_program.specs.Deciding.{IsDecided};
+ghost use Rattle.def_program.specs.Written.{IsRunWritten};
 
 use ct_port::{Folder, Sink};
 use ct_refusals::refuse_usage;
@@ -47,38 +49,47 @@ use std::alloc::Global;
 /// The clauses:
 ///
 /// - `answer`: every status has its cause, and the text that is due to it was written: whole, or under
-///   `WriteFault` a beginning of it, or under `NoMemory` nothing. Each file that was read was due then,
-///   and no read but the last failed. No memory is taken after the first write.
+///   `WriteFault` a beginning of it, or under `NoMemory` nothing. Each file that was read was due then
+///   and asked for with the limit of 16,777,216 bytes, and no read but the last failed.
+/// - `decided`: where no fault is counted and the folder tells the files that are due, the call ends with
+///   the status that is due after them, a refusal or not, or wants memory; a file that is told to be too
+///   large is `TooLarge`, and one that is told to be absent `ReadFault`.
 /// - `complete`: where no fault is counted, a command on told files that stand for an image is done, or
 ///   wants memory; but names that stand for nothing are refused, and a policy may be denied. Of a script
 ///   and of a policy the text must be one.
 /// - `demo`: where no fault is counted, `demo` of any number is done, or wants memory.
 /// - `misuse`: words that aren't a form are `Usage`, and never want memory.
+/// - `written`: a run that is done wrote the report line, the lines of a list of what happened, and the
+///   summary; and each of that same list is licensed by the entries of the image that the files which
+///   were read stand for, and the run of its events is safe, as the next two clauses say it.
 /// - `licensed`: each deed, and each span with interrupts off, of the run that the words ask for is
 ///   licensed by the entries of the image that the files stand for, whatever the code bytes are and
-///   whatever the script says. That the files are those that were read, and the run the one that was
-///   written, is said by `answer`.
+///   whatever the script says.
 /// - `safe`: of that run: calls are clean and accesses licensed; nothing is loaded, stored, waited for or
 ///   woken through a capability of an object after its free; each allocation hands out a fresh object; a
 ///   freed chunk is handed out again only after a whole sweep that began after the free; and the live
 ///   charges on each quota are at most its limit after every event.
 ///
 /// What files hold and what was written is said of a folder and a sink that tell it. The system's
-/// tell nothing: there the clauses speak of statuses, names and counts alone.
+/// tell nothing: there the clauses speak of statuses, names, limits and counts alone.
 pub fn capfw<F: Folder, S: Sink>(
     alloc: Global,
     words: &[String],
     folder: &mut F,
     sink: &mut S,
 ) -> Status
-    ensures answer { Answers (ends F.file F.calls F.faults S.bytes S.faults
-        (map string_bytes words.now) folder.old folder.new sink.old sink.new) result }
-    ensures complete { Completes (ends F.file F.calls F.faults S.bytes S.faults
-        (map string_bytes words.now) folder.old folder.new sink.old sink.new) result }
-    ensures demo { CompletesDemo (ends F.file F.calls F.faults S.bytes S.faults
-        (map string_bytes words.now) folder.old folder.new sink.old sink.new) result }
-    ensures misuse { RefusesMisuse (ends F.file F.calls F.faults S.bytes S.faults
-        (map string_bytes words.now) folder.old folder.new sink.old sink.new) result }
+    ensures answer { Answers (call_record (map string_bytes words.now)
+        (F.shows folder.old) (F.shows folder.new) (S.shows sink.old) (S.shows sink.new)) result }
+    ensures decided { IsDecided (call_record (map string_bytes words.now)
+        (F.shows folder.old) (F.shows folder.new) (S.shows sink.old) (S.shows sink.new)) result }
+    ensures complete { Completes (call_record (map string_bytes words.now)
+        (F.shows folder.old) (F.shows folder.new) (S.shows sink.old) (S.shows sink.new)) result }
+    ensures demo { CompletesDemo (call_record (map string_bytes words.now)
+        (F.shows folder.old) (F.shows folder.new) (S.shows sink.old) (S.shows sink.new)) result }
+    ensures misuse { RefusesMisuse (call_record (map string_bytes words.now)
+        (F.shows folder.old) (F.shows folder.new) (S.shows sink.old) (S.shows sink.new)) result }
+    ensures written { IsRunWritten (call_record (map string_bytes words.now)
+        (F.shows folder.old) (F.shows folder.new) (S.shows sink.old) (S.shows sink.new)) result }
     ensures licensed { (asked : Command) (files : List (List ℕ)) (p : PartsRow)
         → form_in (map string_bytes words.now) ≡ Some asked → StandFor asked files p
         → IsLicensedCommand asked p }
@@ -95,8 +106,8 @@ fn command<F: Folder, S: Sink>(
     folder: &mut F,
     sink: &mut S,
 ) -> Status
-    ensures { Answers (ends F.file F.calls F.faults S.bytes S.faults
-        (map string_bytes words.now) folder.old folder.new sink.old sink.new) result }
+    ensures { Answers (call_record (map string_bytes words.now)
+        (F.shows folder.old) (F.shows folder.new) (S.shows sink.old) (S.shows sink.new)) result }
 {
     match form_of(words) {
         Some(form) => perform(alloc, &form, folder, sink),

@@ -4,7 +4,7 @@ ghost use Rattle.std.specs.Prelude.{◌<◌, ◌^◌, IfOk, length, string_bytes
 ghost use Rattle.def_policy.specs.Denials.{AllDenied};
 ghost use Rattle.def_program.specs.Turns.{OfText};
 ghost use Rattle.ct_refusals.specs.Settled.{Settles};
-ghost use Rattle.ct_top.specs.Done.{Judges, Unruly};
+ghost use Rattle.ct_top.specs.Done.{IsRefusal, Judges, policy_turn};
 
 use ct_graph::Graph;
 use ct_image::Image;
@@ -16,8 +16,8 @@ use std::alloc::Global;
 
 /// Writes the line of a text that is no policy.
 fn refuse_policy<S: Sink>(fault: PolicyFault, sink: &mut S) -> Status
-    ensures { Settles (Unruly fault)
-        (S.bytes sink.old) (S.bytes sink.new) (S.faults sink.old) (S.faults sink.new) result }
+    ensures { Settles (IsRefusal (policy_turn fault))
+        (S.shows sink.old) (S.shows sink.new) result }
 {
     match fault {
         PolicyFault::At { number, line } => ct_refusals::refuse_policy(number, line, sink),
@@ -37,7 +37,7 @@ fn denials_of(alloc: Global, rules: &Rules, image: &Image) -> Result<String, NoM
 /// Writes the lines that deny a policy; where there are none, that it is allowed.
 fn write_verdict<S: Sink>(lines: &[u8], sink: &mut S) -> Status
     ensures { Settles (Judges lines.now)
-        (S.bytes sink.old) (S.bytes sink.new) (S.faults sink.old) (S.faults sink.new) result }
+        (S.shows sink.old) (S.shows sink.new) result }
 {
     if lines.is_empty() {
         close(b"allow\n", Status::Done, sink)
@@ -50,7 +50,7 @@ fn write_verdict<S: Sink>(lines: &[u8], sink: &mut S) -> Status
 pub fn judge<S: Sink>(alloc: Global, image: &Image, text: &[u8], sink: &mut S) -> Status
     requires { length text.now < 2 ^ 32 }
     ensures { Settles (OfText image.now text.now)
-        (S.bytes sink.old) (S.bytes sink.new) (S.faults sink.old) (S.faults sink.new) result }
+        (S.shows sink.old) (S.shows sink.new) result }
 {
     let rules = match read(alloc, text, image) {
         Ok(rules) => rules,

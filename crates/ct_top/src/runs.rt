@@ -5,7 +5,6 @@ ghost use Rattle.def_boot.specs.Boot.{booted_machine};
 ghost use Rattle.def_profile.specs.declared.limits.TheConstants.{MOST_FILE, MOST_STEPS};
 ghost use Rattle.def_lines.specs.Report.{report_line};
 ghost use Rattle.def_program.specs.declared.Status.TheVariants.{Done};
-ghost use Rattle.def_program.specs.Ends.{ends};
 ghost use Rattle.def_program.specs.Runs.{demo_text, run_text};
 ghost use Rattle.def_program.specs.Scripts.{IsPlayable};
 ghost use Rattle.def_program.specs.Turns.{OfRun, OfScript};
@@ -13,7 +12,7 @@ ghost use Rattle.ct_refusals.specs.Closing.{Closes};
 ghost use Rattle.ct_refusals.specs.Ended.{EndsBy};
 ghost use Rattle.ct_refusals.specs.Settled.{Settles};
 ghost use Rattle.ct_words.specs.Forms.{script_named};
-ghost use Rattle.ct_top.specs.Done.{Amiss, IsDone};
+ghost use Rattle.ct_top.specs.Done.{IsDone, IsRefusal, script_turn};
 
 use crate::commands::report_of;
 use ct_image::Image;
@@ -48,7 +47,7 @@ fn play<S: Sink>(
     requires machine { machine.old ≡ booted_machine image.now }
     requires script { IsPlayable script.now machine.old.state }
     requires limit { limit ≤ MOST_STEPS }
-    ensures { Closes (S.bytes sink.old) (S.bytes sink.new) (S.faults sink.old) (S.faults sink.new)
+    ensures { Closes (S.shows sink.old) (S.shows sink.new)
         (run_text image.now script.now limit) Done result }
 {
     let quantum = image.parts().quantum;
@@ -60,8 +59,8 @@ fn play<S: Sink>(
 
 /// Writes the line of a text that is no script.
 fn refuse_script<S: Sink>(fault: ScriptFault, sink: &mut S) -> Status
-    ensures { Settles (Amiss fault)
-        (S.bytes sink.old) (S.bytes sink.new) (S.faults sink.old) (S.faults sink.new) result }
+    ensures { Settles (IsRefusal (script_turn fault))
+        (S.shows sink.old) (S.shows sink.new) result }
 {
     match fault {
         ScriptFault::At { number, line } => ct_refusals::refuse_script(number, line, sink),
@@ -84,7 +83,7 @@ fn play_text<S: Sink>(
     requires text { length text.now ≤ MOST_FILE }
     requires limit { limit ≤ MOST_STEPS }
     ensures { Settles (OfScript image.now limit text.now)
-        (S.bytes sink.old) (S.bytes sink.new) (S.faults sink.old) (S.faults sink.new) result }
+        (S.shows sink.old) (S.shows sink.new) result }
 {
     match read(alloc, text, image.parts().devices.as_slice()) {
         Ok(script) => play(image, report, machine, &script, limit, sink),
@@ -107,8 +106,7 @@ fn play_file<F: Folder, S: Sink>(
     requires machine { machine.old ≡ booted_machine image.now }
     requires limit { limit ≤ MOST_STEPS }
     ensures { EndsBy (OfRun image.now limit (Some name.now))
-        (ends F.file F.calls F.faults S.bytes S.faults [] folder.old folder.new sink.old sink.new)
-        result }
+        (F.shows folder.old) (F.shows folder.new) (S.shows sink.old) (S.shows sink.new) result }
 {
     match read_file(alloc, name, folder) {
         Ok(text) => play_text(alloc, image, report, machine, text.as_slice(), limit, sink),
@@ -132,8 +130,7 @@ fn run_booted<F: Folder, S: Sink>(
     requires machine { machine.old ≡ booted_machine image.now }
     requires limit { limit ≤ MOST_STEPS }
     ensures { EndsBy (OfRun image.now limit (script_named script.entry))
-        (ends F.file F.calls F.faults S.bytes S.faults [] folder.old folder.new sink.old sink.new)
-        result }
+        (F.shows folder.old) (F.shows folder.new) (S.shows sink.old) (S.shows sink.new) result }
 {
     match script {
         Some(name) => play_file(alloc, image, report, machine, name, limit, folder, sink),
@@ -153,8 +150,7 @@ pub(crate) fn run<F: Folder, S: Sink>(
 ) -> Status
     requires { limit ≤ MOST_STEPS }
     ensures { EndsBy (OfRun image.now limit (script_named script.entry))
-        (ends F.file F.calls F.faults S.bytes S.faults [] folder.old folder.new sink.old sink.new)
-        result }
+        (F.shows folder.old) (F.shows folder.new) (S.shows sink.old) (S.shows sink.new) result }
 {
     let report = match report_of(alloc, image) {
         Ok(report) => report,
@@ -182,7 +178,7 @@ pub(crate) fn run<F: Folder, S: Sink>(
 /// Writes the summary of a machine that stands as booted, after the steps of a demonstration.
 fn summarise<S: Sink>(image: &Image, machine: &mut Machine<Planes>, sink: &mut S) -> Status
     requires machine { machine.old ≡ booted_machine image.now }
-    ensures { Closes (S.bytes sink.old) (S.bytes sink.new) (S.faults sink.old) (S.faults sink.new)
+    ensures { Closes (S.shows sink.old) (S.shows sink.new)
         (demo_text image.now) Done result }
 {
     let quantum = image.parts().quantum;
@@ -194,8 +190,7 @@ fn summarise<S: Sink>(image: &Image, machine: &mut Machine<Planes>, sink: &mut S
 
 /// Runs an image for the steps of a demonstration, and writes the summary.
 pub(crate) fn demonstrate<S: Sink>(alloc: Global, image: &Image, sink: &mut S) -> Status
-    ensures { IsDone (S.bytes sink.old) (S.bytes sink.new) (S.faults sink.old)
-        (S.faults sink.new) (demo_text image.now) result }
+    ensures { IsDone (S.shows sink.old) (S.shows sink.new) (demo_text image.now) result }
 {
     match ready(alloc, image) {
         Ok(mut machine) => {

@@ -1,2 +1,2 @@
 pub mod Wired
-pub mod Guarded
+pub mod Inside

@@ -8,3 +8,4 @@ pub mod Objects
 pub mod Slices
 pub mod Heap
 pub mod Board
+pub mod Rows

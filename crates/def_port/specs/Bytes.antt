@@ -2,8 +2,13 @@
 use Rattle.std.specs.Prelude.{◌≡◌, ℕ, ◌+◌, ◌-◌, ◌^◌, ◌≤◌, min, List, ◌++◌, Option, Some, None}
 
 -- The count rose in a call. It never falls, stands still at 2^64 - 1, and counts as risen there.
-abbrev pub Rose : ℕ → ℕ → Type 0
-Rose before now = (before ≤ now) × (min (before + 1) (2 ^ 64 - 1) ≤ now)
+abbrev pub FaultsRose : ℕ → ℕ → Type 0
+FaultsRose before now = (before ≤ now) × (min (before + 1) (2 ^ 64 - 1) ≤ now)
+
+-- what is seen of a sink: its bytes, where it tells them, and its count of faults
+pub record SinkView : Type 0 where
+  pub bytes : Option (List ℕ)
+  pub faults : ℕ
 
 -- the whole text was added; of a sink that doesn't tell its bytes this says nothing
 abbrev pub Appends : Option (List ℕ) → Option (List ℕ) → List ℕ → Type 0

@@ -3,7 +3,8 @@ use Rattle.std.specs.Prelude.{◌≡◌, ℕ, ◌+◌, ◌<◌, List, [], ◌∷
 use Rattle.def_port.specs.declared.faults.ReadError.{ReadError}
 use Rattle.def_port.specs.declared.faults.ReadError.TheVariants.{Failed, NoMemory}
 use Rattle.std.specs.Str.{bytes_eq}
-use Rattle.def_port.specs.Told.{Told, Absent, File, Call}
+use Rattle.def_port.specs.Bytes.{SinkView}
+use Rattle.def_port.specs.Told.{Told, Silent, Absent, File, Call, FolderView}
 
 -- a file: the bytes of its name, and its bytes
 pub record FileRow : Type 0 where
@@ -37,6 +38,13 @@ pub record FolderRow : Type 0 where
   pub calls : List Call
   pub faults : ℕ
 
+abbrev pub folder_view : FolderRow → FolderView
+folder_view f = record {
+  file = λ name. told_as (file_of f.files name);
+  calls = f.calls;
+  faults = f.faults;
+}
+
 abbrev pub is_listed : List ℕ → ℕ → Bool
 is_listed [] call = false
 is_listed (n ∷ ns) call = nat_eq n call || is_listed ns call
@@ -57,15 +65,25 @@ pub record SteadyRow : Type 0 where
   pub files : List FileRow
   pub calls : List Call
 
+-- its count of faults is the constant 0
+abbrev pub steady_view : SteadyRow → FolderView
+steady_view f = record {
+  file = λ name. File (steady_as (file_of f.files name));
+  calls = f.calls;
+  faults = 0;
+}
+
 -- a folder that tells nothing of its files
 pub record DiskRow : Type 0 where
   pub calls : List Call
   pub faults : ℕ
 
--- a sink over a writer: what the writer tells of its bytes, and the count of faults
-pub record WriterRow : Type 0 where
-  pub bytes : Option (List ℕ)
-  pub faults : ℕ
+abbrev pub disk_view : DiskRow → FolderView
+disk_view f = record { file = λ name. Silent; calls = f.calls; faults = f.faults }
+
+-- a sink that tells no bytes and never fails
+abbrev pub steady_sink : SinkView
+steady_sink = record { bytes = None; faults = 0 }
 
 abbrev pub NeverFails : {A : Type 0} → Result A ReadError → Type 0
 NeverFails (Ok bytes) = Unit {0}
@@ -84,6 +102,9 @@ pub record SinkRow : Type 0 where
   pub fails : List ℕ
   pub calls : ℕ
   pub faults : ℕ
+
+abbrev pub sink_view : SinkRow → SinkView
+sink_view s = record { bytes = Some s.bytes; faults = s.faults }
 
 -- the write that comes next is listed
 abbrev pub is_told_to_fail : SinkRow → Bool

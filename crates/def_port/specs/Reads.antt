@@ -2,23 +2,25 @@
 use Rattle.std.specs.Prelude.{◌≡◌, ℕ, ◌+◌, ◌≤◌, List, [], ◌∷◌, ◌++◌, length, Bool, true, false}
 use Rattle.def_port.specs.declared.faults.ReadError.{ReadError}
 use Rattle.def_port.specs.declared.faults.ReadError.TheVariants.{Failed, NoMemory}
-use Rattle.def_port.specs.Bytes.{Rose}
-use Rattle.def_port.specs.Told.{Told, Gives, Call}
+use Rattle.def_port.specs.Bytes.{FaultsRose}
+use Rattle.def_port.specs.Told.{Told, Gives, Call, FolderView}
 
 -- the list of calls after one more
-abbrev pub recorded : List Call → List ℕ → Bool → List Call
-recorded before name failed = before ++ (record { name = name; failed = failed }) ∷ []
+abbrev pub recorded : List Call → List ℕ → ℕ → Bool → List Call
+recorded before name limit failed =
+    before ++ (record { name = name; limit = limit; failed = failed }) ∷ []
 
 -- the bytes came, the call is recorded, and no fault was counted
-pub record Reads (name : List ℕ) (limit : ℕ) (told : Told) (before after : List Call)
-    (faults now : ℕ) (bytes : List ℕ) : Type 0 where
+pub record Reads (name : List ℕ) (limit : ℕ) (before after : FolderView) (bytes : List ℕ)
+    : Type 0 where
   pub size : length bytes ≤ limit + 1
-  pub gives : Gives told limit bytes
-  pub call : after ≡ recorded before name false
-  pub same : now ≡ faults
+  pub gives : Gives (before.file name) limit bytes
+  pub call : after.calls ≡ recorded before.calls name limit false
+  pub same : after.faults ≡ before.faults
 
 -- a failure is recorded and counted; a call that wanted memory changed nothing
-abbrev pub ReadFails : List ℕ → List Call → List Call → ℕ → ℕ → ReadError → Type 0
-ReadFails name before after faults now Failed =
-    (after ≡ recorded before name true) × Rose faults now
-ReadFails name before after faults now NoMemory = (after ≡ before) × (now ≡ faults)
+abbrev pub ReadFails : List ℕ → ℕ → FolderView → FolderView → ReadError → Type 0
+ReadFails name limit before after Failed =
+    (after.calls ≡ recorded before.calls name limit true) × FaultsRose before.faults after.faults
+ReadFails name limit before after NoMemory =
+    (after.calls ≡ before.calls) × (after.faults ≡ before.faults)

@@ -1,4 +1,4 @@
--- What a folder tells of a name, and its list of calls.
+-- What a folder tells of a name, its list of calls, and what is seen of it.
 use Rattle.std.specs.Prelude.{◌≡◌, ℕ, ◌+◌, List, take, Bool}
 
 -- Of a name a folder tells nothing, or that no file has it, or the file's bytes.
@@ -14,7 +14,18 @@ Gives Silent limit bytes = Unit {0}
 Gives Absent limit bytes = ⊥
 Gives (File all) limit bytes = bytes ≡ take (limit + 1) all
 
--- a call: the name that was read, and whether the read failed
+-- a call: the name that was read, the limit that it was read with, and whether the read failed
 pub record Call : Type 0 where
   pub name : List ℕ
+  pub limit : ℕ
   pub failed : Bool
+
+-- what is seen of a folder: what it tells of each name, its calls so far, and its count of faults
+pub record FolderView : Type 0 where
+  pub file : List ℕ → Told
+  pub calls : List Call
+  pub faults : ℕ
+
+-- a folder tells of each name the same as before
+abbrev pub TellsSame : FolderView → FolderView → Type 0
+TellsSame before after = (name : List ℕ) → after.file name ≡ before.file name

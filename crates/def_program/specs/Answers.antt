@@ -1,8 +1,8 @@
 -- What a call of the program reads, writes and answers.
-use Rattle.std.specs.Prelude.{◌≡◌, ℕ, List, [], ◌∷◌, ◌++◌, map, take, true, false, Some, None, slice_get}
-use Rattle.def_port.specs.Bytes.{Rose, Appends, AppendsPart}
+use Rattle.std.specs.Prelude.{◌≡◌, ℕ, List, [], ◌∷◌, ◌++◌, map, take, Bool, true, false, Some, None, slice_get}
+use Rattle.def_port.specs.Bytes.{FaultsRose, Appends, AppendsPart}
 use Rattle.def_port.specs.Told.{Call}
-use Rattle.def_program.specs.Ends.{Ends, IsFile, Exceeds}
+use Rattle.def_program.specs.Calls.{CallRecord, IsFile, Exceeds, most}
 use Rattle.def_program.specs.declared.Status.{Status}
 use Rattle.def_program.specs.declared.Status.TheVariants as status
 use Rattle.def_program.specs.Commands.{Command, form_of}
@@ -20,66 +20,70 @@ pub record Read : Type 0 where
 abbrev pub contents : List Read → List (List ℕ)
 contents rs = map (λ (r : Read). r.bytes) rs
 
+-- a call that asks for a file of the most bytes that one may have
+abbrev pub asking : List ℕ → Bool → Call
+asking name failed = record { name = name; limit = most; failed = failed }
+
 abbrev pub read_call : Read → Call
-read_call r = record { name = r.name; failed = false }
+read_call r = asking r.name false
 
 abbrev pub read_calls : List Read → List Call
 read_calls rs = map read_call rs
 
 -- each of these files was due when it was read, and was given whole
-pub record WasDue (e : Ends) (c : Command) (rs : List Read) (k : ℕ) (r : Read) : Type 0 where
+pub record WasDue (e : CallRecord) (c : Command) (rs : List Read) (k : ℕ) (r : Read) : Type 0 where
   pub asked : Follows c (contents (take k rs)) (Asks r.name)
-  pub file : IsFile (e.told r.name) r.bytes
+  pub file : IsFile (e.folder.file r.name) r.bytes
 
-abbrev pub WereDue : Ends → Command → List Read → Type 0
+abbrev pub WereDue : CallRecord → Command → List Read → Type 0
 WereDue e c rs = (k : ℕ) (r : Read) → slice_get rs k ≡ Some r → WasDue e c rs k r
 
 -- the files of a command that were given whole, with nothing else read and no fault
-pub record AllRead (e : Ends) (c : Command) (rs : List Read) : Type 0 where
+pub record AllRead (e : CallRecord) (c : Command) (rs : List Read) : Type 0 where
   pub due : WereDue e c rs
-  pub calls : e.calls_after ≡ e.calls ++ read_calls rs
-  pub same : e.read_faults_after ≡ e.read_faults
+  pub calls : e.folder_after.calls ≡ e.folder.calls ++ read_calls rs
+  pub same : e.folder_after.faults ≡ e.folder.faults
 
 -- after these files this one was due, and was read or refused
-pub record LastRead (e : Ends) (c : Command) (rs : List Read) (name : List ℕ) : Type 0 where
+pub record LastRead (e : CallRecord) (c : Command) (rs : List Read) (name : List ℕ) : Type 0 where
   pub due : WereDue e c rs
   pub asked : Follows c (contents rs) (Asks name)
 
--- the calls with a last one, by its name and whether it failed
+-- the calls with a last one
 abbrev pub calls_to : List Read → Call → List Call
 calls_to rs c = read_calls rs ++ c ∷ []
 
 -- ---- causes: what a status rests on, and the text that is due
 
-pub record UsageCause (e : Ends) (text : List ℕ) : Type 0 where
+pub record UsageCause (e : CallRecord) (text : List ℕ) : Type 0 where
   pub form : form_of e.words ≡ None
-  pub calls : e.calls_after ≡ e.calls
-  pub same : e.read_faults_after ≡ e.read_faults
+  pub calls : e.folder_after.calls ≡ e.folder.calls
+  pub same : e.folder_after.faults ≡ e.folder.faults
   pub due : text ≡ usage_line
 
-pub record ReadCause (e : Ends) (text : List ℕ) : Type 0 where
+pub record ReadCause (e : CallRecord) (text : List ℕ) : Type 0 where
   pub command : Command
   pub form : form_of e.words ≡ Some command
   pub reads : List Read
   pub name : List ℕ
   pub last : LastRead e command reads name
-  pub calls : e.calls_after ≡ e.calls ++ calls_to reads (record { name = name; failed = true })
-  pub rose : Rose e.read_faults e.read_faults_after
+  pub calls : e.folder_after.calls ≡ e.folder.calls ++ calls_to reads (asking name true)
+  pub rose : FaultsRose e.folder.faults e.folder_after.faults
   pub due : text ≡ read_line name
 
-pub record LargeCause (e : Ends) (text : List ℕ) : Type 0 where
+pub record LargeCause (e : CallRecord) (text : List ℕ) : Type 0 where
   pub command : Command
   pub form : form_of e.words ≡ Some command
   pub reads : List Read
   pub name : List ℕ
   pub last : LastRead e command reads name
-  pub calls : e.calls_after ≡ e.calls ++ calls_to reads (record { name = name; failed = false })
-  pub same : e.read_faults_after ≡ e.read_faults
-  pub large : Exceeds (e.told name)
+  pub calls : e.folder_after.calls ≡ e.folder.calls ++ calls_to reads (asking name false)
+  pub same : e.folder_after.faults ≡ e.folder.faults
+  pub large : Exceeds (e.folder.file name)
   pub due : text ≡ large_line name
 
 -- the last turn of the dialogue
-pub record TurnCause (e : Ends) (s : Status) (text : List ℕ) : Type 0 where
+pub record TurnCause (e : CallRecord) (s : Status) (text : List ℕ) : Type 0 where
   pub command : Command
   pub form : form_of e.words ≡ Some command
   pub reads : List Read
@@ -87,7 +91,7 @@ pub record TurnCause (e : Ends) (s : Status) (text : List ℕ) : Type 0 where
   pub due : Follows command (contents reads) (turn.Ends s text)
 
 -- No text is due with a failed write or with want of memory: their answers stand below.
-abbrev pub Cause : Ends → Status → List ℕ → Type 0
+abbrev pub Cause : CallRecord → Status → List ℕ → Type 0
 Cause e status.Done text = TurnCause e status.Done text
 Cause e status.Usage text = UsageCause e text
 Cause e status.ReadFault text = ReadCause e text
@@ -106,32 +110,32 @@ Cause e status.Policy text = TurnCause e status.Policy text
 -- ---- answers
 
 -- the whole text was written, and no write failed
-pub record Whole (e : Ends) (s : Status) : Type 0 where
+pub record Whole (e : CallRecord) (s : Status) : Type 0 where
   pub text : List ℕ
   pub cause : Cause e s text
-  pub written : Appends e.bytes e.bytes_after text
-  pub same : e.write_faults_after ≡ e.write_faults
+  pub written : Appends e.sink.bytes e.sink_after.bytes text
+  pub same : e.sink_after.faults ≡ e.sink.faults
 
 -- a write failed: a prefix of what was due was written
-pub record Broken (e : Ends) : Type 0 where
+pub record WriteBroke (e : CallRecord) : Type 0 where
   pub status : Status
   pub text : List ℕ
   pub cause : Cause e status text
-  pub written : AppendsPart e.bytes e.bytes_after text
-  pub rose : Rose e.write_faults e.write_faults_after
+  pub written : AppendsPart e.sink.bytes e.sink_after.bytes text
+  pub rose : FaultsRose e.sink.faults e.sink_after.faults
 
 -- memory was wanted: the words are a form, nothing is written, and no read failed
-pub record Wanting (e : Ends) : Type 0 where
+pub record WantsMemory (e : CallRecord) : Type 0 where
   pub command : Command
   pub form : form_of e.words ≡ Some command
   pub reads : List Read
   pub due : WereDue e command reads
-  pub calls : e.calls_after ≡ e.calls ++ read_calls reads
-  pub written : e.bytes_after ≡ e.bytes
-  pub read_same : e.read_faults_after ≡ e.read_faults
-  pub write_same : e.write_faults_after ≡ e.write_faults
+  pub calls : e.folder_after.calls ≡ e.folder.calls ++ read_calls reads
+  pub written : e.sink_after.bytes ≡ e.sink.bytes
+  pub read_same : e.folder_after.faults ≡ e.folder.faults
+  pub write_same : e.sink_after.faults ≡ e.sink.faults
 
-abbrev pub Answers : Ends → Status → Type 0
-Answers e status.WriteFault = Broken e
-Answers e status.NoMemory = Wanting e
+abbrev pub Answers : CallRecord → Status → Type 0
+Answers e status.WriteFault = WriteBroke e
+Answers e status.NoMemory = WantsMemory e
 Answers e s = Whole e s

@@ -2,7 +2,7 @@
 -- that are left where no fault is counted.
 use Rattle.std.specs.Prelude.{◌≡◌, ◌≤◌, ◌⊎◌, ℕ, List, [], ◌∷◌, length, Bool, true, false, Option, Some, None}
 use Rattle.ct_entry.specs.declared.rows.Owner.{Owner}
-use Rattle.def_port.specs.Bytes.{Rose}
+use Rattle.def_port.specs.Bytes.{FaultsRose}
 use Rattle.def_port.specs.Told.{File}
 use Rattle.def_image.specs.Accepted.{IsImage}
 use Rattle.def_image.specs.Parts.{PartsRow}
@@ -11,7 +11,7 @@ use Rattle.def_policy.specs.Texts.{Reads}
 use Rattle.def_script.specs.Script.{Due}
 use Rattle.def_script.specs.Script as script
 use Rattle.def_program.specs.Commands.{Command, Audit, Image, Run, RunImage, Why, Upgrade, Check, Demo, form_of, generated_by, file_of, reads_image}
-use Rattle.def_program.specs.Ends.{Ends, most}
+use Rattle.def_program.specs.Calls.{CallRecord, most}
 use Rattle.def_program.specs.Licences.{LinksTo, NumberStandsFor}
 use Rattle.def_program.specs.Paths.{owner_named, compartment_named}
 use Rattle.def_program.specs.Turns.{source_names}
@@ -19,57 +19,57 @@ use Rattle.def_program.specs.declared.Status.{Status}
 use Rattle.def_program.specs.declared.Status.TheVariants as status
 
 -- no fault was counted in the call
-pub record NoFault (e : Ends) : Type 0 where
-  pub reads : Rose e.read_faults e.read_faults_after → ⊥
-  pub writes : Rose e.write_faults e.write_faults_after → ⊥
+pub record NoFault (e : CallRecord) : Type 0 where
+  pub reads : FaultsRose e.folder.faults e.folder_after.faults → ⊥
+  pub writes : FaultsRose e.sink.faults e.sink_after.faults → ⊥
 
 -- ---- what is asked
 
 -- the folder tells a file, of a size that is taken
-pub record IsTold (e : Ends) (name bytes : List ℕ) : Type 0 where
-  pub told : e.told name ≡ File bytes
+pub record IsTold (e : CallRecord) (name bytes : List ℕ) : Type 0 where
+  pub told : e.folder.file name ≡ File bytes
   pub size : length bytes ≤ most
 
 -- of each name the file in its place
-abbrev pub AreTold : Ends → List (List ℕ) → List (List ℕ) → Type 0
+abbrev pub AreTold : CallRecord → List (List ℕ) → List (List ℕ) → Type 0
 AreTold e [] [] = Unit {0}
 AreTold e [] (b ∷ bs) = ⊥
 AreTold e (n ∷ ns) [] = ⊥
 AreTold e (n ∷ ns) (b ∷ bs) = IsTold e n b × AreTold e ns bs
 
 -- an image's bytes, or a description whose sources the folder tells, stand for these parts
-abbrev pub Stand : Ends → Bool → List ℕ → List (List ℕ) → PartsRow → Type 0
+abbrev pub Stand : CallRecord → Bool → List ℕ → List (List ℕ) → PartsRow → Type 0
 Stand e true bytes sources p = IsImage bytes p
 Stand e false bytes sources p =
     (l : LinksTo bytes sources p) × AreTold e (source_names l.description) sources
 
 -- the folder tells a policy of these parts
-pub record IsRuled (e : Ends) (p : PartsRow) (name : List ℕ) : Type 0 where
+pub record IsRuled (e : CallRecord) (p : PartsRow) (name : List ℕ) : Type 0 where
   pub bytes : List ℕ
   pub told : IsTold e name bytes
   pub rulings : List Ruling
   pub reads : Reads p bytes rulings
 
 -- the folder tells a script for these parts
-pub record IsPlanned (e : Ends) (p : PartsRow) (name : List ℕ) : Type 0 where
+pub record IsPlanned (e : CallRecord) (p : PartsRow) (name : List ℕ) : Type 0 where
   pub bytes : List ℕ
   pub told : IsTold e name bytes
   pub dues : List Due
   pub reads : script.Reads p.devices bytes dues
 
-abbrev pub IsPlannedIfNamed : Ends → PartsRow → Option (List ℕ) → Type 0
+abbrev pub IsPlannedIfNamed : CallRecord → PartsRow → Option (List ℕ) → Type 0
 IsPlannedIfNamed e p None = Unit {0}
 IsPlannedIfNamed e p (Some name) = IsPlanned e p name
 
 -- of `check` the folder tells the policy too, and of a run with a script the script
-abbrev pub AlsoStands : Ends → Command → PartsRow → Type 0
+abbrev pub AlsoStands : CallRecord → Command → PartsRow → Type 0
 AlsoStands e (Run name limit script) p = IsPlannedIfNamed e p script
 AlsoStands e (RunImage name limit script) p = IsPlannedIfNamed e p script
 AlsoStands e (Check name policy) p = IsRuled e p policy
 AlsoStands e _ p = Unit {0}
 
 -- the folder tells a command's files, which stand for these parts
-pub record AreGiven (e : Ends) (c : Command) (p : PartsRow) : Type 0 where
+pub record AreGiven (e : CallRecord) (c : Command) (p : PartsRow) : Type 0 where
   pub bytes : List ℕ
   pub sources : List (List ℕ)
   pub first : IsTold e (file_of c) bytes
@@ -77,12 +77,12 @@ pub record AreGiven (e : Ends) (c : Command) (p : PartsRow) : Type 0 where
   pub also : AlsoStands e c p
 
 -- a generated firmware needs no file
-abbrev pub Given : Ends → Command → Option ℕ → PartsRow → Type 0
+abbrev pub Given : CallRecord → Command → Option ℕ → PartsRow → Type 0
 Given e c None p = AreGiven e c p
 Given e c (Some number) p = NumberStandsFor number p
 
 -- the words are a form, whose files, or whose number, stand for these parts
-pub record IsAsked (e : Ends) (p : PartsRow) : Type 0 where
+pub record IsAsked (e : CallRecord) (p : PartsRow) : Type 0 where
   pub command : Command
   pub form : form_of e.words ≡ Some command
   pub given : Given e command (generated_by command) p
@@ -107,19 +107,19 @@ Finishes (Check name policy) p s = (s ≡ status.Done) ⊎ (s ≡ status.Denied)
 Finishes (Demo number) p s = s ≡ status.Done
 
 -- where no fault is counted, what is asked of files that stand for parts ends so, or wants memory
-abbrev pub Completes : Ends → Status → Type 0
+abbrev pub Completes : CallRecord → Status → Type 0
 Completes e s =
     (p : PartsRow) (a : IsAsked e p) → NoFault e
     → Finishes a.command p s ⊎ (s ≡ status.NoMemory)
 
 -- where no fault is counted, `demo` of any number is done, or wants memory
-abbrev pub CompletesDemo : Ends → Status → Type 0
+abbrev pub CompletesDemo : CallRecord → Status → Type 0
 CompletesDemo e s =
     (number : ℕ) → form_of e.words ≡ Some (Demo number) → NoFault e
     → (s ≡ status.Done) ⊎ (s ≡ status.NoMemory)
 
 -- words that aren't a form are a usage fault, unless its line could not be written
-abbrev pub RefusesMisuse : Ends → Status → Type 0
+abbrev pub RefusesMisuse : CallRecord → Status → Type 0
 RefusesMisuse e s = form_of e.words ≡ None → (s ≡ status.Usage) ⊎ (s ≡ status.WriteFault)
 
 -- a status that a folder and a sink which never fail may leave

@@ -1,5 +1,5 @@
 pub mod Codes
-pub mod Ends
+pub mod Calls
 pub mod Commands
 pub mod Lines
 pub mod Runs
@@ -10,4 +10,7 @@ pub mod Answers
 pub mod Licences
 pub mod Within
 pub mod Safe
+pub mod Written
 pub mod Completing
+pub mod Deciding
+pub mod Beside

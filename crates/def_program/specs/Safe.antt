@@ -1,5 +1,5 @@
--- What holds of each event of a run that a command asks for, beside the licences of its deeds: its calls are clean, its
--- accesses are licensed, and the heap is safe.
+-- What holds of a run that a command asks for, beside the licences of its deeds: of each of its events what `Upholds`
+-- says, and of all of them that no freed object is used, chunks are swept before reuse and quotas hold.
 use Rattle.std.specs.Prelude.{ℕ, ◌≡◌, ◌≤◌, ◌++◌, List, ◌∷◌, take, Some}
 use Rattle.ct_entry.specs.declared.acts.Act.TheVariants.{Allocate, Free}
 use Rattle.ct_entry.specs.declared.acts.Deed.{Deed}
@@ -14,12 +14,11 @@ use Rattle.def_script.specs.Script.{Due}
 use Rattle.def_step.specs.Events.{happens, run}
 use Rattle.def_step.specs.declared.Event.{Event}
 use Rattle.def_step.specs.declared.Event.TheVariants.{Step}
-use Rattle.def_safety.specs.Accesses.{UsesReach}
-use Rattle.def_safety.specs.Chunks.{ChunksMeet}
-use Rattle.def_safety.specs.Calls.{CleanEvent}
+use Rattle.def_events.specs.Upheld.{Upholds}
+use Rattle.def_safety.specs.Chunks.{ChunksMeet, IsNotOf}
 use Rattle.def_safety.specs.Each.{EachEvent}
-use Rattle.def_safety.specs.Temporal.{AllocatesFresh, UsesLive}
 use Rattle.def_safety.specs.Reuse.{SweepsWhole}
+use Rattle.def_safety.specs.Temporal.{UsesOnly}
 use Rattle.def_program.specs.Within.{state_after}
 
 -- after so many of the events the live charges on each quota are at most its limit
@@ -41,11 +40,19 @@ SweptBeforeReuseIn p events =
     → made.act ≡ Allocate number from size left → ChunksMeet from size base long
     → SweepsWhole (board_of p) (happens (board_of p) (state_after p es) Step).0 fs
 
+-- where one step tells a free, no event after it loads, stores, waits or wakes through a capability of the freed object
+abbrev pub UnusedAfterFreeIn : PartsRow → List Event → Type 0
+UnusedAfterFreeIn p events =
+    (es fs rest : List Event) (freed : Deed) (n base long live : ℕ)
+    → events ≡ es ++ Step ∷ (fs ++ rest)
+    → (happens (board_of p) (state_after p es) Step).1.deed ≡ Some freed
+    → freed.act ≡ Free n base long live
+    → UsesOnly (board_of p) (run (board_of p) (happens (board_of p) (state_after p es) Step).0 fs)
+    (IsNotOf (board_of p).image n)
+
 pub record IsSafeRun (p : PartsRow) (es : List Event) : Type 0 where
-  pub calls : EachEvent (CleanEvent (board_of p)) (board_of p) (boot_state p) es
-  pub accesses : EachEvent (λ s e. UsesReach (board_of p) s) (board_of p) (boot_state p) es
-  pub unused : EachEvent (λ s e. UsesLive (board_of p) s) (board_of p) (boot_state p) es
-  pub fresh : EachEvent (AllocatesFresh (board_of p)) (board_of p) (boot_state p) es
+  pub events : EachEvent (Upholds (board_of p)) (board_of p) (boot_state p) es
+  pub unused : UnusedAfterFreeIn p es
   pub swept : SweptBeforeReuseIn p es
   pub quotas : WithinLimits p es
 

@@ -4,7 +4,6 @@ use Rattle.ct_entry.specs.declared.rows.Owner.{Owner}
 use Rattle.def_image.specs.Parts.{PartsRow, upgraded}
 use Rattle.def_image.specs.Accepted.{IsImage, FaultAt}
 use Rattle.def_image.specs.Spelling.{image_bytes}
-use Rattle.def_description.specs.declared.faults.Fault.{Fault}
 use Rattle.def_description.specs.Rows.{CodeRow, CompartmentRow, LibraryRow, DescRow}
 use Rattle.def_description.specs.WellFormed.{WellFormed, IsFaulty}
 use Rattle.def_description.specs.Reading.{rows_of}
@@ -46,22 +45,48 @@ source_names d =
     (map (λ (c : CompartmentRow). c.code) d.compartments
     ++ map (λ (l : LibraryRow). l.code) d.libraries)
 
+-- ---- refusals
+
+-- a fault by its number, and by its place in bytes or its line
+pub record NumberedFault : Type 0 where
+  pub number : ℕ
+  pub place : ℕ
+
+-- the turn is the refusal of a fault of this kind
+pub record Refuses {A : Type 0} (IsFault : A → Type 0) (refusal : A → Turn) (turn : Turn)
+    : Type 0 where
+  pub fault : A
+  pub is : IsFault fault
+  pub due : turn ≡ refusal fault
+
+abbrev pub RefusesDescription : List ℕ → Turn → Type 0
+RefusesDescription bytes turn =
+    Refuses (IsFaulty bytes) (λ f. Ends status.Description (description_line f)) turn
+
+abbrev pub RefusesImage : List ℕ → Turn → Type 0
+RefusesImage bytes turn =
+    Refuses (λ (f : NumberedFault). FaultAt bytes f.number f.place)
+    (λ f. Ends status.Image (image_line f.number f.place)) turn
+
+abbrev pub RefusesScript : PartsRow → List ℕ → Turn → Type 0
+RefusesScript p bytes turn =
+    Refuses (λ (f : NumberedFault). script.IsFault p.devices bytes f.number f.place)
+    (λ f. Ends status.Script (script_line f.number f.place)) turn
+
+abbrev pub RefusesPolicy : PartsRow → List ℕ → Turn → Type 0
+RefusesPolicy p bytes turn =
+    Refuses (λ (f : NumberedFault). IsFault p bytes f.number f.place)
+    (λ f. Ends status.Policy (policy_line f.number f.place)) turn
+
 -- ---- what a command writes of an image's parts
 
 -- two names that are looked up: both stand for something, and the line says how one reaches the
 -- other; or one of them doesn't
-abbrev pub Looked : PartsRow → Option Owner → Option ℕ → Turn → Type 0
-Looked p (Some owner) (Some c) turn =
+abbrev pub NamesFound : PartsRow → Option Owner → Option ℕ → Turn → Type 0
+NamesFound p (Some owner) (Some c) turn =
     (text : List ℕ) × (IsWhyLine p owner c text × (turn ≡ Ends status.Done text))
-Looked p (Some owner) None turn = turn ≡ Ends status.Name name_line
-Looked p None c turn = turn ≡ Ends status.Name name_line
-
--- a fault of a policy's text: its number and line
-pub record IsUnruly (p : PartsRow) (bytes : List ℕ) (turn : Turn) : Type 0 where
-  pub number : ℕ
-  pub line : ℕ
-  pub fault : IsFault p bytes number line
-  pub due : turn ≡ Ends status.Policy (policy_line number line)
+NamesFound p (Some owner) None turn = turn ≡ Ends status.Name name_line
+NamesFound p None c turn = turn ≡ Ends status.Name name_line
 
 -- what denies a policy; where nothing does, it is allowed
 abbrev pub verdict : List ℕ → Turn
@@ -78,19 +103,12 @@ pub record IsJudged (p : PartsRow) (bytes : List ℕ) (turn : Turn) : Type 0 whe
 
 -- of a policy's text
 abbrev pub OfText : PartsRow → List ℕ → Turn → Type 0
-OfText p bytes turn = IsUnruly p bytes turn ⊎ IsJudged p bytes turn
+OfText p bytes turn = RefusesPolicy p bytes turn ⊎ IsJudged p bytes turn
 
 -- the policy is due; or it was read, and nothing else is
 abbrev pub OfPolicy : List ℕ → PartsRow → List (List ℕ) → Turn → Type 0
 OfPolicy policy p [] turn = turn ≡ Asks policy
 OfPolicy policy p (bytes ∷ more) turn = OfText p bytes turn
-
--- a fault of a script's text: its number and line
-pub record IsAmiss (p : PartsRow) (bytes : List ℕ) (turn : Turn) : Type 0 where
-  pub number : ℕ
-  pub line : ℕ
-  pub fault : script.IsFault p.devices bytes number line
-  pub due : turn ≡ Ends status.Script (script_line number line)
 
 -- what a script's text says, and the run with it
 pub record IsPlayed (p : PartsRow) (limit : ℕ) (bytes : List ℕ) (turn : Turn) : Type 0 where
@@ -100,7 +118,7 @@ pub record IsPlayed (p : PartsRow) (limit : ℕ) (bytes : List ℕ) (turn : Turn
 
 -- of a script's text
 abbrev pub OfScript : PartsRow → ℕ → List ℕ → Turn → Type 0
-OfScript p limit bytes turn = IsAmiss p bytes turn ⊎ IsPlayed p limit bytes turn
+OfScript p limit bytes turn = RefusesScript p bytes turn ⊎ IsPlayed p limit bytes turn
 
 -- a run without a script; or the script is due; or it was read, and nothing else is
 abbrev pub OfRun : PartsRow → ℕ → Option (List ℕ) → List (List ℕ) → Turn → Type 0
@@ -115,7 +133,7 @@ OfParts (Image name) p more turn = turn ≡ Ends status.Done (image_bytes p)
 OfParts (Run name limit script) p more turn = OfRun p limit script more turn
 OfParts (RunImage name limit script) p more turn = OfRun p limit script more turn
 OfParts (Why name owner compartment) p more turn =
-    Looked p (owner_named p owner) (compartment_named p compartment) turn
+    NamesFound p (owner_named p owner) (compartment_named p compartment) turn
 OfParts (Upgrade name) p more turn = turn ≡ Ends status.Done (image_bytes (upgraded p))
 OfParts (Check name policy) p more turn = OfPolicy policy p more turn
 OfParts (Demo number) p more turn = turn ≡ Ends status.Done (demo_text p)
@@ -140,21 +158,14 @@ OfRows c d files turn =
 
 abbrev pub OfDescription : Command → List ℕ → List (List ℕ) → Turn → Type 0
 OfDescription c bytes files turn =
-    ((f : Fault) × (IsFaulty bytes f × (turn ≡ Ends status.Description (description_line f))))
+    RefusesDescription bytes turn
     ⊎ ((d : DescRow) × (WellFormed bytes d × OfRows c d files turn))
 
 -- ---- images
 
--- a fault of the bytes: its number and place
-pub record IsFlawed (bytes : List ℕ) (turn : Turn) : Type 0 where
-  pub number : ℕ
-  pub place : ℕ
-  pub fault : FaultAt bytes number place
-  pub due : turn ≡ Ends status.Image (image_line number place)
-
 abbrev pub OfImage : Command → List ℕ → List (List ℕ) → Turn → Type 0
 OfImage c bytes files turn =
-    IsFlawed bytes turn
+    RefusesImage bytes turn
     ⊎ ((p : PartsRow) × (IsImage bytes p × OfParts c p files turn))
 
 -- ---- turns

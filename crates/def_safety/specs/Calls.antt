@@ -1,5 +1,5 @@
 -- *Clean calls*, of one event: by the deeds that it tells, and by the frames that end.
-use Rattle.std.specs.Prelude.{ℕ, ◌≡◌, ◌⊎◌, ◌&&◌, Bool, true, false, List, ◌∷◌, Some}
+use Rattle.std.specs.Prelude.{ℕ, ◌≡◌, ◌⊎◌, Bool, true, false, List, ◌∷◌, Some}
 use Rattle.ct_entry.specs.declared.acts.Act.TheVariants.{Call, Trap}
 use Rattle.ct_entry.specs.declared.acts.Deed.{Deed}
 use Rattle.def_machine.specs.Image.{root, stack_base}
@@ -7,8 +7,7 @@ use Rattle.def_machine.specs.State.{State, Frame, thread}
 use Rattle.def_step.specs.declared.Event.{Event}
 use Rattle.def_step.specs.declared.Event.TheVariants.{Step}
 use Rattle.def_step.specs.Events.{happens}
-use Rattle.def_step.specs.declared.TheConstants.{SERVES_HANDLERS}
-use Rattle.def_step.specs.Handlers.{is_entered}
+use Rattle.def_step.specs.Handlers.{is_handled}
 use Rattle.def_machine.specs.Board.{Board}
 use Rattle.def_safety.specs.Clean.{CleanEntry, CleanReturn}
 use Rattle.def_safety.specs.Handlers.{HandlerBegins}
@@ -16,11 +15,11 @@ use Rattle.def_safety.specs.Each.{ready}
 
 -- whether the trap of a thread's frame enters its compartment's error handler
 abbrev pub enters_handler : Board → State → ℕ → Frame → Bool
-enters_handler b s t f = is_entered b.image (stack_base b.image t) (thread s t) f
+enters_handler b s t f = is_handled b.image (stack_base b.image t) (thread s t) f
 
 -- what a return hands back is untagged: the frame's export passes plain values, or its error handler was entered
 abbrev pub HandsPlain : Board → Frame → Type 0
-HandsPlain b f = ((root b.image f.export).passes ≡ false) ⊎ ((SERVES_HANDLERS && f.handling) ≡ true)
+HandsPlain b f = ((root b.image f.export).passes ≡ false) ⊎ (f.handling ≡ true)
 
 -- A call that is told, through an export that passes plain values, enters its callee clean. A step that ends a frame that
 -- hands back plain values, by a return, by its error handler or by an unwind, leads to the caller clean. One that tells a

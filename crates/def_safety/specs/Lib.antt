@@ -1,4 +1,5 @@
 pub mod Each
+pub mod Used
 pub mod Clean
 pub mod Handlers
 pub mod Calls
@@ -8,3 +9,7 @@ pub mod Temporal
 pub mod Reuse
 pub mod Chunks
 pub mod Marks
+pub mod Charges
+pub mod Traps
+pub mod Within
+pub mod Safety

@@ -1,6 +1,7 @@
 -- Chunks that wait for a sweep, and sweeps that begin and end in a list of events.
-use Rattle.std.specs.Prelude.{◌≡◌, ◌⊎◌, true, false, List, [], ◌∷◌, None}
+use Rattle.std.specs.Prelude.{ℕ, ◌≡◌, ◌<◌, ◌⊎◌, true, false, List, [], ◌∷◌, Some, None}
 use Rattle.def_machine.specs.State.{State, Object}
+use Rattle.def_machine.specs.Heap.{ram_size, slice_end}
 use Rattle.def_machine.specs.Objects.{ApartFrom, has_quarantined}
 use Rattle.def_step.specs.declared.Event.{Event}
 use Rattle.def_step.specs.declared.Event.TheVariants.{Sweep}
@@ -25,13 +26,20 @@ Meets q r = ApartFrom q r → ⊥
 abbrev pub Begins : State → Event → Type 0
 Begins s e = (e ≡ Sweep) × (s.front ≡ None) × (has_quarantined s.objects ≡ true)
 
--- after one of these events no sweep runs
-abbrev pub EndsIn : Board → State → List Event → Type 0
-EndsIn b s [] = ⊥
-EndsIn b s (e ∷ es) = ((happens b s e).0.front ≡ None) ⊎ EndsIn b (happens b s e).0 es
+-- A sweep whose front is at an offset ends at one of these events. Until then each Sweep event moves the front on by a
+-- slice, at most to the end of RAM, and other events leave it; where it comes to the end of RAM, and only there, it ends.
+abbrev pub PassesFrom : Board → ℕ → State → List Event → Type 0
+PassesFrom b front s [] = ⊥
+PassesFrom b front s (Sweep ∷ es) =
+    ((slice_end b.image s front ≡ ram_size s) × ((happens b s Sweep).0.front ≡ None))
+    ⊎ ((slice_end b.image s front < ram_size s)
+    × ((happens b s Sweep).0.front ≡ Some (slice_end b.image s front))
+    × PassesFrom b (slice_end b.image s front) (happens b s Sweep).0 es)
+PassesFrom b front s (e ∷ es) =
+    ((happens b s e).0.front ≡ Some front) × PassesFrom b front (happens b s e).0 es
 
--- A whole sweep: at one of these events it begins, and at that or a later one it ends. Its front goes from 0 to the end
--- of RAM, and only there it ends.
+-- A whole sweep: at one of these events it begins, with the front at 0, and it passes all of RAM.
 abbrev pub SweepsWhole : Board → State → List Event → Type 0
 SweepsWhole b s [] = ⊥
-SweepsWhole b s (e ∷ es) = (Begins s e × EndsIn b s (e ∷ es)) ⊎ SweepsWhole b (happens b s e).0 es
+SweepsWhole b s (e ∷ es) =
+    (Begins s e × PassesFrom b 0 s (e ∷ es)) ⊎ SweepsWhole b (happens b s e).0 es

@@ -10,32 +10,30 @@ use Rattle.def_machine.specs.Objects.{Any}
 use Rattle.def_confined.specs.Capabilities.{heap_cap}
 use Rattle.def_confined.specs.Places.{LiveCovers}
 use Rattle.def_step.specs.declared.Event.{Event}
-use Rattle.def_step.specs.Accesses.{access_of, access_checks, access_address}
 use Rattle.def_step.specs.Checks.{first_failed}
 use Rattle.def_step.specs.Events.{happens}
-use Rattle.def_step.specs.Instructions.{executed, operand}
+use Rattle.def_step.specs.Instructions.{executed}
 use Rattle.def_machine.specs.Board.{Board}
-use Rattle.def_step.specs.Operands.{operands_of}
 use Rattle.def_step.specs.Routines.{word_checks}
 use Rattle.def_safety.specs.Fresh.{HandsOut, AsHanded}
 use Rattle.def_safety.specs.Each.{ready}
+use Rattle.def_safety.specs.Used.{authority_of, AccessPasses}
 
 -- a heap capability is of an object that is live, and so hasn't been freed
 abbrev pub OfLive : Image → List Object → Cap → Type 0
 OfLive i objects c = heap_cap i c ≡ true → Any (LiveCovers c) objects
 
--- whatever the running thread loads or stores through with success, and what it waits or wakes through
-pub record UsesLive (b : Board) (s : State) : Type 0 where
-  pub access : (t : ℕ) (k : Instr) → (ready b s).running ≡ Some t
-      → first_failed
-      (access_checks (access_of k) (operand (ready b s) t (operands_of k).first)
-      (operand (ready b s) t (operands_of k).second)
-      (access_address (access_of k) (operand (ready b s) t (operands_of k).first)))
-      ≡ None
-      → OfLive b.image (ready b s).objects (operand (ready b s) t (operands_of k).first)
+-- The running thread uses only capabilities of which this holds: those that it loads or stores through with success, and
+-- what it waits or wakes through.
+pub record UsesOnly (b : Board) (s : State) (P : Cap → Type 0) : Type 0 where
+  pub access : (t : ℕ) (k : Instr) → (ready b s).running ≡ Some t → AccessPasses (ready b s) t k
+      → P (authority_of (ready b s) t k)
   pub word : (t : ℕ) → (ready b s).running ≡ Some t
       → first_failed (word_checks b.image (ready b s) (register (thread (ready b s) t) 10)) ≡ None
-      → OfLive b.image (ready b s).objects (register (thread (ready b s) t) 10)
+      → P (register (thread (ready b s) t) 10)
+
+abbrev pub UsesLive : Board → State → Type 0
+UsesLive b s = UsesOnly b s (OfLive b.image (ready b s).objects)
 
 -- an allocation that is told hands out a fresh object with what is told of it, as it is, as a key or as a token; counts
 -- come after

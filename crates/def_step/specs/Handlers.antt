@@ -13,7 +13,7 @@ use Rattle.def_machine.specs.Image.{Image, made_cap, code_entry, globals_entry, 
 use Rattle.def_machine.specs.State.{State, Thread, Frame, thread, register, interrupts_on}
 use Rattle.def_machine.specs.Frames.{ended_with, returned, unwound}
 use Rattle.def_machine.specs.Registers.{with_thread}
-use Rattle.def_step.specs.declared.TheConstants.{TRAP_RECORD, SERVES_HANDLERS}
+use Rattle.def_step.specs.declared.TheConstants.{TRAP_RECORD}
 use Rattle.def_step.specs.Checks.{first_failed}
 use Rattle.def_step.specs.Switch.{stack_checks}
 
@@ -114,16 +114,12 @@ handler_value old =
 abbrev pub return_taken : Image → State → ℕ → List Frame → State
 return_taken i s t [] = s
 return_taken i s t (f ∷ fs) =
-    if SERVES_HANDLERS && f.handling then ended_with i s t (handler_value (thread s t)) (f ∷ fs)
+    if f.handling then ended_with i s t (handler_value (thread s t)) (f ∷ fs)
     else returned i s t (f ∷ fs)
-
--- whether a trap enters the error handler of a frame's compartment
-abbrev pub is_entered : Image → ℕ → Thread → Frame → Bool
-is_entered i base old f = SERVES_HANDLERS && is_handled i base old f
 
 -- a trap enters the error handler of the innermost frame's compartment, or unwinds that frame
 abbrev pub trap_taken : Image → State → ℕ → Trap → List Frame → State
 trap_taken i s t why [] = s
 trap_taken i s t why (f ∷ fs) =
-    if is_entered i (stack_base i t) (thread s t) f then handler_entered i s t why f fs
+    if is_handled i (stack_base i t) (thread s t) f then handler_entered i s t why f fs
     else unwound i s t (f ∷ fs)

@@ -4,14 +4,11 @@
 #![tactic(auto)]
 
 use def_instr::Instr;
-use def_profile::native::REMAINING;
+use def_profile::native::TOKEN_FREE;
 
 /// The greatest number of a native routine that the machine carries out. Of those after it each is
 /// nothing that is carried out.
-pub const LAST_ROUTINE: u32 = REMAINING;
-
-/// Whether the machine enters error handlers. As long as it doesn't, each trap unwinds.
-pub const SERVES_HANDLERS: bool = false;
+pub const LAST_ROUTINE: u32 = TOKEN_FREE;
 
 /// The bytes of the record of a trap that an error handler finds on its stack: twenty words.
 pub const TRAP_RECORD: u32 = 80;

@@ -16,6 +16,7 @@ use Rattle.def_machine.specs.Image.{root}
 use Rattle.def_machine.specs.Objects.{charges}
 use Rattle.def_step.specs.declared.Event.TheVariants.{Step}
 use Rattle.law_grants.proofs.Wiring.{wired}
+use Rattle.law_grants.proofs.Ranges.{inside}
 use Rattle.law_grants.proofs.Holding.{holds}
 use Rattle.law_image.proofs.Sounds.{sound}
 use Rattle.law_booted.proofs.Whole as booted
@@ -23,13 +24,13 @@ use Rattle.law_events.proofs.Running.{run_keeps, told_licensed}
 use Rattle.law_started.proofs.Whole.{keeps}
 use Rattle.law_started.proofs.Shutting.{shut}
 use Rattle.law_started.proofs.Blanking.{blank}
+use Rattle.law_started.proofs.Tokening.{boot_tokened}
+use Rattle.def_machine.specs.Rows.{RowsFit}
 use Rattle.def_safety.specs.Reuse.{SweepsWhole}
 use Rattle.def_safety.specs.Each.{EachEvent}
-use Rattle.def_safety.specs.Accesses.{UsesReach}
-use Rattle.def_safety.specs.Calls.{CleanEvent}
-use Rattle.def_safety.specs.Temporal.{UsesLive, AllocatesFresh}
-use Rattle.def_safety.specs.Chunks.{ChunksMeet}
-use Rattle.law_history.proofs.Running.{run_clean, run_uses_reach, run_uses_live, run_charges, run_fresh, run_reuses}
+use Rattle.def_events.specs.Upheld.{Upholds}
+use Rattle.def_safety.specs.Chunks.{ChunksMeet, UnusedAfterFree}
+use Rattle.law_history.proofs.Running.{run_upholds, run_unused, run_charges, run_reuses}
 
 pub partitioned : (p : PartsRow) → IsFaultless p → Partitioned (image_of p)
 partitioned p f = booted.partitioned p (sound p f)
@@ -52,17 +53,15 @@ licensed p es f = all_licensed p es (sound p f)
 
 -- ---- what runs do
 
-pub calls : (p : PartsRow) (es : List Event) → IsFaultless p → EachEvent (CleanEvent (board_of p)) (board_of p) (boot_state p) es
-calls p es f = run_clean (board_of p) (partitioned p f) (holds p (sound p f)) (wired p (sound p f)) (boot_state p) es (keeps p (sound p f))
+no_rows : (p : PartsRow) → RowsFit (boot_state p).objects (boot_state p).tokens
+unfolding boot_state
+no_rows p = record { differ = tt; live = tt }
 
-pub accesses : (p : PartsRow) (es : List Event) → IsFaultless p → EachEvent (λ z e. UsesReach (board_of p) z) (board_of p) (boot_state p) es
-accesses p es f = run_uses_reach (board_of p) (partitioned p f) (holds p (sound p f)) (wired p (sound p f)) (boot_state p) es (keeps p (sound p f))
+pub upheld : (p : PartsRow) (es : List Event) → IsFaultless p → EachEvent (Upholds (board_of p)) (board_of p) (boot_state p) es
+upheld p es f = run_upholds (board_of p) (partitioned p f) (holds p (sound p f)) (wired p (sound p f)) (boot_state p) es (inside p (sound p f)) (shut p (sound p f)) (keeps p (sound p f)) (blank p (sound p f)) (no_rows p) (boot_tokened p (sound p f))
 
-pub uses : (p : PartsRow) (es : List Event) → IsFaultless p → EachEvent (λ z e. UsesLive (board_of p) z) (board_of p) (boot_state p) es
-uses p es f = run_uses_live (board_of p) (partitioned p f) (holds p (sound p f)) (wired p (sound p f)) (boot_state p) es (keeps p (sound p f))
-
-pub fresh : (p : PartsRow) (es : List Event) → IsFaultless p → EachEvent (AllocatesFresh (board_of p)) (board_of p) (boot_state p) es
-fresh p es f = run_fresh (board_of p) (partitioned p f) (holds p (sound p f)) (wired p (sound p f)) (boot_state p) es (shut p (sound p f)) (keeps p (sound p f)) (blank p (sound p f))
+pub unused : (p : PartsRow) → IsFaultless p → UnusedAfterFree (board_of p) (boot_state p)
+unused p f = run_unused (board_of p) (partitioned p f) (holds p (sound p f)) (wired p (sound p f)) (boot_state p) (keeps p (sound p f))
 
 pub swept : (p : PartsRow) (es fs : List Event) (d : Deed) (n base long live : ℕ) (c : Deed) (number from size left : ℕ) → IsFaultless p → (happens (board_of p) (run (board_of p) (boot_state p) es) Step).1.deed ≡ Some d → d.act ≡ acts.Free n base long live
     → (happens (board_of p) (run (board_of p) (happens (board_of p) (run (board_of p) (boot_state p) es) Step).0 fs) Step).1.deed ≡ Some c → c.act ≡ acts.Allocate number from size left → ChunksMeet from size base long

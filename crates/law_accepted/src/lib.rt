@@ -16,11 +16,9 @@ ghost use Rattle.def_machine.specs.Image.{root};
 ghost use Rattle.def_machine.specs.Objects.{charges};
 ghost use Rattle.def_step.specs.Events.{run, told};
 ghost use Rattle.def_step.specs.declared.Event.{Event};
-ghost use Rattle.def_safety.specs.Accesses.{UsesReach};
-ghost use Rattle.def_safety.specs.Chunks.{SweptBeforeReuse};
-ghost use Rattle.def_safety.specs.Calls.{CleanEvent};
+ghost use Rattle.def_events.specs.Upheld.{Upholds};
+ghost use Rattle.def_safety.specs.Chunks.{SweptBeforeReuse, UnusedAfterFree};
 ghost use Rattle.def_safety.specs.Each.{EachEvent};
-ghost use Rattle.def_safety.specs.Temporal.{AllocatesFresh, UsesLive};
 ghost use Rattle.law_images.specs.Tiny.{tiny};
 ghost use Rattle.law_link.specs.Links.{Links};
 ghost use Rattle.law_linked.specs.Samples.{board_rows, board_sources, tiny_rows};
@@ -50,17 +48,14 @@ pub fn accepted_images_run()
 
 /// Whatever events come from its boot: calls are clean; each access is licensed; nothing is loaded, stored,
 /// waited for or woken through a capability of an object after its free; an allocation hands out a fresh
-/// object; a chunk that was freed is handed out again only after a whole sweep that began after its free;
-/// and the live charges on each quota are at most its limit.
+/// object; a frame's error handler is entered where a trap is told that enters it, and only once; a chunk that
+/// was freed is handed out again only after a whole sweep that began after its free; and the live charges on
+/// each quota are at most its limit.
 pub fn accepted_images_are_safe()
-    ensures calls { (bytes : List ℕ) (p : PartsRow) (es : List Event) → IsImage bytes p
-        → EachEvent (CleanEvent (board_of p)) (board_of p) (boot_state p) es }
-    ensures accesses { (bytes : List ℕ) (p : PartsRow) (es : List Event) → IsImage bytes p
-        → EachEvent (λ z e. UsesReach (board_of p) z) (board_of p) (boot_state p) es }
-    ensures uses { (bytes : List ℕ) (p : PartsRow) (es : List Event) → IsImage bytes p
-        → EachEvent (λ z e. UsesLive (board_of p) z) (board_of p) (boot_state p) es }
-    ensures fresh { (bytes : List ℕ) (p : PartsRow) (es : List Event) → IsImage bytes p
-        → EachEvent (AllocatesFresh (board_of p)) (board_of p) (boot_state p) es }
+    ensures safe { (bytes : List ℕ) (p : PartsRow) (es : List Event) → IsImage bytes p
+        → EachEvent (Upholds (board_of p)) (board_of p) (boot_state p) es }
+    ensures unused { (bytes : List ℕ) (p : PartsRow) → IsImage bytes p
+        → UnusedAfterFree (board_of p) (boot_state p) }
     ensures swept { (bytes : List ℕ) (p : PartsRow) → IsImage bytes p
         → SweptBeforeReuse (board_of p) (boot_state p) }
     ensures quotas { (bytes : List ℕ) (p : PartsRow) (es : List Event) (q : ℕ) → IsImage bytes p

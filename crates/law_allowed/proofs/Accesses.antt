@@ -29,11 +29,11 @@ use Rattle.law_allowed.specs.Accesses.{AllListed, IsListedDeed, Meets, Touches}
 use Rattle.law_image.proofs.Sounds.{sound}
 use Rattle.law_policy.specs.Denied.{AreListed}
 use Rattle.law_policy.proofs.Denials.{holds_where}
-use Rattle.law_policy.proofs.Devices.{held}
+use Rattle.law_policy.proofs.Kept.{device_held}
 
 -- ---- an import that is listed
 
-module _ (e : Listed) (r : Ruling) (device : ℕ) (are : AreListed e r device) where
+module _ (e : Listed) (r : Ruling) (device : ℕ) (are : AreListed e r kind.Device device) where
   by_row : (n : ℕ) (g : Gate) (o : Option Entry) → slice_get e.rows n ≡ o → (listed_root o g).origin ≡ Listing kind.Device → (listed_root o g).of ≡ device
       → is_listed r.owners (listed_root o g).owner ≡ true
   by_row n g None there origin of_is = absurd (let clash : Unknown ≡ Listing kind.Device = origin in cc)
@@ -57,7 +57,7 @@ shares base top row other address width starts ends from to meets =
     (omega (arith, starts, from, low), omega (arith, ends, to, high))
 
 module _ (p : PartsRow) (s : Sound p) (r : Ruling) (device : ℕ) (row : DeviceRow) (there : slice_get p.devices device ≡ Some row)
-    (are : AreListed (entries_of p) r device) where
+    (are : AreListed (entries_of p) r kind.Device device) where
   of_device : (n address width : ℕ) (origin : (root_of (entries_of p) n).origin ≡ Listing kind.Device) → (root_of (entries_of p) n).base ≤ address
       → address + width ≤ (root_of (entries_of p) n).top → Meets row.base address width → (root_of (entries_of p) n).of ≡ device
   of_device n address width origin from to meets =
@@ -85,7 +85,7 @@ module _ (p : PartsRow) (s : Sound p) (r : Ruling) (device : ℕ) (row : DeviceR
 
 -- ---- a rule of those that hold
 
-rule_keeps : (e : Listed) (rulings : List Ruling) (k : ℕ) (r : Ruling) → Holds e rulings → slice_get rulings k ≡ Some r → Keeps e r
+pub rule_keeps : (e : Listed) (rulings : List Ruling) (k : ℕ) (r : Ruling) → Holds e rulings → slice_get rulings k ≡ Some r → Keeps e r
 rule_keeps e [] k r holds is = absurd (let clash : None ≡ Some r = is in cc)
 rule_keeps e (x ∷ xs) zero r holds is =
     let same : x ≡ r = (let here : Some x ≡ Some r = is in cc) in
@@ -98,5 +98,5 @@ pub allowed : (p : PartsRow) (es : List Event) (rulings : List Ruling) (k : ℕ)
 unfolding image_of
 allowed p es rulings k r device d f none there is stands =
     all_listed p (sound p f) r device d stands
-    (held (entries_of p) r device is (rule_keeps (entries_of p) rulings k r (holds_where p 1 rulings [] none refl) there))
+    (device_held (entries_of p) r device is (rule_keeps (entries_of p) rulings k r (holds_where p 1 rulings [] none refl) there))
     (told (board_of p) (boot_state p) es) (licensed p es f)

@@ -2,4 +2,5 @@ pub mod Once
 pub mod Named
 pub mod Imports
 pub mod Accesses
+pub mod Runs
 pub mod Lines

@@ -9,9 +9,15 @@ use Rattle.def_policy.specs.Rulings.{Ruling, meant}
 use Rattle.def_policy.specs.Texts.{Reads}
 use Rattle.def_step.specs.Events.{told}
 use Rattle.def_step.specs.declared.Event.{Event}
-use Rattle.law_allowed.proofs.Accesses.{allowed}
+use Rattle.ct_policy.proofs.Untrusted.{untrusted}
+use Rattle.ct_policy.specs.Kept.{KeepsUntrusted}
+use Rattle.def_boot.specs.Gates.{entries_of}
+use Rattle.law_allowed.proofs.Accesses.{allowed, rule_keeps}
 use Rattle.law_allowed.proofs.Named.{on_device}
-use Rattle.law_allowed.specs.Lines.{IsHeldDevice}
+use Rattle.law_allowed.proofs.Runs.{over}
+use Rattle.law_allowed.specs.Lines.{IsHeldDevice, IsKeptLine}
+use Rattle.law_policy.proofs.Denials.{holds_where}
+use Rattle.std.specs.List.{AllByRecursion}
 
 -- what the rule of a line means is kept in the line's place
 record IsMeant (p : PartsRow) (rulings : List Ruling) (k : ℕ) (x : Rule) : Type 0 where
@@ -30,6 +36,25 @@ line_means p (y ∷ ys) (r ∷ rs) (suc k) x are is =
     let rest : map (meant p) ys ≡ map (λ r. Some r) rs = (let both : meant p y ∷ map (meant p) ys ≡ Some r ∷ map (λ r. Some r) rs = are in cc) in
     let later = line_means p ys rs k x rest is in
     record { ruling = later.ruling; there = later.there; means = later.means }
+
+-- what is kept of each of several rulings is kept of one of them
+one_of : (P : Ruling → Type 0) (rulings : List Ruling) (k : ℕ) (r : Ruling) → AllByRecursion P rulings → slice_get rulings k ≡ Some r → P r
+one_of P [] k r all is = absurd (let clash : None ≡ Some r = is in cc)
+one_of P (x ∷ xs) zero r all is = let same : x ≡ r = (let here : Some x ≡ Some r = is in cc) in subst P same all.0
+one_of P (x ∷ xs) (suc k) r all is = one_of P xs k r all.1 is
+
+pub kept_over_runs : (p : PartsRow) (es : List Event) (text : List ℕ) (rulings : List Ruling) (k : ℕ) (rule : Rule) → IsFaultless p
+    → (reads : Reads p text rulings) → AllDenied p 1 rulings [] → slice_get reads.rules k ≡ Some rule → IsKeptLine p rule es
+kept_over_runs p es text rulings k rule faultless reads none line =
+    let m = line_means p reads.rules rulings k rule reads.meant_are line in
+    let r : Ruling = m.ruling in
+    let keeps = rule_keeps (entries_of p) rulings k r (holds_where p 1 rulings [] none refl) m.there in
+    let fits : KeepsUntrusted r = one_of KeepsUntrusted rulings k r (untrusted p text rulings reads) m.there in
+    record {
+      ruling = r;
+      means = m.means;
+      keeps = over p es faultless r keeps fits (λ n is d there. allowed p es rulings k r n d faultless none m.there is there) r.subject refl;
+    }
 
 pub held_over_runs : (p : PartsRow) (es : List Event) (text : List ℕ) (rulings : List Ruling) (k : ℕ) (name : List ℕ) (owners : List (List ℕ)) → IsFaultless p
     → (reads : Reads p text rulings) → AllDenied p 1 rulings [] → slice_get reads.rules k ≡ Some (Device name owners)

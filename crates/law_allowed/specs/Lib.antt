@@ -1,3 +1,4 @@
 pub mod Named
 pub mod Accesses
+pub mod Runs
 pub mod Lines

@@ -1,7 +1,7 @@
 //! Laws of what a policy allows: its rule on a device is on the one device of the image that has the
 //! name; and where it holds of an image, each access to a byte of the device, in any run of the image, is
-//! by an import of the device, of an owner that the rule lists. The last law says so of a text's lines.
-//! Functions with empty bodies whose contracts are the laws.
+//! by an import of the device, of an owner that the rule lists. The last law says what each line of a text
+//! says of runs. Functions with empty bodies whose contracts are the laws.
 #![tactic(auto)]
 
 ghost use Rattle.std.specs.Prelude.{ℕ, ◌≡◌, List, [], Some, slice_get};
@@ -12,13 +12,14 @@ ghost use Rattle.def_image.specs.Accepted.{IsFaultless};
 ghost use Rattle.def_image.specs.Parts.{PartsRow};
 ghost use Rattle.def_policy.specs.Denials.{AllDenied};
 ghost use Rattle.def_policy.specs.Rules as rule;
+ghost use Rattle.def_policy.specs.Rules.{Rule};
 ghost use Rattle.def_policy.specs.Rulings.{Ruling, meant};
 ghost use Rattle.def_policy.specs.Texts.{Reads};
 ghost use Rattle.def_policy.specs.declared.Subject.TheVariants.{Device};
 ghost use Rattle.def_step.specs.Events.{told};
 ghost use Rattle.def_step.specs.declared.Event.{Event};
 ghost use Rattle.law_allowed.specs.Accesses.{AllListed};
-ghost use Rattle.law_allowed.specs.Lines.{IsHeldDevice};
+ghost use Rattle.law_allowed.specs.Lines.{IsHeldDevice, IsKeptLine};
 ghost use Rattle.law_allowed.specs.Named.{IsOnDevice};
 
 /// What a rule on a device means in parts without a fault is about the one device that has the rule's
@@ -41,12 +42,27 @@ pub fn allowed_devices_are_held()
         → AllListed (entries_of p) r device d.base (told (board_of p) (boot_state p) es) }
 {}
 
-/// Of parts without a fault, whatever their code is, and a text of rules that nothing denies: for each
-/// line on a device there is one device of the line's name; and each load and store that a list of
-/// events from boot tells, one of whose bytes is one of the device's, is by an import of the device, of
-/// an owner that the line names, and which reaches the compartment that made the access.
+/// Of parts without a fault, whatever their code is, and a text of rules that nothing denies. Each line's
+/// rule holds of each run of events from boot, by what it is about:
+///
+/// - a device: each load and store, one of whose bytes is one of the device's, is by an import of it, of a
+///   listed owner, which reaches the compartment that made the access;
+/// - a shared object or a service: a tagged register of a thread that runs, whose authority is an import of
+///   it, has it of a listed owner, which reaches the compartment that runs;
+/// - an export for calls: each call of it is by an import of it, of a listed owner, which reaches the caller;
+/// - interrupts: each span with interrupts off is an export's, of a listed owner, which reaches who runs;
+/// - data: each call of the export enters its callee clean, so no capability comes along;
+/// - quotas: after any number of events the live charges on all quotas, or on an owner's, sum to no more;
+/// - two apart: what the compartment does, and what a register holds while it runs, is by no entry of the
+///   owner.
+///
+/// And for a line on a device there is one device of the line's name.
 pub fn policies_hold_over_runs()
-    ensures { (p : PartsRow) (es : List Event) (text : List ℕ) (rulings : List Ruling) (k : ℕ)
+    ensures lines { (p : PartsRow) (es : List Event) (text : List ℕ) (rulings : List Ruling) (k : ℕ)
+        (rule : Rule)
+        → IsFaultless p → (reads : Reads p text rulings) → AllDenied p 1 rulings []
+        → slice_get reads.rules k ≡ Some rule → IsKeptLine p rule es }
+    ensures device { (p : PartsRow) (es : List Event) (text : List ℕ) (rulings : List Ruling) (k : ℕ)
         (name : List ℕ) (owners : List (List ℕ))
         → IsFaultless p → (reads : Reads p text rulings) → AllDenied p 1 rulings []
         → slice_get reads.rules k ≡ Some (rule.Device name owners)

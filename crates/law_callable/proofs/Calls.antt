@@ -1,5 +1,7 @@
--- What a call of a confined state's thread asks, and that the head of the export's table stands as boot made it.
+-- What a call and a trap of a confined state's thread ask, and that the head of the export's table stands as boot made
+-- it.
 use Rattle.std.proofs.Common.{ℕ, ◌≡◌, ◌+◌, ◌*◌, ◌<◌, ◌≤◌, true, List, length, slice_index_or, sym, ap, ◌∙◌, arith, subst}
+use Rattle.ct_entry.specs.Listed.{Listed}
 use Rattle.ct_entry.specs.declared.rows.Kind.TheVariants as kind
 use Rattle.def_profile.specs.declared.seals.TheConstants.{EXPORT_TYPE}
 use Rattle.def_words.specs.declared.Cap.{Cap}
@@ -10,23 +12,25 @@ use Rattle.def_reach.specs.Roots.{Listing}
 use Rattle.def_image.specs.Parts.{PartsRow}
 use Rattle.def_image.specs.Sound.{Sound}
 use Rattle.def_boot.specs.Boot.{image_of}
-use Rattle.def_machine.specs.Image.{Image, root}
+use Rattle.def_machine.specs.Image.{Image, root, handler_entry}
 use Rattle.def_machine.specs.State.{State, register}
 use Rattle.def_machine.specs.State as state
 use Rattle.def_confined.specs.Confined.{Confined}
 use Rattle.def_step.specs.Switch.{Enters, frame_top}
 use Rattle.law_jumps.proofs.Moves.{in_rooted}
 use Rattle.law_grants.proofs.Imports.{named}
+use Rattle.law_grants.proofs.Handling.{handler_at, handler_owner}
 use Rattle.ct_areas.specs.Threads.{frames_most}
+use Rattle.ct_exports.specs.Exports.{callee_of}
 use Rattle.ct_switch.proofs.Failing.{checks_passed}
 use Rattle.ct_engine.specs.Seen.{Seen, region_of, thread, area_at}
-use Rattle.ct_engine.specs.Calls.{MayCall, HeadStands, switch_at}
+use Rattle.ct_engine.specs.Calls.{IsEnterable, MayCall, HeadStands, switch_at}
 use Rattle.ct_engine.proofs.Entering.{enters_by}
 use Rattle.ct_boot.specs.Placed.{IsPlaced}
 use Rattle.law_callable.specs.Showing.{IsOfSound, ShowsCaller}
 use Rattle.law_callable.proofs.Rising.{image_sorted}
 use Rattle.law_callable.proofs.Tops.{top_lies}
-use Rattle.law_callable.proofs.Heads.{enterable, export_stands}
+use Rattle.law_callable.proofs.Heads.{enterable, export_stands, entries_are, callee_is}
 
 -- RAM has the image's size
 size_in : (p : PartsRow) (m : State) → Confined (image_of p) m → p.size ≤ 8 * length m.granules
@@ -60,6 +64,21 @@ head_stands : (p : PartsRow) (m : State) (s : Seen) (size t n : ℕ) → Sound p
 head_stands p m s size t n sound confined placed region granules is =
     export_stands p (root (image_of p) n).of sound ((named p sound n).call is) s region m confined granules size t placed
 
+handler_asks : (p : PartsRow) (m : State) (s : Seen) (t b : ℕ) → Sound p → ShowsCaller (image_of p) m s t → (handler_entry (image_of p) b ≡ 0 → ⊥) → IsEnterable s (image_of p).entries (handler_entry (image_of p) b)
+handler_asks p m s t b sound shows some =
+    let size = subst (λ (gs : List Granule). p.size ≤ 8 * length gs) (sym shows.granules) (size_in p m shows.confined) in
+    enterable p (handler_entry (image_of p) b) sound (handler_at p b some) s shows.region size shows.heap
+
+handler_own : (p : PartsRow) (b : ℕ) → Sound p → (handler_entry (image_of p) b ≡ 0 → ⊥) → callee_of (image_of p).entries (handler_entry (image_of p) b) ≡ b
+handler_own p b sound some =
+    ap (λ (e : Listed). callee_of e (handler_entry (image_of p) b)) (entries_are p)
+    ∙ callee_is p (handler_entry (image_of p) b) sound (handler_at p b some)
+    ∙ handler_owner p b some
+
+handler_stands : (p : PartsRow) (m : State) (s : Seen) (t b : ℕ) → Sound p → ShowsCaller (image_of p) m s t → (handler_entry (image_of p) b ≡ 0 → ⊥) → HeadStands (image_of p) s t (handler_entry (image_of p) b)
+handler_stands p m s t b sound shows some =
+    export_stands p (handler_entry (image_of p) b) sound (handler_at p b some) s shows.region m shows.confined shows.granules (8 * length s.granules) t shows.placed
+
 -- ---- of the machine's image
 
 pub may_call : (i : Image) (m : State) (s : Seen) (t : ℕ) → ShowsCaller i m s t → 0 < length (thread s t).frames → MayCall s t i.entries
@@ -86,3 +105,19 @@ entered_stands i m s t export high shows enters =
     let by = enters_by i.entries base top (frames_most (area_at s t)) (thread s t) export high enters in
     let passed = checks_passed base top (register (thread s t) 1) (register (thread s t) 6) (register (thread s t) 2) by.passed in
     subst (λ n. HeadStands i s t n) (sym by.export_is) (import_stands i m s t shows passed.tagged passed.import)
+
+-- ---- an error handler
+
+pub handlers_asked : (i : Image) (m : State) (s : Seen) (t b : ℕ) → ShowsCaller i m s t → (handler_entry i b ≡ 0 → ⊥) → IsEnterable s i.entries (handler_entry i b)
+handlers_asked i m s t b shows some =
+    subst (λ (j : Image). ShowsCaller j m s t → (handler_entry j b ≡ 0 → ⊥) → IsEnterable s j.entries (handler_entry j b)) (sym shows.booted.is)
+    (λ here has. handler_asks shows.booted.parts m s t b shows.booted.sound here has) shows some
+
+pub handlers_own : (i : Image) (b : ℕ) → IsOfSound i → (handler_entry i b ≡ 0 → ⊥) → callee_of i.entries (handler_entry i b) ≡ b
+handlers_own i b booted some =
+    subst (λ (j : Image). (handler_entry j b ≡ 0 → ⊥) → callee_of j.entries (handler_entry j b) ≡ b) (sym booted.is) (λ has. handler_own booted.parts b booted.sound has) some
+
+pub handlers_stand : (i : Image) (m : State) (s : Seen) (t b : ℕ) → ShowsCaller i m s t → (handler_entry i b ≡ 0 → ⊥) → HeadStands i s t (handler_entry i b)
+handlers_stand i m s t b shows some =
+    subst (λ (j : Image). ShowsCaller j m s t → (handler_entry j b ≡ 0 → ⊥) → HeadStands j s t (handler_entry j b)) (sym shows.booted.is)
+    (λ here has. handler_stands shows.booted.parts m s t b shows.booted.sound here has) shows some

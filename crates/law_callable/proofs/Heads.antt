@@ -33,7 +33,7 @@ use Rattle.ct_boot.proofs.Placing.{heap_is, ram_is}
 use Rattle.law_callable.proofs.Rows.{table_is, callable}
 use Rattle.law_callable.proofs.Boots.{open_at, stands_at}
 
-entries_are : (p : PartsRow) → (image_of p).entries ≡ entries_of p
+pub entries_are : (p : PartsRow) → (image_of p).entries ≡ entries_of p
 unfolding image_of
 entries_are p = refl
 
@@ -62,7 +62,7 @@ below_seen s k open_ below = elim (le_tells s.heap_base (s.region.ram + 8 * k)) 
 ]
 
 module _ (p : PartsRow) (n : ℕ) (s : Sound p) (x : ExportAt p n) where
-  callee_is : callee_of (entries_of p) n ≡ x.index
+  pub callee_is : callee_of (entries_of p) n ≡ x.index
   callee_is = ap (λ (r : Root). compartment_of r.owner) x.row.root_is
 
   -- where the table begins

@@ -1,4 +1,4 @@
-//! Laws of what calls over an engine ask: of a sound image's entries, and of a confined state's running thread.
+//! Laws of what calls and traps over an engine ask: of a sound image's entries, and of a confined state's running thread.
 //! Functions with empty bodies whose contracts are the laws.
 #![tactic(auto)]
 
@@ -11,14 +11,14 @@ ghost use Rattle.def_boot.specs.Gates.{entries_of};
 ghost use Rattle.def_confined.specs.Confined.{Confined};
 ghost use Rattle.def_image.specs.Parts.{PartsRow};
 ghost use Rattle.def_image.specs.Sound.{Sound};
-ghost use Rattle.def_machine.specs.Image.{Image, root};
+ghost use Rattle.def_machine.specs.Image.{Image, handler_entry, root};
 ghost use Rattle.def_machine.specs.State.{State, register};
 ghost use Rattle.def_machine.specs.State as state;
 ghost use Rattle.def_reach.specs.Roots.{Listing};
 ghost use Rattle.def_step.specs.Switch.{Enters};
-ghost use Rattle.ct_exports.specs.Exports.{AreSorted, IsCallable};
+ghost use Rattle.ct_exports.specs.Exports.{AreSorted, IsCallable, callee_of};
 ghost use Rattle.ct_engine.specs.Seen.{Seen, region_of, thread, area_at};
-ghost use Rattle.ct_engine.specs.Calls.{TopLies, MayCall, HeadStands, switch_at};
+ghost use Rattle.ct_engine.specs.Calls.{TopLies, IsEnterable, MayCall, HeadStands, switch_at};
 ghost use Rattle.ct_boot.specs.Placed.{IsPlaced};
 ghost use Rattle.law_callable.specs.Showing.{IsOfSound, ShowsCaller};
 
@@ -70,4 +70,22 @@ pub fn calls_stand()
     ensures entered { (i : Image) (m : State) (s : Seen) (t export high : ℕ)
         → ShowsCaller i m s t → switch_at s i.entries t ≡ Enters export high
         → HeadStands i s t export }
+{}
+
+/// The error handler of a compartment, where it has one, is an export of its own, which can be entered where an engine
+/// shows a confined state of a sound image.
+pub fn handlers_asked()
+    ensures enterable { (i : Image) (m : State) (s : Seen) (t b : ℕ)
+        → ShowsCaller i m s t → (handler_entry i b ≡ 0 → ⊥)
+        → IsEnterable s i.entries (handler_entry i b) }
+    ensures owner { (i : Image) (b : ℕ)
+        → IsOfSound i → (handler_entry i b ≡ 0 → ⊥)
+        → callee_of i.entries (handler_entry i b) ≡ b }
+{}
+
+/// And the head of its export table is as boot made it.
+pub fn handlers_stand()
+    ensures { (i : Image) (m : State) (s : Seen) (t b : ℕ)
+        → ShowsCaller i m s t → (handler_entry i b ≡ 0 → ⊥)
+        → HeadStands i s t (handler_entry i b) }
 {}

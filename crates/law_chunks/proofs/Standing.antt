@@ -1,5 +1,5 @@
--- Objects stand at whole granules of the heap, and apart.
-use Rattle.std.proofs.Common.{ℕ, ◌≡◌, ◌+◌, ◌-◌, ◌%◌, ◌≤◌, inl, inr, List, [], ◌∷◌, arith}
+-- Objects stand at whole granules of the heap, and apart, each with two granules at least.
+use Rattle.std.proofs.Common.{ℕ, ◌≡◌, ◌+◌, ◌-◌, ◌*◌, ◌%◌, ◌≤◌, inl, inr, List, [], ◌∷◌, length, arith}
 use Rattle.law_lists.proofs.Tests.{bool_tells}
 use Rattle.def_memory.specs.declared.Granule.{Granule}
 use Rattle.def_machine.specs.State.{Object}
@@ -45,3 +45,20 @@ objects_inside h gs l =
 pub objects_apart : (h : HeapRow) (gs : List Granule) → Laid h gs → InOrder (objects_of h gs)
 unfolding objects_of
 objects_apart h gs l = rows_ordered h.names h.range.base h.range.base (chunks h.range gs) l.settled.tiled.are
+
+-- the chunk of each object has 16 bytes or more
+rows_fit : (names : List ℕ) (base at : ℕ) (cs : List Chunk) → AreChunks cs → 16 * length (objects_in names base at cs) ≤ total cs
+rows_fit names base at [] are = omega arith
+rows_fit names base at (c ∷ cs) are =
+    let rest = rows_fit names base (at + c.size) cs are.1 in
+    elim (bool_tells (is_free c)) [
+      | inl e ↦ rw e (omega (arith, rest))
+      | inr e ↦ (let two = are.0.used e in rw e (omega (arith, two, rest)))
+    ]
+
+pub objects_few : (h : HeapRow) (gs : List Granule) → Laid h gs → 16 * length (objects_of h gs) ≤ h.range.length
+unfolding objects_of
+objects_few h gs l =
+    let size = l.settled.tiled.size in
+    let fit = rows_fit h.names h.range.base h.range.base (chunks h.range gs) l.settled.tiled.are in
+    omega (arith, size, fit)

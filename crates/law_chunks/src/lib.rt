@@ -3,7 +3,7 @@
 //! cited from there.
 #![tactic(auto)]
 
-ghost use Rattle.std.specs.Prelude.{◌≡◌, ◌+◌, ◌*◌, ℕ, Bool, true, false, List, length};
+ghost use Rattle.std.specs.Prelude.{◌≡◌, ◌≤◌, ◌+◌, ◌*◌, ℕ, Bool, true, false, List, length};
 ghost use Rattle.def_words.specs.declared.Cap.{Cap};
 ghost use Rattle.def_memory.specs.declared.Granule.{Granule};
 ghost use Rattle.def_memory.specs.Accesses.{IsAccess, IsPlace, stored, stored_cap};
@@ -11,6 +11,7 @@ ghost use Rattle.def_memory.specs.Ranges.{IsZeroed, IsMarked};
 ghost use Rattle.def_machine.specs.Image.{Image};
 ghost use Rattle.def_machine.specs.Objects.{Each};
 ghost use Rattle.def_hidden.specs.Hidden.{is_live_at, is_hidden_at};
+ghost use Rattle.def_chunks.specs.declared.heads.TheConstants.{SLOT};
 ghost use Rattle.def_chunks.specs.Heaps.{HeapRow, objects_of, Laid, IsHeapOf};
 ghost use Rattle.law_chunks.specs.Kept.{IsHead, Misses, KeepsHeap, KeepsUntagged, StandsIn, InOrder};
 
@@ -41,9 +42,12 @@ pub fn heads_hidden()
         → IsHead h.range gs p → is_hidden_at i (objects_of h gs) p ≡ true }
 {}
 
-/// Objects stand at whole granules of the heap, each behind a head, and no two of their chunks meet.
+/// Objects stand at whole granules of the heap, each behind a head, and no two of their chunks meet; so no more stand
+/// there than its bytes have slots.
 pub fn objects_stand()
     ensures inside { (h : HeapRow) (gs : List Granule) → Laid h gs
         → Each (λ o. StandsIn h.range o) (objects_of h gs) }
     ensures apart { (h : HeapRow) (gs : List Granule) → Laid h gs → InOrder (objects_of h gs) }
+    ensures few { (h : HeapRow) (gs : List Granule) → Laid h gs
+        → SLOT * length (objects_of h gs) ≤ h.range.length }
 {}

@@ -2,3 +2,4 @@ pub mod Licences
 pub mod Telling
 pub mod Lawful
 pub mod Safe
+pub mod Written

@@ -12,12 +12,11 @@ use Rattle.law_accepted.proofs.Running as running
 use Rattle.def_program.specs.Safe.{IsSafeRun, IsSafeCommand, RunsSafely}
 use Rattle.law_commands.proofs.Licences.{stands_faultless}
 
-safe : (p : PartsRow) (es : List Event) → IsFaultless p → IsSafeRun p es
+pub safe : (p : PartsRow) (es : List Event) → IsFaultless p → IsSafeRun p es
 safe p es f = record {
-  calls = running.calls p es f;
-  accesses = running.accesses p es f;
-  unused = running.uses p es f;
-  fresh = running.fresh p es f;
+  events = running.upheld p es f;
+  unused = λ before fs rest freed n base long live is tells frees.
+      running.unused p f before fs freed n base long live tells frees;
   swept = λ before fs rest freed made n base long live number from size left is tells frees told allocates meets.
       running.swept p before fs freed n base long live made number from size left f tells frees told allocates meets;
   quotas = λ n q. running.quotas p (take n es) q f;

@@ -12,7 +12,7 @@ use Rattle.def_trace.specs.Trace.{trace_line}
 use Rattle.def_script.specs.declared.Given.{Given}
 use Rattle.def_script.specs.Script.{Due, given_at}
 use Rattle.def_program.specs.Runs.{round, input_of, unless_ended, events_from, events_until, last_line, or_last, lines_from, run_lines}
-use Rattle.law_commands.specs.Telling.{event_lines}
+use Rattle.def_program.specs.Written.{event_lines}
 
 -- what a list of events writes, and the summary after them
 abbrev pub text_of : Board → State → ℕ → List Event → List ℕ

@@ -15,7 +15,10 @@ ghost use Rattle.def_script.specs.Script.{Due};
 ghost use Rattle.def_step.specs.Events.{AreLawful, run, told};
 ghost use Rattle.def_machine.specs.Board.{MachineRow};
 ghost use Rattle.def_program.specs.Safe.{IsSafeCommand};
-ghost use Rattle.law_commands.specs.Telling.{event_lines};
+ghost use Rattle.def_program.specs.Answers.{Answers};
+ghost use Rattle.def_program.specs.Calls.{CallRecord};
+ghost use Rattle.def_program.specs.Written.{IsRunWritten, event_lines};
+ghost use Rattle.def_program.specs.declared.Status.{Status};
 ghost use Rattle.law_counts.specs.Kinds.{IsUncounted};
 
 /// Of the parts that a command's files stand for, whatever bytes these are: each deed, and each span
@@ -27,9 +30,10 @@ pub fn commands_are_licensed()
 
 /// Of the parts that a command's files stand for, whatever bytes these are: the run that the command asks
 /// for is safe. Its calls are clean and its accesses licensed; nothing is loaded, stored, waited for or woken
-/// through a capability of an object after its free; each allocation hands out a fresh object; a freed chunk
-/// is handed out again only after a whole sweep that began after its free; and after every event the live
-/// charges on each quota are at most its limit. So it is whatever the run's script says.
+/// through a capability of an object after its free; each allocation hands out a fresh object; a frame's error
+/// handler is entered where a trap is told that enters it, and only once; a freed chunk is handed out again only
+/// after a whole sweep that began after its free; and after every event the live charges on each quota are at
+/// most its limit. So it is whatever the run's script says.
 pub fn commands_are_safe()
     ensures { (c : Command) (files : List (List ℕ)) (p : PartsRow)
         → StandFor c files p → IsSafeCommand c p }
@@ -43,6 +47,13 @@ pub fn runs_are_told()
         ≡ event_lines 1 (events_until m script quantum limit)
         (told m.board m.state (events_until m script quantum limit))
         ++ last_line (run m.board m.state (events_until m script quantum limit)) }
+{}
+
+/// Of a call that answers Done to a run: what was written is the report line, the lines of a list of what
+/// happened, and the summary; that same list is licensed by the entries of the image that the files which
+/// were read stand for, and the run of its events is safe. Of `demo` the summary is that of such a run.
+pub fn written_runs_are_safe()
+    ensures { (e : CallRecord) (s : Status) → Answers e s → IsRunWritten e s }
 {}
 
 /// Each event of a run may come when it comes, where none came before and the script goes to the machine's

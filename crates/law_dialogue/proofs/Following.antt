@@ -16,7 +16,7 @@ use Rattle.def_program.specs.Commands.{Command, Audit, Image, Run, RunImage, Why
 use Rattle.def_program.specs.Lines.{description_line, link_status, link_text, image_line, name_line, script_line, policy_line}
 use Rattle.def_program.specs.Paths.{IsWhyLine, none_line, path_line, or_library, compartment_named, library_named}
 use Rattle.def_program.specs.Runs.{demo_text, run_text}
-use Rattle.def_program.specs.Turns.{Turn, Asks, Ends, Looked, verdict, OfPolicy, OfRun, OfParts, OfLinked, OfSources, OfDescription, OfImage, OfFirst, OfFiles, OfNumber, FollowsBy, source_names}
+use Rattle.def_program.specs.Turns.{Turn, Asks, Ends, NamesFound, verdict, OfPolicy, OfRun, OfParts, OfLinked, OfSources, OfDescription, OfImage, OfFirst, OfFiles, OfNumber, FollowsBy, source_names}
 use Rattle.def_description.specs.Reading.{rows_of}
 use Rattle.def_gen.specs.Description.{firmware}
 use Rattle.def_gen.specs.Sources as generated
@@ -54,15 +54,15 @@ compartments_differ c h = absurd (let clash : Compartment c ≡ Trusted = h in c
 libraries_differ : (l : ℕ) → Library l ≢ Trusted
 libraries_differ l h = absurd (let clash : Library l ≡ Trusted = h in cc)
 
-abbrev HasLooked : PartsRow → Option Owner → Option ℕ → Type 0
-HasLooked p o c = (turn : Turn) × Looked p o c turn
+abbrev HasNames : PartsRow → Option Owner → Option ℕ → Type 0
+HasNames p o c = (turn : Turn) × NamesFound p o c turn
 
-looked : (p : PartsRow) → IsFaultless p → (o l c : Option ℕ) → HasLooked p (or_library o l) c
-looked p f (Some o) l (Some c) = let line = line_there p (Compartment o) c f (compartments_differ o) in (Ends status.Done line.0, (line.0, (line.1, refl)))
-looked p f None (Some l) (Some c) = let line = line_there p (Library l) c f (libraries_differ l) in (Ends status.Done line.0, (line.0, (line.1, refl)))
-looked p f None None c = (Ends status.Name name_line, refl)
-looked p f (Some o) l None = (Ends status.Name name_line, refl)
-looked p f None (Some l) None = (Ends status.Name name_line, refl)
+names_found : (p : PartsRow) → IsFaultless p → (o l c : Option ℕ) → HasNames p (or_library o l) c
+names_found p f (Some o) l (Some c) = let line = line_there p (Compartment o) c f (compartments_differ o) in (Ends status.Done line.0, (line.0, (line.1, refl)))
+names_found p f None (Some l) (Some c) = let line = line_there p (Library l) c f (libraries_differ l) in (Ends status.Done line.0, (line.0, (line.1, refl)))
+names_found p f None None c = (Ends status.Name name_line, refl)
+names_found p f (Some o) l None = (Ends status.Name name_line, refl)
+names_found p f None (Some l) None = (Ends status.Name name_line, refl)
 
 abbrev HasPolicy : List ℕ → PartsRow → List (List ℕ) → Type 0
 HasPolicy policy p files = (turn : Turn) × OfPolicy policy p files turn
@@ -72,7 +72,7 @@ by_text policy p bytes more f (inl r) =
     let lines = denials_there p f 1 r.rulings (untrusted p bytes r.rulings r.reads) in
     (verdict lines.text, inr (record { rulings = r.rulings; reads = r.reads; text = lines.text; denied = lines.is; due = refl }))
 by_text policy p bytes more f (inr x) =
-    (Ends status.Policy (policy_line x.number x.line), inl (record { number = x.number; line = x.line; fault = x.fault; due = refl }))
+    (Ends status.Policy (policy_line x.number x.line), inl (record { fault = record { number = x.number; place = x.line }; is = x.fault; due = refl }))
 
 of_policy : (policy : List ℕ) (p : PartsRow) → IsFaultless p → (files : List (List ℕ)) → HasPolicy policy p files
 of_policy policy p f [] = (Asks policy, refl)
@@ -83,7 +83,7 @@ HasRun p limit script files = (turn : Turn) × OfRun p limit script files turn
 
 by_script : (p : PartsRow) (limit : ℕ) (name bytes : List ℕ) (more : List (List ℕ)) → scripts.IsTold p.devices bytes → HasRun p limit (Some name) (bytes ∷ more)
 by_script p limit name bytes more (inl s) = (Ends status.Done (run_text p s.dues limit), inr (record { dues = s.dues; reads = s.reads; due = refl }))
-by_script p limit name bytes more (inr x) = (Ends status.Script (script_line x.number x.line), inl (record { number = x.number; line = x.line; fault = x.fault; due = refl }))
+by_script p limit name bytes more (inr x) = (Ends status.Script (script_line x.number x.line), inl (record { fault = record { number = x.number; place = x.line }; is = x.fault; due = refl }))
 
 of_run : (p : PartsRow) (limit : ℕ) (script : Option (List ℕ)) (files : List (List ℕ)) → HasRun p limit script files
 of_run p limit None files = (Ends status.Done (run_text p [] limit), refl)
@@ -98,7 +98,7 @@ of_parts (Audit name) p f files = (Ends status.Done (report_line p), refl)
 of_parts (Image name) p f files = (Ends status.Done (image_bytes p), refl)
 of_parts (Run name limit script) p f files = of_run p limit script files
 of_parts (RunImage name limit script) p f files = of_run p limit script files
-of_parts (Why name owner compartment) p f files = looked p f (compartment_named p owner) (library_named p owner) (compartment_named p compartment)
+of_parts (Why name owner compartment) p f files = names_found p f (compartment_named p owner) (library_named p owner) (compartment_named p compartment)
 of_parts (Upgrade name) p f files = (Ends status.Done (image_bytes (upgraded p)), refl)
 of_parts (Check name policy) p f files = of_policy policy p f files
 of_parts (Demo number) p f files = (Ends status.Done (demo_text p), refl)
@@ -127,7 +127,7 @@ of_description c bytes sources = elim (one bytes) [
   | inl d ↦
       let next = of_sources c bytes d.0 (take (length (source_names d.0)) sources) (drop (length (source_names d.0)) sources) d.1 (slice_get (source_names d.0) (length sources)) in
       (next.0, inr (d.0, (d.1, next.1)))
-  | inr f ↦ (Ends status.Description (description_line f.0), inl (f.0, (f.1, refl)))
+  | inr f ↦ (Ends status.Description (description_line f.0), inl (record { fault = f.0; is = f.1; due = refl }))
 ]
 
 -- ---- of images
@@ -139,7 +139,7 @@ of_image : (c : Command) (bytes : List ℕ) (files : List (List ℕ)) → IsCont
 of_image c bytes files content = elim (image_or_flaw bytes content) [
   | inl t ↦ let next = of_parts c t.parts t.image.0 files in (next.0, inr (t.parts, (t.image, next.1)))
   | inr f ↦
-      (Ends status.Image (image_line f.number f.place), inl (record { number = f.number; place = f.place; fault = f.fault; due = refl }))
+      (Ends status.Image (image_line f.number f.place), inl (record { fault = record { number = f.number; place = f.place }; is = f.fault; due = refl }))
 ]
 
 -- ---- of files

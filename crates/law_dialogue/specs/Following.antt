@@ -2,7 +2,7 @@
 use Rattle.std.specs.Prelude.{ℕ, ◌<◌, ◌≤◌, List, length, slice_index}
 use Rattle.std.specs.List.{AllByRecursion}
 use Rattle.def_program.specs.Commands.{Command}
-use Rattle.def_program.specs.Ends.{most}
+use Rattle.def_program.specs.Calls.{most}
 use Rattle.def_program.specs.Turns.{Turn, Follows}
 
 -- what a file may hold: bytes, no more than are taken

@@ -9,7 +9,7 @@ use Rattle.def_machine.specs.Image.{Image, stack_base}
 use Rattle.def_machine.specs.State.{State, Frame, Object, thread}
 use Rattle.def_step.specs.Handlers.{handler_value, return_taken}
 use Rattle.def_facts.specs.Facts.{Facts}
-use Rattle.law_routines.proofs.Stepping.{handled_where, trap_case, return_case}
+use Rattle.law_routines.proofs.Stepping.{trap_case, return_case}
 use Rattle.law_handlers.proofs.Entered.{entered_beside}
 use Rattle.law_handlers.proofs.Whole.{handler_confined}
 use Rattle.def_machine.specs.Threads.{jumped}
@@ -44,7 +44,7 @@ none_licensed b d e = absurd (let clash : None ≡ Some d = e in cc)
 
 pub trapped_fair : (b : Board) (s : State) (t : ℕ) (why : Trap) → s.running ≡ Some t → Partitioned b.image → Facts b.image → Confined b.image s → MayTell why → Fair b s (trapped b s t why)
 trapped_fair b s t why runs parts facts h tells = record {
-  confined = trap_case (Confined b.image) b.image s t why (thread s t).frames (λ f fs frames is. handler_confined b.image s t why f fs parts facts h runs frames (handled_where b.image (stack_base b.image t) (thread s t) f is))
+  confined = trap_case (Confined b.image) b.image s t why (thread s t).frames (λ f fs frames is. handler_confined b.image s t why f fs parts facts h runs frames is)
       (unwound_confined b.image s t (thread s t).frames parts h refl);
   licensed = λ d e. some_same (Licensed b.image.entries) (deed s t 0 (acts.Trap why.cause why.code why.register)) d e (refl, tells);
   beside = λ beside. trap_case (Beside b.image) b.image s t why (thread s t).frames (λ f fs frames is. entered_beside b.image s t why f fs runs frames beside)

@@ -5,7 +5,7 @@ use Rattle.ct_entry.specs.declared.rows.Gate.{Gate}
 use Rattle.ct_entry.specs.declared.rows.Kind.TheVariants as kind
 use Rattle.def_profile.specs.declared.limits.TheConstants.{RAM_END}
 use Rattle.def_profile.specs.declared.rights.TheConstants.{STACK_RIGHTS}
-use Rattle.def_profile.specs.declared.seals.TheConstants.{EXPORT_TYPE, QUOTA_TYPE, FIRST_KEY_TYPE, SENTRY_INHERIT, SENTRY_DISABLE, SENTRY_ENABLE}
+use Rattle.def_profile.specs.declared.seals.TheConstants.{EXPORT_TYPE, QUOTA_TYPE, TOKEN_TYPE, FIRST_KEY_TYPE, SENTRY_INHERIT, SENTRY_DISABLE, SENTRY_ENABLE}
 use Rattle.def_words.specs.declared.Cap.{Cap}
 use Rattle.def_words.specs.Permissions.{bit, execute, sealing, unsealing}
 use Rattle.def_words.specs.Seals.{cap_seal}
@@ -144,3 +144,7 @@ module _ (p : PartsRow) (s : Sound p) where
 
   pub quota_sealed : (n : ℕ) → cap_seal (made_cap (image_of p) n) ≡ QUOTA_TYPE → (root (image_of p) n).origin ≡ Listing kind.Quota
   quota_sealed n is = let f = sealed_as n QUOTA_TYPE is (omega arith) in f.made.says.quotas f.is
+
+  -- boot makes none that is sealed as a token
+  pub no_token : (n : ℕ) → cap_seal (made_cap (image_of p) n) ≡ TOKEN_TYPE → ⊥
+  no_token n is = let f = sealed_as n TOKEN_TYPE is (omega arith) in f.made.says.no_token f.is

@@ -9,5 +9,6 @@ pub mod Clauses
 pub mod Booted
 pub mod Own
 pub mod Wiring
+pub mod Ranges
 pub mod Handling
 pub mod Holding

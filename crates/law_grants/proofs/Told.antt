@@ -13,7 +13,7 @@ use Rattle.ct_entry.specs.declared.rows.Kind.TheVariants as kind
 use Rattle.def_profile.specs.declared.layout.TheConstants.{SLOT_SIZE, DEVICE_SIZE}
 use Rattle.def_profile.specs.declared.native.TheConstants.{NATIVE_BASE, NATIVE_END, NATIVE_LENGTH, LAST_NATIVE, RETURN, RETURN_ENTRY}
 use Rattle.def_profile.specs.declared.rights.TheConstants.{KEY_RIGHTS}
-use Rattle.def_profile.specs.declared.seals.TheConstants.{FIRST_KEY_TYPE, RETURN_ENABLE, EXPORT_TYPE, QUOTA_TYPE, SENTRY_INHERIT, SENTRY_DISABLE, SENTRY_ENABLE, RETURN_DISABLE, LAST_KEY_TYPE}
+use Rattle.def_profile.specs.declared.seals.TheConstants.{FIRST_KEY_TYPE, RETURN_ENABLE, EXPORT_TYPE, QUOTA_TYPE, TOKEN_TYPE, SENTRY_INHERIT, SENTRY_DISABLE, SENTRY_ENABLE, RETURN_DISABLE, LAST_KEY_TYPE}
 use Rattle.def_words.specs.declared.Cap.{Cap}
 use Rattle.def_words.specs.Permissions.{bit, execute}
 use Rattle.def_memory.specs.Granules.{plain}
@@ -44,6 +44,7 @@ pub record TypeSays (p : PartsRow) (r : Root) (k : ℕ) : Type 0 where
   pub returns : k ≡ RETURN_ENABLE → (r.base < r.top) × (bit r.rights execute ≡ true)
   pub calls : k ≡ EXPORT_TYPE → r.origin ≡ Listing kind.Call
   pub quotas : k ≡ QUOTA_TYPE → r.origin ≡ Listing kind.Quota
+  pub no_token : k ≡ TOKEN_TYPE → ⊥
   pub forwards : (k ≡ SENTRY_INHERIT) ⊎ (k ≡ SENTRY_DISABLE) ⊎ (k ≡ SENTRY_ENABLE) → (r.origin ≡ Listing kind.Library) ⊎ (r.origin ≡ Listing kind.Service)
   pub disables : k ≡ SENTRY_DISABLE → (r.origin ≡ Listing kind.Library) × (is_disabled (gate_for (gates_of p) r.of).posture ≡ true)
 
@@ -54,6 +55,7 @@ says_little p r k few = record {
   returns = λ e. absurd (elim few [ inl a ↦ omega (arith, e, a) | inr a ↦ omega (arith, e, a) ]);
   calls = λ e. absurd (elim few [ inl a ↦ omega (arith, e, a) | inr a ↦ omega (arith, e, a) ]);
   quotas = λ e. absurd (elim few [ inl a ↦ omega (arith, e, a) | inr a ↦ omega (arith, e, a) ]);
+  no_token = λ e. elim few [ inl a ↦ omega (arith, e, a) | inr a ↦ omega (arith, e, a) ];
   forwards = λ any. absurd (none any);
   disables = λ e. absurd (elim few [ inl a ↦ omega (arith, e, a) | inr a ↦ omega (arith, e, a) ]);
 }
@@ -71,6 +73,7 @@ says_forward p r k is few off = record {
   returns = λ e. absurd (omega (arith, e, few));
   calls = λ e. absurd (omega (arith, e, few));
   quotas = λ e. absurd (omega (arith, e, few));
+  no_token = λ e. omega (arith, e, few);
   forwards = λ any. is;
   disables = off;
 }
@@ -91,6 +94,7 @@ says_call p r is = record {
   returns = λ e. absurd (omega (arith, e));
   calls = λ e. is;
   quotas = λ e. absurd (omega (arith, e));
+  no_token = λ e. omega (arith, e);
   forwards = λ any. absurd (none_forward 9 (omega arith) any);
   disables = λ e. absurd (omega (arith, e));
 }
@@ -101,6 +105,7 @@ says_quota p r is = record {
   returns = λ e. absurd (omega (arith, e));
   calls = λ e. absurd (omega (arith, e));
   quotas = λ e. is;
+  no_token = λ e. omega (arith, e);
   forwards = λ any. absurd (none_forward 10 (omega arith) any);
   disables = λ e. absurd (omega (arith, e));
 }
@@ -111,6 +116,7 @@ says_return p r some run = record {
   returns = λ e. (some, run);
   calls = λ e. absurd (omega (arith, e));
   quotas = λ e. absurd (omega (arith, e));
+  no_token = λ e. omega (arith, e);
   forwards = λ any. absurd (none_forward 5 (omega arith) any);
   disables = λ e. absurd (omega (arith, e));
 }

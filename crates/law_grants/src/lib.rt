@@ -9,7 +9,7 @@ mod naming;
 mod partitioned;
 mod parts;
 
-pub use boards::boards_wired;
+pub use boards::{boards_inside, boards_wired};
 pub use facts::facts_hold;
 pub use naming::{exports_named, reach_by_import};
 pub use partitioned::{made_partition, rows_partition};

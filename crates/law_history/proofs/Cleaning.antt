@@ -1,15 +1,15 @@
 -- *Clean calls*, of one event.
-use Rattle.std.proofs.Common.{ℕ, ◌≡◌, true, false, List, ◌∷◌, Option, Some, None, refl, sym, ◌∙◌, subst}
+use Rattle.std.proofs.Common.{ℕ, ◌≡◌, true, false, List, [], ◌∷◌, Option, Some, None, refl, sym, ap, ◌∙◌, subst}
 use Rattle.law_lists.proofs.Tests.{chosen}
 use Rattle.ct_entry.specs.declared.acts.Act.{Act}
 use Rattle.ct_entry.specs.declared.acts.Act.TheVariants as acts
 use Rattle.ct_entry.specs.declared.acts.Deed.{Deed}
 use Rattle.def_machine.specs.Image.{Image, root, stack_base}
 use Rattle.def_words.specs.declared.Trap.{Trap}
-use Rattle.def_step.specs.Handlers.{is_entered, handler_entered, trap_taken}
+use Rattle.def_step.specs.Handlers.{is_handled, handler_entered, trap_taken}
 use Rattle.def_safety.specs.Handlers.{HandlerBegins}
 use Rattle.law_handlers.proofs.Whole.{handler_begins}
-use Rattle.def_machine.specs.State.{State, Frame, Counts, thread}
+use Rattle.def_machine.specs.State.{State, Thread, Frame, Counts, thread, nobody}
 use Rattle.def_machine.specs.Frames.{unwound}
 use Rattle.def_confined.specs.Keeps.{Keeps}
 use Rattle.def_confined.specs.Partitioned.{Partitioned}
@@ -20,11 +20,11 @@ use Rattle.def_step.specs.Events.{noted, with_deed, stepped}
 use Rattle.def_step.specs.Instructions.{executed}
 use Rattle.def_machine.specs.Board.{Board}
 use Rattle.def_safety.specs.Clean.{CleanEntry, CleanReturn}
-use Rattle.law_natives.proofs.Cleans.{enters_clean, unwind_clean}
-use Rattle.law_routines.proofs.Stepping.{handled_where}
+use Rattle.law_natives.proofs.Cleans.{enters_clean, unwind_clean, switched_thread}
 use Rattle.law_events.proofs.Events.{ready_keeps}
 use Rattle.def_safety.specs.Each.{ready}
 use Rattle.def_safety.specs.Calls.{CleanEvent, HandsPlain, enters_handler}
+use Rattle.def_events.specs.Entering.{LastEnds}
 use Rattle.law_history.proofs.Steps.{none_told, step_case}
 use Rattle.law_history.proofs.Telling.{ToldBy, Tells, executed_tells}
 use Rattle.law_history.proofs.Ending.{executed_ends}
@@ -59,12 +59,12 @@ step_leaves b s t f g gs runs before plain_one = step_case (λ (r : State × Opt
     own after = counted_return b.image (ready b s) t f (executed b (ready b s) t).0 (with_deed (executed b (ready b s) t).0.counts (executed b (ready b s) t).1) (executed_ends b (ready b s) t f g gs before after plain_one)
 
 -- a trap's state, by whether it enters a handler
-unwound_case : (i : Image) (s : State) (t : ℕ) (why : Trap) (f : Frame) (fs : List Frame) → is_entered i (stack_base i t) (thread s t) f ≡ false → trap_taken i s t why (f ∷ fs) ≡ unwound i s t (f ∷ fs)
-unwound_case i s t why f fs not = chosen (λ z. z ≡ unwound i s t (f ∷ fs)) (is_entered i (stack_base i t) (thread s t) f) (handler_entered i s t why f fs) (unwound i s t (f ∷ fs))
+unwound_case : (i : Image) (s : State) (t : ℕ) (why : Trap) (f : Frame) (fs : List Frame) → is_handled i (stack_base i t) (thread s t) f ≡ false → trap_taken i s t why (f ∷ fs) ≡ unwound i s t (f ∷ fs)
+unwound_case i s t why f fs not = chosen (λ z. z ≡ unwound i s t (f ∷ fs)) (is_handled i (stack_base i t) (thread s t) f) (handler_entered i s t why f fs) (unwound i s t (f ∷ fs))
     (λ is. absurd (let clash : true ≡ false = sym is ∙ not in cc)) (λ no. refl)
 
-entered_case : (i : Image) (s : State) (t : ℕ) (why : Trap) (f : Frame) (fs : List Frame) → is_entered i (stack_base i t) (thread s t) f ≡ true → trap_taken i s t why (f ∷ fs) ≡ handler_entered i s t why f fs
-entered_case i s t why f fs is = chosen (λ z. z ≡ handler_entered i s t why f fs) (is_entered i (stack_base i t) (thread s t) f) (handler_entered i s t why f fs) (unwound i s t (f ∷ fs))
+entered_case : (i : Image) (s : State) (t : ℕ) (why : Trap) (f : Frame) (fs : List Frame) → is_handled i (stack_base i t) (thread s t) f ≡ true → trap_taken i s t why (f ∷ fs) ≡ handler_entered i s t why f fs
+entered_case i s t why f fs is = chosen (λ z. z ≡ handler_entered i s t why f fs) (is_handled i (stack_base i t) (thread s t) f) (handler_entered i s t why f fs) (unwound i s t (f ∷ fs))
     (λ yes. refl) (λ no. absurd (let clash : true ≡ false = sym is ∙ no in cc))
 
 counted_begin : (i : Image) (s : State) (t : ℕ) (f : Frame) (fs : List Frame) (z : State) (c : Counts) → HandlerBegins i s t f fs z → HandlerBegins i s t f fs (record z { counts = c })
@@ -96,7 +96,7 @@ step_handles : (b : Board) (s : State) (d : Deed) (cause code register : ℕ) (f
 step_handles b s d cause code register f fs parts facts k act frames is told = step_trap (HandlerBegins b.image (ready b s) d.thread f fs) b s d cause code register act told (counted_begin b.image (ready b s) d.thread f fs)
     (subst (λ (gs : List Frame). HandlerBegins b.image (ready b s) d.thread f fs (trap_taken b.image (ready b s) d.thread (record { cause = cause; code = code; register = register }) gs)) (sym frames)
     (subst (λ (z : State). HandlerBegins b.image (ready b s) d.thread f fs z) (sym (entered_case b.image (ready b s) d.thread (record { cause = cause; code = code; register = register }) f fs is))
-    (handler_begins b.image (ready b s) d.thread (record { cause = cause; code = code; register = register }) f fs parts facts (ready_keeps b s parts k) frames (handled_where b.image (stack_base b.image d.thread) (thread (ready b s) d.thread) f is))))
+    (handler_begins b.image (ready b s) d.thread (record { cause = cause; code = code; register = register }) f fs parts facts (ready_keeps b s parts k) frames is)))
 
 -- ---- an event
 
@@ -125,3 +125,17 @@ clean_event b s (Input n byte) parts facts k = record {
   unwinds = λ d cause code register f g gs is act frames not. none_told d is;
   handles = λ d cause code register f fs is act frames enters. none_told d is;
 }
+
+-- ---- a trap of a thread's only frame
+
+step_ends : (b : Board) (s : State) (d : Deed) (cause code register : ℕ) (f : Frame) → d.act ≡ acts.Trap cause code register → (thread (ready b s) d.thread).frames ≡ f ∷ [] → enters_handler b (ready b s) d.thread f ≡ false → (stepped b s).1 ≡ Some d → (thread (stepped b s).0 d.thread).frames ≡ []
+step_ends b s d cause code register f act frames not told = step_trap (λ z. (thread z d.thread).frames ≡ []) b s d cause code register act told (λ z c h. h)
+    (subst (λ (fs : List Frame). (thread (trap_taken b.image (ready b s) d.thread (record { cause = cause; code = code; register = register }) fs) d.thread).frames ≡ []) (sym frames)
+    (subst (λ (z : State). (thread z d.thread).frames ≡ []) (sym (unwound_case b.image (ready b s) d.thread (record { cause = cause; code = code; register = register }) f [] not))
+    (ap (λ (u : Thread). u.frames) (switched_thread b.image (ready b s) d.thread f.top nobody None f [] frames))))
+
+pub last_ends : (b : Board) (s : State) (e : Event) → LastEnds b s e
+last_ends b s Step = λ d cause code register f is act frames not. step_ends b s d cause code register f act frames not is
+last_ends b s Tick = λ d cause code register f is act frames not. none_told d is
+last_ends b s Sweep = λ d cause code register f is act frames not. none_told d is
+last_ends b s (Input n byte) = λ d cause code register f is act frames not. none_told d is

@@ -1,5 +1,5 @@
 -- Which frames a step ends: by a return or an unwind alone, and then its caller goes on clean.
-use Rattle.std.proofs.Common.{ℕ, zero, suc, ◌≡◌, ◌≤◌, ◌&&◌, true, false, inl, inr, ◌∙◌, List, [], ◌∷◌, length, map, Result, Ok, Err, sym, ap, subst, arith, slice_set}
+use Rattle.std.proofs.Common.{ℕ, zero, suc, ◌≡◌, ◌≤◌, true, false, inl, inr, ◌∙◌, List, [], ◌∷◌, length, map, Result, Ok, Err, sym, ap, subst, arith, slice_set}
 use Rattle.std.proofs.Math.ListN.{get_or}
 use Rattle.law_lists.proofs.Sets.{after_set}
 use Rattle.def_words.specs.declared.Trap.{Trap}
@@ -18,7 +18,6 @@ use Rattle.def_step.specs.Tokens.{with_row}
 use Rattle.def_step.specs.Routines.{answers}
 use Rattle.law_routines.proofs.Leaving.{Moves}
 use Rattle.law_routines.proofs.Stepping.{Steps, IfDone, carried, executed_left}
-use Rattle.def_step.specs.declared.TheConstants.{SERVES_HANDLERS}
 use Rattle.def_step.specs.Handlers.{handled, handler_entered}
 use Rattle.def_safety.specs.Calls.{HandsPlain}
 use Rattle.def_safety.specs.Clean.{CleanReturn}
@@ -77,7 +76,7 @@ unwound_is_clean i s t f g gs frames = subst (λ (fs : List Frame). CleanReturn 
 ended_ends : (b : Board) (s : State) (t value : ℕ) → EndsClean b s t (ended_with b.image s t value (thread s t).frames)
 ended_ends b s t value f g gs ended plain_one = subst (λ (fs : List Frame). CleanReturn b.image s t f (ended_with b.image s t value fs)) (sym ended.before) (value_clean b.image s t value f g gs ended.before)
 
-returned_ends : (b : Board) (s : State) (t : ℕ) → ((f : Frame) (fs : List Frame) → (thread s t).frames ≡ f ∷ fs → (SERVES_HANDLERS && f.handling) ≡ false) → EndsClean b s t (returned b.image s t (thread s t).frames)
+returned_ends : (b : Board) (s : State) (t : ℕ) → ((f : Frame) (fs : List Frame) → (thread s t).frames ≡ f ∷ fs → f.handling ≡ false) → EndsClean b s t (returned b.image s t (thread s t).frames)
 returned_ends b s t unmarked f g gs ended (inl plain_one) = subst (λ (fs : List Frame). CleanReturn b.image s t f (returned b.image s t fs)) (sym ended.before) (back_clean b.image s t f g gs ended.before plain_one)
 returned_ends b s t unmarked f g gs ended (inr marked) = absurd (let clash : true ≡ false = sym marked ∙ unmarked f (g ∷ gs) ended.before in cc)
 

@@ -2,6 +2,12 @@ pub mod Steps
 pub mod Telling
 pub mod Ending
 pub mod Cleaning
+pub mod Handing
+pub mod Charging
+pub mod Trapping
+pub mod Reaching
+pub mod Within
 pub mod Safety
 pub mod Reusing
+pub mod Shutting
 pub mod Running

@@ -1,4 +1,5 @@
--- *Sweep before reuse*, by the deeds that are told: a chunk that was freed is handed out again only after a whole sweep.
+-- What comes after a free that is told: no capability of the object is used, and its chunk is handed out again only after
+-- a whole sweep.
 use Rattle.std.proofs.Common.{ℕ, ◌≡◌, inl, inr, true, List, Option, Some, None, refl, sym, ap, ◌∙◌, subst, arith}
 use Rattle.ct_entry.specs.declared.acts.Act.{Act}
 use Rattle.ct_entry.specs.declared.acts.Act.TheVariants as acts
@@ -6,7 +7,7 @@ use Rattle.ct_entry.specs.declared.acts.Deed.{Deed}
 use Rattle.def_words.specs.declared.Cap.{Cap}
 use Rattle.def_words.specs.Capability.{integer}
 use Rattle.def_machine.specs.Image.{Image}
-use Rattle.def_machine.specs.State.{State, Object}
+use Rattle.def_machine.specs.State.{State, Object, register, thread}
 use Rattle.def_machine.specs.Objects.{Any}
 use Rattle.def_confined.specs.Confined.{Apart, Confined, ObjectFits}
 use Rattle.def_confined.specs.Keeps.{Keeps}
@@ -16,11 +17,11 @@ use Rattle.def_board.specs.Wired.{Wired}
 use Rattle.def_hidden.specs.Hidden.{Shut, Blank}
 use Rattle.def_step.specs.declared.Event.{Event}
 use Rattle.def_step.specs.declared.Event.TheVariants.{Step}
-use Rattle.def_step.specs.Events.{noted, happens, run, stepped}
+use Rattle.def_step.specs.Events.{happens, run, stepped}
 use Rattle.def_step.specs.Instructions.{executed}
 use Rattle.def_machine.specs.Board.{Board}
 use Rattle.def_step.specs.Quotas.{quota_in, let_go, free}
-use Rattle.def_step.specs.Routines.{Ran, Leaves, answers}
+use Rattle.def_step.specs.Routines.{answers}
 use Rattle.def_step.specs.Tokens.{token_free}
 use Rattle.law_places.proofs.Rows.{each_any, each_take}
 use Rattle.law_routines.specs.Leaving.{Left}
@@ -30,13 +31,15 @@ use Rattle.def_safety.specs.Fresh.{HandsOut, AsHanded}
 use Rattle.def_safety.specs.Reuse.{IsRow, Waits, SweepsWhole}
 use Rattle.law_reuse.proofs.Same.{Same, quarantined_stays, ready_same}
 use Rattle.law_reuse.proofs.Waiting.{waiting}
+use Rattle.law_reuse.proofs.Gone.{NoneLive, gives_none, ready_none, run_none, not_of}
 use Rattle.law_events.proofs.Events.{ready_keeps}
 use Rattle.law_events.proofs.Running.{run_keeps}
 use Rattle.law_blank.proofs.Events.{run_blank}
 use Rattle.def_safety.specs.Each.{ready}
-use Rattle.def_safety.specs.Chunks.{ChunksMeet, chunk_at}
-use Rattle.law_history.proofs.Steps.{none_told, step_case}
-use Rattle.law_history.proofs.Telling.{ToldBy, Tells, executed_tells}
+use Rattle.def_safety.specs.Chunks.{ChunksMeet, IsNotOf, chunk_at}
+use Rattle.def_safety.specs.Temporal.{UsesLive, UsesOnly}
+use Rattle.def_safety.specs.Used.{authority_of}
+use Rattle.law_history.proofs.Handing.{free_told_case}
 use Rattle.law_history.proofs.Safety.{step_allocates}
 
 -- ---- a free is told
@@ -84,22 +87,48 @@ free_waits i s t h = free_left FreeWaits i s t (none_waits s t) (λ r c f. gives
 token_free_waits : (i : Image) (s : State) (t : ℕ) → Confined i s → Left FreeWaits (token_free i s t)
 token_free_waits i s t h = token_free_left FreeWaits i s t (none_waits s t) (λ r c f. gives_waits i s t r c h f)
 
-left_by : (Q : State → Option (ℕ × Act) → Type 0) (r : Ran) (z : State) (told : Option (ℕ × Act)) → r ≡ Leaves z told → Left Q r → Q z told
-left_by Q r z told is h = subst (Left Q) is h
-
 step_frees : (b : Board) (s : State) (d : Deed) (number base long live : ℕ) → Partitioned b.image → Keeps b.image s → d.act ≡ acts.Free number base long live → (stepped b s).1 ≡ Some d → Any (Waits (chunk_at number base long)) (stepped b s).0.objects
-step_frees b s d number base long live parts k act = step_case (λ (r : State × Option Deed). r.1 ≡ Some d → Any (Waits (chunk_at number base long)) r.0.objects) b s
-    (λ idle e. none_told d e)
-    (λ t runs e. at t (executed_tells b (ready b s) t d e))
-  where
-    at : (t : ℕ) → Tells b (ready b s) t (executed b (ready b s) t).0 d → Any (Waits (chunk_at number base long)) (noted (executed b (ready b s) t)).0.objects
-    at t told =
-        let by : ToldBy b.image (ready b s) t (executed b (ready b s) t).0 d.entry (acts.Free number base long live) = subst (λ (a : Act). ToldBy b.image (ready b s) t (executed b (ready b s) t).0 d.entry a) act told.by in
-        let held = (ready_keeps b s parts k).confined in
-        elim by [
-          | inl plain ↦ left_by FreeWaits (free b.image (ready b s) t) (executed b (ready b s) t).0 (Some (d.entry, acts.Free number base long live)) plain (free_waits b.image (ready b s) t held) d.entry number base long live refl
-          | inr token ↦ left_by FreeWaits (token_free b.image (ready b s) t) (executed b (ready b s) t).0 (Some (d.entry, acts.Free number base long live)) token (token_free_waits b.image (ready b s) t held) d.entry number base long live refl
-        ]
+step_frees b s d number base long live parts k act =
+    let held = (ready_keeps b s parts k).confined in
+    free_told_case (λ (z : State). Any (Waits (chunk_at number base long)) z.objects) FreeWaits b s d number base long live
+    (λ t. (free_waits b.image (ready b s) t held, token_free_waits b.image (ready b s) t held))
+    act
+    (λ z c so. so d.entry number base long live refl)
+
+-- ---- nothing of it is used
+
+-- of the number of a free that is told no object is live
+abbrev FreeNone : State → Option (ℕ × Act) → Type 0
+FreeNone z told = (entry number base long live : ℕ) → told ≡ Some (entry, acts.Free number base long live) → NoneLive number z
+
+none_none : (s : State) (t n : ℕ) → FreeNone (answers s t (integer n)) None
+none_none s t n entry number base long live e = absurd (let clash : None ≡ Some (entry, acts.Free number base long live) = e in cc)
+
+gives_none_live : (i : Image) (s : State) (t : ℕ) (r : Object) (c : Cap) → Confined i s → Found (quota_in s t) c s.objects r → FreeNone (answers (let_go i s t r) t (integer 0)) (Some (free_told i s t r))
+gives_none_live i s t r c h f entry number base long live e =
+    let same : acts.Free r.number r.base r.length _ ≡ acts.Free number base long live = ap (act_in (acts.Free 0 0 0 0)) e in
+    subst (λ (n : ℕ). NoneLive n (answers (let_go i s t r) t (integer 0))) (ap number_in same) (gives_none i s t r c h f)
+
+step_none : (b : Board) (s : State) (d : Deed) (number base long live : ℕ) → Partitioned b.image → Keeps b.image s → d.act ≡ acts.Free number base long live → (stepped b s).1 ≡ Some d → NoneLive number (stepped b s).0
+step_none b s d number base long live parts k act =
+    let held = (ready_keeps b s parts k).confined in
+    free_told_case (NoneLive number) FreeNone b s d number base long live
+    (λ t. (
+      free_left FreeNone b.image (ready b s) t (none_none (ready b s) t) (λ r c f. gives_none_live b.image (ready b s) t r c held f),
+      token_free_left FreeNone b.image (ready b s) t (none_none (ready b s) t) (λ r c f. gives_none_live b.image (ready b s) t r c held f),
+    ))
+    act
+    (λ z c so. (let none = so d.entry number base long live refl in record { given = none.given; gone = none.gone }))
+
+-- what the running thread uses is of live objects, and so of none that was freed
+pub free_then_use : (b : Board) (s : State) (es : List Event) (d : Deed) (n base long live : ℕ) → Partitioned b.image → Keeps b.image s → (happens b s Step).1.deed ≡ Some d → d.act ≡ acts.Free n base long live
+    → UsesLive b (run b (happens b s Step).0 es) → UsesOnly b (run b (happens b s Step).0 es) (IsNotOf b.image n)
+free_then_use b s es d n base long live parts k frees act uses =
+    let none = ready_none n b (run b (happens b s Step).0 es) (run_none n b (happens b s Step).0 es (step_none b s d n base long live parts k act frees)) in
+    record {
+      access = λ t i runs passes. not_of b.image n (ready b (run b (happens b s Step).0 es)) (authority_of (ready b (run b (happens b s Step).0 es)) t i) none (uses.access t i runs passes);
+      word = λ t runs passes. not_of b.image n (ready b (run b (happens b s Step).0 es)) (register (thread (ready b (run b (happens b s Step).0 es)) t) 10) none (uses.word t runs passes);
+    }
 
 -- ---- an allocation that meets it
 

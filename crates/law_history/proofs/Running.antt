@@ -1,5 +1,5 @@
 -- The laws of single events, over runs.
-use Rattle.std.proofs.Common.{ℕ, ◌≡◌, ◌≤◌, List, Some}
+use Rattle.std.proofs.Common.{ℕ, ◌≡◌, ◌≤◌, List, [], ◌∷◌, Some}
 use Rattle.ct_entry.specs.declared.acts.Act.TheVariants as acts
 use Rattle.ct_entry.specs.declared.acts.Deed.{Deed}
 use Rattle.def_machine.specs.Image.{root}
@@ -8,29 +8,96 @@ use Rattle.def_machine.specs.State.{State}
 use Rattle.def_confined.specs.Keeps.{Keeps}
 use Rattle.def_confined.specs.Partitioned.{Partitioned}
 use Rattle.def_facts.specs.Facts.{Facts}
+use Rattle.def_board.specs.Inside.{Inside}
 use Rattle.def_board.specs.Wired.{Wired}
 use Rattle.def_hidden.specs.Hidden.{Shut, Blank}
 use Rattle.def_step.specs.declared.Event.{Event}
 use Rattle.def_step.specs.declared.Event.TheVariants.{Step}
 use Rattle.def_step.specs.Events.{happens, run}
 use Rattle.def_machine.specs.Board.{Board}
-use Rattle.law_events.proofs.Events.{event_keeps}
+use Rattle.law_events.proofs.Events.{event_keeps, ready_keeps}
 use Rattle.law_events.proofs.Running.{run_keeps}
 use Rattle.law_blank.proofs.Events.{event_blank, run_blank}
 use Rattle.def_safety.specs.Reuse.{SweepsWhole}
-use Rattle.def_safety.specs.Each.{EachEvent}
+use Rattle.def_safety.specs.Each.{EachEvent, ready}
 use Rattle.def_safety.specs.Calls.{CleanEvent}
+use Rattle.def_events.specs.Tokens.{KeepsTokens}
+use Rattle.def_events.specs.Upheld.{Upholds}
+use Rattle.def_machine.specs.Rows.{RowsFit}
+use Rattle.def_tokens.specs.Tokened.{Tokened}
+use Rattle.law_tokens.proofs.Events.{event_fit}
+use Rattle.law_tokens.proofs.Lasting.{key_lasts}
+use Rattle.law_history.proofs.Shutting.{leaves_shut}
+use Rattle.law_tokens.proofs.Openings.{opens_tokens}
+use Rattle.law_tokens.proofs.Whole.{event_tokened, ready_tokened}
+use Rattle.law_marks.proofs.Marking.{marks_go, marked_by, enters_unmarked}
 use Rattle.def_safety.specs.Accesses.{UsesReach}
 use Rattle.def_safety.specs.Temporal.{UsesLive, AllocatesFresh}
-use Rattle.def_safety.specs.Chunks.{ChunksMeet, SweptBeforeReuse}
+use Rattle.def_safety.specs.Chunks.{ChunksMeet, SweptBeforeReuse, UnusedAfterFree}
+use Rattle.def_safety.specs.Charges.{ChargesFollow}
+use Rattle.def_safety.specs.Traps.{TrapsFirst}
+use Rattle.def_safety.specs.Within.{ThreadsWithin}
 use Rattle.law_history.proofs.Steps.{each_event}
-use Rattle.law_history.proofs.Cleaning.{clean_event}
-use Rattle.law_history.proofs.Safety.{uses_live, uses_reach, allocates_fresh}
-use Rattle.law_history.proofs.Reusing.{free_then_allocate}
+use Rattle.law_history.proofs.Cleaning.{clean_event, last_ends}
+use Rattle.law_history.proofs.Reaching.{uses_reach}
+use Rattle.law_history.proofs.Safety.{uses_live, allocates_fresh}
+use Rattle.law_history.proofs.Reusing.{free_then_allocate, free_then_use}
+use Rattle.law_history.proofs.Charging.{charges_follow}
+use Rattle.law_history.proofs.Trapping.{traps_first}
+use Rattle.law_history.proofs.Within.{ready_within}
+
+-- what stands of a state from event to event
+record IsUpheld (b : Board) (z : State) : Type 0 where
+  keeps : Keeps b.image z
+  blank : Blank b.image z
+  rows : RowsFit z.objects z.tokens
+  tokened : Tokened b.image z
 
 module _ (b : Board) (parts : Partitioned b.image) (facts : Facts b.image) (wired : Wired b) where
   next_keeps : (z : State) (e : Event) → Keeps b.image z → Keeps b.image (happens b z e).0
   next_keeps z e k = event_keeps b z e parts facts wired k
+
+  -- keys and tokens
+  keeps_tokens : (z : State) (e : Event) → Keeps b.image z → RowsFit z.objects z.tokens → Tokened b.image z → KeepsTokens b z e
+  unfolding run
+  keeps_tokens z e k rows held = record {
+    rows = event_fit b z e parts k rows;
+    tokened = event_tokened b z e parts facts wired k rows held;
+    opens = λ t. opens_tokens b (ready b z) t (ready_keeps b z parts k).confined (ready_tokened b z held);
+    shut = leaves_shut b z e parts facts k rows;
+    keys = λ n is. key_lasts b z (e ∷ []) n parts facts wired k rows held is;
+  }
+
+  -- what holds of one event
+  upholds : (z : State) (e : Event) → Inside b → IsUpheld b z → Upholds b z e
+  upholds z e inside h = let k = h.keeps in let blank = h.blank in record {
+    safe = record {
+      calls = clean_event b z e parts facts k;
+      accesses = uses_reach b z parts k;
+      unused = uses_live b z parts k;
+      fresh = allocates_fresh b z e parts facts k blank;
+      traps = traps_first b z e;
+      charged = charges_follow b z e parts k;
+      within = ready_within b z inside parts k;
+    };
+    marks = marks_go b z e;
+    marked = marked_by b z e;
+    unmarked = enters_unmarked b z e;
+    last = last_ends b z e;
+    tokens = keeps_tokens z e k h.rows h.tokened;
+  }
+
+  next_upheld : Shut b.image → (z : State) (e : Event) → IsUpheld b z → IsUpheld b (happens b z e).0
+  next_upheld shut z e h = record {
+    keeps = next_keeps z e h.keeps;
+    blank = event_blank b z e parts wired shut h.keeps h.blank;
+    rows = event_fit b z e parts h.keeps h.rows;
+    tokened = event_tokened b z e parts facts wired h.keeps h.rows h.tokened;
+  }
+
+  pub run_upholds : (s : State) (es : List Event) → Inside b → Shut b.image → Keeps b.image s → Blank b.image s → RowsFit s.objects s.tokens → Tokened b.image s → EachEvent (Upholds b) b s es
+  run_upholds s es inside shut k blank rows held = each_event (Upholds b) (IsUpheld b) b s es (next_upheld shut) (λ z e h. upholds z e inside h)
+      (record { keeps = k; blank = blank; rows = rows; tokened = held })
 
   pub run_clean : (s : State) (es : List Event) → Keeps b.image s → EachEvent (CleanEvent b) b s es
   run_clean s es k = each_event (CleanEvent b) (Keeps b.image) b s es next_keeps (λ z e kept. clean_event b z e parts facts kept) k
@@ -40,6 +107,12 @@ module _ (b : Board) (parts : Partitioned b.image) (facts : Facts b.image) (wire
 
   pub run_uses_reach : (s : State) (es : List Event) → Keeps b.image s → EachEvent (λ z e. UsesReach b z) b s es
   run_uses_reach s es k = each_event (λ z e. UsesReach b z) (Keeps b.image) b s es next_keeps (λ z e kept. uses_reach b z parts kept) k
+
+  pub run_charges_follow : (s : State) (es : List Event) → Keeps b.image s → EachEvent (ChargesFollow b) b s es
+  run_charges_follow s es k = each_event (ChargesFollow b) (Keeps b.image) b s es next_keeps (λ z e kept. charges_follow b z e parts kept) k
+
+  pub run_within : (s : State) (es : List Event) → Inside b → Keeps b.image s → EachEvent (λ z e. ThreadsWithin b (ready b z)) b s es
+  run_within s es inside k = each_event (λ z e. ThreadsWithin b (ready b z)) (Keeps b.image) b s es next_keeps (λ z e kept. ready_within b z inside parts kept) k
 
   pub run_charges : (s : State) (es : List Event) (q : ℕ) → Keeps b.image s → charges q (run b s es).objects ≤ (root b.image q).limit
   run_charges s es q k = (run_keeps b s es parts facts wired k).confined.limits q
@@ -61,3 +134,14 @@ module _ (b : Board) (parts : Partitioned b.image) (facts : Facts b.image) (wire
 
   pub run_swept : (s : State) → Shut b.image → Keeps b.image s → Blank b.image s → SweptBeforeReuse b s
   run_swept s shut k blank = λ es fs d n base long live c number from size left. run_reuses s es fs d n base long live c number from size left shut k blank
+
+  pub run_unused : (s : State) → Keeps b.image s → UnusedAfterFree b s
+  run_unused s k = λ es fs d n base long live frees act.
+      (let kept = run_keeps b s es parts facts wired k in
+      free_then_use b (run b s es) fs d n base long live parts kept frees act
+      (uses_live b (run b (happens b (run b s es) Step).0 fs) parts (run_keeps b (happens b (run b s es) Step).0 fs parts facts wired (next_keeps (run b s es) Step kept))))
+
+-- whatever the board and the state
+pub run_traps : (b : Board) (s : State) (es : List Event) → EachEvent (TrapsFirst b) b s es
+run_traps b s [] = tt
+run_traps b s (e ∷ es) = (traps_first b s e, run_traps b (happens b s e).0 es)

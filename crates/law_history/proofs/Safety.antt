@@ -1,4 +1,4 @@
--- *Licensed accesses* and *Temporal safety*, of one event.
+-- *Temporal safety*, of one event.
 use Rattle.std.proofs.Common.{ℕ, ◌≡◌, ◌+◌, ◌<◌, ◌&&◌, true, inl, inr, nat_le, List, Option, Some, sym, subst, arith}
 use Rattle.std.proofs.lemmas.Bool.{leb-true, and_parts}
 use Rattle.law_lists.proofs.Tests.{chosen}
@@ -17,22 +17,21 @@ use Rattle.def_hidden.specs.Hidden.{Blank}
 use Rattle.def_step.specs.declared.Access.{Access}
 use Rattle.def_step.specs.declared.Event.{Event}
 use Rattle.def_step.specs.declared.Event.TheVariants.{Step, Tick, Sweep, Input}
-use Rattle.def_step.specs.Accesses.{access_of, access_checks, load_checks, store_checks, access_address}
+use Rattle.def_step.specs.Accesses.{access_of, access_checks, load_checks, store_checks}
 use Rattle.def_step.specs.Checks.{Check}
 use Rattle.def_step.specs.Events.{stepped}
-use Rattle.def_step.specs.Instructions.{executed, operand}
+use Rattle.def_step.specs.Instructions.{executed}
 use Rattle.def_machine.specs.Board.{Board}
 use Rattle.def_step.specs.Operands.{operands_of}
 use Rattle.def_step.specs.Routines.{word_checks, lies_in_ram}
 use Rattle.law_licensed.proofs.Checks.{AllPass, all_pass}
-use Rattle.law_licensed.proofs.Deeds.{register_used, pcc_used}
 use Rattle.law_events.proofs.Accesses.{load_passes, store_passes, width_of}
 use Rattle.law_events.proofs.Events.{ready_keeps}
 use Rattle.law_blank.proofs.Events.{ready_blank}
 use Rattle.def_safety.specs.Fresh.{HandsOut, AsHanded}
 use Rattle.law_natives.proofs.Handing.{hands_fresh, key_fresh, token_fresh}
 use Rattle.def_safety.specs.Each.{ready}
-use Rattle.def_safety.specs.Accesses.{UsesReach}
+use Rattle.def_safety.specs.Used.{authority_of, value_of, access_start}
 use Rattle.def_safety.specs.Temporal.{OfLive, UsesLive, AllocatesFresh}
 use Rattle.law_history.proofs.Steps.{none_told, step_case}
 use Rattle.law_history.proofs.Telling.{ToldBy, Tells, executed_tells}
@@ -57,18 +56,12 @@ word_uses i s c h =
 
 pub uses_live : (b : Board) (s : State) → Partitioned b.image → Keeps b.image s → UsesLive b s
 uses_live b s parts k = record {
-  access = λ t i runs passes. of_register t (operands_of i).first runs (access_uses (access_of i) (operand (ready b s) t (operands_of i).first) (operand (ready b s) t (operands_of i).second) (access_address (access_of i) (operand (ready b s) t (operands_of i).first)) (width_of i).some (all_pass (access_checks (access_of i) (operand (ready b s) t (operands_of i).first) (operand (ready b s) t (operands_of i).second) (access_address (access_of i) (operand (ready b s) t (operands_of i).first))) passes));
+  access = λ t i runs passes. of_register t (operands_of i).first runs (access_uses (access_of i) (authority_of (ready b s) t i) (value_of (ready b s) t i) (access_start (ready b s) t i) (width_of i).some (all_pass (access_checks (access_of i) (authority_of (ready b s) t i) (value_of (ready b s) t i) (access_start (ready b s) t i)) passes));
   word = λ t runs passes. of_register t 10 runs (word_uses b.image (ready b s) (register (thread (ready b s) t) 10) (all_pass (word_checks b.image (ready b s) (register (thread (ready b s) t) 10)) passes));
 }
   where
     of_register : (t n : ℕ) → (ready b s).running ≡ Some t → Used (register (thread (ready b s) t) n) → OfLive b.image (ready b s).objects (register (thread (ready b s) t) n)
     of_register t n runs used heap = (ready_keeps b s parts k).confined.live t runs n used.0 heap used.1
-
-pub uses_reach : (b : Board) (s : State) → Partitioned b.image → Keeps b.image s → UsesReach b s
-uses_reach b s parts k = record {
-  registers = λ t n f fs runs frames tagged. register_used b.image (ready b s) t n f fs (ready_keeps b s parts k).confined runs frames tagged;
-  counter = λ t f fs runs frames tagged. pcc_used b.image (ready b s) t f fs (ready_keeps b s parts k).confined frames tagged;
-}
 
 -- ---- what is handed out
 

@@ -66,16 +66,16 @@ trap_tells b s t why d e = some_same (Tells b s t (trap_taken b.image s t why (t
 
 -- ---- instructions tell loads and stores alone
 
-abbrev IsAccess : Act → Type 0
+abbrev pub IsAccess : Act → Type 0
 IsAccess (acts.Load address width value) = Unit {0}
 IsAccess (acts.Store address width value) = Unit {0}
 IsAccess _ = ⊥
 
-abbrev IfAccess : Option Act → Type 0
+abbrev pub IfAccess : Option Act → Type 0
 IfAccess None = Unit {0}
 IfAccess (Some a) = IsAccess a
 
-abbrev IfDone : Result Done Trap → Type 0
+abbrev pub IfDone : Result Done Trap → Type 0
 IfDone (Err w) = Unit {0}
 IfDone (Ok d) = IfAccess d.act
 
@@ -98,7 +98,7 @@ flow_acts : (a : Around) (to : ℕ) (r : Result Flowed Trap) → IfDone (flows a
 flow_acts a to (Err w) = tt
 flow_acts a to (Ok j) = tt
 
-class_acts : (c : Class) (k : Instr) (to : ℕ) (x y : Cap) (named : ℕ) (a : Around) → IfDone (carried_out c k to x y named a)
+pub class_acts : (c : Class) (k : Instr) (to : ℕ) (x y : Cap) (named : ℕ) (a : Around) → IfDone (carried_out c k to x y named a)
 class_acts class.Integer k to x y named a = tt
 class_acts class.Capability k to x y named a = tt
 class_acts class.System k to x y named a = tt
@@ -126,7 +126,7 @@ ends_tells b s t x (Ok d) h = by d.act h
 
 -- ---- each routine tells acts of its own alone
 
-abbrev IfTold : (Act → Type 0) → State → Option (ℕ × Act) → Type 0
+abbrev pub IfTold : (Act → Type 0) → State → Option (ℕ × Act) → Type 0
 IfTold P z None = Unit {0}
 IfTold P z (Some told) = P told.1
 

@@ -1,9 +1,11 @@
 //! Laws of what events do one after another, whatever list of them comes: calls are clean, what is accessed is
-//! licensed, no freed object is used, what is handed out is fresh and comes after a whole sweep, and no quota is
-//! exceeded. They speak of the written machine alone.
+//! licensed, a trap names the first check that fails, no freed object is used, what is handed out is fresh and comes
+//! after a whole sweep, charges follow what is told and no quota is exceeded, what threads hold stays inside the board,
+//! and a frame's error handler is entered at most once. They speak of the written machine alone.
 #![tactic(auto)]
 
 ghost use Rattle.std.specs.Prelude.{◌≤◌, ℕ, List};
+ghost use Rattle.def_board.specs.Inside.{Inside};
 ghost use Rattle.def_board.specs.Wired.{Wired};
 ghost use Rattle.def_confined.specs.Keeps.{Keeps};
 ghost use Rattle.def_confined.specs.Partitioned.{Partitioned};
@@ -16,10 +18,27 @@ ghost use Rattle.def_step.specs.declared.Event.{Event};
 ghost use Rattle.def_step.specs.Events.{run};
 ghost use Rattle.def_machine.specs.Board.{Board};
 ghost use Rattle.def_safety.specs.Accesses.{UsesReach};
-ghost use Rattle.def_safety.specs.Chunks.{SweptBeforeReuse};
+ghost use Rattle.def_safety.specs.Charges.{ChargesFollow};
+ghost use Rattle.def_safety.specs.Chunks.{SweptBeforeReuse, UnusedAfterFree};
 ghost use Rattle.def_safety.specs.Calls.{CleanEvent};
-ghost use Rattle.def_safety.specs.Each.{EachEvent};
+ghost use Rattle.def_safety.specs.Each.{EachEvent, ready};
 ghost use Rattle.def_safety.specs.Temporal.{AllocatesFresh, UsesLive};
+ghost use Rattle.def_safety.specs.Traps.{TrapsFirst};
+ghost use Rattle.def_safety.specs.Within.{ThreadsWithin};
+ghost use Rattle.def_events.specs.Upheld.{Upholds};
+ghost use Rattle.def_machine.specs.Rows.{RowsFit};
+ghost use Rattle.def_tokens.specs.Tokened.{Tokened};
+
+/// Each event upholds what a record says of it: calls are clean, accesses are licensed, no freed object is used, what
+/// is handed out is fresh, a trap names the first check that fails, charges follow what is told, what threads hold stays
+/// inside the board, a frame's error handler is entered where a trap is told that enters it, and only once, and keys and
+/// tokens are kept.
+pub fn events_safe()
+    ensures { (b : Board) (s : State) (es : List Event)
+        → Partitioned b.image → Facts b.image → Wired b → Inside b → Shut b.image
+        → Keeps b.image s → Blank b.image s → RowsFit s.objects s.tokens → Tokened b.image s
+        → EachEvent (Upholds b) b s es }
+{}
 
 /// Clean calls. On entry through an export that passes plain values the tagged registers are exactly the
 /// program counter, c1, c2 and c3, as the switcher gives them, and the callee's stack is zero and untagged.
@@ -33,21 +52,53 @@ pub fn calls_clean()
         → EachEvent (CleanEvent b) b s es }
 {}
 
-/// Licensed accesses. Every fetch, and every load and store of an instruction, a wait or a wake, goes through
-/// the running thread's program counter or one of its registers: a capability whose root's owner reaches the
-/// actor, or the thread's own stack root, within the range and rights of that root.
+/// Licensed accesses. Each tagged register and program counter of the running thread is authority of a root whose
+/// owner reaches the actor, or of the thread's own stack, within the root's range and rights, and the code that runs is
+/// of a compartment or a library that reaches the actor, or a native routine. Where the checks of a fetch, of a load or
+/// store, or of the word of a wait or wake pass, the bytes that it meets lie in the range of that root, or of a heap
+/// capability in a live object; and the root's rights hold what is used: execute, load or store, and the right to move
+/// capabilities where one is moved.
 pub fn accesses_licensed()
     ensures { (b : Board) (s : State) (es : List Event)
         → Partitioned b.image → Facts b.image → Wired b → Keeps b.image s
         → EachEvent (λ z e. UsesReach b z) b s es }
 {}
 
-/// No use after free. No load or store, and no wait or wake, goes through a capability of an object after
-/// its free: the object is live.
+/// Traps. A trap that a step tells is that of the first check that fails, of the list that is written for what stands at
+/// the program counter: each check before it holds, and it doesn't.
+pub fn traps_first()
+    ensures { (b : Board) (s : State) (es : List Event) → EachEvent (TrapsFirst b) b s es }
+{}
+
+/// Machine stays inside. What a thread may load, store or run through, by a register or its program counter,
+/// reaches RAM, devices and the entries of native routines alone.
+pub fn threads_within()
+    ensures { (b : Board) (s : State) (es : List Event)
+        → Partitioned b.image → Facts b.image → Wired b → Inside b → Keeps b.image s
+        → EachEvent (λ z e. ThreadsWithin b (ready b z)) b s es }
+{}
+
+/// No use after free, by rows. No load or store whose checks pass, and no wait or wake, goes through a capability
+/// of an object that isn't live.
 pub fn freed_unused()
     ensures { (b : Board) (s : State) (es : List Event)
         → Partitioned b.image → Facts b.image → Wired b → Keeps b.image s
         → EachEvent (λ z e. UsesLive b z) b s es }
+{}
+
+/// No use after free, by deeds. Where a free is told after some events, then after any more no load or store whose
+/// checks pass, and no wait or wake, goes through a capability of the freed object.
+pub fn freed_stay_unused()
+    ensures { (b : Board) (s : State)
+        → Partitioned b.image → Facts b.image → Wired b → Keeps b.image s → UnusedAfterFree b s }
+{}
+
+/// Charges. A free that is told takes the object's length and head from the live charges on its quota, an allocation
+/// adds them; those on other quotas stay, and what is told is what the charges come to.
+pub fn charges_follow()
+    ensures { (b : Board) (s : State) (es : List Event)
+        → Partitioned b.image → Facts b.image → Wired b → Keeps b.image s
+        → EachEvent (ChargesFollow b) b s es }
 {}
 
 /// Fresh objects. A new object reads as zero and untagged, and no other capability that isn't empty covers
@@ -59,7 +110,8 @@ pub fn allocations_fresh()
 {}
 
 /// Sweep before reuse. Where a free is told after some events, and after more an allocation whose chunk
-/// meets the chunk of the freed object, there was a whole sweep among these, which began after the free.
+/// meets the chunk of the freed object, there was a whole sweep among these, which began after the free: its front
+/// passed all of RAM, a slice at a time.
 pub fn chunks_swept()
     ensures { (b : Board) (s : State)
         → Partitioned b.image → Facts b.image → Wired b → Shut b.image → Keeps b.image s

@@ -1,4 +1,4 @@
 pub mod Texts
 pub mod There
 pub mod Denials
-pub mod Devices
+pub mod Kept

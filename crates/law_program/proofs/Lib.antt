@@ -2,4 +2,6 @@ pub mod Sources
 pub mod Then
 pub mod Once
 pub mod Ending
+pub mod Deciding
 pub mod Upgraded
+pub mod Alike

@@ -14,7 +14,7 @@ use Rattle.def_program.specs.Paths.{IsWhyLine, path_line, owner_named, compartme
 use Rattle.def_description.specs.Reading.{rows_of}
 use Rattle.def_gen.specs.Description.{firmware}
 use Rattle.def_gen.specs.Sources as texts_of
-use Rattle.def_program.specs.Turns.{Turn, Ends, Looked, OfText, verdict, OfPolicy, OfScript, OfRun, OfParts, OfLinked, OfSources, OfRows, OfDescription, OfImage, OfFirst, FollowsBy, OfFiles, Follows, source_names}
+use Rattle.def_program.specs.Turns.{Turn, Ends, NamesFound, OfText, verdict, OfPolicy, OfScript, OfRun, OfParts, OfLinked, OfSources, OfRows, OfDescription, OfImage, OfFirst, FollowsBy, OfFiles, Follows, source_names}
 use Rattle.law_description.proofs.Judging.{not_both, same_rows, same_fault}
 use Rattle.law_image.proofs.Backs.{one_reading}
 use Rattle.law_image.proofs.Faults.{no_fault, one_fault}
@@ -34,17 +34,17 @@ same_line p o c a b (inr x) (inr y) = x.1.2 ∙ ap (path_line p) (same_path _ o 
 
 -- ---- of parts
 
-of_names : (p : PartsRow) (o : Option Owner) (c : Option ℕ) (s t : Turn) → Looked p o c s → Looked p o c t → s ≡ t
+of_names : (p : PartsRow) (o : Option Owner) (c : Option ℕ) (s t : Turn) → NamesFound p o c s → NamesFound p o c t → s ≡ t
 of_names p (Some o) (Some c) s t a b = a.1.1 ∙ ap (Ends status.Done) (same_line p o c a.0 b.0 a.1.0 b.1.0) ∙ sym b.1.1
 of_names p (Some o) None s t a b = a ∙ sym b
 of_names p None c s t a b = a ∙ sym b
 
 of_policy : (p : PartsRow) (bytes : List ℕ) (s t : Turn) → OfText p bytes s → OfText p bytes t → s ≡ t
 of_policy p bytes s t (inl a) (inl b) =
-    let one = texts.one_fault p bytes a.number b.number a.line b.line a.fault b.fault in
-    a.due ∙ ap (λ n. Ends status.Policy (policy_line n a.line)) one.0 ∙ ap (λ n. Ends status.Policy (policy_line b.number n)) one.1 ∙ sym b.due
-of_policy p bytes s t (inl a) (inr b) = absurd (texts.not_both p bytes a.number a.line b.rulings a.fault b.reads)
-of_policy p bytes s t (inr a) (inl b) = absurd (texts.not_both p bytes b.number b.line a.rulings b.fault a.reads)
+    let one = texts.one_fault p bytes a.fault.number b.fault.number a.fault.place b.fault.place a.is b.is in
+    a.due ∙ ap (λ n. Ends status.Policy (policy_line n a.fault.place)) one.0 ∙ ap (λ n. Ends status.Policy (policy_line b.fault.number n)) one.1 ∙ sym b.due
+of_policy p bytes s t (inl a) (inr b) = absurd (texts.not_both p bytes a.fault.number a.fault.place b.rulings a.is b.reads)
+of_policy p bytes s t (inr a) (inl b) = absurd (texts.not_both p bytes b.fault.number b.fault.place a.rulings b.is a.reads)
 of_policy p bytes s t (inr a) (inr b) =
     let rules : a.rulings ≡ b.rulings = texts.one_reading p bytes a.rulings b.rulings a.reads b.reads in
     let there : AllDenied p 1 b.rulings a.text = subst (λ rs. AllDenied p 1 rs a.text) rules a.denied in
@@ -56,10 +56,10 @@ of_check policy p (bytes ∷ more) s t a b = of_policy p bytes s t a b
 
 of_script : (p : PartsRow) (limit : ℕ) (bytes : List ℕ) (s t : Turn) → OfScript p limit bytes s → OfScript p limit bytes t → s ≡ t
 of_script p limit bytes s t (inl a) (inl b) =
-    let one = scripts.one_fault p.devices bytes a.number a.line b.number b.line a.fault b.fault in
-    a.due ∙ ap (λ n. Ends status.Script (script_line n a.line)) one.0 ∙ ap (λ n. Ends status.Script (script_line b.number n)) one.1 ∙ sym b.due
-of_script p limit bytes s t (inl a) (inr b) = absurd (scripts.no_reading p.devices bytes b.dues a.number a.line a.fault b.reads)
-of_script p limit bytes s t (inr a) (inl b) = absurd (scripts.no_reading p.devices bytes a.dues b.number b.line b.fault a.reads)
+    let one = scripts.one_fault p.devices bytes a.fault.number a.fault.place b.fault.number b.fault.place a.is b.is in
+    a.due ∙ ap (λ n. Ends status.Script (script_line n a.fault.place)) one.0 ∙ ap (λ n. Ends status.Script (script_line b.fault.number n)) one.1 ∙ sym b.due
+of_script p limit bytes s t (inl a) (inr b) = absurd (scripts.no_reading p.devices bytes b.dues a.fault.number a.fault.place a.is b.reads)
+of_script p limit bytes s t (inr a) (inl b) = absurd (scripts.no_reading p.devices bytes a.dues b.fault.number b.fault.place b.is a.reads)
 of_script p limit bytes s t (inr a) (inr b) =
     let dues : a.dues ≡ b.dues = scripts.one_reading p.devices bytes a.dues b.dues a.reads b.reads in
     a.due ∙ ap (λ (ds : List Due). Ends status.Done (run_text p ds limit)) dues ∙ sym b.due
@@ -90,9 +90,9 @@ of_sources c d sources more (Some name) s t a b = a ∙ sym b
 of_sources c d sources more None s t a b = of_linked c d (linked d sources) more s t a b
 
 of_description : (c : Command) (bytes : List ℕ) (sources : List (List ℕ)) (s t : Turn) → OfDescription c bytes sources s → OfDescription c bytes sources t → s ≡ t
-of_description c bytes sources s t (inl a) (inl b) = a.1.1 ∙ ap (λ f. Ends status.Description (description_line f)) (same_fault bytes a.0 b.0 a.1.0 b.1.0) ∙ sym b.1.1
-of_description c bytes sources s t (inl a) (inr b) = absurd (not_both bytes b.0 a.0 b.1.0 a.1.0)
-of_description c bytes sources s t (inr a) (inl b) = absurd (not_both bytes a.0 b.0 a.1.0 b.1.0)
+of_description c bytes sources s t (inl a) (inl b) = a.due ∙ ap (λ f. Ends status.Description (description_line f)) (same_fault bytes a.fault b.fault a.is b.is) ∙ sym b.due
+of_description c bytes sources s t (inl a) (inr b) = absurd (not_both bytes b.0 a.fault b.1.0 a.is)
+of_description c bytes sources s t (inr a) (inl b) = absurd (not_both bytes a.0 b.fault a.1.0 b.is)
 of_description c bytes sources s t (inr a) (inr b) =
     let there : OfRows c b.0 sources s = subst (λ d. OfRows c d sources s) (same_rows bytes a.0 b.0 a.1.0 b.1.0) a.1.1 in
     of_sources c b.0 (take (length (source_names b.0)) sources) (drop (length (source_names b.0)) sources) (slice_get (source_names b.0) (length sources)) s t there b.1.1
@@ -101,10 +101,10 @@ of_description c bytes sources s t (inr a) (inr b) =
 
 of_image : (c : Command) (bytes : List ℕ) (files : List (List ℕ)) (s t : Turn) → OfImage c bytes files s → OfImage c bytes files t → s ≡ t
 of_image c bytes files s t (inl a) (inl b) =
-    let one = one_fault bytes a.number b.number a.place b.place a.fault b.fault in
-    a.due ∙ ap (λ n. Ends status.Image (image_line n a.place)) one.0 ∙ ap (λ n. Ends status.Image (image_line b.number n)) one.1 ∙ sym b.due
-of_image c bytes files s t (inl a) (inr b) = absurd (no_fault bytes b.0 a.number a.place b.1.0 a.fault)
-of_image c bytes files s t (inr a) (inl b) = absurd (no_fault bytes a.0 b.number b.place a.1.0 b.fault)
+    let one = one_fault bytes a.fault.number b.fault.number a.fault.place b.fault.place a.is b.is in
+    a.due ∙ ap (λ n. Ends status.Image (image_line n a.fault.place)) one.0 ∙ ap (λ n. Ends status.Image (image_line b.fault.number n)) one.1 ∙ sym b.due
+of_image c bytes files s t (inl a) (inr b) = absurd (no_fault bytes b.0 a.fault.number a.fault.place b.1.0 a.is)
+of_image c bytes files s t (inr a) (inl b) = absurd (no_fault bytes a.0 b.fault.number b.fault.place a.1.0 b.is)
 of_image c bytes files s t (inr a) (inr b) =
     let same : a.0 ≡ b.0 = one_reading a.0 b.0 a.1.0.0.spellable b.1.0.0.spellable (sym a.1.0.1 ∙ b.1.0.1) in
     of_parts c b.0 files s t (subst (λ p. OfParts c p files s) same a.1.1) b.1.1

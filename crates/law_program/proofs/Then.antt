@@ -20,7 +20,7 @@ use Rattle.law_wellformed.proofs.Lawfuls.{bytes_lawful}
 use Rattle.law_link_limits.proofs.Whole.{faultless}
 
 -- as many files as the rows name
-abbrev own : DescRow → List (List ℕ) → List (List ℕ)
+abbrev pub own : DescRow → List (List ℕ) → List (List ℕ)
 own rows sources = take (length (source_names rows)) sources
 
 -- a command's text on a description: its rows, what they are linked to, and what is said of that
@@ -53,17 +53,17 @@ module _ (c : Command) (bytes : List ℕ) (sources : List (List ℕ)) (text : Li
   by_sources (Some name) h = absurd (let clash : Ends status.Done text ≡ Asks name = h in cc)
   by_sources None h = by_linked (linked d (own d sources)) refl h
 
-told : (c : Command) (bytes : List ℕ) (sources : List (List ℕ)) (text : List ℕ)
+pub told : (c : Command) (bytes : List ℕ) (sources : List (List ℕ)) (text : List ℕ)
     → OfDescription c bytes sources (Ends status.Done text) → IsTold c bytes sources text
 told c bytes sources text (inl faulty) =
-    absurd (let clash : Ends status.Done text ≡ Ends status.Description (description_line faulty.0) = faulty.1.1 in cc)
+    absurd (let clash : Ends status.Done text ≡ Ends status.Description (description_line faulty.fault) = faulty.due in cc)
 told c bytes sources text (inr lawful) =
     by_sources c bytes sources text lawful.0 lawful.1.0 (slice_get (source_names lawful.0) (length sources)) lawful.1.1
 
 -- with a script or without one, what is due of a description whose sources link is what is due of its parts
 run_due : (name bytes : List ℕ) (sources more : List (List ℕ)) (p : PartsRow) (limit : ℕ) (script : Option (List ℕ)) (turn : Turn)
     → LinksTo bytes sources p → OfDescription (Run name limit script) bytes (sources ++ more) turn → OfRun p limit script more turn
-run_due name bytes sources more p limit script turn l (inl faulty) = absurd (not_both bytes l.description faulty.0 l.well faulty.1.0)
+run_due name bytes sources more p limit script turn l (inl faulty) = absurd (not_both bytes l.description faulty.fault l.well faulty.is)
 run_due name bytes sources more p limit script turn l (inr d) =
     let here : OfRows (Run name limit script) l.description (sources ++ more) turn =
     subst (λ x. OfRows (Run name limit script) x (sources ++ more) turn) (same_rows bytes d.0 l.description d.1.0 l.well) d.1.1 in

@@ -9,7 +9,8 @@ use Rattle.def_boot.specs.Boot.{board_of, boot_state, booted_machine}
 use Rattle.def_program.specs.declared.Status.TheVariants as status
 use Rattle.def_program.specs.Commands.{RunImage, Upgrade}
 use Rattle.def_program.specs.Lines.{image_line}
-use Rattle.def_program.specs.Runs.{run_lines, run_text}
+use Rattle.def_program.specs.Runs.{events_until, run_lines, run_text}
+use Rattle.def_step.specs.Events.{told}
 use Rattle.def_script.specs.Script.{Due}
 use Rattle.def_program.specs.Turns.{Turn, Ends, OfRun, OfImage, Follows}
 use Rattle.def_lines.specs.Report.{report_line}
@@ -27,7 +28,7 @@ record IsWritten (bytes written : List ℕ) : Type 0 where
 
 written_so : (name bytes written : List ℕ) → Follows (Upgrade name) (bytes ∷ []) (Ends status.Done written) → IsWritten bytes written
 written_so name bytes written (inl flawed) =
-    absurd (let clash : Ends status.Done written ≡ Ends status.Image (image_line flawed.number flawed.place) = flawed.due in cc)
+    absurd (let clash : Ends status.Done written ≡ Ends status.Image (image_line flawed.fault.number flawed.fault.place) = flawed.due in cc)
 written_so name bytes written (inr found) = record {
   parts = found.0;
   image = found.1.0;
@@ -36,6 +37,16 @@ written_so name bytes written (inr found) = record {
 
 abbrev machine : Board → State → MachineRow
 machine b s = record { board = b; state = s }
+
+machine_alike : (p : PartsRow) → booted_machine (upgraded p) ≡ booted_machine p
+machine_alike p =
+    ap (λ b. machine b (boot_state (upgraded p))) (alike p).board
+    ∙ ap (λ s. machine (board_of p) s) (alike p).state
+
+pub happenings_alike : (p : PartsRow) (script : List Due) (limit : ℕ)
+    → told (board_of (upgraded p)) (boot_state (upgraded p)) (events_until (booted_machine (upgraded p)) script (upgraded p).quantum limit)
+    ≡ told (board_of p) (boot_state p) (events_until (booted_machine p) script p.quantum limit)
+happenings_alike p script limit = ap (λ (m : MachineRow). told m.board m.state (events_until m script p.quantum limit)) (machine_alike p)
 
 text_alike : (p : PartsRow) (dues : List Due) (limit : ℕ) → run_text (upgraded p) dues limit ≡ run_text p dues limit
 unfolding run_text
@@ -48,14 +59,14 @@ text_alike p dues limit =
 run_alike : (p : PartsRow) (limit : ℕ) (script : Option (List ℕ)) (more : List (List ℕ)) (turn : Turn) → OfRun p limit script more turn → OfRun (upgraded p) limit script more turn
 run_alike p limit None more turn h = h ∙ ap (λ t. Ends status.Done t) (sym (text_alike p [] limit))
 run_alike p limit (Some name) [] turn h = h
-run_alike p limit (Some name) (bytes ∷ more) turn (inl a) = inl (record { number = a.number; line = a.line; fault = a.fault; due = a.due })
+run_alike p limit (Some name) (bytes ∷ more) turn (inl a) = inl a
 run_alike p limit (Some name) (bytes ∷ more) turn (inr a) =
     inr (record { dues = a.dues; reads = a.reads; due = a.due ∙ ap (λ t. Ends status.Done t) (sym (text_alike p a.dues limit)) })
 
 -- what is due of an image's bytes is what is due of its parts
 of_parts : (other bytes : List ℕ) (more : List (List ℕ)) (p : PartsRow) (limit : ℕ) (script : Option (List ℕ)) (turn : Turn)
     → IsImage bytes p → OfImage (RunImage other limit script) bytes more turn → OfRun p limit script more turn
-of_parts other bytes more p limit script turn i (inl a) = absurd (no_fault bytes p a.number a.place i a.fault)
+of_parts other bytes more p limit script turn i (inl a) = absurd (no_fault bytes p a.fault.number a.fault.place i a.is)
 of_parts other bytes more p limit script turn i (inr a) =
     let same : a.0 ≡ p = one_reading a.0 p a.1.0.0.spellable i.0.spellable (sym a.1.0.1 ∙ i.1) in
     subst (λ q. OfRun q limit script more turn) same a.1.1

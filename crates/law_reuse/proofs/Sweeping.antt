@@ -1,11 +1,14 @@
 -- What a Sweep event does to the objects of the heap, by cases: nothing is due; a sweep begins; one goes on.
-use Rattle.std.proofs.Common.{ℕ, ◌≡◌, ◌⊎◌, inl, inr, true, false, nat_le, List, [], ◌∷◌, Option, Some, None, refl, sym, ◌∙◌, subst}
+use Rattle.std.proofs.Common.{ℕ, ◌≡◌, ◌+◌, ◌*◌, ◌≤◌, ◌<◌, ◌⊎◌, inl, inr, true, false, nat_le, List, [], ◌∷◌, Option, Some, None, refl, sym, ap, ◌∙◌, subst, arith}
+use Rattle.std.proofs.lemmas.Bool.{leb-true, leb-false}
+use Rattle.std.proofs.Math.Nat.{min-le_right}
 use Rattle.law_lists.proofs.Tests.{chosen, bool_tells}
 use Rattle.def_machine.specs.Image.{Image}
 use Rattle.def_machine.specs.State.{State, Object}
 use Rattle.def_machine.specs.Objects.{Any, has_quarantined, painted, unpainted}
 use Rattle.def_machine.specs.Heap.{with_slice, slice_end, sweep_over, ram_size, ended_sweep, sweep_began, sweep_on, swept}
 use Rattle.law_places.proofs.Rows.{any_map, left_any, any_left}
+use Rattle.law_sweeps.proofs.Slices.{slice_length}
 use Rattle.def_safety.specs.Reuse.{IsRow, Waits, IsPainted}
 
 abbrev pub begun : State → State
@@ -25,8 +28,21 @@ swept_case P i s idle begins goes = by_front s.front refl
         (λ is. begins e is)
         (λ none. subst (λ (o : Option ℕ). P (sweep_on i s o)) (sym e) (idle e none))
 
-pub sliced_case : (P : State → Type 0) (i : Image) (s : State) (x : ℕ) → P (sweep_over i (with_slice i s x (slice_end i s x))) → P (with_slice i s x (slice_end i s x)) → P (sliced_from i s x)
-sliced_case P i s x over on = chosen P (nat_le (ram_size (with_slice i s x (slice_end i s x))) (slice_end i s x)) (sweep_over i (with_slice i s x (slice_end i s x))) (with_slice i s x (slice_end i s x)) (λ is. over) (λ not. on)
+-- how far a slice comes
+slice_inside : (i : Image) (s : State) (x : ℕ) → slice_end i s x ≤ ram_size s
+slice_inside i s x = min-le_right (x + 8 * i.sweep) (ram_size s)
+
+sliced_size : (i : Image) (s : State) (x : ℕ) → ram_size (with_slice i s x (slice_end i s x)) ≡ ram_size s
+sliced_size i s x = ap (λ (n : ℕ). 8 * n) (slice_length i s x (slice_end i s x) 0 s.granules)
+
+-- a slice that comes to the end of RAM ends the sweep, and one that doesn't leaves it running
+pub sliced_case : (P : State → Type 0) (i : Image) (s : State) (x : ℕ) → (slice_end i s x ≡ ram_size s → P (sweep_over i (with_slice i s x (slice_end i s x)))) → (slice_end i s x < ram_size s → P (with_slice i s x (slice_end i s x))) → P (sliced_from i s x)
+sliced_case P i s x over on =
+    let size = sliced_size i s x in
+    let most = slice_inside i s x in
+    chosen P (nat_le (ram_size (with_slice i s x (slice_end i s x))) (slice_end i s x)) (sweep_over i (with_slice i s x (slice_end i s x))) (with_slice i s x (slice_end i s x))
+    (λ is. let all = leb-true (ram_size (with_slice i s x (slice_end i s x))) (slice_end i s x) is in over (omega (arith, all, size, most)))
+    (λ not. let less = leb-false (ram_size (with_slice i s x (slice_end i s x))) (slice_end i s x) not in on (omega (arith, less, size)))
 
 -- ---- rows
 

@@ -1,6 +1,6 @@
 -- What holds of each move of a state by which a step of a thread leaves it holds of what the step leaves.
-use Rattle.std.proofs.Common.{ℕ, ◌≡◌, ◌&&◌, true, false, List, [], ◌∷◌, Option, Some, None, Result, Ok, Err, refl, subst}
-use Rattle.law_lists.proofs.Tests.{chosen, both_right}
+use Rattle.std.proofs.Common.{ℕ, ◌≡◌, true, false, List, [], ◌∷◌, Option, Some, None, Result, Ok, Err, refl, subst}
+use Rattle.law_lists.proofs.Tests.{chosen}
 use Rattle.def_profile.specs.declared.answers.TheConstants.{UNWOUND}
 use Rattle.def_words.specs.declared.Cap.{Cap}
 use Rattle.def_words.specs.declared.Trap.{Trap}
@@ -12,9 +12,8 @@ use Rattle.def_machine.specs.Image.{Image, stack_base}
 use Rattle.def_machine.specs.State.{State, Thread, Frame, thread}
 use Rattle.def_machine.specs.Frames.{ended_with, returned, unwound}
 use Rattle.def_step.specs.declared.Next.{Next}
-use Rattle.def_step.specs.declared.TheConstants.{SERVES_HANDLERS}
 use Rattle.def_step.specs.Checks.{first_failed}
-use Rattle.def_step.specs.Handlers.{is_handled, is_entered, handler_entered, handler_value, return_taken, trap_taken}
+use Rattle.def_step.specs.Handlers.{is_handled, handler_entered, handler_value, return_taken, trap_taken}
 use Rattle.def_step.specs.Instructions.{Done, carried_out, named_by, around, space_of, put_done, ends, operand, trapped, goes_on, after_fetch, executed, fetch_checks, next_at, served}
 use Rattle.def_machine.specs.Board.{Board}
 use Rattle.def_step.specs.Native.{native}
@@ -26,24 +25,20 @@ use Rattle.law_routines.proofs.Leaving.{Moves, routines_left}
 
 -- ---- the end of a frame, and a trap
 
--- an error handler is entered only where there is one and its record has room
-pub handled_where : (i : Image) (base : ℕ) (old : Thread) (f : Frame) → is_entered i base old f ≡ true → is_handled i base old f ≡ true
-handled_where i base old f is = both_right SERVES_HANDLERS (is_handled i base old f) is
-
 -- a trap enters a handler, or unwinds
 pub trap_case : (P : State → Type 0) (i : Image) (s : State) (t : ℕ) (why : Trap) (fs : List Frame)
-    → ((f : Frame) (gs : List Frame) → fs ≡ f ∷ gs → is_entered i (stack_base i t) (thread s t) f ≡ true → P (handler_entered i s t why f gs))
+    → ((f : Frame) (gs : List Frame) → fs ≡ f ∷ gs → is_handled i (stack_base i t) (thread s t) f ≡ true → P (handler_entered i s t why f gs))
     → P (unwound i s t fs) → P (trap_taken i s t why fs)
 trap_case P i s t why [] enters ends = ends
-trap_case P i s t why (f ∷ gs) enters ends = chosen P (is_entered i (stack_base i t) (thread s t) f) (handler_entered i s t why f gs) (unwound i s t (f ∷ gs)) (λ is. enters f gs refl is) (λ not. ends)
+trap_case P i s t why (f ∷ gs) enters ends = chosen P (is_handled i (stack_base i t) (thread s t) f) (handler_entered i s t why f gs) (unwound i s t (f ∷ gs)) (λ is. enters f gs refl is) (λ not. ends)
 
 -- a handling frame ends with a value, any other returns
 pub return_case : (P : State → Type 0) (i : Image) (s : State) (t : ℕ) (fs : List Frame)
-    → ((f : Frame) (gs : List Frame) → fs ≡ f ∷ gs → (SERVES_HANDLERS && f.handling) ≡ true → P (ended_with i s t (handler_value (thread s t)) fs))
-    → (((f : Frame) (gs : List Frame) → fs ≡ f ∷ gs → (SERVES_HANDLERS && f.handling) ≡ false) → P (returned i s t fs)) → P (return_taken i s t fs)
+    → ((f : Frame) (gs : List Frame) → fs ≡ f ∷ gs → f.handling ≡ true → P (ended_with i s t (handler_value (thread s t)) fs))
+    → (((f : Frame) (gs : List Frame) → fs ≡ f ∷ gs → f.handling ≡ false) → P (returned i s t fs)) → P (return_taken i s t fs)
 return_case P i s t [] handles back = back (λ f gs e. absurd (let clash : [] ≡ f ∷ gs = e in cc))
-return_case P i s t (f ∷ gs) handles back = chosen P (SERVES_HANDLERS && f.handling) (ended_with i s t (handler_value (thread s t)) (f ∷ gs)) (returned i s t (f ∷ gs)) (λ is. handles f gs refl is)
-    (λ not. back (λ h hs e. (let same : f ≡ h = cc in subst (λ (z : Frame). (SERVES_HANDLERS && z.handling) ≡ false) same not)))
+return_case P i s t (f ∷ gs) handles back = chosen P f.handling (ended_with i s t (handler_value (thread s t)) (f ∷ gs)) (returned i s t (f ∷ gs)) (λ is. handles f gs refl is)
+    (λ not. back (λ h hs e. (let same : f ≡ h = cc in subst (λ (z : Frame). z.handling ≡ false) same not)))
 
 -- ---- a step
 
@@ -61,13 +56,13 @@ carried b s t k =
 pub record Steps (P : State → Type 0) (b : Board) (s : State) (t : ℕ) : Type 0 where
   pub handles : (why : Trap) (f : Frame) (fs : List Frame) → (thread s t).frames ≡ f ∷ fs → is_handled b.image (stack_base b.image t) (thread s t) f ≡ true → P (handler_entered b.image s t why f fs)
   pub ends : (value : ℕ) → P (ended_with b.image s t value (thread s t).frames)
-  pub back : ((f : Frame) (fs : List Frame) → (thread s t).frames ≡ f ∷ fs → (SERVES_HANDLERS && f.handling) ≡ false) → P (returned b.image s t (thread s t).frames)
+  pub back : ((f : Frame) (fs : List Frame) → (thread s t).frames ≡ f ∷ fs → f.handling ≡ false) → P (returned b.image s t (thread s t).frames)
   pub done : (k : Instr) → IfDone P s t (carried b s t k)
   pub moves : Moves (λ z told. P z) b.image s t
 
 module _ (P : State → Type 0) (b : Board) (s : State) (t : ℕ) (m : Steps P b s t) where
   pub trapped_left : (why : Trap) → P (trapped b s t why).0
-  trapped_left why = trap_case P b.image s t why (thread s t).frames (λ f fs frames is. m.handles why f fs frames (handled_where b.image (stack_base b.image t) (thread s t) f is)) (m.ends UNWOUND)
+  trapped_left why = trap_case P b.image s t why (thread s t).frames (λ f fs frames is. m.handles why f fs frames is) (m.ends UNWOUND)
 
   result_left : (x : Cap) (r : Result Done Trap) → IfDone P s t r → P (ends b s t x r).0
   result_left x (Err why) h = trapped_left why

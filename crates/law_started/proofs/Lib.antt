@@ -5,3 +5,4 @@ pub mod Whole
 pub mod Shutting
 pub mod Settling
 pub mod Blanking
+pub mod Tokening

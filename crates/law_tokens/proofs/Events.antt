@@ -26,10 +26,10 @@ use Rattle.law_routines.proofs.Leaving.{Moves}
 use Rattle.law_routines.proofs.Stepping.{Steps, IfDone, carried, executed_left}
 use Rattle.law_reuse.proofs.Sweeping.{begun, swept_case, sliced_case}
 use Rattle.law_events.proofs.Events.{ready_keeps, event_keeps}
-use Rattle.law_tokens.specs.Rows.{RowsFit}
+use Rattle.def_machine.specs.Rows.{RowsFit}
 use Rattle.law_tokens.proofs.Moving.{added_fit, sealed_fit, gone_fit, painted_fit, left_fit}
 
-abbrev Fit : State → Type 0
+abbrev pub Fit : State → Type 0
 Fit z = RowsFit z.objects z.tokens
 
 -- ---- a step
@@ -90,11 +90,12 @@ continued_fit : (b : Board) (s : State) (o : Option ℕ) → Each (ObjectFits b.
 continued_fit b s None fits h = h
 continued_fit b s (Some t) fits h = executed_fit b s t fits h
 
+pub ready_fit : (b : Board) (s : State) → Fit s → Fit (scheduled b (preempted (one_more_step s)))
+ready_fit b s h = scheduled_fit b (preempted (one_more_step s)) (preempted (one_more_step s)).running (preempted_fit (one_more_step s) s.running h)
+
 stepped_fit : (b : Board) (s : State) → Partitioned b.image → Keeps b.image s → Fit s → Fit (stepped b s).0
 stepped_fit b s parts k h =
-    let before : Fit (preempted (one_more_step s)) = preempted_fit (one_more_step s) s.running h in
-    let ready : Fit (scheduled b (preempted (one_more_step s))) = scheduled_fit b (preempted (one_more_step s)) (preempted (one_more_step s)).running before in
-    continued_fit b (scheduled b (preempted (one_more_step s))) (scheduled b (preempted (one_more_step s))).running (ready_keeps b s parts k).confined.fits ready
+    continued_fit b (scheduled b (preempted (one_more_step s))) (scheduled b (preempted (one_more_step s))).running (ready_keeps b s parts k).confined.fits (ready_fit b s h)
 
 -- ---- a tick
 
@@ -114,8 +115,8 @@ begun_unpainted (r ∷ rs) = (λ lives. ap not lives, begun_unpainted rs)
 swept_fit : (i : Image) (s : State) → Unpainted s.objects → Fit s → Fit (swept i s)
 swept_fit i s fits h = swept_case Fit i s
     (λ idle none. h)
-    (λ idle some. sliced_case Fit i (begun s) 0 (left_fit (painted s.objects) s.tokens (begun_unpainted s.objects) (painted_fit s.objects s.tokens h)) (painted_fit s.objects s.tokens h))
-    (λ x runs. sliced_case Fit i s x (left_fit s.objects s.tokens fits h) h)
+    (λ idle some. sliced_case Fit i (begun s) 0 (λ whole. left_fit (painted s.objects) s.tokens (begun_unpainted s.objects) (painted_fit s.objects s.tokens h)) (λ part. painted_fit s.objects s.tokens h))
+    (λ x runs. sliced_case Fit i s x (λ whole. left_fit s.objects s.tokens fits h) (λ part. h))
 
 -- ---- whole
 

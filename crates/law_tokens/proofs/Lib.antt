@@ -1,4 +1,14 @@
 pub mod Listing
-pub mod Counting
 pub mod Moving
 pub mod Events
+pub mod Everywheres
+pub mod Keying
+pub mod Passing
+pub mod Made
+pub mod Fitting
+pub mod Shutting
+pub mod Naming
+pub mod Sweeps
+pub mod Whole
+pub mod Openings
+pub mod Lasting

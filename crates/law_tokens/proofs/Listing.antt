@@ -6,7 +6,7 @@ use Rattle.def_machine.specs.State.{Token}
 use Rattle.def_machine.specs.Objects.{Each}
 use Rattle.def_step.specs.Quotas.{without_row}
 use Rattle.def_step.specs.Tokens.{row_among}
-use Rattle.law_tokens.specs.Rows.{IsApart, RowsDiffer}
+use Rattle.def_machine.specs.Rows.{IsApart, RowsDiffer}
 
 pub among_each : (P : Token → Type 0) (k : Token) (ks : List Token) → P k → Each P ks → Each P (row_among k ks)
 among_each P k [] a b = (a, tt)

@@ -8,7 +8,7 @@ use Rattle.def_step.specs.Quotas.{without_row}
 use Rattle.def_step.specs.Tokens.{row_among}
 use Rattle.law_places.proofs.Rows.{among_any, each_map, each_any, each_take, left_any}
 use Rattle.law_heap.proofs.Quarantines.{quarantine_any}
-use Rattle.law_tokens.specs.Rows.{IsLiveOf, IsApart, RowsFit}
+use Rattle.def_machine.specs.Rows.{IsLiveOf, IsApart, RowsFit}
 use Rattle.law_tokens.proofs.Listing.{among_each, among_differ, without_each, without_differ}
 
 -- each row's object is among others
@@ -32,7 +32,7 @@ sealed_fit i next r k objects tokens fits lives new named h =
     below : (q : Token) → Any (IsLiveOf q.number) objects → q.number ≡ next → ⊥
     below q any same = each_take (ObjectFits i next) (IsLiveOf q.number) ⊥ objects (λ o f is. (let low = f.number in let here = is.1 in omega (arith, low, here, same))) fits any
 
-each_unit : (rs : List Object) → Each (λ q. Unit {0}) rs
+pub each_unit : (rs : List Object) → Each (λ q. Unit {0}) rs
 each_unit [] = tt
 each_unit (x ∷ xs) = (tt, each_unit xs)
 

@@ -1,17 +1,21 @@
-//! Laws of rows: each row of a key or a token is of a live object, no two are of one, and so there are no more than
-//! objects. They speak of the written machine alone.
+//! Laws of keys and tokens: each row stays of a live object, and no two are of one; what is sealed as a token is of a
+//! whole object; only token_open takes the seal away, of a token of the key that it is given; and a key is never freed.
+//! They speak of the written machine alone.
 #![tactic(auto)]
 
-ghost use Rattle.std.specs.Prelude.{◌≤◌, List, length};
+ghost use Rattle.std.specs.Prelude.{ℕ, List};
 ghost use Rattle.def_board.specs.Wired.{Wired};
 ghost use Rattle.def_facts.specs.Facts.{Facts};
 ghost use Rattle.def_confined.specs.Keeps.{Keeps};
 ghost use Rattle.def_confined.specs.Partitioned.{Partitioned};
-ghost use Rattle.def_machine.specs.State.{State, Object, Token};
+ghost use Rattle.def_machine.specs.State.{State};
 ghost use Rattle.def_step.specs.declared.Event.{Event};
-ghost use Rattle.def_step.specs.Events.{happens, run};
+ghost use Rattle.def_step.specs.Events.{happens, one_more_step, preempted, run, scheduled};
 ghost use Rattle.def_machine.specs.Board.{Board};
-ghost use Rattle.law_tokens.specs.Rows.{RowsFit};
+ghost use Rattle.def_machine.specs.Objects.{Any};
+ghost use Rattle.def_machine.specs.Rows.{RowsFit};
+ghost use Rattle.def_tokens.specs.Opening.{OpensTokens, StaysShut};
+ghost use Rattle.def_tokens.specs.Tokened.{IsKeyRow, Tokened};
 
 /// Every event, lawful or not, leaves each row of a live object, and no two of one.
 pub fn events_fit()
@@ -27,8 +31,47 @@ pub fn runs_fit()
         → RowsFit (run b s es).objects (run b s es).tokens }
 {}
 
-/// There are no more rows than objects.
-pub fn rows_few()
-    ensures { (objects : List Object) (tokens : List Token)
-        → RowsFit objects tokens → length tokens ≤ length objects }
+/// Every event, lawful or not, keeps what holds of keys and tokens: each tagged capability that is sealed as a token is of a
+/// whole object, live or quarantined, and a live one's has a row; of a key nobody holds anything but what is sealed so; and
+/// a key has a row as long as a token's row names it.
+pub fn events_tokened()
+    ensures { (b : Board) (s : State) (e : Event)
+        → Partitioned b.image → Facts b.image → Wired b → Keeps b.image s → RowsFit s.objects s.tokens
+        → Tokened b.image s → Tokened b.image (happens b s e).0 }
+{}
+
+/// So does any list of events.
+pub fn runs_tokened()
+    ensures { (b : Board) (s : State) (es : List Event)
+        → Partitioned b.image → Facts b.image → Wired b → Keeps b.image s → RowsFit s.objects s.tokens
+        → Tokened b.image s → Tokened b.image (run b s es) }
+{}
+
+/// So it is where the thread of a step carries on.
+pub fn steps_tokened()
+    ensures { (b : Board) (s : State)
+        → Tokened b.image s → Tokened b.image (scheduled b (preempted (one_more_step s))) }
+{}
+
+/// token_open answers the token without its seal exactly where c10 is a live key and c11 a live token of it: each is of the
+/// whole object that its source names, the rows of the two match, and root, source, bounds, address and rights stay. Else
+/// it answers -7 or -8.
+pub fn tokens_opened()
+    ensures { (b : Board) (s : State) (t : ℕ)
+        → Keeps b.image s → Tokened b.image s → OpensTokens b s t }
+{}
+
+/// Of an object of which nobody holds anything but what is sealed as a token nobody comes to hold anything else, by any
+/// event but the step in which token_open opens it.
+pub fn tokens_stay_shut()
+    ensures { (b : Board) (s : State) (e : Event)
+        → Partitioned b.image → Facts b.image → Keeps b.image s → RowsFit s.objects s.tokens
+        → StaysShut b s e }
+{}
+
+/// Keys are never freed: a key's row stays a key's row, whatever happens.
+pub fn keys_last()
+    ensures { (b : Board) (s : State) (es : List Event) (n : ℕ)
+        → Partitioned b.image → Facts b.image → Wired b → Keeps b.image s → RowsFit s.objects s.tokens
+        → Tokened b.image s → Any (IsKeyRow n) s.tokens → Any (IsKeyRow n) (run b s es).tokens }
 {}

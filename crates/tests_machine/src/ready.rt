@@ -5,12 +5,12 @@ ghost use Rattle.std.specs.Prelude.{◌≡◌, ◌+◌, ◌≤◌};
 ghost use Rattle.def_profile.specs.declared.limits.TheConstants.{RAM_END};
 ghost use Rattle.ct_areas.specs.Threads.{HasArea};
 
+use crate::asked::{is_ready, may_call};
 use crate::firmware::{CODE, GLOBALS, RAM, TRUSTED, dress, entries, heads, thread};
 use crate::seen::is;
 use ct_cap::{Cap, Live, Shadow, Trap, shrink};
 use ct_entry::Entries;
 use ct_mem::{Memory, Plain};
-use ct_ready::{is_ready, may_call};
 use ct_switch::{Area, Called, Thread, call, give_back, resume, save, unwind};
 use def_profile::traps::TAG_CODE;
 use def_refusals::NoMemory;

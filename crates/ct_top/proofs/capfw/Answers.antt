@@ -1,7 +1,15 @@
 use Rattle.law_commands.proofs.Licences.{is_licensed}
+use Rattle.law_commands.proofs.Written.{run_written}
+use Rattle.law_program.proofs.Deciding.{decides}
 use Rattle.law_program.proofs.Ending.{completes, demo_completes, misuse}
 use Rattle.law_commands.proofs.Safe.{is_safe}
 use Rattle.ct_top.proofs.capfw.Goals as goal
+
+pub returns-clause-decided : goal.returns-clause-decided
+returns-clause-decided g c = decides _ c.command.result c.command.ensures
+
+pub returns-clause-written : goal.returns-clause-written
+returns-clause-written g c = run_written _ c.command.result c.command.ensures
 
 pub returns-clause-complete : goal.returns-clause-complete
 returns-clause-complete g c = completes _ c.command.result c.command.ensures

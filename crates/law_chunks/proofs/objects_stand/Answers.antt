@@ -1,5 +1,5 @@
-use Rattle.law_chunks.proofs.Standing.{objects_inside, objects_apart}
+use Rattle.law_chunks.proofs.Standing.{objects_inside, objects_apart, objects_few}
 use Rattle.law_chunks.proofs.objects_stand.Goals as goal
 
 pub returns : goal.returns
-returns c = record { inside = objects_inside; apart = objects_apart }
+returns c = record { inside = objects_inside; apart = objects_apart; few = objects_few }

@@ -1,4 +1,4 @@
-use Rattle.std.proofs.Common.{◌≡◌, ◌∙◌, length, ap, sym, subst}
+use Rattle.std.proofs.Common.{◌∙◌, length, ap, sym, subst}
 use Rattle.def_image.specs.Sound.{Sound}
 use Rattle.def_boot.specs.Contents.{boot_granules}
 use Rattle.law_image.proofs.Sounds.{sound}

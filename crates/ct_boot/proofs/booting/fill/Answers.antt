@@ -1,4 +1,4 @@
-use Rattle.std.proofs.Common.{◌≡◌, ◌%◌, ◌∙◌, ap, sym, arith}
+use Rattle.std.proofs.Common.{ap, sym, arith}
 use Rattle.law_boot_words.proofs.Putting.{puts_sentry}
 use Rattle.law_boot_words.proofs.Stages.{empty_booting}
 use Rattle.ct_boot.proofs.Made.{puts_at}

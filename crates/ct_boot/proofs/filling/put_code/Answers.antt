@@ -1,7 +1,5 @@
-use Rattle.std.proofs.Common.{◌≡◌, ◌+◌, ◌∙◌, length, refl, ap, sym, arith}
-use Rattle.law_boot_words.proofs.Stages.{stage_range}
+use Rattle.std.proofs.Common.{◌∙◌, ap}
 use Rattle.ct_boot.proofs.Made.{bytes_at}
-use Rattle.ct_boot.proofs.Ranges.{range_at}
 use Rattle.ct_boot.proofs.filling.put_code.Goals as goal
 
 pub put_bytes-requires-clause-puts : goal.put_bytes-requires-clause-puts

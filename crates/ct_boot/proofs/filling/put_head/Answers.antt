@@ -1,6 +1,5 @@
-use Rattle.std.proofs.Common.{◌≡◌, ◌+◌, ◌*◌, ◌%◌, ◌∙◌, length, refl, ap, sym, subst, arith}
+use Rattle.std.proofs.Common.{◌+◌, ◌∙◌, ap, sym, arith}
 use Rattle.ct_entry.specs.declared.rows.Owner.TheVariants.{Compartment}
-use Rattle.law_boot_words.specs.Booting.{IsFrom, Stage}
 use Rattle.law_boot_words.proofs.Putting.{puts_code, puts_globals}
 use Rattle.ct_boot.proofs.Fits.{table_end}
 use Rattle.ct_boot.proofs.Made.{puts_at, code_made_is, globals_made_are}

@@ -1,4 +1,4 @@
-use Rattle.std.proofs.Common.{◌≡◌, ◌+◌, ◌*◌, ◌<◌, ◌∙◌, Some, length, slice_get, ap, sym, subst, arith}
+use Rattle.std.proofs.Common.{◌+◌, ◌*◌, ◌<◌, length, ap, sym, subst, arith}
 use Rattle.ct_boot.specs.Slots.{SlotPut}
 use Rattle.ct_boot.proofs.Ranges.{got_of, granule_at, next_granule}
 use Rattle.ct_boot.proofs.filling.put_slots.Goals as goal

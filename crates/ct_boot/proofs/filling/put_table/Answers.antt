@@ -2,10 +2,8 @@ use Rattle.std.proofs.Common.{◌≡◌, ◌+◌, ◌*◌, ◌∙◌, Some, leng
 use Rattle.def_image.specs.Members.{gate_address}
 use Rattle.def_image.specs.Spelling.{export_field}
 use Rattle.law_boot_words.proofs.Putting.{puts_export}
-use Rattle.law_boot_words.proofs.Stages.{stage_range}
 use Rattle.ct_boot.proofs.Fits.{table_end}
 use Rattle.ct_boot.proofs.Made.{bytes_at}
-use Rattle.ct_boot.proofs.Ranges.{range_at}
 use Rattle.ct_boot.proofs.filling.put_table.Goals as goal
 
 pub put_exports-requires-clause-fits : goal.put_exports-requires-clause-fits

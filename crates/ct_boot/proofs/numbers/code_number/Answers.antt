@@ -1,7 +1,7 @@
-use Rattle.std.proofs.Common.{◌≡◌, ◌+◌, ◌∙◌, take, ap, arith}
+use Rattle.std.proofs.Common.{◌∙◌, take, ap, arith}
 use Rattle.def_image.specs.Members.{compartment_entries}
 use Rattle.def_image.specs.Sizes.{sum_of}
-use Rattle.ct_boot.proofs.Counts.{number_at, own_short, some_own}
+use Rattle.ct_boot.proofs.Counts.{number_at}
 use Rattle.ct_boot.proofs.numbers.code_number.Goals as goal
 
 pub returns-clause-is : goal.returns-clause-is

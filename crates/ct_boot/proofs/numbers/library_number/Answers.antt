@@ -1,4 +1,4 @@
-use Rattle.std.proofs.Common.{◌≡◌, ◌+◌, ◌∙◌, take, ap, arith}
+use Rattle.std.proofs.Common.{◌∙◌, take, ap, arith}
 use Rattle.def_image.specs.Members.{compartment_entries, library_entries, first_library}
 use Rattle.def_image.specs.Sizes.{sum_of}
 use Rattle.ct_boot.proofs.Counts.{number_at}

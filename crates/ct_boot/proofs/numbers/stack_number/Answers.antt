@@ -1,4 +1,4 @@
-use Rattle.std.proofs.Common.{◌≡◌, ◌+◌, ◌∙◌, ap, arith}
+use Rattle.std.proofs.Common.{◌∙◌, ap, arith}
 use Rattle.def_image.specs.Members.{compartment_entries, library_entries}
 use Rattle.def_image.specs.Sizes.{sum_of}
 use Rattle.ct_boot.proofs.Counts.{stack_at}

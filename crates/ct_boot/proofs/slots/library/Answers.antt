@@ -1,4 +1,4 @@
-use Rattle.std.proofs.Common.{◌≡◌, ◌∙◌, Some, None, slice_get, option_map, ap, sym, arith}
+use Rattle.std.proofs.Common.{◌≡◌, ◌∙◌, Some, slice_get, option_map, ap, sym, arith}
 use Rattle.ct_boot.proofs.Fits.{library_export_end}
 use Rattle.ct_boot.proofs.Made.{library_made}
 use Rattle.ct_boot.proofs.slots.library.Goals as goal

@@ -33,6 +33,7 @@ returns-clause-holds g c =
       stacks = stacks_turn gs hs rows c.args.t r c.call_row.new.t c.requires.holds (c.requires.holds.runs c.args.t c.requires.runs) c.index_mut.ensures.value
           (call_size gs hs r (switch_in gs e r) c.call_row.ensures.touches) c.call_row.ensures.area;
       heap = call_heap_by gs hs rows c.args.t r e c.requires.holds c.requires.runs c.index_mut.ensures.value c.requires.may (switch_in gs e r) refl c.call_row.ensures.touches;
+      room = c.requires.holds.room;
     }
 
 pub returns-clause-result : goal.returns-clause-result

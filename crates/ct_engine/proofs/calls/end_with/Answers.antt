@@ -35,6 +35,7 @@ returns-clause-holds g c =
       stacks = stacks_turn gs hs rows c.args.t r q c.requires.holds lt c.index_mut.ensures.value
           (end_size gs hs r q c.end_row-more.result (λ f. plain c.args.value) (λ f. plain 0) c.end_row-more.ensures) c.end_row-more.ensures.area;
       heap = end_heap gs hs rows c.args.t r q c.end_row-more.result (λ f. plain c.args.value) (λ f. plain 0) c.requires.holds c.requires.runs c.index_mut.ensures.value c.requires.top c.end_row-more.ensures;
+      room = c.requires.holds.room;
     }
 
 pub returns-clause-result : goal.returns-clause-result

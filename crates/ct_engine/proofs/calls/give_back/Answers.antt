@@ -38,6 +38,7 @@ returns-clause-holds g c =
       stacks = stacks_turn gs hs rows c.args.t r q c.requires.holds lt c.index_mut.ensures.value
           (end_size gs hs r q c.return_row-more.result (returned_by c.args.e.now r 10) (returned_by c.args.e.now r 11) c.return_row-more.ensures) c.return_row-more.ensures.area;
       heap = end_heap gs hs rows c.args.t r q c.return_row-more.result (returned_by c.args.e.now r 10) (returned_by c.args.e.now r 11) c.requires.holds c.requires.runs c.index_mut.ensures.value c.requires.top c.return_row-more.ensures;
+      room = c.requires.holds.room;
     }
 
 pub returns-clause-result : goal.returns-clause-result

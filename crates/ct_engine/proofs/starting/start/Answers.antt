@@ -1,4 +1,4 @@
-use Rattle.std.proofs.Common.{◌+◌, ◌*◌, ◌≤◌, None, length, refl, arith}
+use Rattle.std.proofs.Common.{◌/◌, ◌∙◌, None, refl, ap, arith}
 use Rattle.ct_engine.specs.declared.rows.Rows.{Rows}
 use Rattle.ct_engine.proofs.Laying.{Lays, laid_holds, laid_seen}
 use Rattle.ct_engine.proofs.starting.start.Given as given
@@ -18,6 +18,7 @@ rows_of g c = record {
   running = None;
   heap = c.lay.new.self;
   front = c.idle.result;
+  tokens = c.in_ok-tokens.tokens;
 }
 
 -- what is known once the heap is laid
@@ -33,6 +34,8 @@ lays g c = record {
   stays = c.lay.ensures.stays;
   same = c.lay.ensures.same;
   next = c.lay.ensures.next;
+  no_row = c.in_ok-tokens.ensures.rows;
+  room = c.in_ok-tokens.ensures.room ∙ ap (λ n. n / 16) c.length.ensures;
 }
 
 pub returns-clause-holds : goal.returns-clause-holds

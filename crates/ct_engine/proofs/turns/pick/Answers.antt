@@ -22,6 +22,7 @@ returns-clause-holds g c = record {
       c.requires.holds c.requires.there c.index_mut.ensures.value c.pick_row.ensures.touches.size c.pick_row.ensures.area;
   heap = turn_heap (g.M.Memory.granules c.args.mem.now) (g.M.Memory.granules c.pick_row.new.mem) c.args.rows.now.region c.args.rows.now.heap c.args.rows.now.front false c.index_mut.result.now c.requires.holds.heap
       (stopped_lies (g.M.Memory.granules c.args.mem.now) c.args.rows.now c.args.t c.index_mut.result.now c.requires.holds c.requires.none c.requires.there c.index_mut.ensures.value) c.pick_row.ensures.touches;
+  room = c.requires.holds.room;
 }
 
 pub returns-clause-seen : goal.returns-clause-seen

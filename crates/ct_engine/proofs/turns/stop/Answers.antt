@@ -15,6 +15,7 @@ returns-clause-holds g c = record {
   stacks = stacks_turn (g.M.Memory.granules c.args.mem.now) (g.M.Memory.granules c.stop_row.new.mem) c.args.rows.now c.args.t c.index_mut.result.now c.stop_row.new.t
       c.requires.holds (c.requires.holds.runs c.args.t c.requires.runs) c.index_mut.ensures.value c.stop_row.ensures.touches.size c.stop_row.ensures.area;
   heap = running_heap (g.M.Memory.granules c.args.mem.now) (g.M.Memory.granules c.stop_row.new.mem) c.args.rows.now c.args.t c.index_mut.result.now c.requires.holds c.requires.runs c.index_mut.ensures.value c.stop_row.ensures.touches;
+  room = c.requires.holds.room;
 }
 
 pub returns-clause-seen : goal.returns-clause-seen

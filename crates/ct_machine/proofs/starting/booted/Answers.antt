@@ -1,9 +1,7 @@
 use Rattle.std.proofs.Common.{ℕ, ◌≡◌, ◌∙◌, List, sym, subst}
 use Rattle.std.specs.Prelude.{IfOk}
-use Rattle.def_boot.specs.Gates.{entries_of}
 use Rattle.ct_heap.specs.Effects.{AreFew}
 use Rattle.ct_boot.specs.Launching.{launched}
-use Rattle.ct_machine.specs.Starting.{limits_of}
 use Rattle.ct_machine.proofs.Starts.{few_limits, limits_are}
 use Rattle.ct_machine.proofs.starting.booted.Goals as goal
 

@@ -5,5 +5,4 @@ use Rattle.ct_reading.proofs.files.read_files.Given as goal
 
 abbrev pub invariant-loop-name : goal.invariant-loop-name
 invariant-loop-name g l =
-    Reading (g.F.Folder.file l.fn.folder) (g.F.Folder.file l.folder) (texts l.names) (g.F.Folder.calls l.fn.folder) (g.F.Folder.calls l.folder)
-    (g.F.Folder.faults l.fn.folder) (g.F.Folder.faults l.folder) (texts (drop l.name-index l.names)) (map (λ t. t.items) l.all.items)
+    Reading (g.F.Folder.shows l.fn.folder) (g.F.Folder.shows l.folder) (texts l.names) (texts (drop l.name-index l.names)) (map (λ t. t.items) l.all.items)

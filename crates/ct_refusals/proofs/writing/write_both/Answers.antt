@@ -5,8 +5,8 @@ use Rattle.ct_refusals.proofs.writing.write_both.Goals as goal
 pub returns-in-Ok : goal.returns-in-Ok
 returns-in-Ok g c =
     MatchResult-weaker c.write-in-Ok.result c.write-in-Ok.ensures
-    (λ _ w. both _ _ _ _ _ _ _ _ c.in-Ok.ensures w)
-    (λ _ w. second_fails _ _ _ _ _ _ _ _ c.in-Ok.ensures w)
+    (λ _ w. both _ _ _ _ _ c.in-Ok.ensures w)
+    (λ _ w. second_fails _ _ _ _ _ c.in-Ok.ensures w)
 
 pub returns-in-Err : goal.returns-in-Err
-returns-in-Err g c = first_fails _ _ _ _ _ _ c.in-Err.ensures
+returns-in-Err g c = first_fails _ _ _ _ c.in-Err.ensures

@@ -6,7 +6,7 @@ use Rattle.ct_running.proofs.events.write_round.Goals as goal
 
 pub write_due-requires : goal.write_due-requires
 write_due-requires g c =
-    let same = inputs_kinds _ _ _ _ _ _ _ _ c.in-Ok.ensures in
+    let same = inputs_kinds _ _ _ _ _ _ c.in-Ok.ensures in
     let room = c.requires.room in
     let steps = ap (λ (x : Kinds). x.steps) same in
     let ticks = ap (λ (x : Kinds). x.ticks) same in
@@ -16,8 +16,8 @@ write_due-requires g c =
 pub returns-in-Ok : goal.returns-in-Ok
 returns-in-Ok g c =
     MatchResult-weaker c.write_due.result c.write_due.ensures
-    (λ _ w. both_came _ _ _ _ _ _ _ _ _ _ _ _ c.in-Ok.ensures w)
-    (λ _ w. second_failed _ _ _ _ _ _ _ _ _ _ _ c.in-Ok.ensures w)
+    (λ _ w. both_came _ _ _ _ _ _ _ _ _ c.in-Ok.ensures w)
+    (λ _ w. second_failed _ _ _ _ _ _ _ _ c.in-Ok.ensures w)
 
 pub returns-in-Err : goal.returns-in-Err
-returns-in-Err g c = first_failed _ _ _ _ _ _ _ _ c.in-Err.ensures
+returns-in-Err g c = first_failed _ _ _ _ _ _ c.in-Err.ensures

@@ -3,24 +3,24 @@ use Rattle.ct_running.proofs.Going.{begins, room, inputs_room, goes_on, breaks, 
 use Rattle.ct_running.proofs.rounds.write_rounds.Goals as goal
 
 pub loop-done-init : goal.loop-done-init
-loop-done-init g c = begins _ _ _ _ _ _ c.requires.may.booted c.requires.script
+loop-done-init g c = begins _ _ _ _ _ c.requires.may.booted c.requires.script
 
 pub write_round-requires-clause-room : goal.write_round-requires-clause-room
-write_round-requires-clause-room g c = room _ _ _ _ _ _ _ _ _ _ _ c.loop-done.invariant c.loop-done-test.true c.requires.may.limit
+write_round-requires-clause-room g c = room _ _ _ _ _ _ _ _ _ c.loop-done.invariant c.loop-done-test.true c.requires.may.limit
 
 pub write_round-requires-clause-inputs : goal.write_round-requires-clause-inputs
-write_round-requires-clause-inputs g c = rw c.at.ensures (inputs_room _ _ _ _ _ _ _ _ _ _ _ c.loop-done.invariant)
+write_round-requires-clause-inputs g c = rw c.at.ensures (inputs_room _ _ _ _ _ _ _ _ _ c.loop-done.invariant)
 
 pub loop-done-preserved : goal.loop-done-preserved
 loop-done-preserved g c =
     rw c.after_step-left.ensures
-    (goes_on _ _ c.write_round.new.machine _ _ _ _ _ _ _ _ _ _ _ c.requires.may.quantum c.loop-done.invariant c.loop-done-test.true (sym c.in-None.ensures) (rw c.at.ensures at c.in-Ok.ensures))
+    (goes_on _ _ c.write_round.new.machine _ _ _ _ _ _ _ _ c.requires.may.quantum c.loop-done.invariant c.loop-done-test.true (sym c.in-None.ensures) (rw c.at.ensures at c.in-Ok.ensures))
 
 pub returns-in-Some : goal.returns-in-Some
-returns-in-Some g c = ends_early _ _ c.in-Some.field-0 _ _ _ _ _ _ _ _ _ c.loop-done.invariant (sym c.in-Some.ensures)
+returns-in-Some g c = ends_early _ _ c.in-Some.field-0 _ _ _ _ _ _ _ c.loop-done.invariant (sym c.in-Some.ensures)
 
 pub returns-in-Err : goal.returns-in-Err
-returns-in-Err g c = breaks _ _ _ _ _ _ _ _ _ _ _ _ _ c.requires.may.quantum c.loop-done.invariant c.loop-done-test.true (sym c.in-None.ensures) (rw c.at.ensures at c.in-Err.ensures)
+returns-in-Err g c = breaks _ _ _ _ _ _ _ _ _ _ c.requires.may.quantum c.loop-done.invariant c.loop-done-test.true (sym c.in-None.ensures) (rw c.at.ensures at c.in-Err.ensures)
 
 pub returns : goal.returns
-returns g c = ends_late _ _ _ _ _ _ _ _ _ _ _ c.loop-done.invariant c.loop-done-test.false
+returns g c = ends_late _ _ _ _ _ _ _ _ _ c.loop-done.invariant c.loop-done-test.false

@@ -3,4 +3,4 @@ use Rattle.ct_running.proofs.rounds.write_rounds.Given as goal
 
 abbrev pub invariant-loop-done : goal.invariant-loop-done
 invariant-loop-done g l =
-    Going l.fn.machine l.machine l.script l.quantum l.limit l.done l.left (g.S.Sink.bytes l.fn.sink) (g.S.Sink.bytes l.sink) (g.S.Sink.faults l.fn.sink) (g.S.Sink.faults l.sink)
+    Going l.fn.machine l.machine l.script l.quantum l.limit l.done l.left (g.S.Sink.shows l.fn.sink) (g.S.Sink.shows l.sink)

@@ -16,5 +16,5 @@ pub returns : goal.returns
 returns g c = λ name.
     let rows : c.in-Ok-read.desc ≡ rows_of (firmware c.args.number) =
     rows_read c.args.number (string_bytes c.in-Ok.made.description) _ c.in-Ok-read.desc c.in-Ok.ensures.well_formed c.as_bytes.ensures.value c.in-Ok-read.ensures in
-    linked_number (command_for name c.args.task) c.args.number c.in-Ok-read.desc _ _ c.of_sources-status.result rows
+    linked_number (command_for name c.args.task) c.args.number c.in-Ok-read.desc _ _ _ _ _ c.of_sources-status.result rows
     (c.in-Ok-bytes_of.ensures ∙ ap (map string_bytes) c.as_slice.ensures.value ∙ c.in-Ok.ensures.sources) (c.of_sources-status.ensures name)

@@ -28,7 +28,7 @@ pub returns-in-Ok : goal.returns-in-Ok
 returns-in-Ok g c =
     let seen : c.parts.result.now.devices ≡ c.args.image.now.devices = ap (λ (p : PartsRow). p.devices) c.parts.ensures.parts in
     let rows : c.as_slice.result.now ≡ c.args.image.now.devices = c.as_slice.ensures.value ∙ (rw (← c.behind-image.view_is) at seen) in
-    script_played c.args.image.now c.args.limit c.args.text.now c.in-Ok.script _ _ _ _ _
+    script_played c.args.image.now c.args.limit c.args.text.now c.in-Ok.script _ _ _
     (subst (λ (ds : List DeviceRow). Reads ds c.args.text.now c.in-Ok.script) rows c.in-Ok.ensures) c.play.ensures
 
 pub returns-in-Err : goal.returns-in-Err
@@ -36,4 +36,4 @@ returns-in-Err g c =
     let seen : c.parts.result.now.devices ≡ c.args.image.now.devices = ap (λ (p : PartsRow). p.devices) c.parts.ensures.parts in
     let rows : c.as_slice.result.now ≡ c.args.image.now.devices = c.as_slice.ensures.value ∙ (rw (← c.behind-image.view_is) at seen) in
     let cause : IsCause c.args.image.now.devices c.args.text.now c.in-Err.fault = subst (λ (ds : List DeviceRow). IsCause ds c.args.text.now c.in-Err.fault) rows c.in-Err.ensures in
-    due_by _ _ _ _ _ _ _ (λ t due. script_fault c.args.image.now c.args.limit c.args.text.now c.in-Err.fault t cause due) c.refuse_script.ensures
+    due_by _ _ _ _ _ (λ t due. script_fault c.args.image.now c.args.limit c.args.text.now c.in-Err.fault t cause due) c.refuse_script.ensures

@@ -11,4 +11,4 @@ pub returns-in-Some : goal.returns-in-Some
 returns-in-Some g c = rw c.in-Some.is c.play_file.ensures
 
 pub returns-in-None : goal.returns-in-None
-returns-in-None g c = rw c.in-None.is (at_once _ _ _ refl refl (played _ _ _ _ _ _ _ (rw c.empty.ensures at c.play-in-None.ensures)))
+returns-in-None g c = rw c.in-None.is (at_once _ _ _ _ _ _ refl refl (played _ _ _ _ _ (rw c.empty.ensures at c.play-in-None.ensures)))

@@ -3,7 +3,7 @@ use Rattle.std.proofs.lemmas.List.{length-replicate}
 use Rattle.def_memory.specs.declared.Granule.{Granule}
 use Rattle.def_memory.specs.Granules.{plain, nothing, held}
 use Rattle.ct_areas.specs.Threads.{HasArea}
-use Rattle.ct_ready.proofs.Searches.{blank_held}
+use Rattle.tests_machine.proofs.Searches.{blank_held}
 use Rattle.tests_machine.proofs.firmware.thread.Goals as goal
 
 pub new-t-requires-clause-area : goal.new-t-requires-clause-area

@@ -1,6 +1,5 @@
 use Rattle.std.proofs.Common.{◌∙◌}
 use Rattle.def_words.specs.declared.Cap.{Cap}
-use Rattle.ct_engine.proofs.Instructions.{even_by}
 use Rattle.ct_engine.proofs.Quietly.{load_when, loaded_is}
 use Rattle.ct_engine.proofs.engine.Engine.load_capability.Goals as goal
 

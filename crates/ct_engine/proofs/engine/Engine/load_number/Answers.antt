@@ -1,6 +1,5 @@
 use Rattle.std.proofs.Common.{◌∙◌}
 use Rattle.def_words.specs.Capability.{integer}
-use Rattle.ct_engine.proofs.Instructions.{even_by}
 use Rattle.ct_engine.proofs.Quietly.{load_when, loaded_is}
 use Rattle.ct_engine.proofs.engine.Engine.load_number.Goals as goal
 

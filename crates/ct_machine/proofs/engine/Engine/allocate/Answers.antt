@@ -1,4 +1,4 @@
-use Rattle.std.proofs.Common.{◌+◌, ◌≤◌, refl, sym, subst}
+use Rattle.std.proofs.Common.{◌+◌, ◌≤◌, sym, subst}
 use Rattle.def_machine.specs.Board.{MachineRow}
 use Rattle.def_step.specs.Quotas.{allocate}
 use Rattle.ct_machine.proofs.Granting.{ServesIn, whole, allocated_in, came_in, named_in}
@@ -19,8 +19,7 @@ serving : (g : given.Over) (c : goal.After-allocate g)
     → ServesIn c.self.inside c.args.t c.self.invariant (c.self.inside.threads.next + 1) (c.allocate.new.engine, c.allocate.result) (allocate c.self.inside.plan (whole c.self.inside c.args.t c.self.invariant).state c.args.t)
 serving g c =
     let i = c.self.inside in
-    allocated_in i c.args.t c.self.invariant (c.allocate.new.engine, c.allocate.result)
-    (c.allocate.ensures i.plan (whole i c.args.t c.self.invariant).state c.self.invariant.0.heap (record { objects = refl; next = refl }))
+    allocated_in i c.args.t c.self.invariant (c.allocate.new.engine, c.allocate.result) c.allocate.ensures
 
 pub invariant_of-self : goal.invariant_of-self
 invariant_of-self g c =

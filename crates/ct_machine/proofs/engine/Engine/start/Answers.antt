@@ -4,14 +4,11 @@ use Rattle.law_image.proofs.Sounds.{sound}
 use Rattle.def_boot.specs.Gates.{entries_of}
 use Rattle.ct_boot.specs.Launching.{launched}
 use Rattle.ct_machine.specs.Starting.{limits_of}
-use Rattle.ct_machine.proofs.Guards.{booted_by, blank_booted}
+use Rattle.ct_machine.proofs.Guards.{booted_by}
 use Rattle.ct_machine.proofs.engine.Engine.start.Goals as goal
 
 pub returns-clause-guarded : goal.returns-clause-guarded
 returns-clause-guarded g c = booted_by c.parts-parts.result.now c.put_together.result (subst (λ p. Sound p) (sym c.parts-parts.ensures.parts) (sound c.args.image.now c.parts-parts.ensures.faultless)) c.put_together.ensures
-
-pub returns-clause-blank : goal.returns-clause-blank
-returns-clause-blank g c = blank_booted c.parts-parts.result.now c.put_together.result (subst (λ p. Sound p) (sym c.parts-parts.ensures.parts) (sound c.args.image.now c.parts-parts.ensures.faultless)) c.put_together.ensures
 
 pub put_together-requires-clause-sound : goal.put_together-requires-clause-sound
 put_together-requires-clause-sound g c = subst (λ p. Sound p) (sym c.parts-parts.ensures.parts) (sound c.args.image.now c.parts-parts.ensures.faultless)

@@ -1,5 +1,5 @@
 use Rattle.std.proofs.Common.{true, false, sym, subst, ap, ◌∙◌}
-use Rattle.def_board.specs.Guarded.{Guarded}
+use Rattle.def_guarded.specs.Guarded.{Guarded}
 use Rattle.def_step.specs.declared.Event.TheVariants.{Step}
 use Rattle.def_step.specs.Events.{happens}
 use Rattle.def_machine.specs.Board.{MachineRow}

@@ -5,4 +5,4 @@ pub invariant_of-self : goal.invariant_of-self
 invariant_of-self g c = quietly_by c.self.inside.engine c.step_quietly.new.self c.step_quietly.result c.step_quietly.ensures.is c.step_quietly.ensures.same c.step_quietly.ensures.board c.self.invariant
 
 pub returns-clause-guarded : goal.returns-clause-guarded
-returns-clause-guarded g c = (quietly_by c.self.inside.engine c.step_quietly.new.self c.step_quietly.result c.step_quietly.ensures.is c.step_quietly.ensures.same c.step_quietly.ensures.board c.self.invariant).0
+returns-clause-guarded g c = quietly_by c.self.inside.engine c.step_quietly.new.self c.step_quietly.result c.step_quietly.ensures.is c.step_quietly.ensures.same c.step_quietly.ensures.board c.self.invariant

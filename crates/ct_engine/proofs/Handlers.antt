@@ -1,0 +1,272 @@
+-- A trap's error handler: what is said where it is entered, and what that leaves of a row and of all that is seen.
+use Rattle.std.proofs.Common.{ℕ, ◌≡◌, ◌+◌, ◌-◌, ◌*◌, ◌/◌, ◌%◌, ◌==◌, ◌&&◌, ◌<◌, ◌≤◌, not, nat_le, if◌then◌else◌, cond, Bool, true, false, List, [], ◌∷◌, length, map, Option, Some, None, refl, sym, ap, ◌∙◌, arith, subst}
+use Rattle.std.proofs.Math.ListN.{get_or, set}
+use Rattle.std.proofs.lemmas.Bool.{eqb-false, leb-true, and_parts}
+use Rattle.std.specs.Prelude.{is_none}
+use Rattle.std.specs.Int.{is_in_range}
+use Rattle.ct_entry.specs.Listed.{Listed}
+use Rattle.def_words.specs.declared.Cap.{Cap}
+use Rattle.def_words.specs.declared.Trap.{Trap}
+use Rattle.def_words.specs.Authority.{cap_address, cap_base}
+use Rattle.def_words.specs.Capability.{with_address}
+use Rattle.def_memory.specs.declared.Granule.{Granule}
+use Rattle.def_memory.specs.Granules.{plain, held}
+use Rattle.def_reach.specs.Roots.{gate_for}
+use Rattle.def_boot.specs.Made.{return_sentry}
+use Rattle.def_machine.specs.State.{Thread, Frame, register}
+use Rattle.def_step.specs.Checks.{first_failed}
+use Rattle.def_step.specs.Switch.{stack_checks}
+use Rattle.def_step.specs.declared.TheConstants.{TRAP_RECORD}
+use Rattle.def_step.specs.Handlers.{Handed, has_room, record_end, is_handled_by, handled_by, record_by, record_words, words_written}
+use Rattle.def_areas.specs.Touches.{Touches}
+use Rattle.law_areas.proofs.Writes.{all_length}
+use Rattle.law_veil.proofs.Granules.{veiled_length, seen_at}
+use Rattle.ct_areas.specs.declared.thread.Area.{Area}
+use Rattle.ct_areas.specs.declared.thread.Thread as row
+use Rattle.ct_areas.specs.Threads.{area_begin, area_end, living, thread_of}
+use Rattle.ct_areas.specs.Parts.{register_in, inner_frame, outer_frames}
+use Rattle.ct_areas.proofs.Places.{alive_is}
+use Rattle.ct_areas.proofs.Rows.{frames_are}
+use Rattle.ct_exports.specs.Exports.{IsCallable, callee_of, table_of}
+use Rattle.ct_switch.specs.Ready.{IsReady}
+use Rattle.ct_switch.proofs.Failing.{AllPass, all_pass}
+use Rattle.ct_engine.specs.declared.rows.Rows.{Rows}
+use Rattle.ct_engine.specs.Seen.{Seen, seen, seen_of, thread, area_at, hidden, with_granules, with_running, with_thread}
+use Rattle.ct_engine.specs.Kept.{IsKept, AreasFrom, HeapHolds, Holds}
+use Rattle.ct_engine.specs.Calls.{IsEnterable, head_at}
+use Rattle.ct_engine.specs.Handling.{MayHandle, RowMayHandle, is_handled_of, is_handled_at, is_handled_in, handed_at, handed_in, record_place, handler_begun, after_trap, recorded, handling_row, memory_by, row_by}
+use Rattle.ct_engine.proofs.Whole.{runs_it, running_kept, seen_turn}
+use Rattle.ct_engine.proofs.Ends.{stays_on, call_areas}
+use Rattle.ct_engine.proofs.Goes.{running_is, running_frames}
+use Rattle.ct_engine.proofs.Stacks.{InStack, running_stack, running_area, running_thread, ready_is, words_hold, words_are_seen}
+use Rattle.ct_engine.proofs.Turning.{kept_as}
+use Rattle.ct_engine.proofs.Entering.{same_seen}
+
+-- ---- what is said where it is entered
+
+pub record Says (t : row.Thread) (handler : ℕ) : Type 0 where
+  pub some : handler ≡ 0 → ⊥
+  pub low : t.area.stack + TRAP_RECORD ≤ record_end (register_in t 2)
+  pub high : cap_address (register_in t 2) ≤ t.top
+
+none_is : (o : Option Trap) → is_none o ≡ true → o ≡ None
+none_is None e = refl
+none_is (Some w) e = absurd (let clash : false ≡ true = e in cc)
+
+not_true : (b : Bool) → not b ≡ true → b ≡ false
+not_true false e = refl
+not_true true e = absurd (let clash : false ≡ true = e in cc)
+
+pub says : (t : row.Thread) (handler : ℕ) → is_handled_in t handler ≡ true → Says t handler
+says t handler is =
+    let outer_parts = and_parts (not (handler == 0) && not t.handling) (has_room t.area.stack t.top (register_in t 2)) is in
+    let inner_parts = and_parts (not (handler == 0)) (not t.handling) outer_parts.0 in
+    let room = and_parts (is_none (first_failed (stack_checks t.area.stack t.top (register_in t 2)))) (nat_le (t.area.stack + TRAP_RECORD) (record_end (register_in t 2))) outer_parts.1 in
+    let all : AllPass (stack_checks t.area.stack t.top (register_in t 2)) =
+    all_pass (stack_checks t.area.stack t.top (register_in t 2)) (none_is (first_failed (stack_checks t.area.stack t.top (register_in t 2))) room.0) in
+    let range = and_parts (cap_base (register_in t 2) == t.area.stack) (is_in_range t.area.stack t.top (cap_address (register_in t 2))) all.1.1.1.0 in
+    let ends = and_parts (nat_le t.area.stack (cap_address (register_in t 2))) (nat_le (cap_address (register_in t 2)) t.top) range.1 in
+    record {
+      some = eqb-false handler 0 (not_true (handler == 0) inner_parts.0);
+      low = leb-true (t.area.stack + TRAP_RECORD) (record_end (register_in t 2)) room.1;
+      high = leb-true (cap_address (register_in t 2)) t.top ends.1;
+    }
+
+-- what the place of the record tells
+pub place_some : (b : Bool) (x at : ℕ) → Some at ≡ (if b then Some x else None) → (true ≡ b) × (at ≡ x)
+place_some true x at e = (refl, cc)
+place_some false x at e = absurd cc
+
+pub place_none : (b : Bool) (x : ℕ) → (let o : Option ℕ = None in o) ≡ (if b then Some x else None) → false ≡ b
+place_none true x e = absurd cc
+place_none false x e = refl
+
+-- the record lies in RAM, at a multiple of 16
+pub record RecordLies (gs : List Granule) (t : row.Thread) (at : ℕ) : Type 0 where
+  pub low : t.area.ram ≤ at
+  pub inside : at + TRAP_RECORD ≤ t.area.ram + 8 * length gs
+  pub whole : at % 16 ≡ 0
+
+pub record_lies : (gs : List Granule) (t : row.Thread) (handler at : ℕ) → IsReady gs t → Says t handler → at ≡ record_end (register_in t 2) - TRAP_RECORD → RecordLies gs t at
+record_lies gs t handler at ready say is =
+    let both = numbers t.area.ram t.area.stack t.area.stack_length t.top (cap_address (register_in t 2)) at (8 * length gs) is say.low say.high ready.high ready.stack.low ready.stack.high in
+    record { low = both.0; inside = both.1; whole = both.2 }
+  where
+    numbers : (ram stack long top c at size : ℕ) → at ≡ c / 16 * 16 - 80 → stack + 80 ≤ c / 16 * 16 → c ≤ top → top ≤ stack + long → ram ≤ stack → stack + long ≤ ram + size
+        → (ram ≤ at) × (at + 80 ≤ ram + size) × (at % 16 ≡ 0)
+    numbers ram stack long top c at size is low high under start end = (omega (arith, is, low, start), omega (arith, is, low, high, under, end), omega (arith, is))
+
+-- ---- the row in the handler
+
+-- the thread in the handler, by its frames
+abbrev handled_over : Handed → Thread → Trap → List Frame → Thread
+handled_over h old why [] = old
+handled_over h old why (f ∷ fs) = handled_by h old why f fs
+
+handled_thread : (gs : List Granule) (t : row.Thread) (h : Handed) (why : Trap) → 0 < t.depth
+    → thread_of gs true (handling_row h t why) ≡ handled_over h (thread_of gs true t) why (thread_of gs true t).frames
+handled_thread gs t h why some =
+    let frames : (living gs true (handling_row h t why)).frames ≡ inner_frame gs (handling_row h t why) ∷ outer_frames gs (handling_row h t why) =
+    ap (λ (u : Thread). u.frames) (sym (alive_is gs true (handling_row h t why) some)) ∙ frames_are gs true (handling_row h t why) some in
+    alive_is gs true (handling_row h t why) some
+    ∙ ap (λ (fs : List Frame). let l : Thread = record (living gs true (handling_row h t why)) { frames = fs } in l) frames
+    ∙ ap (λ (old : Thread). handled_by h old why (inner_frame gs t) (outer_frames gs t)) (sym (alive_is gs true t some))
+    ∙ ap (λ (fs : List Frame). handled_over h (thread_of gs true t) why fs) (sym (frames_are gs true t some))
+
+place_numbers : (ram own stack long top c : ℕ) → ram ≡ own → ram % 16 ≡ 0 → stack + 80 ≤ c / 16 * 16 → c ≤ top → top ≤ stack + long → ram ≤ stack
+    → (stack ≤ own + 8 * ((c / 16 * 16 - 80 - ram) / 8)) × (own + 8 * ((c / 16 * 16 - 80 - ram) / 8 + 10) ≤ stack + long)
+place_numbers ram own stack long top c base even low high under start = (omega (arith, base, even, low, start), omega (arith, base, even, low, high, under, start))
+
+made : Cap → Cap → Handed
+made pcc globals = record { pcc = pcc; back = return_sentry; globals = globals }
+
+-- ---- what is asked of the row
+
+module _ (gs : List Granule) (rows : Rows) (t : ℕ) (r : row.Thread) (holds : Holds gs rows) (runs : rows.running ≡ Some t) (is : r ≡ get_or rows.list.items t r) where
+  base_is : r.area.ram ≡ rows.region.ram
+  base_is = (running_kept gs rows t r holds runs is).base
+
+  pub row_may : (e : Listed) (handler : ℕ) → MayHandle (seen gs rows) t e handler → RowMayHandle gs r e handler
+  row_may e handler may =
+      let size : length (seen gs rows).granules ≡ length gs = veiled_length (hidden gs rows) gs in
+      record {
+        ready = ready_is gs rows t r holds runs is may.top;
+        sorted = may.sorted;
+        callable = λ some.
+            subst (λ n. IsCallable e n (8 * length gs) handler) (sym base_is)
+            (subst (λ n. IsCallable e rows.region.ram (8 * n) handler) size (may.enterable some).callable);
+      }
+
+  -- ---- whether it is entered
+
+  pub handled_is : (handler : ℕ) → is_handled_in r handler ≡ is_handled_at (seen gs rows) t handler
+  handled_is handler =
+      sym (ap (λ (fs : List Frame). is_handled_of (seen gs rows) t handler fs) (running_frames gs rows t r holds runs is)
+      ∙ ap (λ (u : Thread). is_handled_by handler (area_at (seen gs rows) t).stack u (inner_frame gs r)) (running_is gs rows t r holds runs is)
+      ∙ ap (λ (a : Area). is_handled_by handler a.stack (living gs true r) (inner_frame gs r)) (running_area gs rows t r holds runs is))
+
+  -- ---- what the handler gets
+
+  handed_is : (e : Listed) (handler : ℕ) → IsEnterable (seen gs rows) e handler → handed_in gs e r handler ≡ handed_at (seen gs rows) e handler
+  unfolding made
+  handed_is e handler open_ =
+      let head : ℕ = head_at (seen gs rows) e handler in
+      let code : ℕ = (gate_for e.gates handler).code in
+      let place : (table_of e (callee_of e handler) - r.area.ram) / 8 ≡ head = ap (λ n. (table_of e (callee_of e handler) - n) / 8) base_is in
+      let first : held gs ((table_of e (callee_of e handler) - r.area.ram) / 8) ≡ held (seen gs rows).granules head =
+      ap (λ n. held gs n) place ∙ sym (ap (λ (g : Granule). g.cap) (seen_at (hidden gs rows) gs head open_.code)) in
+      let second : held gs ((table_of e (callee_of e handler) - r.area.ram) / 8 + 1) ≡ held (seen gs rows).granules (head + 1) =
+      ap (λ n. held gs (n + 1)) place ∙ sym (ap (λ (g : Granule). g.cap) (seen_at (hidden gs rows) gs (head + 1) open_.globals)) in
+      ap (λ c. made (with_address c code) (held gs ((table_of e (callee_of e handler) - r.area.ram) / 8 + 1))) first
+      ∙ ap (λ c. made (with_address (held (seen gs rows).granules head) code) c) second
+
+  -- ---- the record
+
+  abbrev words : Trap → List ℕ
+  words why = record_by r.regs (cap_address r.pcc) why
+
+  record_in_stack : (handler : ℕ) → IsReady gs r → Says r handler → InStack rows r.area (record_place r.area.ram (register_in r 2)) 10
+  record_in_stack handler ready say =
+      let both = place_numbers r.area.ram rows.region.ram r.area.stack r.area.stack_length r.top (cap_address (register_in r 2)) base_is ready.area.ram say.low say.high ready.high ready.stack.low in
+      record { low = both.0; high = both.1 }
+
+  -- ---- where it is entered
+
+  module _ (e : Listed) (handler : ℕ) (why : Trap) (may : MayHandle (seen gs rows) t e handler) (entered : is_handled_in r handler ≡ true) where
+    say : Says r handler
+    say = says r handler entered
+
+    ready : IsReady gs r
+    ready = ready_is gs rows t r holds runs is may.top
+
+    abbrev place : ℕ
+    place = record_place r.area.ram (register_in r 2)
+
+    -- memory with the record is open as before
+    with_record : Holds (recorded gs r why) rows
+    with_record = words_hold gs rows r.area place (map plain (words why)) holds (running_stack gs rows t r holds runs is) (record_in_stack handler ready say)
+
+    record_seen : seen (recorded gs r why) rows ≡ with_granules (seen gs rows) (words_written (seen gs rows).granules place (words why))
+    record_seen = words_are_seen gs rows r.area place (map plain (words why)) holds (running_stack gs rows t r holds runs is) (record_in_stack handler ready say)
+
+    untouched : Touches (area_begin r.area) (area_end r.area) (recorded gs r why) (recorded gs r why)
+    untouched = record { size = refl; marks = λ k. refl; rest = λ k out. refl }
+
+    q_kept : IsKept (recorded gs r why) true (handling_row (handed_in gs e r handler) r why)
+    q_kept = kept_as (recorded gs r why) true r (handling_row (handed_in gs e r handler) r why) (running_kept (recorded gs r why) rows t r with_record runs is).kept refl refl refl
+
+    pub entered_areas : AreasFrom rows.region.ram (recorded gs r why) rows.running 0 rows.region.trusted rows.region.end (set rows.list.items t (handling_row (handed_in gs e r handler) r why))
+    entered_areas = call_areas (recorded gs r why) (recorded gs r why) rows t r (handling_row (handed_in gs e r handler) r why) with_record runs is untouched refl q_kept
+
+    pub entered_size : length (recorded gs r why) ≡ length gs
+    entered_size = all_length gs place (map plain (words why))
+
+    pub entered_heap : HeapHolds (recorded gs r why) rows.region rows.heap rows.front
+    entered_heap = with_record.heap
+
+    -- the thread in the handler, by what is seen before the trap
+    entered_thread : thread_of (recorded gs r why) true (handling_row (handed_in gs e r handler) r why)
+        ≡ handled_over (handed_in gs e r handler) (thread (seen gs rows) t) why (thread (seen gs rows) t).frames
+    entered_thread =
+        handled_thread (recorded gs r why) r (handed_in gs e r handler) why ready.alive
+        ∙ ap (λ (u : Thread). handled_over (handed_in gs e r handler) u why u.frames) (sym (running_thread (recorded gs r why) rows t r with_record runs is))
+        ∙ ap (λ (x : Seen). handled_over (handed_in gs e r handler) (thread x t) why (thread x t).frames) record_seen
+
+    -- the handler's entry, where there is a frame
+    begun_by : (s : Seen) (h : Handed) (fs : List Frame) → h ≡ handed_at s e handler → 0 < length fs
+        → record s { granules = words_written s.granules (record_place s.region.ram (register (thread s t) 2)) (record_words (thread s t) why); threads = set s.threads t (handled_over h (thread s t) why fs) }
+        ≡ handler_begun s e t handler why fs
+    begun_by s h [] same some = absurd (omega (arith, some))
+    begun_by s h (f ∷ fs) same some = rw same refl
+
+    entered_seen : seen_of (recorded gs r why) rows (set rows.list.items t (handling_row (handed_in gs e r handler) r why)) rows.running
+        ≡ handler_begun (seen gs rows) e t handler why (thread (seen gs rows) t).frames
+    entered_seen =
+        let put : ℕ → Cap → Thread → Seen = λ ram c u. record (seen gs rows) {
+          granules = words_written (seen gs rows).granules (record_place ram c) (record_by u.registers (cap_address u.pcc) why);
+          threads = set (seen gs rows).threads t (handled_over (handed_in gs e r handler) (thread (seen gs rows) t) why (thread (seen gs rows) t).frames);
+        } in
+        let frames = ap (λ (fs : List Frame). length fs) (running_frames gs rows t r holds runs is) in
+        seen_turn rows (recorded gs r why) (recorded gs r why) rows.list.items rows.running rows.running t r (handling_row (handed_in gs e r handler) r why)
+        (handled_over (handed_in gs e r handler) (thread (seen gs rows) t) why (thread (seen gs rows) t).frames)
+        with_record.areas with_record.heap (holds.runs t runs) is untouched (stays_on rows.running t) refl
+        (subst (λ b. thread_of (recorded gs r why) b (handling_row (handed_in gs e r handler) r why) ≡ handled_over (handed_in gs e r handler) (thread (seen gs rows) t) why (thread (seen gs rows) t).frames)
+        (sym (runs_it rows t runs)) entered_thread)
+        ∙ ap (λ (x : Seen). with_running (with_thread x t (handled_over (handed_in gs e r handler) (thread (seen gs rows) t) why (thread (seen gs rows) t).frames)) rows.running) record_seen
+        ∙ ap (λ (u : Thread). put r.area.ram (register u 2) u) (sym (running_is gs rows t r holds runs is))
+        ∙ ap (λ n. put n (register (thread (seen gs rows) t) 2) (thread (seen gs rows) t)) base_is
+        ∙ begun_by (seen gs rows) (handed_in gs e r handler) (thread (seen gs rows) t).frames (handed_is e handler (may.enterable say.some)) (omega (arith, frames))
+
+  -- ---- whether it is entered or not
+
+  pub trap_areas : (e : Listed) (handler : ℕ) (why : Trap) (b : Bool) (hs : List Granule) (q : row.Thread) → MayHandle (seen gs rows) t e handler → b ≡ is_handled_in r handler
+      → hs ≡ memory_by b gs r why → q ≡ row_by b gs e r handler why
+      → AreasFrom rows.region.ram hs rows.running 0 rows.region.trusted rows.region.end (set rows.list.items t q)
+  trap_areas e handler why true hs q may which memory row_is = rw (memory, row_is) (entered_areas e handler why may (sym which))
+  trap_areas e handler why false hs q may which memory row_is =
+      rw (memory, row_is) (call_areas gs gs rows t r r holds runs is (record { size = refl; marks = λ k. refl; rest = λ k out. refl }) refl (running_kept gs rows t r holds runs is).kept)
+
+  pub trap_size : (e : Listed) (handler : ℕ) (why : Trap) (b : Bool) (hs : List Granule) → MayHandle (seen gs rows) t e handler → b ≡ is_handled_in r handler
+      → hs ≡ memory_by b gs r why → length hs ≡ length gs
+  trap_size e handler why true hs may which memory = rw memory (entered_size e handler why may (sym which))
+  trap_size e handler why false hs may which memory = rw memory refl
+
+  pub trap_place : (e : Listed) (handler : ℕ) (why : Trap) (b : Bool) (q : row.Thread) → q ≡ row_by b gs e r handler why → q.area ≡ r.area
+  trap_place e handler why true q row_is = rw row_is refl
+  trap_place e handler why false q row_is = rw row_is refl
+
+  pub trap_heap : (e : Listed) (handler : ℕ) (why : Trap) (b : Bool) (hs : List Granule) → MayHandle (seen gs rows) t e handler → b ≡ is_handled_in r handler
+      → hs ≡ memory_by b gs r why → HeapHolds hs rows.region rows.heap rows.front
+  trap_heap e handler why true hs may which memory = rw memory (entered_heap e handler why may (sym which))
+  trap_heap e handler why false hs may which memory = rw memory holds.heap
+
+  pub trap_sees : (e : Listed) (handler : ℕ) (why : Trap) (b : Bool) (hs : List Granule) (q : row.Thread) → MayHandle (seen gs rows) t e handler → b ≡ is_handled_in r handler
+      → hs ≡ memory_by b gs r why → q ≡ row_by b gs e r handler why
+      → seen_of hs rows (set rows.list.items t q) rows.running ≡ after_trap (seen gs rows) e t handler why
+  trap_sees e handler why true hs q may which memory row_is =
+      let whole = entered_seen e handler why may (sym which) in
+      rw (memory, row_is) (whole
+      ∙ ap (λ b. cond b (handler_begun (seen gs rows) e t handler why (thread (seen gs rows) t).frames) (seen gs rows)) (which ∙ handled_is handler))
+  trap_sees e handler why false hs q may which memory row_is =
+      rw (memory, row_is) (same_seen gs gs rows t r r holds runs is (record { size = refl; marks = λ k. refl; rest = λ k out. refl }) refl refl
+      ∙ ap (λ b. cond b (handler_begun (seen gs rows) e t handler why (thread (seen gs rows) t).frames) (seen gs rows)) (which ∙ handled_is handler))

@@ -1,0 +1,68 @@
+//! Keys and tokens.
+
+ghost use Rattle.std.specs.Prelude.{◌≡◌, ◌≤◌, ◌<◌, ◌&&◌, length, IfOk};
+ghost use Rattle.std.specs.List.{list_any};
+ghost use Rattle.def_profile.specs.declared.limits.TheConstants.{MOST_STEPS};
+ghost use Rattle.def_machine.specs.Rows.{RowsFit};
+ghost use Rattle.def_step.specs.Tokens.{is_key_row, is_row_of};
+ghost use Rattle.ct_heap.specs.Lookups.{found_as, whole_at};
+ghost use Rattle.ct_engine.specs.Grants.{new_object, after_sealing, allocation_in, allocation_told, IsTold};
+
+use crate::engine::Engine;
+use ct_heap::{Found, HeapRefusal, Object};
+use ct_mem::Memory;
+
+impl<M: Memory + Drop> Engine<M> {
+    /// The live object with exactly these bounds, which are addresses, and its quota; `None` comes exactly where there
+    /// is none.
+    pub fn find(&self, base: u32, top: u64) -> Option<Found>
+        ensures { result
+            ≡ found_as self.now.objects (whole_at base top self.now.objects) }
+    {
+        self.rows.heap.find(&self.mem, base, top)
+    }
+
+    /// Whether a number is a key's.
+    pub fn is_key(&self, number: u32) -> bool
+        ensures { result ≡ list_any (is_key_row number) self.now.tokens }
+    {
+        self.rows.tokens.is_key(number)
+    }
+
+    /// Whether a key opens a token: the one has a key's row, and the row of the other names it.
+    pub fn opens(&self, key: u32, token: u32) -> bool
+        ensures { result
+            ≡ (list_any (is_key_row key) self.now.tokens
+            && list_any (is_row_of key token) self.now.tokens) }
+    {
+        self.rows.tokens.opens(key, token)
+    }
+
+    /// An object as `allocate` makes it, with a row: a key's where no key is named, else that of a token of this key.
+    ///
+    /// The refusals are those of `allocate`, and change nothing. Condition: each row is of a live object, and no two
+    /// are of one.
+    pub fn allocate_sealed(
+        &mut self,
+        quota: u32,
+        size: u32,
+        key: Option<u32>,
+    ) -> Result<Object, HeapRefusal>
+        requires quota { quota < length self.old.limits }
+        requires few { self.old.next ≤ MOST_STEPS }
+        requires rows { RowsFit self.old.objects self.old.tokens }
+        ensures is { self.new ≡ after_sealing self.old quota size key result }
+        ensures answer { allocation_in self.old quota size
+            ≡ allocation_told self.old quota size result }
+        ensures told { IfOk result
+            (λ o. IsTold self.new o (new_object self.old quota size o.base)) }
+    {
+        match self.rows.heap.allocate(&mut self.mem, quota, size) {
+            Ok(object) => {
+                self.rows.tokens.add(object.number, key);
+                Ok(object)
+            }
+            Err(why) => Err(why),
+        }
+    }
+}

@@ -1,6 +1,0 @@
-use Rattle.std.proofs.Common.{◌≡◌, drop}
-use Rattle.def_reach.specs.Roots.{gate_for}
-use Rattle.ct_graph.proofs.links.passes.Given as goal
-
-abbrev pub invariant-loop-gate : goal.invariant-loop-gate
-invariant-loop-gate l = gate_for (drop l.gate-index l.gates) l.number ≡ gate_for l.gates l.number

@@ -1,6 +1,0 @@
-use Rattle.ct_ready.proofs.Searches.{NeighboursRise}
-use Rattle.ct_ready.proofs.asked.are_sorted.Given as goal
-
--- as far as the loop has come
-abbrev pub invariant-loop-i : goal.invariant-loop-i
-invariant-loop-i l = NeighboursRise l.gates l.i

@@ -1,5 +1,0 @@
-use Rattle.ct_ready.proofs.Searches.{AllBetween}
-use Rattle.ct_ready.proofs.asked.are_together.Given as goal
-
-abbrev pub invariant-loop-i : goal.invariant-loop-i
-invariant-loop-i l = AllBetween l.rows l.home l.low l.i

@@ -1,0 +1,288 @@
+//! Keys and tokens.
+
+ghost use Rattle.std.specs.Prelude.{◌≡◌, ◌≤◌, ◌<◌, Some, None, IfSome, length, true};
+ghost use Rattle.std.specs.List.{list_any};
+ghost use Rattle.def_machine.specs.Rows.{RowsFit};
+ghost use Rattle.def_profile.specs.declared.layout.TheConstants as layout;
+ghost use Rattle.def_profile.specs.declared.limits.TheConstants.{MOST_STEPS};
+ghost use Rattle.def_words.specs.Authority.{cap_address};
+ghost use Rattle.def_machine.specs.State.{register};
+ghost use Rattle.def_step.specs.Checks.{first_failed};
+ghost use Rattle.def_step.specs.Switch.{return_checks};
+ghost use Rattle.def_step.specs.Tokens.{is_key_row, sealed_object};
+ghost use Rattle.ct_heap.specs.Lookups.{found_as};
+ghost use Rattle.ct_engine.specs.Seen.{thread};
+ghost use Rattle.ct_engine.specs.Grants.{allocation_in};
+ghost use Rattle.ct_services.specs.Granted.{NamesQuota, quota_in, by_quota, checked};
+ghost use Rattle.ct_services.specs.Sealed.{key_of, token_of, number_of, made_token, by_key, opens, frees_token};
+
+use crate::answering::code;
+use crate::granting::{base_of, capability, decline, free_whole, hand_out, quota_named, tell};
+use ct_cap::Live;
+use ct_engine::{Engine, Found};
+use ct_execute::Ran;
+use ct_exports::return_trap;
+use ct_mem::Memory;
+use ct_token::opened;
+use def_profile::answers::{NO_KEY, NO_OBJECT, NO_QUOTA, NO_TOKEN};
+use def_profile::layout::GRANULE;
+use def_profile::seals::TOKEN_TYPE;
+
+/// The live object that a capability is the whole of, where it is sealed as a key or a token.
+fn sealed_in<M: Memory + Drop>(engine: &Engine<M>, c: Live) -> Option<Found>
+    ensures { result ≡ found_as engine.now.objects (sealed_object engine.now.objects c) }
+{
+    if !c.cap.tag || c.seal != TOKEN_TYPE {
+        return None;
+    }
+    engine.find(base_of(c), c.bounds.top)
+}
+
+/// The number of the live key that a capability is of.
+fn key_in<M: Memory + Drop>(engine: &Engine<M>, c: Live) -> Option<u32>
+    ensures is { result ≡ number_of (key_of engine.now c) }
+    ensures key { IfSome result (λ n. list_any (is_key_row n) engine.now.tokens ≡ true) }
+{
+    match sealed_in(engine, c) {
+        Some(found) => {
+            let number = found.object.number;
+            if engine.is_key(number) {
+                Some(number)
+            } else {
+                None
+            }
+        }
+        None => None,
+    }
+}
+
+/// The live token that a capability is of, where it was made with this key.
+fn token_in<M: Memory + Drop>(engine: &Engine<M>, key: u32, c: Live) -> Option<Found>
+    requires { list_any (is_key_row key) engine.now.tokens ≡ true }
+    ensures { result ≡ found_as engine.now.objects (token_of engine.now key c) }
+{
+    match sealed_in(engine, c) {
+        Some(found) => {
+            if engine.opens(key, found.object.number) {
+                Some(found)
+            } else {
+                None
+            }
+        }
+        None => None,
+    }
+}
+
+/// An object with a row is charged to a quota, and handed out sealed: a key where no key is named, else a token of
+/// this key.
+fn seal_new<M: Memory + Drop>(
+    engine: &mut Engine<M>,
+    t: u32,
+    quota: u32,
+    size: u32,
+    key: Option<u32>,
+) -> Ran
+    requires runs { engine.old.running ≡ Some t }
+    requires quota { quota < length engine.old.limits }
+    requires few { engine.old.next ≤ MOST_STEPS }
+    requires rows { RowsFit engine.old.objects engine.old.tokens }
+    ensures { (engine.new, result)
+        ≡ made_token engine.old t key (allocation_in engine.old quota size) }
+{
+    match engine.allocate_sealed(quota, size, key) {
+        Ok(object) => hand_out(
+            engine,
+            t,
+            quota,
+            object,
+            capability(quota, object, TOKEN_TYPE),
+        ),
+        Err(why) => decline(engine, t, why),
+    }
+}
+
+/// Token_key: a new key, an object of eight bytes that is charged to the quota that c10 names. The running thread goes
+/// on with its capability, sealed: no routine opens it or frees the key.
+///
+/// It goes on with -1 exactly where c10 is no quota; else as `allocate` refuses those bytes. The trap is the check of
+/// c1 that fails; then nothing changes.
+///
+/// Condition: each row is of a live object, and no two are of one.
+pub fn token_key<M: Memory + Drop>(engine: &mut Engine<M>, t: u32) -> Ran
+    requires runs { engine.old.running ≡ Some t }
+    requires quota { NamesQuota engine.old t }
+    requires few { engine.old.next ≤ MOST_STEPS }
+    requires rows { RowsFit engine.old.objects engine.old.tokens }
+    ensures { (engine.new, result)
+        ≡ by_quota engine.old t
+        (made_token engine.old t None
+        (allocation_in engine.old (quota_in engine.old t) layout.GRANULE)) }
+{
+    match quota_named(engine, t) {
+        Err(trap) => Ran::Trapped { trap },
+        Ok(Some(quota)) => seal_new(engine, t, quota, GRANULE, None),
+        Ok(None) => tell(engine, t, code(NO_QUOTA)),
+    }
+}
+
+/// A token of the key that c12 is, of as many bytes as c11's address says, is charged to a quota.
+fn make_token<M: Memory + Drop>(engine: &mut Engine<M>, t: u32, quota: u32) -> Ran
+    requires runs { engine.old.running ≡ Some t }
+    requires quota { quota < length engine.old.limits }
+    requires few { engine.old.next ≤ MOST_STEPS }
+    requires rows { RowsFit engine.old.objects engine.old.tokens }
+    ensures { (engine.new, result)
+        ≡ by_key engine.old t (key_of engine.old (register (thread engine.old t) 12))
+        (λ key. made_token engine.old t (Some key)
+        (allocation_in engine.old quota (cap_address (register (thread engine.old t) 11)))) }
+{
+    let c = engine.register(t, 12);
+    match key_in(engine, c) {
+        Some(key) => {
+            let size = engine.address_in(t, 11);
+            seal_new(engine, t, quota, size, Some(key))
+        }
+        None => tell(engine, t, code(NO_KEY)),
+    }
+}
+
+/// Token_new: a new token of the key that c12 is, an object of as many bytes as c11's address says, charged to the
+/// quota that c10 names. The running thread goes on with its capability, sealed.
+///
+/// It goes on with -1 exactly where c10 is no quota; else with -7 where c12 is no live key; else as `allocate` refuses
+/// those bytes. The trap is the check of c1 that fails; then nothing changes.
+///
+/// Condition: each row is of a live object, and no two are of one.
+pub fn token_new<M: Memory + Drop>(engine: &mut Engine<M>, t: u32) -> Ran
+    requires runs { engine.old.running ≡ Some t }
+    requires quota { NamesQuota engine.old t }
+    requires few { engine.old.next ≤ MOST_STEPS }
+    requires rows { RowsFit engine.old.objects engine.old.tokens }
+    ensures { (engine.new, result)
+        ≡ by_quota engine.old t
+        (by_key engine.old t (key_of engine.old (register (thread engine.old t) 12))
+        (λ key. made_token engine.old t (Some key)
+        (allocation_in engine.old (quota_in engine.old t)
+        (cap_address (register (thread engine.old t) 11))))) }
+{
+    match quota_named(engine, t) {
+        Err(trap) => Ran::Trapped { trap },
+        Ok(Some(quota)) => make_token(engine, t, quota),
+        Ok(None) => tell(engine, t, code(NO_QUOTA)),
+    }
+}
+
+/// The token that c11 is, where it is one of this key, is opened.
+fn open_token<M: Memory + Drop>(engine: &mut Engine<M>, t: u32, key: u32) -> Ran
+    requires runs { engine.old.running ≡ Some t }
+    requires key { list_any (is_key_row key) engine.old.tokens ≡ true }
+    ensures { (engine.new, result)
+        ≡ opens engine.old t (register (thread engine.old t) 11)
+        (token_of engine.old key (register (thread engine.old t) 11)) }
+{
+    let c = engine.register(t, 11);
+    match token_in(engine, key, c) {
+        Some(_) => tell(engine, t, opened(c)),
+        None => tell(engine, t, code(NO_TOKEN)),
+    }
+}
+
+/// The token that c11 is, of the key that c10 is, is opened.
+fn open_by_key<M: Memory + Drop>(engine: &mut Engine<M>, t: u32) -> Ran
+    requires { engine.old.running ≡ Some t }
+    ensures { (engine.new, result)
+        ≡ by_key engine.old t (key_of engine.old (register (thread engine.old t) 10))
+        (λ key. opens engine.old t (register (thread engine.old t) 11)
+        (token_of engine.old key (register (thread engine.old t) 11))) }
+{
+    let c = engine.register(t, 10);
+    match key_in(engine, c) {
+        Some(key) => open_token(engine, t, key),
+        None => tell(engine, t, code(NO_KEY)),
+    }
+}
+
+/// Token_open: the running thread goes on with the capability in c11 without its seal, where that is a live token of
+/// the key that c10 is. Its tag, root, source and all else stay.
+///
+/// It goes on with -7 exactly where c10 is no live key; else with -8 where c11 is no live token of it. The trap is the
+/// check of c1 that fails; then nothing changes.
+pub fn token_open<M: Memory + Drop>(engine: &mut Engine<M>, t: u32) -> Ran
+    requires { engine.old.running ≡ Some t }
+    ensures { (engine.new, result)
+        ≡ checked (first_failed (return_checks (register (thread engine.old t) 1))) engine.old
+        (by_key engine.old t (key_of engine.old (register (thread engine.old t) 10))
+        (λ key. opens engine.old t (register (thread engine.old t) 11)
+        (token_of engine.old key (register (thread engine.old t) 11)))) }
+{
+    match return_trap(engine.register(t, 1)) {
+        Some(trap) => Ran::Trapped { trap },
+        None => open_by_key(engine, t),
+    }
+}
+
+/// The token that c12 is, where it is one of this key, is freed.
+fn free_token<M: Memory + Drop>(engine: &mut Engine<M>, t: u32, quota: u32, key: u32) -> Ran
+    requires runs { engine.old.running ≡ Some t }
+    requires quota { quota < length engine.old.limits }
+    requires key { list_any (is_key_row key) engine.old.tokens ≡ true }
+    ensures { (engine.new, result)
+        ≡ frees_token engine.old t quota
+        (token_of engine.old key (register (thread engine.old t) 12)) }
+{
+    let c = engine.register(t, 12);
+    match token_in(engine, key, c) {
+        Some(found) => {
+            if found.quota != quota {
+                return tell(engine, t, code(NO_OBJECT));
+            }
+            let object = found.object;
+            free_whole(
+                engine,
+                t,
+                quota,
+                object.base,
+                object.base as u64 + object.length as u64,
+            )
+        }
+        None => tell(engine, t, code(NO_TOKEN)),
+    }
+}
+
+/// The token that c12 is, of the key that c11 is, is freed.
+fn take_token<M: Memory + Drop>(engine: &mut Engine<M>, t: u32, quota: u32) -> Ran
+    requires runs { engine.old.running ≡ Some t }
+    requires quota { quota < length engine.old.limits }
+    ensures { (engine.new, result)
+        ≡ by_key engine.old t (key_of engine.old (register (thread engine.old t) 11))
+        (λ key. frees_token engine.old t quota
+        (token_of engine.old key (register (thread engine.old t) 12))) }
+{
+    let c = engine.register(t, 11);
+    match key_in(engine, c) {
+        Some(key) => free_token(engine, t, quota, key),
+        None => tell(engine, t, code(NO_KEY)),
+    }
+}
+
+/// Token_free: the live token that c12 is, of the key that c11 is, is freed, where it is charged to the quota that c10
+/// names. The running thread's registers pass the load filter, and it goes on with 0.
+///
+/// It goes on with -1 exactly where c10 is no quota; else with -7 where c11 is no live key; else with -8 where c12 is
+/// no live token of it; else with -6 where the token is charged to another quota. The trap is the check of c1 that
+/// fails; then nothing changes.
+pub fn token_free<M: Memory + Drop>(engine: &mut Engine<M>, t: u32) -> Ran
+    requires runs { engine.old.running ≡ Some t }
+    requires quota { NamesQuota engine.old t }
+    ensures { (engine.new, result)
+        ≡ by_quota engine.old t
+        (by_key engine.old t (key_of engine.old (register (thread engine.old t) 11))
+        (λ key. frees_token engine.old t (quota_in engine.old t)
+        (token_of engine.old key (register (thread engine.old t) 12)))) }
+{
+    match quota_named(engine, t) {
+        Err(trap) => Ran::Trapped { trap },
+        Ok(Some(quota)) => take_token(engine, t, quota),
+        Ok(None) => tell(engine, t, code(NO_QUOTA)),
+    }
+}

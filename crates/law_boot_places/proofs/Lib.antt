@@ -1,0 +1,6 @@
+mod Grants
+mod Starting
+mod Deriving
+mod Entries
+mod Tags
+mod Fixing

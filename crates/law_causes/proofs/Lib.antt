@@ -1,0 +1,3 @@
+mod Allocations
+mod Services
+mod Statuses

@@ -1,0 +1,4 @@
+pub mod Values
+pub mod Changes
+pub mod Routines
+pub mod Events
