@@ -14,7 +14,7 @@ import tempfile
 
 HERE = os.path.dirname(os.path.abspath(__file__))
 LOOPS = os.path.join(HERE, "loops")
-NAMES = ["integer", "memory", "capability", "call", "heap", "threads", "whole"]
+NAMES = ["integer", "memory", "capability", "call", "apart", "heap", "threads", "whole"]
 CHECKED = 20000
 
 

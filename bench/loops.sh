@@ -1,6 +1,7 @@
 #!/bin/bash
-# How many steps a second the program makes, beside a plain interpreter in Rust (bench/interpreter), on the seven loops
-# of bench/loops: integer, memory, capability, call, heap, threads, whole. The table has millions of steps a second of
+# How many steps a second the program makes, beside a plain interpreter in Rust (bench/interpreter), on the eight loops
+# of bench/loops: integer, memory, capability, call, apart, heap, threads, whole; apart is call with code of both
+# compartments at addresses that share their slots of decoded words. The table has millions of steps a second of
 # processor time, the best of three runs without what a run of one step takes, and how many times the interpreter is
 # faster. First both must write the same lines of the first 20,000 steps.
 #

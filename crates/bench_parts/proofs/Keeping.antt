@@ -10,7 +10,7 @@ use Rattle.def_chunks.specs.Heaps.{HeapRow, objects_of, Laid}
 use Rattle.ct_heap.specs.declared.rows.Object.{Object}
 use Rattle.ct_heap.specs.declared.rows.HeapRefusal.{HeapRefusal}
 use Rattle.ct_heap.specs.declared.rows.NotWhole.{NotWhole}
-use Rattle.ct_heap.specs.Effects.{Allocates, Refuses, Frees, Paints, NoneStale, Flushes}
+use Rattle.ct_heap.specs.Effects.{Allocates, RefusesSize, Frees, Paints, NoneStale, Flushes}
 use Rattle.bench_parts.specs.Laden.{LadenRow, IsLaden}
 
 -- nothing is tagged
@@ -37,7 +37,7 @@ same_laden l n hs count heap memory is =
     (subst (λ (gs : List Granule). IsLaden (record l { granules = gs; made = count })) (sym memory) is)
 
 pub after_allocate : (l : LadenRow) (n : HeapRow) (hs : List Granule) (quota size : ℕ) (result : Result Object HeapRefusal) → IsLaden l → Laid n hs
-    → MatchResult result (λ o. Allocates l.heap n l.granules hs quota size o.number o.base o.length o.live) (λ e. Refuses l.heap l.granules quota size e)
+    → MatchResult result (λ o. Allocates l.heap n l.granules hs quota size o.number o.base o.length o.live) (λ e. RefusesSize l.heap l.granules quota size e)
     → OnErr result ((n ≡ l.heap) × (hs ≡ l.granules)) → IsLaden (record l { heap = n; granules = hs; made = l.made + 1 })
 after_allocate l n hs quota size (Ok o) is laid a refused =
     let most = is.made in

@@ -4,7 +4,7 @@ use Rattle.def_profile.specs.declared.layout.TheConstants.{FRAME_SIZE}
 use Rattle.def_profile.specs.Areas.{frame_after}
 use Rattle.def_words.specs.declared.Cap.{Cap}
 use Rattle.def_memory.specs.declared.Granule.{Granule}
-use Rattle.def_memory.specs.Granules.{plain, held, holding, holding_all}
+use Rattle.def_memory.specs.Granules.{plain, cap_in, holding, holding_all}
 use Rattle.def_memory.specs.Accesses.{loaded_cap}
 use Rattle.def_machine.specs.State.{Thread, Frame, outermost}
 use Rattle.def_machine.specs.Frames.{pushed_frame}
@@ -22,20 +22,20 @@ use Rattle.ct_areas.proofs.Places.{area_long, area_inside, frame_granule, some_d
 -- ---- a start
 
 first_frames : (gs : List Granule) (a actor top export : ℕ) → export < 2 ^ 32 → frame_place a 1 ≤ length gs
-    → ((k : ℕ) → frame_place a 0 ≤ k → k < frame_place a 1 → held gs k ≡ plain 0)
+    → ((k : ℕ) → frame_place a 0 ≤ k → k < frame_place a 1 → cap_in gs k ≡ plain 0)
     → frames_in (holding gs (frame_place a 0 + 5) (plain export)) a actor top false 1 ≡ outermost actor export top ∷ []
 first_frames gs a actor top export small inside clear =
     let k : ℕ = frame_place a 0 in
     let hs : List Granule = holding gs (k + 5) (plain export) in
-    let other : (m : ℕ) → k ≤ m → m < k + 5 → held hs m ≡ plain 0 = λ m lo hi.
+    let other : (m : ℕ) → k ≤ m → m < k + 5 → cap_in hs m ≡ plain 0 = λ m lo hi.
     ap (λ (g : Granule). g.cap) (put_other gs (k + 5) m (plain export) (λ e. omega (arith, e, hi))) ∙ clear m lo (omega (arith, hi)) in
-    let e0 : held hs k ≡ plain 0 = other k (omega arith) (omega arith) in
-    let e1 : held hs (k + 1) ≡ plain 0 = other (k + 1) (omega arith) (omega arith) in
-    let e2 : held hs (k + 2) ≡ plain 0 = other (k + 2) (omega arith) (omega arith) in
-    let e3 : held hs (k + 3) ≡ plain 0 = other (k + 3) (omega arith) (omega arith) in
-    let e4 : held hs (k + 4) ≡ plain 0 = other (k + 4) (omega arith) (omega arith) in
-    let e5 : held hs (k + 5) ≡ plain export = put_same gs (k + 5) (plain export) (omega (arith, inside)) in
-    let w : low_word (held hs (k + 5)) ≡ export = ap low_word e5 ∙ (let is : export % 2 ^ 32 ≡ export = omega (arith, small) in is) in
+    let e0 : cap_in hs k ≡ plain 0 = other k (omega arith) (omega arith) in
+    let e1 : cap_in hs (k + 1) ≡ plain 0 = other (k + 1) (omega arith) (omega arith) in
+    let e2 : cap_in hs (k + 2) ≡ plain 0 = other (k + 2) (omega arith) (omega arith) in
+    let e3 : cap_in hs (k + 3) ≡ plain 0 = other (k + 3) (omega arith) (omega arith) in
+    let e4 : cap_in hs (k + 4) ≡ plain 0 = other (k + 4) (omega arith) (omega arith) in
+    let e5 : cap_in hs (k + 5) ≡ plain export = put_same gs (k + 5) (plain export) (omega (arith, inside)) in
+    let w : low_word (cap_in hs (k + 5)) ≡ export = ap low_word e5 ∙ (let is : export % 2 ^ 32 ≡ export = omega (arith, small) in is) in
     let f : frame_at hs k actor top false ≡ outermost actor export top = rw (e0, e1, e2, e3, e4, w) refl in
     frames_next hs a actor top false 0
     ∙ ap (λ fs. frame_at hs k actor top false ∷ fs) (frames_none hs a (caller_actor hs k) (caller_top hs k) (caller_handling hs k))
@@ -49,7 +49,7 @@ first_wrote gs hs at export a c place word wrote =
     wrote ∙ ap (λ k. holding gs k c) here ∙ ap (λ x. holding gs (frame_place (area_begin a) 0 + 5) x) word
 
 pub first_is : (gs : List Granule) (t : row.Thread) (export : ℕ) → HasArea (8 * length gs) t.area → t.depth ≡ 1 → t.handling ≡ false → export < 2 ^ 32
-    → ((k : ℕ) → area_begin t.area ≤ k → k < area_end t.area → held gs k ≡ plain 0)
+    → ((k : ℕ) → area_begin t.area ≤ k → k < area_end t.area → cap_in gs k ≡ plain 0)
     → thread_of (holding gs (frame_place (area_begin t.area) 0 + 5) (plain export)) true t ≡ first t.pcc t.regs t.posture t.actor export t.top
 first_is gs t export has one unhandled small clear =
     let long = area_long (8 * length gs) t.area has in
@@ -150,9 +150,9 @@ shallower_is gs t at c5 c6 c7 whose top mark place is5 is6 is7 whose_is top_is m
     let e5 : (at + 40) / 8 ≡ inner_place t + 5 = omega (arith, place) in
     let e6 : (at + 48) / 8 ≡ inner_place t + 6 = omega (arith, place) in
     let e7 : (at + 56) / 8 ≡ inner_place t + 7 = omega (arith, place) in
-    let p5 : c5 ≡ held gs (inner_place t + 5) = is5 ∙ ap (λ k. held gs k) e5 in
-    let p6 : c6 ≡ held gs (inner_place t + 6) = is6 ∙ ap (λ k. held gs k) e6 in
-    let p7 : c7 ≡ held gs (inner_place t + 7) = is7 ∙ ap (λ k. held gs k) e7 in
+    let p5 : c5 ≡ cap_in gs (inner_place t + 5) = is5 ∙ ap (λ k. cap_in gs k) e5 in
+    let p6 : c6 ≡ cap_in gs (inner_place t + 6) = is6 ∙ ap (λ k. cap_in gs k) e6 in
+    let p7 : c7 ≡ cap_in gs (inner_place t + 7) = is7 ∙ ap (λ k. cap_in gs k) e7 in
     rw (whose_is, top_is, mark_is, p5, p6, p7) refl
 
 pub popped_touches : (size : ℕ) (gs : List Granule) (t : row.Thread) → HasArea size t.area → 0 < t.depth → t.depth ≤ frames_most t.area

@@ -6,7 +6,7 @@ use Rattle.def_memory.specs.Accesses.{stored, stored_cap}
 use Rattle.def_memory.specs.Ranges.{zeroed_from}
 use Rattle.def_machine.specs.State.{Thread, nobody}
 use Rattle.def_areas.specs.Areas.{frame_place, frames_in}
-use Rattle.def_memory.specs.Granules.{held, held_from}
+use Rattle.def_memory.specs.Granules.{cap_in, caps_from}
 use Rattle.def_areas.specs.Touches.{Touches}
 use Rattle.law_areas.proofs.Writes.{held_same}
 use Rattle.law_areas.proofs.Frames.{frames_same}
@@ -17,13 +17,13 @@ use Rattle.ct_areas.specs.Parts.{IsSpan}
 use Rattle.ct_areas.proofs.Places.{area_long}
 
 pub living_same : (gs hs : List Granule) (runs : Bool) (t : row.Thread) (size : ℕ) → HasArea size t.area → t.depth ≤ frames_most t.area
-    → ((k : ℕ) → area_begin t.area ≤ k → k < area_end t.area → held hs k ≡ held gs k) → living hs runs t ≡ living gs runs t
+    → ((k : ℕ) → area_begin t.area ≤ k → k < area_end t.area → cap_in hs k ≡ cap_in gs k) → living hs runs t ≡ living gs runs t
 living_same gs hs runs t size has room same =
     let a : ℕ = area_begin t.area in
     let most : ℕ = frames_most t.area in
     let long : area_end t.area ≡ frame_place a most = area_long size t.area has in
-    let pcc : held hs a ≡ held gs a = same a (omega arith) (begins a (area_end t.area) most long) in
-    let regs : held_from hs (a + 1) 15 ≡ held_from gs (a + 1) 15 =
+    let pcc : cap_in hs a ≡ cap_in gs a = same a (omega arith) (begins a (area_end t.area) most long) in
+    let regs : caps_from hs (a + 1) 15 ≡ caps_from gs (a + 1) 15 =
     held_same gs hs (a + 1) 15 (λ m lo hi. same m (omega (arith, lo)) (before m a (area_end t.area) most hi long)) in
     let frames : frames_in hs a t.actor t.top t.handling t.depth ≡ frames_in gs a t.actor t.top t.handling t.depth =
     frames_same gs hs a t.actor t.top t.handling t.depth (λ m lo hi. same m (omega (arith, lo)) (below m a (area_end t.area) t.depth most hi room long)) in
@@ -40,7 +40,7 @@ living_same gs hs runs t size has room same =
 
 -- a thread is a function of its row and its area
 pub thread_same : (gs hs : List Granule) (runs : Bool) (t : row.Thread) (size : ℕ) → HasArea size t.area → t.depth ≤ frames_most t.area
-    → ((k : ℕ) → area_begin t.area ≤ k → k < area_end t.area → held hs k ≡ held gs k) → thread_of hs runs t ≡ thread_of gs runs t
+    → ((k : ℕ) → area_begin t.area ≤ k → k < area_end t.area → cap_in hs k ≡ cap_in gs k) → thread_of hs runs t ≡ thread_of gs runs t
 thread_same gs hs runs t size has room same = ap (λ (l : Thread). cond (t.depth == 0) nobody l) (living_same gs hs runs t size has room same)
 
 pub touched_same : (gs hs : List Granule) (lo hi : ℕ) (runs : Bool) (t : row.Thread) (size : ℕ) → HasArea size t.area

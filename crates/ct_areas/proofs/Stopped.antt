@@ -4,7 +4,7 @@ use Rattle.std.proofs.Math.ListN.{get_or, set}
 use Rattle.std.proofs.lemmas.List.{append-nil}
 use Rattle.def_words.specs.declared.Cap.{Cap}
 use Rattle.def_memory.specs.declared.Granule.{Granule}
-use Rattle.def_memory.specs.Granules.{plain, held, held_from, holding, holding_all}
+use Rattle.def_memory.specs.Granules.{plain, cap_in, caps_from, holding, holding_all}
 use Rattle.def_machine.specs.State.{Thread, Frame, nobody}
 use Rattle.def_machine.specs.Threads.{picked_with}
 use Rattle.def_machine.specs.Memory.{filtered_in}
@@ -61,11 +61,11 @@ saved_is gs t has room sixteen zero_ =
     let fifteen : length rest ≡ 15 = rest_length t.regs sixteen in
     let size : length ms ≡ length gs = put_length gs a t.pcc in
     let inside : a + 20 ≤ length gs = fits a (area_end t.area) (frames_most t.area) (length gs) (area_long (8 * length gs) t.area has) (area_inside (length gs) t.area has) in
-    let pcc : held hs a ≡ t.pcc =
+    let pcc : cap_in hs a ≡ t.pcc =
     ap (λ (g : Granule). g.cap) (all_other ms (a + 1) a rest (inl (omega arith))) ∙ put_same gs a t.pcc (omega (arith, inside)) in
-    let back : held_from hs (a + 1) (length rest) ≡ rest = read_back ms (a + 1) rest (omega (arith, inside, fifteen, size)) in
-    let others : held_from hs (a + 1) 15 ≡ rest = ap (λ n. held_from hs (a + 1) n) (sym fifteen) ∙ back in
-    let registers : plain 0 ∷ held_from hs (a + 1) 15 ≡ t.regs =
+    let back : caps_from hs (a + 1) (length rest) ≡ rest = read_back ms (a + 1) rest (omega (arith, inside, fifteen, size)) in
+    let others : caps_from hs (a + 1) 15 ≡ rest = ap (λ n. caps_from hs (a + 1) n) (sym fifteen) ∙ back in
+    let registers : plain 0 ∷ caps_from hs (a + 1) 15 ≡ t.regs =
     ap (λ cs. plain 0 ∷ cs) others ∙ ap (λ c. c ∷ rest) (sym zero_) ∙ sym (first_rest t.regs (plain 0) sixteen) in
     let frames : frames_in hs a t.actor t.top t.handling t.depth ≡ frames_in gs a t.actor t.top t.handling t.depth =
     frames_same gs hs a t.actor t.top t.handling t.depth (λ m lo hi.
@@ -99,25 +99,25 @@ saved_touches gs t size has sixteen =
 
 -- so many are read and filtered, the rest is as it was
 abbrev pub filled : (Cap → Cap) → List Granule → ℕ → ℕ → List Cap → List Cap
-filled keep gs k i cs = map keep (held_from gs k i) ++ drop i cs
+filled keep gs k i cs = map keep (caps_from gs k i) ++ drop i cs
 
 take_next : (keep : Cap → Cap) (gs : List Granule) (k i : ℕ) (cs : List Cap) → i < length cs
-    → set (filled keep gs k i cs) i (keep (held gs (k + i))) ≡ filled keep gs k (i + 1) cs
+    → set (filled keep gs k i cs) i (keep (cap_in gs (k + i))) ≡ filled keep gs k (i + 1) cs
 take_next keep gs k i [] lt = absurd (omega (arith, lt))
 take_next keep gs k zero (c ∷ cs) lt = let here : k + zero ≡ k = omega arith in rw here refl
 take_next keep gs k (suc i) (c ∷ cs) lt =
     let next : suc i + 1 ≡ suc (i + 1) = omega arith in
     let place : k + suc i ≡ k + 1 + i = omega arith in
-    rw (next, place) (ap (λ r. keep (held gs k) ∷ r) (take_next keep gs (k + 1) i cs (omega (arith, lt))))
+    rw (next, place) (ap (λ r. keep (cap_in gs k) ∷ r) (take_next keep gs (k + 1) i cs (omega (arith, lt))))
 
 -- a turn of the loop that reads
 pub take_step : (keep : Cap → Cap) (gs : List Granule) (rs now new : List Cap) (at i : ℕ) (c d : Cap) → at % 8 ≡ 0 → length rs ≡ 16 → i < 15
-    → now ≡ plain 0 ∷ filled keep gs (at / 8) i (drop 1 rs) → c ≡ held gs ((at + 8 * i) / 8) → d ≡ keep c → new ≡ set now (i + 1) d
+    → now ≡ plain 0 ∷ filled keep gs (at / 8) i (drop 1 rs) → c ≡ cap_in gs ((at + 8 * i) / 8) → d ≡ keep c → new ≡ set now (i + 1) d
     → new ≡ plain 0 ∷ filled keep gs (at / 8) (i + 1) (drop 1 rs)
 take_step keep gs rs now new at i c d even long few is read passed put =
     let place : (at + 8 * i) / 8 ≡ at / 8 + i = omega (arith, even) in
     let next : i + 1 ≡ suc i = omega arith in
-    let got : d ≡ keep (held gs (at / 8 + i)) = passed ∙ ap keep (read ∙ ap (λ n. held gs n) place) in
+    let got : d ≡ keep (cap_in gs (at / 8 + i)) = passed ∙ ap keep (read ∙ ap (λ n. cap_in gs n) place) in
     let here : set now (i + 1) d ≡ plain 0 ∷ set (filled keep gs (at / 8) i (drop 1 rs)) i d = rw (is, next) refl in
     put ∙ here ∙ ap (λ x. plain 0 ∷ set (filled keep gs (at / 8) i (drop 1 rs)) i x) got
     ∙ ap (λ l. plain 0 ∷ l) (take_next keep gs (at / 8) i (drop 1 rs) (omega (arith, few, rest_length rs long)))
@@ -134,11 +134,11 @@ past zero (c ∷ cs) h = absurd (omega (arith, h))
 past (suc n) (c ∷ cs) h = past n cs (omega (arith, h))
 
 -- at its end nothing is left of what was there
-pub take_end : (keep : Cap → Cap) (gs : List Granule) (rs : List Cap) (k : ℕ) → length rs ≡ 16 → filled keep gs k 15 (drop 1 rs) ≡ map keep (held_from gs k 15)
+pub take_end : (keep : Cap → Cap) (gs : List Granule) (rs : List Cap) (k : ℕ) → length rs ≡ 16 → filled keep gs k 15 (drop 1 rs) ≡ map keep (caps_from gs k 15)
 take_end keep gs rs k long =
     let fifteen = rest_length rs long in
     let none : drop 15 (drop 1 rs) ≡ [] = past 15 (drop 1 rs) (omega (arith, fifteen)) in
-    ap (λ l. map keep (held_from gs k 15) ++ l) none ∙ append-nil (map keep (held_from gs k 15))
+    ap (λ l. map keep (caps_from gs k 15) ++ l) none ∙ append-nil (map keep (caps_from gs k 15))
 
 pub restored_touches : (gs : List Granule) (t : row.Thread) (size : ℕ) → HasArea size t.area
     → Touches (area_begin t.area) (area_begin t.area + 16) gs (without_saved gs t)
@@ -168,8 +168,8 @@ resumed_touches gs t size has =
     before b end most is = omega (arith, is)
 
 pub resumed_is : (gs hs : List Granule) (t : row.Thread) (pcc : Cap) (rs : List Cap) (size ram : ℕ) → HasArea size t.area → hs ≡ without_saved gs t
-    → pcc ≡ filtered_in ram gs (held gs (area_begin t.area))
-    → rs ≡ plain 0 ∷ map (filtered_in ram gs) (held_from gs (area_begin t.area + 1) 15)
+    → pcc ≡ filtered_in ram gs (cap_in gs (area_begin t.area))
+    → rs ≡ plain 0 ∷ map (filtered_in ram gs) (caps_from gs (area_begin t.area + 1) 15)
     → thread_of hs true (record t { pcc = pcc; regs = rs }) ≡ picked_with (filtered_in ram gs) (thread_of gs false t)
 resumed_is gs hs t pcc rs size ram has wrote pcc_is rs_is =
     let a : ℕ = area_begin t.area in

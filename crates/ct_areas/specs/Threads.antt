@@ -5,7 +5,7 @@ use Rattle.def_profile.specs.declared.layout.TheConstants.{GRANULE, AREA_HEAD, F
 use Rattle.def_words.specs.declared.Cap.{Cap}
 use Rattle.def_words.specs.declared.Posture.{Posture}
 use Rattle.def_memory.specs.declared.Granule.{Granule}
-use Rattle.def_memory.specs.Granules.{plain, held, held_from}
+use Rattle.def_memory.specs.Granules.{plain, cap_in, caps_from}
 use Rattle.def_machine.specs.State.{Thread, Ready, nobody, outermost}
 use Rattle.def_areas.specs.Areas.{frames_in}
 use Rattle.ct_areas.specs.declared.thread.Area.{Area}
@@ -43,8 +43,8 @@ IsApart lo hi a = (hi ≤ area_begin a) ⊎ (area_end a ≤ lo)
 -- area. Whether it is ready is the scheduler's.
 abbrev pub living : List Granule → Bool → row.Thread → Thread
 living gs runs t = record {
-  pcc = cond runs t.pcc (held gs (area_begin t.area));
-  registers = cond runs t.regs (plain 0 ∷ held_from gs (area_begin t.area + 1) 15);
+  pcc = cond runs t.pcc (cap_in gs (area_begin t.area));
+  registers = cond runs t.regs (plain 0 ∷ caps_from gs (area_begin t.area + 1) 15);
   frames = frames_in gs (area_begin t.area) t.actor t.top t.handling t.depth;
   status = Ready;
   posture = t.posture;

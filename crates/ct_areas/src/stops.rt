@@ -1,7 +1,7 @@
 //! A stop and a pick: registers go to the area and come back through the load filter.
 
 ghost use Rattle.std.specs.Prelude.{◌≡◌, ◌+◌, ◌-◌, ◌*◌, ◌/◌, ◌%◌, ◌^◌, ◌≤◌, ◌<◌, ◌∷◌, true, false, length, drop, map};
-ghost use Rattle.def_memory.specs.Granules.{plain, held_from, holding_all};
+ghost use Rattle.def_memory.specs.Granules.{plain, cap_in, caps_from, holding_all};
 ghost use Rattle.def_machine.specs.Threads.{picked_with};
 ghost use Rattle.def_machine.specs.Memory.{filtered_in};
 ghost use Rattle.def_areas.specs.Touches.{Touches};
@@ -47,18 +47,35 @@ pub fn save<M: Memory>(t: &mut Thread, mem: &mut M)
     put_registers(&t.regs, mem, at + 8);
 }
 
+/// A register gets what a granule holds, through the load filter. Where it holds the same capability already, that
+/// isn't decoded anew.
+fn take<M: Memory>(register: &mut Live, mem: &M, ram: u32, at: u32)
+    requires even { at % 8 ≡ 0 }
+    requires inside { at + 8 ≤ 8 * length (M.granules mem.now) }
+    ensures { register.new
+        ≡ filtered_in ram (M.granules mem.now) (cap_in (M.granules mem.now) (at / 8)) }
+{
+    let cap = mem.load_cap(at);
+    if register.cap != cap {
+        *register = decoded(cap);
+    }
+    if cap.tag {
+        *register = filter(mem, ram, *register);
+    }
+}
+
 /// Registers 1 to 15 come from granules, through the load filter, and register 0 is zero.
 fn take_registers<M: Memory>(registers: &mut [Live; 16], mem: &M, ram: u32, at: u32)
     requires even { at % 8 ≡ 0 }
     requires inside { at + 120 ≤ 8 * length (M.granules mem.now) }
     ensures { registers.new
         ≡ plain 0 ∷ map (filtered_in ram (M.granules mem.now))
-        (held_from (M.granules mem.now) (at / 8) 15) }
+        (caps_from (M.granules mem.now) (at / 8) 15) }
 {
     let _size = mem.size();
     registers[0] = Live::integer(0);
     for i in 0..15 {
-        registers[i + 1] = filter(mem, ram, decoded(mem.load_cap(at + 8 * i as u32)));
+        take(&mut registers[i + 1], mem, ram, at + 8 * i as u32);
     }
 }
 
@@ -77,7 +94,7 @@ pub fn resume<M: Memory>(t: &mut Thread, mem: &mut M)
     ensures zero { register_in t.new 0 ≡ plain 0 }
 {
     let at = area_offset(&t.area, mem);
-    t.pcc = filter(mem, t.area.ram, decoded(mem.load_cap(at)));
+    take(&mut t.pcc, mem, t.area.ram, at);
     take_registers(&mut t.regs, mem, t.area.ram, at + 8);
     clear(mem, t.area.ram, t.area.trusted, SAVED_SIZE);
 }

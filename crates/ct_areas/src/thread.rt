@@ -2,7 +2,7 @@
 
 ghost use Rattle.std.specs.Prelude.{◌≡◌, ◌+◌, ◌*◌, ◌<◌, ◌≤◌, ℕ, true, false, length};
 ghost use Rattle.def_profile.specs.declared.limits.TheConstants.{RAM_END};
-ghost use Rattle.def_memory.specs.Granules.{plain, held, holding};
+ghost use Rattle.def_memory.specs.Granules.{plain, cap_in, holding};
 ghost use Rattle.def_areas.specs.Areas.{frame_place};
 ghost use Rattle.def_areas.specs.Touches.{Touches};
 ghost use Rattle.ct_areas.specs.Threads.{HasArea, area_begin, area_end, thread_of, first};
@@ -54,7 +54,7 @@ impl Thread {
     ) -> Thread
         requires area { HasArea (8 * length (M.granules mem.old)) area }
         requires clear { (k : ℕ) → area_begin area ≤ k → k < area_end area
-            → held (M.granules mem.old) k ≡ plain 0 }
+            → cap_in (M.granules mem.old) k ≡ plain 0 }
         requires end { area.stack + area.stack_length ≤ RAM_END }
         ensures thread { thread_of (M.granules mem.new) true result
             ≡ first pcc regs posture actor export (area.stack + area.stack_length) }

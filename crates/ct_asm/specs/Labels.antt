@@ -36,13 +36,13 @@ abbrev pub AreWithin : List (Name × Label) → Type 0
 AreWithin rows = (name : Name) → WithinLimit (label_named name rows)
 
 -- what an object is to its statements: they have no fault, its bytes are theirs, and each label is the first of its name
-pub record Stands (all : Statements) (slots : List Name) (o : Assembled) : Type 0 where
+pub record IsAssembled (all : Statements) (slots : List Name) (o : Assembled) : Type 0 where
   pub faultless : fault_in all ≡ None
   pub text : o.text ≡ text_of all slots
   pub init : o.init ≡ initial_of all slots
   pub labels : (name : Name) → label_named name o.labels ≡ label_in all name
 
 -- a fault that was answered is the least one
-abbrev pub Refuses : AsmFault → Statements → Type 0
-Refuses NoMemory all = Unit {0}
-Refuses (At number line) all = fault_in all ≡ Some (record { number = number; line = line })
+abbrev pub RefusesStatements : AsmFault → Statements → Type 0
+RefusesStatements NoMemory all = Unit {0}
+RefusesStatements (At number line) all = fault_in all ≡ Some (record { number = number; line = line })

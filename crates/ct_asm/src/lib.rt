@@ -18,7 +18,7 @@ ghost use Rattle.std.specs.Prelude.{◌≡◌, None, IfOk, IfErr};
 ghost use Rattle.def_source.specs.Source.{IsLawful};
 ghost use Rattle.def_object.specs.Object.{undeclared_in};
 ghost use Rattle.ct_source.specs.Views.{program_view, statements_view};
-ghost use Rattle.ct_asm.specs.Labels.{Stands, Refuses};
+ghost use Rattle.ct_asm.specs.Labels.{IsAssembled, RefusesStatements};
 
 pub use crate::names::Names;
 pub use crate::object::Object;
@@ -56,8 +56,8 @@ fn first_undeclared(statements: &[Statement<&[u8]>], imports: &Names) -> Option<
 pub fn assemble(alloc: Global, program: &Program<'_>, imports: &Names) -> Result<Object, AsmFault>
     requires lawful { IsLawful (program_view program.now) }
     requires declared { undeclared_in imports.now (program_view program.now) ≡ None }
-    ensures ok { IfOk result (λ o. Stands (program_view program.now) imports.now o) }
-    ensures err { IfErr result (λ e. Refuses e (program_view program.now)) }
+    ensures ok { IfOk result (λ o. IsAssembled (program_view program.now) imports.now o) }
+    ensures err { IfErr result (λ e. RefusesStatements e (program_view program.now)) }
 {
     object::assembled(alloc, program.statements.as_slice(), imports)
 }

@@ -4,7 +4,7 @@ ghost use Rattle.std.specs.Prelude.{◌≡◌, ◌<◌, ◌^◌, IfOk, IfErr};
 ghost use Rattle.def_source.specs.Source.{IsLawful};
 ghost use Rattle.ct_source.specs.Views.{statements_view};
 ghost use Rattle.def_object.specs.Object.{text_offset};
-ghost use Rattle.ct_asm.specs.Labels.{label_named, Stands, Refuses};
+ghost use Rattle.ct_asm.specs.Labels.{label_named, IsAssembled, RefusesStatements};
 
 use crate::bytes::section_bytes;
 use crate::faults::least_fault;
@@ -58,8 +58,8 @@ pub(crate) fn assembled(
     slots: &Names,
 ) -> Result<Object, AsmFault>
     requires { IsLawful (statements_view statements.now) }
-    ensures ok { IfOk result (λ o. Stands (statements_view statements.now) slots.now o) }
-    ensures err { IfErr result (λ e. Refuses e (statements_view statements.now)) }
+    ensures ok { IfOk result (λ o. IsAssembled (statements_view statements.now) slots.now o) }
+    ensures err { IfErr result (λ e. RefusesStatements e (statements_view statements.now)) }
 {
     let Ok(labels) = labels_of(alloc, statements) else {
         return Err(AsmFault::NoMemory);

@@ -12,14 +12,14 @@ use Rattle.def_words.specs.Derive.{executable_root}
 use Rattle.def_machine.specs.State.{interrupts_on}
 use Rattle.def_image.specs.Parts.{GateRow, CodeRow, CompartmentRow, ThreadRow, PartsRow}
 use Rattle.def_image.specs.Members.{text_base, code_number, globals_number, stack_number}
-use Rattle.def_boot.specs.Boot.{boot_state, first_thread, first_threads, first_pcc, first_posture, entered, entry_number, offset_of, disables}
+use Rattle.def_boot.specs.Boot.{boot_state, first_thread, first_threads, first_pcc, first_posture, entered, entry_number, offset_of, gate_is_disabled}
 use Rattle.def_boot.specs.Contents.{boot_granules}
 use Rattle.def_boot.specs.Entries.{code_row}
-use Rattle.def_boot.specs.Made.{made_as, made_for}
+use Rattle.def_boot.specs.Made.{entry_cap_as, boot_cap_of}
 use Rattle.law_boot_words.proofs.Putting.{compartment_is}
-use Rattle.ct_boot.specs.declared.start.First.{First}
+use Rattle.ct_engine.specs.declared.starting.First.{First}
 use Rattle.ct_boot.specs.declared.start.Kept.{Kept}
-use Rattle.ct_boot.specs.Starts.{start_of, starts_of, told}
+use Rattle.ct_boot.specs.Starts.{start_of, starts_of, first_start}
 use Rattle.ct_boot.proofs.Made.{code_made_is}
 
 starts_in : (p : PartsRow) (n : ℕ) (xs : List ThreadRow) (t : ℕ) (x : ThreadRow) → slice_get xs t ≡ Some x → slice_get (map start_of (first_threads p n xs)) t ≡ Some (start_of (first_thread p (n + t) x))
@@ -80,34 +80,34 @@ taken_at [] (suc n) i d lt = absurd (omega (arith, lt))
 taken_at (y ∷ ys) (suc n) zero d lt = refl
 taken_at (y ∷ ys) (suc n) (suc i) d lt = taken_at ys n i d (omega (arith, lt))
 
-pub told_at : (rows : List Kept) (n i : ℕ) (x : Kept) → i < length (map told (take n rows)) → x ≡ slice_index_or rows i x → slice_get (map told (take n rows)) i ≡ Some (told x)
+pub told_at : (rows : List Kept) (n i : ℕ) (x : Kept) → i < length (map first_start (take n rows)) → x ≡ slice_index_or rows i x → slice_get (map first_start (take n rows)) i ≡ Some (first_start x)
 told_at rows n i x lt read =
-    let less : i < length (take n rows) = subst (λ k. i < k) (length-map (take n rows) told) lt in
-    slice_get-map told (take n rows) i ∙ ap (option_map told) (taken_at rows n i x less) ∙ ap (λ k. Some (told k)) (sym read)
+    let less : i < length (take n rows) = subst (λ k. i < k) (length-map (take n rows) first_start) lt in
+    slice_get-map first_start (take n rows) i ∙ ap (option_map first_start) (taken_at rows n i x less) ∙ ap (λ k. Some (first_start k)) (sym read)
 
 -- ---- one thread
 
-pub kept_is : (p : PartsRow) (n : ℕ) (t : ThreadRow) (pcc stack globals : Cap) (posture : Posture) (actor export : ℕ) → pcc ≡ first_pcc p t → stack ≡ made_for p (stack_number p n) → globals ≡ made_for p (globals_number p t.compartment)
+pub kept_is : (p : PartsRow) (n : ℕ) (t : ThreadRow) (pcc stack globals : Cap) (posture : Posture) (actor export : ℕ) → pcc ≡ first_pcc p t → stack ≡ boot_cap_of p (stack_number p n) → globals ≡ boot_cap_of p (globals_number p t.compartment)
     → posture ≡ first_posture p t → actor ≡ t.compartment → export ≡ entry_number p t
-    → told (record { pcc = pcc; stack = stack; globals = globals; posture = posture; actor = actor; export = export }) ≡ start_of (first_thread p n t)
+    → first_start (record { pcc = pcc; stack = stack; globals = globals; posture = posture; actor = actor; export = export }) ≡ start_of (first_thread p n t)
 kept_is p n t pcc stack globals posture actor export a b c d e f =
-    ap (λ z. told (record { pcc = z; stack = stack; globals = globals; posture = posture; actor = actor; export = export })) a
-    ∙ ap (λ z. told (record { pcc = first_pcc p t; stack = z; globals = globals; posture = posture; actor = actor; export = export })) b
-    ∙ ap (λ z. told (record { pcc = first_pcc p t; stack = made_for p (stack_number p n); globals = z; posture = posture; actor = actor; export = export })) c
-    ∙ ap (λ z. told (record { pcc = first_pcc p t; stack = made_for p (stack_number p n); globals = made_for p (globals_number p t.compartment); posture = z; actor = actor; export = export })) d
-    ∙ ap (λ z. told (record { pcc = first_pcc p t; stack = made_for p (stack_number p n); globals = made_for p (globals_number p t.compartment); posture = first_posture p t; actor = z; export = export })) e
-    ∙ ap (λ z. told (record { pcc = first_pcc p t; stack = made_for p (stack_number p n); globals = made_for p (globals_number p t.compartment); posture = first_posture p t; actor = t.compartment; export = z })) f
+    ap (λ z. first_start (record { pcc = z; stack = stack; globals = globals; posture = posture; actor = actor; export = export })) a
+    ∙ ap (λ z. first_start (record { pcc = first_pcc p t; stack = z; globals = globals; posture = posture; actor = actor; export = export })) b
+    ∙ ap (λ z. first_start (record { pcc = first_pcc p t; stack = boot_cap_of p (stack_number p n); globals = z; posture = posture; actor = actor; export = export })) c
+    ∙ ap (λ z. first_start (record { pcc = first_pcc p t; stack = boot_cap_of p (stack_number p n); globals = boot_cap_of p (globals_number p t.compartment); posture = z; actor = actor; export = export })) d
+    ∙ ap (λ z. first_start (record { pcc = first_pcc p t; stack = boot_cap_of p (stack_number p n); globals = boot_cap_of p (globals_number p t.compartment); posture = first_posture p t; actor = z; export = export })) e
+    ∙ ap (λ z. first_start (record { pcc = first_pcc p t; stack = boot_cap_of p (stack_number p n); globals = boot_cap_of p (globals_number p t.compartment); posture = first_posture p t; actor = t.compartment; export = z })) f
 
 pub enters : (p : PartsRow) (t : ThreadRow) (c : CompartmentRow) (x : GateRow) → slice_get p.compartments t.compartment ≡ Some c → slice_get c.code.exports t.export ≡ Some x → entered p t ≡ Some x
 enters p t c x there export = ap (λ (d : CompartmentRow). slice_get d.code.exports t.export) (compartment_is p t.compartment c there) ∙ export
 
 pub pcc_is : (p : PartsRow) (t : ThreadRow) (c : CompartmentRow) (x : GateRow) (n : ℕ) (d : CodeRow) → slice_get p.compartments t.compartment ≡ Some c → slice_get c.code.exports t.export ≡ Some x → n ≡ code_number p t.compartment → d ≡ c.code
-    → with_address (made_as executable_root n (code_row (Compartment t.compartment) d) d.base 0) (text_base d + x.row.offset) ≡ first_pcc p t
+    → with_address (entry_cap_as executable_root n (code_row (Compartment t.compartment) d) d.base 0) (text_base d + x.row.offset) ≡ first_pcc p t
 pcc_is p t c x n d there export number same =
     ap (λ m. with_address m (text_base d + x.row.offset)) (code_made_is p t.compartment c n d there number same)
-    ∙ ap (λ (e : CodeRow). with_address (made_for p (code_number p t.compartment)) (text_base e + x.row.offset)) same
-    ∙ sym (ap (λ (e : CompartmentRow). with_address (made_for p (code_number p t.compartment)) (text_base e.code + offset_of (entered p t))) (compartment_is p t.compartment c there)
-    ∙ ap (λ o. with_address (made_for p (code_number p t.compartment)) (text_base c.code + offset_of o)) (enters p t c x there export))
+    ∙ ap (λ (e : CodeRow). with_address (boot_cap_of p (code_number p t.compartment)) (text_base e + x.row.offset)) same
+    ∙ sym (ap (λ (e : CompartmentRow). with_address (boot_cap_of p (code_number p t.compartment)) (text_base e.code + offset_of (entered p t))) (compartment_is p t.compartment c there)
+    ∙ ap (λ o. with_address (boot_cap_of p (code_number p t.compartment)) (text_base c.code + offset_of o)) (enters p t c x there export))
 
 pub entry_is : (p : PartsRow) (t : ThreadRow) (c : CompartmentRow) (n : ℕ) (d : CodeRow) → slice_get p.compartments t.compartment ≡ Some c → n ≡ code_number p t.compartment → d ≡ c.code → n + 2 + length d.slots + t.export ≡ entry_number p t
 entry_is p t c n d there number same =
@@ -116,7 +116,7 @@ entry_is p t c n d there number same =
     ∙ sym (ap (λ (e : CompartmentRow). code_number p t.compartment + 2 + length e.code.slots + t.export) (compartment_is p t.compartment c there))
 
 pub posture_is : (p : PartsRow) (t : ThreadRow) (c : CompartmentRow) (x : GateRow) (n : ℕ) → slice_get p.compartments t.compartment ≡ Some c → slice_get c.code.exports t.export ≡ Some x → n ≡ entry_number p t
-    → cond (disables (Some x)) (record { off = true; source = n }) interrupts_on ≡ first_posture p t
+    → cond (gate_is_disabled (Some x)) (record { off = true; source = n }) interrupts_on ≡ first_posture p t
 posture_is p t c x n there export number =
-    ap (λ k. cond (disables (Some x)) (record { off = true; source = k }) interrupts_on) number
-    ∙ sym (ap (λ o. cond (disables o) (record { off = true; source = entry_number p t }) interrupts_on) (enters p t c x there export))
+    ap (λ k. cond (gate_is_disabled (Some x)) (record { off = true; source = k }) interrupts_on) number
+    ∙ sym (ap (λ o. cond (gate_is_disabled o) (record { off = true; source = entry_number p t }) interrupts_on) (enters p t c x there export))

@@ -3,7 +3,7 @@ use Rattle.std.proofs.Common.{ℕ, ◌≡◌, ◌+◌, ◌-◌, ◌*◌, ◌≤�
 use Rattle.law_lists.proofs.Tests.{both_left, both_right, eq_tells}
 use Rattle.std.proofs.lemmas.Bool.{leb-true, ltb-true}
 use Rattle.def_memory.specs.declared.Granule.{Granule}
-use Rattle.def_memory.specs.Granules.{plain, held}
+use Rattle.def_memory.specs.Granules.{plain, cap_in}
 use Rattle.def_machine.specs.Image.{address_of, trusted_end}
 use Rattle.def_machine.specs.State.{Thread, outermost}
 use Rattle.def_chunks.specs.Heaps.{HeapRow}
@@ -43,7 +43,7 @@ module _ (p : PartsRow) (s : Sound p) where
         | inr off ↦ ap (λ b. cond b return_sentry (plain 0)) off.0
       ]
 
-  clear_at : (k : ℕ) → areas_begin p ≤ p.ram + 8 * k → p.ram + 8 * k < areas_end p → held (boot_state p).granules k ≡ plain 0
+  clear_at : (k : ℕ) → areas_begin p ≤ p.ram + 8 * k → p.ram + 8 * k < areas_end p → cap_in (boot_state p).granules k ≡ plain 0
   clear_at k low high =
       let end = ends_in_ram p s in
       let size = s.ram.size in
@@ -51,7 +51,7 @@ module _ (p : PartsRow) (s : Sound p) where
       let here : address_of (image_of p) k ≡ p.ram + 8 * k = ap (λ n. n + 8 * k) (sym (ram_is p)) in
       ap (λ (g : Granule). g.cap) (same_granule p s k) ∙ booted_in p k few ∙ ap (λ x. boot_cap p x) here ∙ zero_at (p.ram + 8 * k) low high
 
-  pub region_clear : (k : ℕ) → region_hides (region_of (image_of p)) k ≡ true → held (boot_state p).granules k ≡ plain 0
+  pub region_clear : (k : ℕ) → region_hides (region_of (image_of p)) k ≡ true → cap_in (boot_state p).granules k ≡ plain 0
   region_clear k hidden =
       let from = nat_le (image_of p).trusted ((image_of p).ram + 8 * k) in
       let to = nat_lt ((image_of p).ram + 8 * k) (trusted_end (image_of p)) in
@@ -87,7 +87,7 @@ module _ (p : PartsRow) (s : Sound p) where
   unfolding boot_cap
   heap_zero x low = ap (λ o. content_at p o x) (none_there p x (λ i r is lies. let end = (s.laid.each i r is).high in let lt = lies.1 in omega (arith, end, lt, low)))
 
-  heap_clear : (k : ℕ) → p.heap ≤ p.ram + 8 * k → p.ram + 8 * k < p.ram + p.size → held (boot_state p).granules k ≡ plain 0
+  heap_clear : (k : ℕ) → p.heap ≤ p.ram + 8 * k → p.ram + 8 * k < p.ram + p.size → cap_in (boot_state p).granules k ≡ plain 0
   heap_clear k low high =
       let size = s.ram.size in
       let few : k < granules_in p = omega (arith, high, size) in

@@ -10,25 +10,25 @@ use Rattle.def_image.specs.Members.{compartment, library, text_base, gate_addres
 use Rattle.def_image.specs.Sound.{Sound}
 use Rattle.def_boot.specs.Entries.{code_row, globals_row, stack_row}
 use Rattle.def_boot.specs.Gates.{gate, gates_of}
-use Rattle.def_boot.specs.Made.{from_entry, made_as, made_for, sentry_type}
+use Rattle.def_boot.specs.Made.{from_entry, entry_cap_as, boot_cap_of, sentry_type}
 use Rattle.def_words.specs.Derive.{derive}
 use Rattle.def_image.specs.declared.ImportRow.{ImportRow}
 use Rattle.def_image.specs.declared.SlotKind.TheVariants as slot
 use Rattle.def_image.specs.Sound.{Names}
 use Rattle.law_listed.proofs.Standing.{compartment_of, library_of, stack_of}
-use Rattle.law_boot_words.specs.Booting.{Puts}
-use Rattle.law_boot_words.specs.Booting.{PutsBytes}
+use Rattle.def_boot_words.specs.Booting.{Puts}
+use Rattle.def_boot_words.specs.Booting.{PutsBytes}
 use Rattle.law_boot_words.proofs.Putting.{compartment_is, library_is, puts_slot, puts_library_slot}
 use Rattle.ct_boot.proofs.Fits.{gate_end}
 use Rattle.ct_boot.specs.Slots.{slot_cap, SlotsPut}
 
-pub code_is : (p : PartsRow) (b : ℕ) (c : CompartmentRow) → slice_get p.compartments b ≡ Some c → made_as executable_root (code_number p b) (code_row (Compartment b) c.code) c.code.base 0 ≡ made_for p (code_number p b)
+pub code_is : (p : PartsRow) (b : ℕ) (c : CompartmentRow) → slice_get p.compartments b ≡ Some c → entry_cap_as executable_root (code_number p b) (code_row (Compartment b) c.code) c.code.base 0 ≡ boot_cap_of p (code_number p b)
 code_is p b c is = sym (compartment_of p b c is).code.made_is
 
-pub globals_are : (p : PartsRow) (b : ℕ) (c : CompartmentRow) → slice_get p.compartments b ≡ Some c → made_as memory_root (globals_number p b) (globals_row b c) c.globals 0 ≡ made_for p (globals_number p b)
+pub globals_are : (p : PartsRow) (b : ℕ) (c : CompartmentRow) → slice_get p.compartments b ≡ Some c → entry_cap_as memory_root (globals_number p b) (globals_row b c) c.globals 0 ≡ boot_cap_of p (globals_number p b)
 globals_are p b c is = sym (compartment_of p b c is).globals.made_is
 
-pub stack_is : (p : PartsRow) (t : ℕ) (x : ThreadRow) → slice_get p.threads t ≡ Some x → made_as memory_root (stack_number p t) (stack_row t x) (x.stack + x.stack_length) 0 ≡ made_for p (stack_number p t)
+pub stack_is : (p : PartsRow) (t : ℕ) (x : ThreadRow) → slice_get p.threads t ≡ Some x → entry_cap_as memory_root (stack_number p t) (stack_row t x) (x.stack + x.stack_length) 0 ≡ boot_cap_of p (stack_number p t)
 stack_is p t x is = sym (stack_of p t x is).row.made_is
 
 pub gate_is : (p : PartsRow) (l j : ℕ) (c : CodeRow) (x : GateRow) → slice_get p.libraries l ≡ Some c → slice_get c.exports j ≡ Some x → gate_for (gates_of p) (library_gate_number p l j) ≡ gate (library_gate_number p l j) c x.row
@@ -67,14 +67,14 @@ puts_at p x y c d h place what = subst (λ z. Puts p z d) (sym place) (subst (λ
 pub bytes_at : (p : PartsRow) (x y : ℕ) (b d : List ℕ) → PutsBytes p x b → y ≡ x → d ≡ b → PutsBytes p y d
 bytes_at p x y b d h place what = subst (λ z. PutsBytes p z d) (sym place) (subst (λ z. PutsBytes p x z) (sym what) h)
 
-pub code_made_is : (p : PartsRow) (b : ℕ) (c : CompartmentRow) (n : ℕ) (d : CodeRow) → slice_get p.compartments b ≡ Some c → n ≡ code_number p b → d ≡ c.code → made_as executable_root n (code_row (Compartment b) d) d.base 0 ≡ made_for p (code_number p b)
+pub code_made_is : (p : PartsRow) (b : ℕ) (c : CompartmentRow) (n : ℕ) (d : CodeRow) → slice_get p.compartments b ≡ Some c → n ≡ code_number p b → d ≡ c.code → entry_cap_as executable_root n (code_row (Compartment b) d) d.base 0 ≡ boot_cap_of p (code_number p b)
 code_made_is p b c n d there number same =
-    ap (λ k. made_as executable_root k (code_row (Compartment b) d) d.base 0) number
-    ∙ ap (λ (e : CodeRow). made_as executable_root (code_number p b) (code_row (Compartment b) e) e.base 0) same
+    ap (λ k. entry_cap_as executable_root k (code_row (Compartment b) d) d.base 0) number
+    ∙ ap (λ (e : CodeRow). entry_cap_as executable_root (code_number p b) (code_row (Compartment b) e) e.base 0) same
     ∙ code_is p b c there
 
-pub globals_made_are : (p : PartsRow) (b : ℕ) (c : CompartmentRow) (n : ℕ) → slice_get p.compartments b ≡ Some c → n ≡ globals_number p b → made_as memory_root n (globals_row b c) c.globals 0 ≡ made_for p (globals_number p b)
-globals_made_are p b c n there number = ap (λ k. made_as memory_root k (globals_row b c) c.globals 0) number ∙ globals_are p b c there
+pub globals_made_are : (p : PartsRow) (b : ℕ) (c : CompartmentRow) (n : ℕ) → slice_get p.compartments b ≡ Some c → n ≡ globals_number p b → entry_cap_as memory_root n (globals_row b c) c.globals 0 ≡ boot_cap_of p (globals_number p b)
+globals_made_are p b c n there number = ap (λ k. entry_cap_as memory_root k (globals_row b c) c.globals 0) number ∙ globals_are p b c there
 
 -- ---- what a row names
 

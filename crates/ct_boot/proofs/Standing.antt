@@ -12,7 +12,7 @@ use Rattle.def_image.specs.Parts.{ThreadRow, PartsRow}
 use Rattle.def_image.specs.Sizes.{sum_of}
 use Rattle.def_image.specs.Regions.{area_size}
 use Rattle.def_boot.specs.Boot.{first_thread, first_threads}
-use Rattle.ct_boot.specs.declared.start.First.{First}
+use Rattle.ct_engine.specs.declared.starting.First.{First}
 use Rattle.ct_boot.specs.Starts.{start_of, starts_of}
 use Rattle.ct_boot.proofs.Firsts.{start_at}
 use Rattle.ct_areas.specs.declared.thread.Area.{Area}

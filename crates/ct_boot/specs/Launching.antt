@@ -6,7 +6,7 @@ use Rattle.def_image.specs.Parts.{ThreadRow, PartsRow}
 use Rattle.def_image.specs.Sizes.{sum_of}
 use Rattle.def_image.specs.Regions.{area_size}
 use Rattle.def_boot.specs.Boot.{boot_state, first_thread, first_threads, image_of}
-use Rattle.ct_boot.specs.declared.start.First.{First}
+use Rattle.ct_engine.specs.declared.starting.First.{First}
 use Rattle.ct_boot.specs.Starts.{start_of}
 use Rattle.ct_areas.specs.declared.thread.Area.{Area}
 use Rattle.ct_engine.specs.declared.starting.Fresh.{Fresh}
@@ -68,14 +68,7 @@ launched p limits = record {
 
 -- a thread that starts so, with its area
 abbrev pub fresh_by : First → Area → Fresh
-fresh_by f a = record {
-  pcc = f.pcc;
-  regs = f.regs;
-  posture = f.posture;
-  actor = f.actor;
-  export = f.export;
-  area = a;
-}
+fresh_by f a = record { first = f; area = a }
 
 -- the first of these threads has number n, and its area begins at an address
 abbrev pub fresh_from : PartsRow → ℕ → ℕ → List ThreadRow → List Fresh

@@ -7,7 +7,7 @@ use Rattle.def_image.specs.Parts.{PartsRow}
 use Rattle.def_boot.specs.Boot.{boot_state}
 use Rattle.def_memory.specs.Granules.{plain}
 use Rattle.def_boot.specs.Made.{return_sentry}
-use Rattle.ct_boot.specs.declared.start.First.{First}
+use Rattle.ct_engine.specs.declared.starting.First.{First}
 use Rattle.ct_boot.specs.declared.start.Kept.{Kept}
 
 -- the number of the export that a thread's innermost frame entered
@@ -35,8 +35,8 @@ pub record Started : Type 0 where
   pub firsts : List First
 
 -- of each thread c1 is the return sentry, and all but c1, c2 and c3 are zero
-abbrev pub told : Kept → First
-told k = record {
+abbrev pub first_start : Kept → First
+first_start k = record {
   pcc = k.pcc;
   regs =
       plain 0 ∷ return_sentry ∷ k.stack ∷ k.globals

@@ -4,7 +4,7 @@ ghost use Rattle.std.specs.Prelude.{◌≡◌, ◌≤◌, length};
 ghost use Rattle.def_boot.specs.Boot.{boot_state};
 ghost use Rattle.def_boot.specs.Contents.{boot_granules};
 ghost use Rattle.def_image.specs.Sound.{Sound};
-ghost use Rattle.law_boot_words.specs.Booting.{empty_granules};
+ghost use Rattle.def_boot_words.specs.Booting.{empty_granules};
 ghost use Rattle.ct_boot.specs.Starts.{starts_of};
 
 use crate::filling::{put_compartments, put_libraries, put_sealed_objects};

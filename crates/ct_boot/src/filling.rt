@@ -5,8 +5,8 @@ ghost use Rattle.def_image.specs.Members.{text_base};
 ghost use Rattle.def_image.specs.Parts.{GateRow};
 ghost use Rattle.def_image.specs.Spelling.{export_field};
 ghost use Rattle.def_image.specs.Sound.{Sound};
-ghost use Rattle.law_boot_words.specs.Booting.{Booting, IsFrom, PutsBytes, Stage};
-ghost use Rattle.law_boot_words.specs.Written.{InCode, InCompartment, InInitial, InSealed, InTable, OfFirst};
+ghost use Rattle.def_boot_words.specs.Booting.{Booting, IsFrom, PutsBytes, Stage};
+ghost use Rattle.def_boot_words.specs.Written.{InCode, InCompartment, InInitial, InSealed, InTable, OfFirst};
 ghost use Rattle.ct_boot.specs.Slots.{SlotPut, SlotsPut};
 
 use crate::making::{own_code, own_globals};

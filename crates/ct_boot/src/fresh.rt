@@ -7,7 +7,7 @@ ghost use Rattle.ct_boot.specs.Launching as spec;
 
 use crate::areas::area_at;
 use crate::start::Start;
-use ct_engine::Fresh;
+use ct_engine::{First, Fresh};
 use ct_parts::Parts;
 use def_profile::layout::TRUSTED_HEAD;
 use def_refusals::NoMemory;
@@ -41,13 +41,16 @@ pub(crate) fn threads_of(alloc: Global, parts: &Parts, start: &Start) -> Result<
     for index in 0..parts.threads.len() {
         let area = area_at(parts, at, index);
         let first = start.first(index as u32);
+        let pcc = first.pcc;
         let regs = first.regs;
         fresh.push(Fresh {
-            pcc: first.pcc,
-            regs,
-            posture: first.posture,
-            actor: first.actor,
-            export: first.export,
+            first: First {
+                pcc,
+                regs,
+                posture: first.posture,
+                actor: first.actor,
+                export: first.export,
+            },
             area,
         })?;
         at += area.trusted_length;

@@ -3,7 +3,7 @@
 ghost use Rattle.std.specs.Prelude.{◌≡◌, ◌*◌, IfOk, length};
 ghost use Rattle.def_boot.specs.Boot.{boot_state, image_of};
 ghost use Rattle.def_image.specs.Sound.{Sound};
-ghost use Rattle.law_boot_words.specs.Booting.{empty_granules};
+ghost use Rattle.def_boot_words.specs.Booting.{empty_granules};
 ghost use Rattle.ct_boot.specs.Starts.{starts_of};
 ghost use Rattle.ct_heap.specs.Effects.{AreFew, Empty, empty};
 ghost use Rattle.ct_boot.specs.Launching.{heap_range, launched};

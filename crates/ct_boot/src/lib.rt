@@ -20,5 +20,6 @@ mod start;
 mod starting;
 
 pub use booting::boot;
+pub use ct_engine::First;
 pub use launching::launch;
-pub use start::{First, Start};
+pub use start::Start;

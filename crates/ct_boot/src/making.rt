@@ -3,7 +3,7 @@
 ghost use Rattle.std.specs.Prelude.{◌≡◌, ◌+◌, ◌^◌, ◌<◌, ℕ};
 ghost use Rattle.ct_entry.specs.declared.rows.Owner.{Owner};
 ghost use Rattle.def_boot.specs.Entries as spec;
-ghost use Rattle.def_boot.specs.Made.{from_entry, made_as, return_sentry};
+ghost use Rattle.def_boot.specs.Made.{from_entry, entry_cap_as, return_sentry};
 ghost use Rattle.def_memory.specs.Granules.{plain};
 ghost use Rattle.def_words.specs.Derive.{derive, executable_root, memory_root, sealing_root};
 
@@ -98,7 +98,7 @@ pub(crate) fn return_sentry() -> Live
 /// The code of a compartment, at its base.
 pub(crate) fn own_code(number: u32, code: &Code) -> Live
     ensures { (o : Owner)
-        → result ≡ made_as executable_root number (spec.code_row o code.now) code.now.base 0 }
+        → result ≡ entry_cap_as executable_root number (spec.code_row o code.now) code.now.base 0 }
 {
     code_made(number, code.base, code.length, CODE_RIGHTS, code.base, 0)
 }
@@ -106,7 +106,7 @@ pub(crate) fn own_code(number: u32, code: &Code) -> Live
 /// The globals of a compartment, at their base.
 pub(crate) fn own_globals(number: u32, of: &Compartment) -> Live
     ensures { (b : ℕ)
-        → result ≡ made_as memory_root number (spec.globals_row b of.now) of.now.globals 0 }
+        → result ≡ entry_cap_as memory_root number (spec.globals_row b of.now) of.now.globals 0 }
 {
     memory_made(
         number,
@@ -122,7 +122,7 @@ pub(crate) fn own_globals(number: u32, of: &Compartment) -> Live
 pub(crate) fn own_stack(number: u32, thread: &Thread) -> Live
     requires { thread.now.stack + thread.now.stack_length < 2 ^ 32 }
     ensures { (t : ℕ) → result
-        ≡ made_as memory_root number (spec.stack_row t thread.now)
+        ≡ entry_cap_as memory_root number (spec.stack_row t thread.now)
         (thread.now.stack + thread.now.stack_length) 0 }
 {
     memory_made(

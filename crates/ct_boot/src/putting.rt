@@ -4,7 +4,7 @@ ghost use Rattle.std.specs.Prelude.{◌≡◌, ◌<◌, ◌≤◌, ◌+◌, ◌*
 ghost use Rattle.def_boot.specs.Contents as spec;
 ghost use Rattle.def_boot.specs.Contents.{byte_of};
 ghost use Rattle.def_image.specs.Sound.{Sound};
-ghost use Rattle.law_boot_words.specs.Booting.{Booting, IsFrom, Puts, PutsBytes, Stage};
+ghost use Rattle.def_boot_words.specs.Booting.{Booting, IsFrom, Puts, PutsBytes, Stage};
 
 use ct_cap::{Live, shrink};
 use ct_mem::Memory;
@@ -46,7 +46,7 @@ fn half_word(bytes: &[u8], at: usize) -> u64
 /// Eight bytes from an offset on, the first lowest.
 fn word(bytes: &[u8], at: usize) -> u64
     requires { at < 2 ^ 32 }
-    ensures { result ≡ spec.word_of bytes.now at }
+    ensures { result ≡ spec.word_from_bytes bytes.now at }
 {
     half_word(bytes, at) + half_word(bytes, at + 4) * (1 << 32)
 }

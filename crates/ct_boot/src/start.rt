@@ -1,27 +1,17 @@
 //! How threads start, and room for that.
 
 ghost use Rattle.std.specs.Prelude.{◌≡◌, ◌<◌, ◌≤◌, Some, [], length, map, slice_get, take, IfOk};
-ghost use Rattle.ct_boot.specs.Starts.{starts_of, told};
+ghost use Rattle.ct_boot.specs.Starts.{starts_of, first_start};
 ghost use Rattle.def_image.specs.Sound.{Sound};
 
 use crate::making::return_sentry;
 use crate::starting::{kept_of, nobody};
 use ct_cap::{Cap, Live, Posture, expand};
+use ct_engine::First;
 use ct_parts::Parts;
 use def_refusals::NoMemory;
 use std::alloc::Global;
 use std::marker::Model;
-
-/// How a thread starts: its program counter capability, its registers, its posture, the index of
-/// the compartment that it enters, and the entry number of the export by which it does.
-#[derive(Clone, Copy, Drop)]
-pub struct First {
-    pub pcc: Live,
-    pub regs: [Live; 16],
-    pub posture: Posture,
-    pub actor: u32,
-    pub export: u32,
-}
 
 /// What is kept of a thread's start. Its c1 is the return sentry, as each thread's, and all but c1,
 /// the stack in c2 and the globals in c3 are zero.
@@ -44,13 +34,13 @@ pub struct Start {
 
 impl Model for Start {
     ghost use Rattle.std.specs.Prelude.{◌≤◌, length, map, take};
-    ghost use Rattle.ct_boot.specs.Starts.{Started, told};
+    ghost use Rattle.ct_boot.specs.Starts.{Started, first_start};
 
     ghost Value = { Started };
 
     ghost view = { λ s. record {
       room = length s.rows.items;
-      firsts = map told (take s.count s.rows.items);
+      firsts = map first_start (take s.count s.rows.items);
     } };
 
     ghost invariant = { λ s. s.count ≤ length s.rows.items };
@@ -58,7 +48,7 @@ impl Model for Start {
 
 /// How a thread starts, of which this is kept.
 fn told(kept: Kept) -> First
-    ensures { result ≡ told kept }
+    ensures { result ≡ first_start kept }
 {
     let none = Live::integer(0);
     First {
@@ -91,7 +81,8 @@ fn told(kept: Kept) -> First
 fn keep_all(rows: &mut [Kept], parts: &Parts)
     requires sound { Sound parts.now }
     requires room { length parts.now.threads ≤ length rows.old }
-    ensures kept { map told (take (length parts.now.threads) rows.new) ≡ starts_of parts.now }
+    ensures kept { map first_start (take (length parts.now.threads) rows.new)
+        ≡ starts_of parts.now }
     ensures size { length rows.new ≡ length rows.old }
 {
     for index in 0..parts.threads.len() {

@@ -4,13 +4,13 @@ ghost use Rattle.std.specs.Prelude.{◌≡◌, ◌<◌, ◌+◌, ◌^◌, Some, 
 ghost use Rattle.ct_entry.specs.declared.rows.Owner.{Owner};
 ghost use Rattle.def_boot.specs.Boot as spec;
 ghost use Rattle.def_boot.specs.Entries.{code_row};
-ghost use Rattle.def_boot.specs.Made.{made_as};
+ghost use Rattle.def_boot.specs.Made.{entry_cap_as};
 ghost use Rattle.def_image.specs.Members as member;
 ghost use Rattle.def_image.specs.Sound.{Sound};
 ghost use Rattle.def_machine.specs.State.{interrupts_on};
 ghost use Rattle.def_words.specs.Capability.{with_address};
 ghost use Rattle.def_words.specs.Derive.{executable_root};
-ghost use Rattle.ct_boot.specs.Starts.{start_of, told};
+ghost use Rattle.ct_boot.specs.Starts.{start_of, first_start};
 
 use crate::making::{own_code, own_globals, own_stack};
 use crate::numbers::{
@@ -24,7 +24,7 @@ use ct_parts::{Code, Compartment, Export, Parts, Thread};
 /// The posture of a thread that enters an export, by that export's entry.
 fn posture_of(export: &Export, number: u32) -> Posture
     ensures { result
-        ≡ (if spec.disables (Some export.now) then record { off = true; source = number }
+        ≡ (if spec.gate_is_disabled (Some export.now) then record { off = true; source = number }
         else interrupts_on) }
 {
     match export.row.posture {
@@ -45,7 +45,7 @@ fn pcc_of(number: u32, code: &Code, export: &Export) -> Live
     requires { member.text_base code.now + export.now.row.offset < 2 ^ 32 }
     ensures { (o : Owner) → result
         ≡ with_address
-        (made_as executable_root number (code_row o code.now) code.now.base 0)
+        (entry_cap_as executable_root number (code_row o code.now) code.now.base 0)
         (member.text_base code.now + export.now.row.offset) }
 {
     set_address(own_code(number, code), text_base(code) + export.row.offset)
@@ -57,7 +57,7 @@ fn kept_in(parts: &Parts, index: usize, thread: &Thread, own: &Compartment, expo
     requires one { slice_get parts.now.threads index ≡ Some thread.now }
     requires there { slice_get parts.now.compartments thread.now.compartment ≡ Some own.now }
     requires enters { slice_get own.now.code.exports thread.now.export ≡ Some export.now }
-    ensures { told result ≡ start_of (spec.first_thread parts.now index thread.now) }
+    ensures { first_start result ≡ start_of (spec.first_thread parts.now index thread.now) }
 {
     let number = code_number(parts, thread.compartment as usize);
     let entry = export_number(number, &own.code, thread.export);
@@ -96,7 +96,7 @@ pub(crate) fn nobody() -> Kept {
 pub(crate) fn kept_of(parts: &Parts, index: usize, thread: &Thread) -> Kept
     requires sound { Sound parts.now }
     requires one { slice_get parts.now.threads index ≡ Some thread.now }
-    ensures { told result ≡ start_of (spec.first_thread parts.now index thread.now) }
+    ensures { first_start result ≡ start_of (spec.first_thread parts.now index thread.now) }
 {
     match compartment_at(parts, thread.compartment) {
         Some(own) => match export_at(&own.code, thread.export) {

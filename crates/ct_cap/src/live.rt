@@ -1,12 +1,12 @@
 //! A capability with what its word decodes to.
 
-ghost use Rattle.std.specs.Prelude.{◌+◌, ◌<◌, ◌≡◌, if◌then◌else◌};
-ghost use Rattle.def_words.specs.Authority.{cap_address, cap_bounds};
-ghost use Rattle.def_words.specs.Capability.{cap_of, integer, is_range_inside};
-ghost use Rattle.def_words.specs.Permissions.{cap_perms};
+ghost use Rattle.std.specs.Prelude.{◌%◌, ◌+◌, ◌<◌, ◌^◌, ◌≡◌, if◌then◌else◌};
+ghost use Rattle.def_words.specs.Authority.{cap_address, cap_bounds, cap_high, permission_bits, word_of};
+ghost use Rattle.def_words.specs.Capability.{cap_of, integer, is_range_inside, word_sealed};
+ghost use Rattle.def_words.specs.Permissions.{cap_perms, unpacked};
 ghost use Rattle.def_words.specs.Seals.{cap_seal, seal_type};
 
-use crate::words::{address_of, cap_of, high_of};
+use crate::words::{address_of, cap_of, high_of, with_seal_field, word_of};
 use ct_bits::field;
 use ct_bounds::{Bounds, decode};
 use ct_perm::{Permission, Perms};
@@ -149,4 +149,42 @@ pub fn made(tag: bool, word: u64, shadow: Shadow) -> Live
     ensures { result ≡ cap_of tag word shadow }
 {
     expand(cap_of(tag, word, shadow))
+}
+
+/// The same word with another tag.
+pub fn retagged(l: Live, tag: bool) -> Live
+    ensures { result ≡ cap_of tag l.word l.shadow }
+{
+    Live {
+        cap: cap_of(tag, l.cap.word, l.cap.shadow),
+        bounds: l.bounds,
+        perms: l.perms,
+        seal: l.seal,
+    }
+}
+
+/// A capability of another high word with the same bounds. These are not decoded anew, and its
+/// permissions are at hand.
+pub fn respelled(l: Live, tag: bool, high: u32, perms: Perms, from: Shadow) -> Live
+    requires bounds { high % 2 ^ 22 ≡ cap_high l % 2 ^ 22 }
+    requires rights { perms.0 ≡ unpacked (permission_bits high) }
+    ensures { result ≡ cap_of tag (word_of high (cap_address l)) from }
+{
+    let word = word_of(high, address_of(l.cap.word));
+    Live {
+        cap: cap_of(tag, word, from),
+        bounds: l.bounds,
+        perms,
+        seal: type_of(perms.has(Permission::Execute), field(high, 22, 3)),
+    }
+}
+
+/// A capability with this seal field: its bounds and permissions stay.
+pub fn with_seal(l: Live, tag: bool, field: u32, from: Shadow) -> Live
+    requires { field < 8 }
+    ensures { result ≡ cap_of tag (word_sealed l field) from }
+{
+    let high = with_seal_field(high_of(l.cap.word), field);
+    let perms = l.perms;
+    respelled(l, tag, high, perms, from)
 }

@@ -1,19 +1,16 @@
 //! What loads, jumps and derivations make of a capability.
 
-ghost use Rattle.std.specs.Prelude.{[], ◌%◌, ◌∷◌, ◌++◌, ◌/◌, ◌<◌, ◌^◌, ◌≡◌, bit_and, if◌then◌else◌, ℕ};
-ghost use Rattle.def_words.specs.Authority.{word_of};
-ghost use Rattle.def_words.specs.Capability.{with_seal_field};
+ghost use Rattle.std.specs.Prelude.{[], ◌∷◌, ◌++◌, ◌≡◌, bit_and, if◌then◌else◌, ℕ};
 ghost use Rattle.def_words.specs.Derive.{derive};
 ghost use Rattle.def_words.specs.Jumped.{linked, opened};
 ghost use Rattle.def_words.specs.Loaded.{attenuated};
 ghost use Rattle.def_words.specs.Permissions.{global, load_global, load_mutable, removed, store_data};
 
 use crate::bounding::set_bounds_exact;
-use crate::live::{Live, made};
+use crate::live::{Live, made, with_seal};
 use crate::pointing::{add_address, set_address};
-use crate::rights::{and_perms, with_bits};
+use crate::rights::{and_perms, narrowed};
 use crate::words;
-use crate::words::{address_of, high_of};
 use ct_perm::Permission;
 use def_profile::rights::{ALL_RIGHTS, GL, LG, LM, SD};
 use def_profile::seals::{RETURN_DISABLE, RETURN_ENABLE};
@@ -32,12 +29,8 @@ pub fn attenuate(by: Live, l: Live) -> Live
         by.perms.has(Permission::LoadMutable),
         by.perms.has(Permission::LoadGlobal),
     );
-    let bits = l.perms.masked(mask).normal().pack();
-    made(
-        l.cap.tag & by.perms.has(Permission::MemoryCapability),
-        with_bits(l.cap.word, bits),
-        l.cap.shadow,
-    )
+    let keeps = l.cap.tag & by.perms.has(Permission::MemoryCapability);
+    narrowed(l, keeps, mask)
 }
 
 /// The permissions that a load lets pass.
@@ -70,14 +63,12 @@ fn passed(unsealed: bool, mutable: bool, globals: bool) -> u32
 pub fn open(l: Live) -> Live
     ensures { result ≡ opened l }
 {
-    made(
-        l.cap.tag,
-        resealed(l.cap.word, 0),
-        Shadow {
-            root: l.cap.shadow.root,
-            source: 0,
-        },
-    )
+    let from = Shadow {
+        root: l.cap.shadow.root,
+        source: 0,
+    };
+    let tag = l.cap.tag;
+    with_seal(l, tag, 0, from)
 }
 
 /// A jump's link: the program counter capability after the instruction as a return sentry, of type 4
@@ -92,14 +83,12 @@ pub fn link(pcc: Live, before: Posture) -> Live
         RETURN_ENABLE
     };
     let source = if before.off { before.source } else { 0 };
-    made(
-        next.cap.tag,
-        resealed(next.cap.word, field),
-        Shadow {
-            root: pcc.cap.shadow.root,
-            source,
-        },
-    )
+    let from = Shadow {
+        root: pcc.cap.shadow.root,
+        source,
+    };
+    let tag = next.cap.tag;
+    with_seal(next, tag, field, from)
 }
 
 /// A capability made from a root's high word: exact bounds, a part of the root's permissions, an
@@ -122,21 +111,8 @@ pub fn derive(
     if kind == 0 {
         placed
     } else {
-        made(
-            placed.cap.tag,
-            resealed(placed.cap.word, kind % 8),
-            placed.cap.shadow,
-        )
+        let tag = placed.cap.tag;
+        let from = placed.cap.shadow;
+        with_seal(placed, tag, kind % 8, from)
     }
-}
-
-/// A word with this seal field.
-fn resealed(word: u64, field: u32) -> u64
-    requires { field < 8 }
-    ensures { result ≡ word_of (with_seal_field (word / 2 ^ 32) field) (word % 2 ^ 32) }
-{
-    words::word_of(
-        words::with_seal_field(high_of(word), field),
-        address_of(word),
-    )
 }

@@ -1,12 +1,11 @@
 //! Permissions, and the tag.
 
-ghost use Rattle.std.specs.Prelude.{◌%◌, ◌/◌, ◌<◌, ◌^◌, ◌≡◌};
-ghost use Rattle.def_words.specs.Authority.{word_of};
-ghost use Rattle.def_words.specs.Capability.{masked, untagged, with_permission_bits};
+ghost use Rattle.std.specs.Prelude.{◌≡◌, bit_and};
+ghost use Rattle.def_words.specs.Capability.{cap_of, masked, untagged, word_with_set};
+ghost use Rattle.def_words.specs.Permissions.{cap_perms};
 
-use crate::live::{Live, made};
-use crate::words;
-use crate::words::{address_of, high_of};
+use crate::live::{Live, respelled, retagged};
+use crate::words::{high_of, with_permission_bits};
 
 /// The capability with only the permissions that a mask has too, as far as a form spells them.
 ///
@@ -16,28 +15,29 @@ use crate::words::{address_of, high_of};
 pub fn and_perms(l: Live, mask: u32) -> Live
     ensures { result ≡ masked l mask }
 {
-    let bits = l.perms.masked(mask).normal().pack();
-    made(
-        l.cap.tag & (l.seal == 0),
-        with_bits(l.cap.word, bits),
-        l.cap.shadow,
-    )
+    let keeps = l.cap.tag & (l.seal == 0);
+    narrowed(l, keeps, mask)
 }
 
 /// The same word untagged, from nowhere.
 pub fn clear_tag(l: Live) -> Live
     ensures { result ≡ untagged l }
 {
-    Live::plain(l.cap.word)
+    retagged(l, false)
 }
 
-/// A word with these six permission bits.
-pub fn with_bits(word: u64, bits: u8) -> u64
-    requires { bits < 64 }
-    ensures { result ≡ word_of (with_permission_bits (word / 2 ^ 32) bits) (word % 2 ^ 32) }
+/// The capability with another tag and only the permissions that a mask has too, as far as a form
+/// spells them. Where none goes the word stays.
+pub fn narrowed(l: Live, tag: bool, mask: u32) -> Live
+    ensures { result ≡ cap_of tag (word_with_set l (bit_and (cap_perms l) mask)) l.shadow }
 {
-    words::word_of(
-        words::with_permission_bits(high_of(word), bits),
-        address_of(word),
-    )
+    let set = l.perms.masked(mask);
+    if set.0 == l.perms.0 {
+        retagged(l, tag)
+    } else {
+        let normal = set.normal();
+        let high = with_permission_bits(high_of(l.cap.word), normal.pack());
+        let from = l.cap.shadow;
+        respelled(l, tag, high, normal, from)
+    }
 }

@@ -1,16 +1,15 @@
 //! Seals: keys that seal and open.
 
-ghost use Rattle.std.specs.Prelude.{◌%◌, ◌&&◌, ◌/◌, ◌<◌, ◌^◌, ◌≡◌, ◌≤◌, if◌then◌else◌, nat_le, nat_lt};
-ghost use Rattle.def_words.specs.Authority.{permission_bits, word_of};
-ghost use Rattle.def_words.specs.Capability.{sealed_by, unsealed_by, with_permission_bits, with_seal_field};
+ghost use Rattle.std.specs.Prelude.{◌%◌, ◌&&◌, ◌<◌, ◌≡◌, if◌then◌else◌, nat_le, nat_lt};
+ghost use Rattle.def_words.specs.Authority.{permission_bits};
+ghost use Rattle.def_words.specs.Capability.{sealed_by, unsealed_by};
 ghost use Rattle.def_words.specs.Seals.{is_key_type};
 
-use crate::live::{Live, made};
-use crate::words;
-use crate::words::{address_of, high_of};
+use crate::live::{Live, respelled, retagged, with_seal};
+use crate::words::{high_of, with_permission_bits, with_seal_field};
 use ct_bits::field;
 use ct_bounds::Bounds;
-use ct_perm::Permission;
+use ct_perm::{Permission, Perms};
 use def_profile::seals::{EXPORT_TYPE, LAST_KEY_TYPE, RETURN_ENABLE, SENTRY_INHERIT};
 
 /// The capability sealed as the type that the key's address is.
@@ -31,7 +30,12 @@ pub fn seal(l: Live, key: Live) -> Live
         & key.perms.has(Permission::Seal)
         & holds(key.bounds, kind)
         & lawful;
-    made(keeps, sealed_word(l.cap.word, lawful, kind), l.cap.shadow)
+    if lawful {
+        let from = l.cap.shadow;
+        with_seal(l, keeps, kind % 8, from)
+    } else {
+        retagged(l, keeps)
+    }
 }
 
 /// The capability opened by a key.
@@ -51,11 +55,11 @@ pub fn unseal(l: Live, key: Live) -> Live
         & key.perms.has(Permission::Unseal)
         & holds(key.bounds, kind)
         & (l.seal == kind);
-    made(
-        keeps,
-        opened_word(l.cap.word, key.perms.has(Permission::Global)),
-        l.cap.shadow,
-    )
+    let old = high_of(l.cap.word);
+    let bits = bits_through(old, key.perms.has(Permission::Global));
+    let high = with_permission_bits(with_seal_field(old, 0), bits);
+    let from = l.cap.shadow;
+    respelled(l, keeps, high, Perms::unpack(bits), from)
 }
 
 /// Whether an address lies in bounds.
@@ -76,36 +80,12 @@ fn is_key_type(executes: bool, kind: u32) -> bool
     }
 }
 
-/// A word with the field of a type, where it is one.
-fn sealed_word(word: u64, lawful: bool, kind: u32) -> u64
-    ensures { result
-        ≡ (if lawful then word_of (with_seal_field (word / 2 ^ 32) (kind % 8)) (word % 2 ^ 32)
-        else word) }
+/// A high word's six permission bits, without GL where it is to go.
+fn bits_through(high: u32, keeps_global: bool) -> u8
+    ensures value { result
+        ≡ (if keeps_global then permission_bits high else permission_bits high % 32) }
+    ensures six { result < 64 }
 {
-    if lawful {
-        words::word_of(
-            words::with_seal_field(high_of(word), kind % 8),
-            address_of(word),
-        )
-    } else {
-        word
-    }
-}
-
-/// A word unsealed, without GL where it is to go.
-fn opened_word(word: u64, keeps_global: bool) -> u64
-    ensures { result
-        ≡ word_of
-        (with_permission_bits (with_seal_field (word / 2 ^ 32) 0)
-        (if keeps_global then permission_bits (word / 2 ^ 32)
-        else permission_bits (word / 2 ^ 32) % 32))
-        (word % 2 ^ 32) }
-{
-    let high = high_of(word);
     let all = field(high, 25, 6) as u8;
-    let bits = if keeps_global { all } else { all % 32 };
-    words::word_of(
-        words::with_permission_bits(words::with_seal_field(high, 0), bits),
-        address_of(word),
-    )
+    if keeps_global { all } else { all % 32 }
 }

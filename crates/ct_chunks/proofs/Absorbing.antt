@@ -11,13 +11,13 @@ use Rattle.def_chunks.specs.declared.rows.Range.{Range}
 use Rattle.def_chunks.specs.declared.rows.Head.{Head}
 use Rattle.def_chunks.specs.Chunks.{Chunk, is_free, total, first_free, head_of, head_at, head_in, Lays, Starts, IsChunk, AreChunks, NoneTouch}
 use Rattle.def_chunks.specs.Tiles.{chunks, TiledBy, Tiled, Settled}
-use Rattle.def_chunks.specs.Changes.{free_chunk, leaves, gap, joined, released, linked, InUse, Spared, Keeps}
+use Rattle.def_chunks.specs.Changes.{free_chunk, leaves, gap, joined, released, linked, InUse, Spared, Keeps, OnlyHeads}
 use Rattle.def_chunks.specs.Gaps.{NoFree, IsLastFree, LastFree}
 use Rattle.law_chunks.proofs.Lays.{lays_same, lays_both, lays_join, free_both, none_first, unlinked, relinked, total_both, first_stays, are_split, are_join, total_even, starts_low, starts_high, starts_even}
 use Rattle.law_chunks.proofs.Reading.{Sits, sits_by, chunks_are, head_tells}
 use Rattle.law_chunks.proofs.Carves.{head_other, head_same, store_length, free_state, not_none}
 use Rattle.law_chunks.proofs.Joins.{gap_total, joined_total, joined_are, joined_apart, stays_used}
-use Rattle.law_chunks.proofs.Spares.{starts_second, keeps_same, keeps_then, keeps_store, head_loose}
+use Rattle.law_chunks.proofs.Spares.{starts_second, starts_first, starts_split, starts_there, keeps_same, keeps_then, keeps_store, head_loose, heads_same, heads_then, heads_store}
 use Rattle.ct_chunks.specs.declared.joining.Last.{Last}
 use Rattle.ct_chunks.specs.Joins.{goes, touches, absorbed, last_after, first_after, Absorbs, Visits}
 use Rattle.ct_chunks.proofs.Walks.{last_used, last_free}
@@ -47,6 +47,7 @@ pub record Joining (r : Range) (gs : List Granule) (q : Range) (hs : List Granul
   pub touch : ((pending ≡ 0) × ((last.offset ≡ NO_CHUNK) ⊎ (last.offset + last.size < total xs))) ⊎ ((last.offset ≡ total front) × (last.size ≡ pending) × (8 ≤ pending))
   pub start : (last.offset ≡ NO_CHUNK → ⊥) → Starts (r.base + last.offset) r.base (chunks r gs)
   pub keeps : Keeps r (chunks r gs) gs hs
+  pub heads : OnlyHeads r (released (chunks r gs)) gs hs
 
 pub joining_starts : (r : Range) (gs : List Granule) (q : Range) (last : Last) → Tiled r gs → q ≡ record r { first = NO_CHUNK } → last ≡ record { offset = NO_CHUNK; size = 0 } → Joining r gs q gs last r.length
 joining_starts r gs q last h is last_is = record {
@@ -69,7 +70,33 @@ joining_starts r gs q last h is last_is = record {
   touch = inl (refl, inl (ap (λ (x : Last). x.offset) last_is));
   start = λ some. absurd (some (ap (λ (x : Last). x.offset) last_is));
   keeps = keeps_same r (chunks r gs) gs gs refl;
+  heads = heads_same r (released (chunks r gs)) gs gs refl;
 }
+
+-- ---- heads that are left
+
+joined_begins : (n at : ℕ) (cs : List Chunk) → (n ≡ 0 → ⊥) → Starts at at (joined n cs)
+joined_begins n at [] some = subst (Starts at at) (sym (gap_some n some)) (inl refl)
+joined_begins n at (c ∷ cs) some = elim (bool_tells (leaves c)) [
+  | inl e ↦ rw e (joined_begins (n + c.size) at cs (λ none. some (omega (arith, none))))
+  | inr e ↦ rw e (starts_first at at (gap n) (c ∷ joined 0 cs) (subst (Starts at at) (sym (gap_some n some)) (inl refl)))
+]
+
+gap_begins : (p n at : ℕ) (cs : List Chunk) → Starts p at (gap n) → Starts p at (joined n cs)
+gap_begins p n at cs head = elim (eq_tells n 0) [
+  | inl e ↦ absurd (let none : Starts p at [] = rw e.0 at head in none)
+  | inr e ↦ (let one : Starts p at (free_chunk n ∷ []) = subst (Starts p at) (gap_some n e.1) head in elim one [
+    | inl is ↦ subst (λ x. Starts x at (joined n cs)) (sym is) (joined_begins n at cs e.1)
+    | inr none ↦ absurd none
+  ])
+]
+
+-- those of the chunks that were joined
+xs_left : (r : Range) (gs : List Granule) (q : Range) (hs : List Granule) (last : Last) (left p : ℕ) → (w : Joining r gs q hs last left) → Starts p r.base w.xs → Starts p r.base (released (chunks r gs))
+xs_left r gs q hs last left p w head = subst (Starts p r.base) w.target (elim (starts_split p r.base w.front (gap w.pending) (subst (Starts p r.base) w.xs_is head)) [
+  | inl a ↦ starts_first p r.base w.front (joined w.pending w.rest) a
+  | inr b ↦ starts_second p r.base w.front (joined w.pending w.rest) (gap_begins p w.pending (r.base + total w.front) w.rest b)
+])
 
 -- ---- where the next chunk stands
 
@@ -236,6 +263,7 @@ stays r gs q hs last left h w n staying =
       );
       start = w.start;
       keeps = w.keeps;
+      heads = w.heads;
     }
 
 -- heads elsewhere stay where one granule is written
@@ -319,6 +347,8 @@ grows r gs q hs ks last left h w n going offset_is size_is some is =
       touch = inr (offset_is, omega (arith, size_is), omega (arith, some));
       start = w.start;
       keeps = keeps_then r (chunks r gs) (chunks r gs) gs hs ks (λ p spared. spared) w.keeps (keeps_store r (chunks r gs) hs ks place word refl (omega (arith, ram_low)) b.even (head_loose r gs (chunks r gs) place h (w.start some_last)) is);
+      heads = heads_then r (released (chunks r gs)) (released (chunks r gs)) gs hs ks (λ p s. s) w.heads
+          (heads_store r (released (chunks r gs)) hs ks place word (omega (arith, ram_low)) b.even (xs_left r gs q hs last left place w (subst (Starts place r.base) (sym xs_is) (starts_there place r.base w.front (free_chunk w.pending) [] (omega (arith, offset_is))))) is);
     }
 
 -- what the two writes of a new last free chunk leave
@@ -328,6 +358,7 @@ record Written (r : Range) (ks : List Granule) (xs : List Chunk) (at size : ℕ)
   pub rest : Lays ks r.ram r.base (at + size) others NO_CHUNK
   pub first : new_first ≡ first_free r.base r.base xs offset
   pub keeps : Keeps r (chunks r gs) gs ks
+  pub heads : OnlyHeads r (released (chunks r gs)) gs ks
 
 -- a chunk that is the last free one from then on
 begins : (r : Range) (gs : List Granule) (q p_ : Range) (hs ks : List Granule) (last : Last) (left : ℕ) → Tiled r gs → (w : Joining r gs q hs last left) → (n : Next r gs q hs last left w) → leaves n.chunk ≡ true → w.pending ≡ 0
@@ -366,6 +397,9 @@ begins r gs q p_ hs ks last left h w n going zero_ is range_is =
     let open_ : joined w.pending (c ∷ n.others) ≡ joined c.size n.others = rw going (ap (λ m. joined m n.others) (omega (arith, zero_))) in
     let front_is : w.xs ≡ w.front = w.xs_is ∙ ap (λ m. w.front ++ gap m) zero_ ∙ append-nil w.front in
     let sum_word : c.size + NO_CHUNK * 2 ^ 32 ≡ c.size + 0 + NO_CHUNK * 2 ^ 32 = omega arith in
+    let target : w.xs ++ joined c.size n.others ≡ released (chunks r gs) = ap (λ (l : List Chunk). l ++ joined c.size n.others) front_is ∙ ap (λ (l : List Chunk). w.front ++ l) (sym open_) ∙ old_target in
+    let at_left : Starts at r.base (released (chunks r gs)) = subst (Starts at r.base) target (starts_second at r.base w.xs (joined c.size n.others) (joined_begins c.size at n.others (λ e. omega (arith, e, wide)))) in
+    let heads_one : OnlyHeads r (released (chunks r gs)) gs ms = heads_then r (released (chunks r gs)) (released (chunks r gs)) gs hs ms (λ p s. s) w.heads (heads_store r (released (chunks r gs)) hs ms at word (omega (arith, ram_low)) at_even at_left refl) in
     let written : Written r ks w.xs at c.size last q.first p_.first (total w.xs) word n.others gs = elim (eq_tells last.offset NO_CHUNK) [
       | inl e ↦
           let is_ms : ks ≡ ms = is ∙ rw e.0 refl in
@@ -380,6 +414,7 @@ begins r gs q p_ hs ks last left h w n going zero_ is range_is =
                 n.lays.1);
             first = ap (λ (x : Range). x.first) range_is ∙ rw e.0 (sym (none_first r.base r.base w.xs (total w.xs) none));
             keeps = rw is_ms keeps_one;
+            heads = rw is_ms heads_one;
           }
       | inr e ↦
           let is_ks : ks ≡ stored_cap ms (r.base + last.offset - r.ram) link_word = is ∙ rw e.0 refl in
@@ -416,6 +451,8 @@ begins r gs q p_ hs ks last left h w n going zero_ is range_is =
                       n.lays.1;
                   first = ap (λ (x : Range). x.first) range_is ∙ rw e.0 (w.first ∙ ap (λ (k : List Chunk). first_free r.base r.base k NO_CHUNK) l.whole ∙ first_stays r.base r.base l.above l.chunk l.used NO_CHUNK (total w.xs) l.is ∙ ap (λ (k : List Chunk). first_free r.base r.base k (total w.xs)) (sym l.whole));
                   keeps = keeps_then r (chunks r gs) (chunks r gs) gs ms ks (λ p spared. spared) keeps_one (keeps_store r (chunks r gs) ms ks link_at link_word refl (omega (arith, ram_low)) b.even (head_loose r gs (chunks r gs) link_at h (w.start e.1)) is_ks);
+                  heads = heads_then r (released (chunks r gs)) (released (chunks r gs)) gs ms ks (λ p s. s) heads_one
+                      (heads_store r (released (chunks r gs)) ms ks link_at link_word (omega (arith, ram_low)) b.even (xs_left r gs q hs last left link_at w (subst (Starts link_at r.base) (sym l.whole) (starts_there link_at r.base l.above l.chunk l.used (omega (arith, link))))) is_ks);
                 }
           ]
     ] in
@@ -428,7 +465,7 @@ begins r gs q p_ hs ks last left h w n going zero_ is range_is =
       pending = c.size;
       xs = zs;
       xs_is = ap (λ (l : List Chunk). w.xs ++ l) (sym new_gap);
-      target = ap (λ (l : List Chunk). l ++ joined c.size n.others) front_is ∙ ap (λ (l : List Chunk). w.front ++ l) (sym open_) ∙ old_target;
+      target = target;
       size = omega (arith, new_total, above_more, size);
       are = are_join w.xs (free_chunk c.size ∷ []) w.are ((
         record {
@@ -449,6 +486,7 @@ begins r gs q p_ hs ks last left h w n going zero_ is range_is =
       touch = inr (refl, refl, wide);
       start = λ some. n.starts;
       keeps = written.keeps;
+      heads = written.heads;
     }
 
 -- ---- the step of the code
@@ -543,6 +581,7 @@ pub record AllJoined (r : Range) (gs : List Granule) (q : Range) (hs : List Gran
   pub settled : Settled q hs
   pub chunks_are : chunks q hs ≡ released (chunks r gs)
   pub keeps : Keeps r (chunks r gs) gs hs
+  pub heads : OnlyHeads r (chunks q hs) gs hs
   pub range : q ≡ record r { first = q.first }
 
 pub ends : (r : Range) (gs : List Granule) (q : Range) (hs : List Granule) (last : Last) (left : ℕ) → Tiled r gs → (w : Joining r gs q hs last left) → left ≡ 0 → AllJoined r gs q hs
@@ -576,5 +615,6 @@ ends r gs q hs last left h w none = all w.rest w.whole w.left_is w.target (are_s
           };
           chunks_are = is_xs ∙ xs_are;
           keeps = w.keeps;
+          heads = subst (λ (l : List Chunk). OnlyHeads r l gs hs) (sym (is_xs ∙ xs_are)) w.heads;
           range = w.range;
         }

@@ -1,22 +1,22 @@
 -- A gap's chunk is cut, and the object's part taken.
-use Rattle.std.proofs.Common.{ℕ, ◌≡◌, ◌+◌, ◌-◌, ◌*◌, ◌%◌, ◌^◌, ◌<◌, ◌≤◌, inl, inr, true, false, List, [], ◌∷◌, ◌++◌, length, refl, sym, ap, ◌∙◌, arith, subst}
+use Rattle.std.proofs.Common.{ℕ, ◌≡◌, ◌+◌, ◌-◌, ◌*◌, ◌%◌, ◌^◌, ◌<◌, ◌≤◌, inl, inr, true, false, nat_eq, List, [], ◌∷◌, ◌++◌, length, refl, sym, ap, ◌∙◌, arith, subst}
 use Rattle.std.proofs.lemmas.List.{append_assoc}
-use Rattle.law_lists.proofs.Tests.{eq_tells}
+use Rattle.law_lists.proofs.Tests.{bool_tells, eq_tells}
 use Rattle.def_memory.specs.declared.Granule.{Granule}
 use Rattle.def_memory.specs.Granules.{plain}
 use Rattle.def_memory.specs.Accesses.{stored_cap}
 use Rattle.def_chunks.specs.declared.heads.TheConstants.{NO_CHUNK}
 use Rattle.def_chunks.specs.declared.rows.Range.{Range}
 use Rattle.def_chunks.specs.declared.rows.Gap.{Gap}
-use Rattle.def_chunks.specs.Chunks.{Chunk, is_free, total, first_free, IsChunk, AreChunks, NoneTouch}
+use Rattle.def_chunks.specs.Chunks.{Chunk, is_free, total, first_free, Starts, IsChunk, AreChunks, NoneTouch}
 use Rattle.def_chunks.specs.Tiles.{chunks, Tiled, Settled}
-use Rattle.def_chunks.specs.Changes.{replaced, parts, taken, free_chunk, gap, linked, InUse, Keeps}
-use Rattle.def_chunks.specs.Gaps.{Stands, FreeStands, FreeLinked, carved}
+use Rattle.def_chunks.specs.Changes.{replaced, parts, taken, free_chunk, gap, linked, InUse, Keeps, OnlyHeads}
+use Rattle.def_chunks.specs.Gaps.{ChunkStands, FreeStands, FreeLinked, carved}
 use Rattle.law_chunks.proofs.Lays.{total_both, are_split, are_join}
 use Rattle.law_chunks.proofs.Reading.{sits, replaced_is}
 use Rattle.law_chunks.proofs.Carves.{free_state, sat, not_none}
 use Rattle.law_chunks.proofs.Joins.{gap_are, gap_total, carved_apart}
-use Rattle.law_chunks.proofs.Spares.{in_use_split, in_use_first, in_use_second, free_unused, keeps_same, keeps_then, keeps_store, loose, spared_more}
+use Rattle.law_chunks.proofs.Spares.{in_use_split, in_use_first, in_use_second, free_unused, keeps_same, keeps_then, keeps_store, loose, spared_more, starts_split, starts_first, starts_second, starts_there, heads_same, heads_then, heads_store}
 use Rattle.ct_chunks.specs.Cuts.{CutBack, CutFront, Fitting}
 use Rattle.ct_chunks.specs.Writes.{Linkable}
 use Rattle.ct_chunks.proofs.Walks.{last_free}
@@ -102,6 +102,48 @@ take_keeps r gs ms hs at size next before bsize two h t is_one is_two =
     keeps_then r (chunks r gs) (chunks r gs) gs ms hs (λ p spared. spared) first
     (free_keeps r gs ms hs at size next at two h f (omega arith) (omega (arith, some, size_is)) (omega arith) is_two)
 
+-- ---- and write heads alone
+
+become : (r : Range) (gs : List Granule) (at : ℕ) (s : ChunkStands r gs at) (f : Chunk → List Chunk) → Tiled r gs → replaced at f r.base (chunks r gs) ≡ s.above ++ (f s.chunk ++ s.below)
+become r gs at s f h = let k = sits r gs at h s in ap (replaced at f r.base) s.whole ∙ replaced_is f at r.base s.above s.chunk s.below k.above_are s.place
+
+pub split_heads : (r : Range) (gs ms hs : List Granule) (ds : List Chunk) (at size first next one two : ℕ) → Tiled r gs → FreeStands r gs at size next → first % 8 ≡ 0
+    → ms ≡ stored_cap gs (at + first - r.ram) (plain one) → hs ≡ stored_cap ms (at - r.ram) (plain two) → ds ≡ replaced at (parts first) r.base (chunks r gs) → OnlyHeads r ds gs hs
+split_heads r gs ms hs ds at size first next one two h f whole is_one is_two is =
+    let s = f.stands in
+    let k = sits r gs at h s in
+    let over = k.over in
+    let even = k.even in
+    let place = s.place in
+    let list : ds ≡ s.above ++ (parts first s.chunk ++ s.below) = is ∙ become r gs at s (parts first) h in
+    let here : Starts at r.base ds = subst (Starts at r.base) (sym list) (starts_second at r.base s.above (parts first s.chunk ++ s.below) (inl place)) in
+    let there : Starts (at + first) r.base ds = subst (Starts (at + first) r.base) (sym list) (starts_second (at + first) r.base s.above (parts first s.chunk ++ s.below) (inr (inl (omega (arith, place))))) in
+    heads_then r ds ds gs ms hs (λ p s. s)
+    (heads_store r ds gs ms (at + first) (plain one) (omega (arith, over)) (omega (arith, even, over, whole)) there is_one)
+    (heads_store r ds ms hs at (plain two) over even here is_two)
+
+pub take_heads : (r : Range) (gs ms hs : List Granule) (ds : List Chunk) (at size next before bsize number two : ℕ) → Tiled r gs → FreeLinked r gs at size next before bsize
+    → ms ≡ linked gs r.ram r.base before bsize next → hs ≡ stored_cap ms (at - r.ram) (plain two) → ds ≡ replaced at (taken number) r.base (chunks r gs) → OnlyHeads r ds gs hs
+take_heads r gs ms hs ds at size next before bsize number two h t is_one is_two is =
+    let s = t.free_stands.stands in
+    let k = sits r gs at h s in
+    let ram_low = h.above in
+    let list : ds ≡ s.above ++ (taken number s.chunk ++ s.below) = is ∙ become r gs at s (taken number) h in
+    let here : Starts at r.base ds = subst (Starts at r.base) (sym list) (starts_second at r.base s.above (taken number s.chunk ++ s.below) (inl s.place)) in
+    let first : OnlyHeads r ds gs ms = elim (eq_tells before NO_CHUNK) [
+      | inl e ↦ heads_same r ds gs ms (is_one ∙ rw e.0 refl)
+      | inr e ↦ elim t.last [
+        | inl none ↦ absurd (e.1 none.0)
+        | inr l ↦
+            let link = l.link in
+            let above : Starts (r.base + before) r.base s.above = subst (Starts (r.base + before) r.base) (sym l.whole) (starts_there (r.base + before) r.base l.above l.chunk l.used (omega (arith, link))) in
+            heads_store r ds gs ms (r.base + before) (plain (bsize + next * 2 ^ 32)) (omega (arith, ram_low)) (sat r gs at size next before bsize h t e.1).even
+            (subst (Starts (r.base + before) r.base) (sym list) (starts_first (r.base + before) r.base s.above (taken number s.chunk ++ s.below) above))
+            (is_one ∙ rw e.0 refl)
+      ]
+    ] in
+    heads_then r ds ds gs ms hs (λ p s. s) first (heads_store r ds ms hs at (plain two) k.over k.even here is_two)
+
 pub linkable : (r : Range) (gs : List Granule) (at size next before bsize : ℕ) → Tiled r gs → FreeLinked r gs at size next before bsize → Linkable r (length gs) before
 linkable r gs at size next before bsize h t =
     let k = sits r gs at h t.free_stands.stands in
@@ -156,12 +198,13 @@ back_none r gs hs g back h t zero_ same =
       linked = subst (λ n. FreeLinked r gs g.at n g.next g.before g.before_size) whole_size t;
       chunks_are = sym is;
       keeps = keeps_same r (chunks r gs) gs gs refl;
+      heads = heads_same r (chunks r gs) gs gs refl;
     } in
     subst (λ l. CutBack r gs l g back g.next) (sym same) made
 
 pub back_some : (r : Range) (gs hs : List Granule) (g : Gap) (back next : ℕ) → Tiled r gs → FreeLinked r gs g.at g.size g.next g.before g.before_size → (back ≡ 0 → ⊥) → back + 8 ≤ g.size
-    → Tiled r hs → chunks r hs ≡ replaced g.at (parts (g.size - back)) r.base (chunks r gs) → Keeps r (chunks r gs) gs hs → next ≡ g.at + (g.size - back) - r.base → CutBack r gs hs g back next
-back_some r gs hs g back next h t other fits tiled is keeps next_is =
+    → Tiled r hs → chunks r hs ≡ replaced g.at (parts (g.size - back)) r.base (chunks r gs) → Keeps r (chunks r gs) gs hs → OnlyHeads r (chunks r hs) gs hs → next ≡ g.at + (g.size - back) - r.base → CutBack r gs hs g back next
+back_some r gs hs g back next h t other fits tiled is keeps heads next_is =
     let f = t.free_stands in
     let s = f.stands in
     let k = sits r gs g.at h s in
@@ -190,6 +233,7 @@ back_some r gs hs g back next h t other fits tiled is keeps next_is =
       };
       chunks_are = now ∙ sym want;
       keeps = keeps;
+      heads = heads;
     }
 
 -- ---- the begin is cut off
@@ -211,12 +255,13 @@ front_none r gs hs g size next front h t zero_ same =
       linked = subst (λ a. FreeLinked r gs a (size - front) next g.before g.before_size) at_same (subst (λ n. FreeLinked r gs g.at n next g.before g.before_size) whole_size t);
       chunks_are = sym is;
       keeps = keeps_same r (chunks r gs) gs gs refl;
+      heads = heads_same r (chunks r gs) gs gs refl;
     } in
     subst (λ l. CutFront r gs l g size next front g.before g.before_size) (sym same) made
 
 pub front_some : (r : Range) (gs hs : List Granule) (g : Gap) (size next front before bsize : ℕ) → Tiled r gs → FreeLinked r gs g.at size next g.before g.before_size → (front ≡ 0 → ⊥) → front + 8 ≤ size
-    → Tiled r hs → chunks r hs ≡ replaced g.at (parts front) r.base (chunks r gs) → Keeps r (chunks r gs) gs hs → before ≡ g.at - r.base → bsize ≡ front → CutFront r gs hs g size next front before bsize
-front_some r gs hs g size next front before bsize h t other fits tiled is keeps before_is bsize_is =
+    → Tiled r hs → chunks r hs ≡ replaced g.at (parts front) r.base (chunks r gs) → Keeps r (chunks r gs) gs hs → OnlyHeads r (chunks r hs) gs hs → before ≡ g.at - r.base → bsize ≡ front → CutFront r gs hs g size next front before bsize
+front_some r gs hs g size next front before bsize h t other fits tiled is keeps heads before_is bsize_is =
     let f = t.free_stands in
     let s = f.stands in
     let k = sits r gs g.at h s in
@@ -246,6 +291,7 @@ front_some r gs hs g size next front before bsize h t other fits tiled is keeps 
       };
       chunks_are = is ∙ split_is ∙ ap (λ (l : List Chunk). s.above ++ (l ++ s.below)) part ∙ sym want;
       keeps = keeps;
+      heads = heads;
     }
 
 -- ---- all together
@@ -332,7 +378,7 @@ carve_apart r q gs hs g front length number h t tiled is =
     record { tiled = tiled; apart = subst NoneTouch (sym list) (carved_apart s.above s.chunk d s.below front back t.is refl (subst NoneTouch s.whole h.apart)) }
 
 -- a free chunk's place is no used chunk's, whatever becomes of it
-use_stays : (r : Range) (gs : List Granule) (at : ℕ) (s : Stands r gs at) (f : Chunk → List Chunk) (p : ℕ) → Tiled r gs → is_free s.chunk ≡ true → total (f s.chunk) ≡ s.chunk.size → InUse p r.base (chunks r gs) → InUse p r.base (replaced at f r.base (chunks r gs))
+use_stays : (r : Range) (gs : List Granule) (at : ℕ) (s : ChunkStands r gs at) (f : Chunk → List Chunk) (p : ℕ) → Tiled r gs → is_free s.chunk ≡ true → total (f s.chunk) ≡ s.chunk.size → InUse p r.base (chunks r gs) → InUse p r.base (replaced at f r.base (chunks r gs))
 use_stays r gs at s f p h free_ size used =
     let k = sits r gs at h s in
     let is : replaced at f r.base (chunks r gs) ≡ s.above ++ (f s.chunk ++ s.below) = ap (replaced at f r.base) s.whole ∙ replaced_is f at r.base s.above s.chunk s.below k.above_are s.place in
@@ -365,3 +411,35 @@ carve_keeps r gs ms ns hs g length next before bsize h t fit back front last =
     let more_two : (p : ℕ) → InUse p r.base (chunks r ms) → InUse p r.base (chunks r ns) = λ p used. subst (InUse p r.base) (sym front.chunks_are) (use_stays r ms g.at m.stands (λ c. gap f ++ free_chunk (c.size - f) ∷ []) p back.tiled m.is f_size used) in
     keeps_then r (chunks r gs) (chunks r ms) gs ms hs (spared_more r (chunks r gs) (chunks r ms) more_one) back.keeps
     (keeps_then r (chunks r ms) (chunks r ns) ms ns hs (spared_more r (chunks r ms) (chunks r ns) more_two) front.keeps last)
+
+-- a head is one still, whatever becomes of a chunk
+heads_stay : (r : Range) (gs : List Granule) (at : ℕ) (s : ChunkStands r gs at) (f : Chunk → List Chunk) (p : ℕ) → Tiled r gs → total (f s.chunk) ≡ s.chunk.size → ((q : ℕ) → Starts q q (f s.chunk)) → Starts p r.base (chunks r gs) → Starts p r.base (replaced at f r.base (chunks r gs))
+heads_stay r gs at s f p h size begins head =
+    let now : Starts p r.base (s.above ++ (f s.chunk ++ s.below)) = elim (starts_split p r.base s.above (s.chunk ∷ s.below) (subst (Starts p r.base) s.whole head)) [
+      | inl a ↦ starts_first p r.base s.above (f s.chunk ++ s.below) a
+      | inr b ↦ starts_second p r.base s.above (f s.chunk ++ s.below) (elim b [
+        | inl m ↦ starts_first p (r.base + total s.above) (f s.chunk) s.below (subst (λ x. Starts x (r.base + total s.above) (f s.chunk)) (sym m) (begins (r.base + total s.above)))
+        | inr m ↦ starts_second p (r.base + total s.above) (f s.chunk) s.below (rw size m)
+      ])
+    ] in
+    subst (Starts p r.base) (sym (become r gs at s f h)) now
+
+front_begins : (n m q : ℕ) → Starts q q (gap n ++ free_chunk m ∷ [])
+front_begins n m q = elim (bool_tells (nat_eq n 0)) [ inl e ↦ rw e (inl refl) | inr e ↦ rw e (inl refl) ]
+
+pub carve_heads : (r q : Range) (gs ms ns hs : List Granule) (g : Gap) (length number next before bsize : ℕ) → Settled r gs → FreeLinked r gs g.at g.size g.next g.before g.before_size → Fitting g length
+    → CutBack r gs ms g (g.size - (g.base - 8 - g.at) - (length + 8)) next
+    → CutFront r ms ns g (g.size - (g.size - (g.base - 8 - g.at) - (length + 8))) next (g.base - 8 - g.at) before bsize
+    → chunks q hs ≡ replaced (g.at + (g.base - 8 - g.at)) (taken number) r.base (chunks r ns)
+    → OnlyHeads r (chunks q hs) ns hs → OnlyHeads r (chunks q hs) gs hs
+carve_heads r q gs ms ns hs g length number next before bsize h t fit back front took last =
+    let f : ℕ = g.base - 8 - g.at in
+    let n = carving r gs g length h.tiled t fit in
+    let m = back.linked.free_stands in
+    let m_size = m.size_is in
+    let f_fits = n.front_fits in
+    let f_size : total (gap f ++ free_chunk (m.stands.chunk.size - f) ∷ []) ≡ m.stands.chunk.size = total_both (gap f) (free_chunk (m.stands.chunk.size - f) ∷ []) ∙ (let one = gap_total f in omega (arith, one, f_fits, m_size)) in
+    let l = front.linked.free_stands.stands in
+    let more_one : (p : ℕ) → Starts p r.base (chunks r ms) → Starts p r.base (chunks r ns) = λ p head. subst (Starts p r.base) (sym front.chunks_are) (heads_stay r ms g.at m.stands (λ c. gap f ++ free_chunk (c.size - f) ∷ []) p back.tiled f_size (front_begins f (m.stands.chunk.size - f)) head) in
+    let more_two : (p : ℕ) → Starts p r.base (chunks r ns) → Starts p r.base (chunks q hs) = λ p head. subst (Starts p r.base) (sym took) (heads_stay r ns (g.at + f) l (taken number) p front.tiled (omega arith) (λ x. inl refl) head) in
+    heads_then r (chunks r ns) (chunks q hs) gs ns hs more_two (heads_then r (chunks r ms) (chunks r ns) gs ms ns more_one back.heads front.heads) last

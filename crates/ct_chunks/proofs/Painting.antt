@@ -10,23 +10,23 @@ use Rattle.def_chunks.specs.declared.rows.Range.{Range}
 use Rattle.def_chunks.specs.declared.rows.Head.{Head}
 use Rattle.def_chunks.specs.Chunks.{Chunk, is_free, total, first_free, head_at, head_in, Starts, IsChunk, AreChunks, NoneTouch}
 use Rattle.def_chunks.specs.Tiles.{chunks, Tiled, Settled}
-use Rattle.def_chunks.specs.Changes.{replaced, in_state, painted_chunk, all_painted, InUse, Spared, Keeps}
-use Rattle.def_chunks.specs.Gaps.{Stands, UsedStands}
+use Rattle.def_chunks.specs.Changes.{replaced, in_state, painted_chunk, all_painted, InUse, Spared, Keeps, OnlyHeads}
+use Rattle.def_chunks.specs.Gaps.{ChunkStands, UsedStands}
 use Rattle.def_chunks.specs.declared.heads.TheConstants.{NO_CHUNK}
 use Rattle.law_chunks.proofs.Lays.{total_both, are_split}
 use Rattle.law_chunks.proofs.Reading.{Sits, sits, head_tells, replaced_is}
 use Rattle.law_chunks.proofs.Joins.{painted_free, painted_size, all_painted_apart}
-use Rattle.law_chunks.proofs.Spares.{in_use_split, in_use_first, in_use_second, starts_second, keeps_same, keeps_then, keeps_store, head_loose, spared_more}
+use Rattle.law_chunks.proofs.Spares.{in_use_split, in_use_first, in_use_second, starts_second, starts_there, keeps_same, keeps_then, keeps_store, head_loose, spared_more, heads_same}
 
 -- ---- one head
 
 -- what is read of the chunk at an address
-pub record Tells (r : Range) (gs : List Granule) (at : ℕ) (s : Stands r gs at) : Type 0 where
+pub record Tells (r : Range) (gs : List Granule) (at : ℕ) (s : ChunkStands r gs at) : Type 0 where
   pub size : (head_in (head_at gs r.ram at)).size ≡ s.chunk.size
   pub state : (head_in (head_at gs r.ram at)).state ≡ s.chunk.state
   pub number : is_free s.chunk ≡ false → (head_in (head_at gs r.ram at)).rest ≡ s.chunk.number
 
-pub tells : (r : Range) (gs : List Granule) (at : ℕ) (s : Stands r gs at) → Tiled r gs → Tells r gs at s
+pub tells : (r : Range) (gs : List Granule) (at : ℕ) (s : ChunkStands r gs at) → Tiled r gs → Tells r gs at s
 tells r gs at s h =
     let k = sits r gs at h s in
     let told = head_tells s.chunk (first_free r.base (at + s.chunk.size) s.below NO_CHUNK) k.shape k.small in
@@ -37,7 +37,7 @@ tells r gs at s h =
       number = λ used. ap (λ (x : Head). x.rest) same ∙ told.rest ∙ rw used refl;
     }
 
-pub size_told : (r : Range) (gs : List Granule) (at : ℕ) (x : Head) (s : Stands r gs at) → Tiled r gs → x ≡ head_in (head_at gs r.ram at) → x.size ≡ s.chunk.size
+pub size_told : (r : Range) (gs : List Granule) (at : ℕ) (x : Head) (s : ChunkStands r gs at) → Tiled r gs → x ≡ head_in (head_at gs r.ram at) → x.size ≡ s.chunk.size
 size_told r gs at x s h is = ap (λ (y : Head). y.size) is ∙ (tells r gs at s h).size
 
 -- a used chunk's head is written
@@ -57,7 +57,7 @@ state_elsewhere r gs hs at size number word h u is k other =
     ap (λ l. granule_at l k) is ∙ cap_rest gs (at - r.ram) (plain word) k (λ e. other (omega (arith, e, over, even)))
 
 -- the quarantined chunk of a head
-pub quarantined_stands : (r : Range) (gs : List Granule) (at : ℕ) (s : Stands r gs at) → Tiled r gs → (head_in (head_at gs r.ram at)).state ≡ 2 → UsedStands r gs at (head_in (head_at gs r.ram at)).size (head_in (head_at gs r.ram at)).rest
+pub quarantined_stands : (r : Range) (gs : List Granule) (at : ℕ) (s : ChunkStands r gs at) → Tiled r gs → (head_in (head_at gs r.ram at)).state ≡ 2 → UsedStands r gs at (head_in (head_at gs r.ram at)).size (head_in (head_at gs r.ram at)).rest
 quarantined_stands r gs at s h is =
     let t = tells r gs at s h in
     let state : s.chunk.state ≡ 2 = sym t.state ∙ is in
@@ -72,10 +72,10 @@ pub record Paints (r : Range) (gs hs : List Granule) (at : ℕ) : Type 0 where
   pub chunks_are : chunks r hs ≡ replaced at (λ c. painted_chunk c ∷ []) r.base (chunks r gs)
   pub keeps : Keeps r (chunks r gs) gs hs
 
-at_chunk : (r : Range) (gs : List Granule) (at : ℕ) (s : Stands r gs at) (f : Chunk → List Chunk) → Tiled r gs → replaced at f r.base (chunks r gs) ≡ s.above ++ (f s.chunk ++ s.below)
+at_chunk : (r : Range) (gs : List Granule) (at : ℕ) (s : ChunkStands r gs at) (f : Chunk → List Chunk) → Tiled r gs → replaced at f r.base (chunks r gs) ≡ s.above ++ (f s.chunk ++ s.below)
 at_chunk r gs at s f h = let k = sits r gs at h s in ap (replaced at f r.base) s.whole ∙ replaced_is f at r.base s.above s.chunk s.below k.above_are s.place
 
-pub paints_it : (r : Range) (gs hs : List Granule) (at : ℕ) → Tiled r gs → Stands r gs at → (head_in (head_at gs r.ram at)).state ≡ 2 → Tiled r hs → chunks r hs ≡ replaced at (in_state 3) r.base (chunks r gs) → Keeps r (chunks r gs) gs hs → Paints r gs hs at
+pub paints_it : (r : Range) (gs hs : List Granule) (at : ℕ) → Tiled r gs → ChunkStands r gs at → (head_in (head_at gs r.ram at)).state ≡ 2 → Tiled r hs → chunks r hs ≡ replaced at (in_state 3) r.base (chunks r gs) → Keeps r (chunks r gs) gs hs → Paints r gs hs at
 paints_it r gs hs at h s is tiled now keeps =
     let t = tells r gs at s h in
     let state : s.chunk.state ≡ 2 = sym t.state ∙ is in
@@ -87,7 +87,7 @@ paints_it r gs hs at h s is tiled now keeps =
       keeps = keeps;
     }
 
-pub paints_none : (r : Range) (gs : List Granule) (at : ℕ) → Tiled r gs → Stands r gs at → ((head_in (head_at gs r.ram at)).state ≡ 2 → ⊥) → Paints r gs gs at
+pub paints_none : (r : Range) (gs : List Granule) (at : ℕ) → Tiled r gs → ChunkStands r gs at → ((head_in (head_at gs r.ram at)).state ≡ 2 → ⊥) → Paints r gs gs at
 paints_none r gs at h s not =
     let t = tells r gs at s h in
     let test : nat_eq s.chunk.state 2 ≡ false = elim (eq_tells s.chunk.state 2) [ inl e ↦ absurd (not (t.state ∙ e.1)) | inr e ↦ e.0 ] in
@@ -113,6 +113,11 @@ use_painted p at [] h = absurd h
 use_painted p at (x ∷ xs) (inl h) = let size = painted_size x in let high = h.2 in inl (painted_free x ∙ h.0, h.1, omega (arith, size, high))
 use_painted p at (x ∷ xs) (inr h) = let size = painted_size x in inr (rw size (use_painted p (at + x.size) xs h))
 
+starts_painted : (p at : ℕ) (xs : List Chunk) → Starts p at xs → Starts p at (all_painted xs)
+starts_painted p at [] h = absurd h
+starts_painted p at (x ∷ xs) (inl h) = inl h
+starts_painted p at (x ∷ xs) (inr h) = let size = painted_size x in inr (rw size (starts_painted p (at + x.size) xs h))
+
 -- so much is left to be painted
 pub record Painting (r : Range) (gs hs : List Granule) (left : ℕ) : Type 0 where
   pub above : List Chunk
@@ -122,15 +127,16 @@ pub record Painting (r : Range) (gs hs : List Granule) (left : ℕ) : Type 0 whe
   pub tiled : Tiled r hs
   pub now : chunks r hs ≡ all_painted above ++ rest
   pub keeps : Keeps r (chunks r gs) gs hs
+  pub heads : OnlyHeads r (chunks r gs) gs hs
 
 pub painting_starts : (r : Range) (gs : List Granule) → Tiled r gs → Painting r gs gs r.length
-painting_starts r gs h = record { above = []; rest = chunks r gs; whole = refl; left_is = sym h.size; tiled = h; now = refl; keeps = keeps_same r (chunks r gs) gs gs refl }
+painting_starts r gs h = record { above = []; rest = chunks r gs; whole = refl; left_is = sym h.size; tiled = h; now = refl; keeps = keeps_same r (chunks r gs) gs gs refl; heads = heads_same r (chunks r gs) gs gs refl }
 
 -- where the next one stands
-pub painting_stands : (r : Range) (gs hs : List Granule) (left : ℕ) → Painting r gs hs left → (left ≡ 0 → ⊥) → Stands r hs (r.base + (r.length - left))
+pub painting_stands : (r : Range) (gs hs : List Granule) (left : ℕ) → Painting r gs hs left → (left ≡ 0 → ⊥) → ChunkStands r hs (r.base + (r.length - left))
 painting_stands r gs hs left w some = first w.rest w.now w.left_is
   where
-    first : (rest : List Chunk) → chunks r hs ≡ all_painted w.above ++ rest → left ≡ total rest → Stands r hs (r.base + (r.length - left))
+    first : (rest : List Chunk) → chunks r hs ≡ all_painted w.above ++ rest → left ≡ total rest → ChunkStands r hs (r.base + (r.length - left))
     first [] now is = absurd (some is)
     first (c ∷ cs) now is =
         let both = total_both (all_painted w.above) (c ∷ cs) in
@@ -161,8 +167,8 @@ pub record Painted (r : Range) (gs ks : List Granule) (left size : ℕ) : Type 0
   pub goes_on : Painting r gs ks (left - size)
 
 pub painting_step : (r : Range) (gs hs ks : List Granule) (left size : ℕ) → Painting r gs hs left → (left ≡ 0 → ⊥) → size ≡ (head_in (head_at hs r.ram (r.base + (r.length - left)))).size
-    → Tiled r ks → chunks r ks ≡ replaced (r.base + (r.length - left)) (λ c. painted_chunk c ∷ []) r.base (chunks r hs) → Keeps r (chunks r hs) hs ks → Painted r gs ks left size
-painting_step r gs hs ks left size w some size_is tiled is keeps = step w.rest w.whole w.now w.left_is
+    → Tiled r ks → chunks r ks ≡ replaced (r.base + (r.length - left)) (λ c. painted_chunk c ∷ []) r.base (chunks r hs) → Keeps r (chunks r hs) hs ks → ((k : ℕ) → (r.ram + 8 * k ≡ r.base + (r.length - left) → ⊥) → granule_at ks k ≡ granule_at hs k) → Painted r gs ks left size
+painting_step r gs hs ks left size w some size_is tiled is keeps elsewhere = step w.rest w.whole w.now w.left_is
   where
     step : (rest : List Chunk) → chunks r gs ≡ w.above ++ rest → chunks r hs ≡ all_painted w.above ++ rest → left ≡ total rest → Painted r gs ks left size
     step [] whole now left_is = absurd (some left_is)
@@ -170,7 +176,7 @@ painting_step r gs hs ks left size w some size_is tiled is keeps = step w.rest w
         let both = total_both (all_painted w.above) (c ∷ cs) in
         let sum = sym (ap total now) ∙ w.tiled.size in
         let at : ℕ = r.base + (r.length - left) in
-        let s : Stands r hs at = record { above = all_painted w.above; chunk = c; below = cs; whole = now; place = omega (arith, both, sum, left_is) } in
+        let s : ChunkStands r hs at = record { above = all_painted w.above; chunk = c; below = cs; whole = now; place = omega (arith, both, sum, left_is) } in
         let k = sits r hs at w.tiled s in
         let size_c : size ≡ c.size = size_is ∙ (tells r hs at s w.tiled).size in
         let wide = k.shape.some in
@@ -193,6 +199,7 @@ painting_step r gs hs ks left size w some size_is tiled is keeps = step w.rest w
             tiled = tiled;
             now = next;
             keeps = keeps_then r (chunks r gs) (chunks r hs) gs hs ks (spared_more r (chunks r gs) (chunks r hs) more) w.keeps keeps;
+            heads = λ k away. elsewhere k (λ here. away (subst (Starts (r.ram + 8 * k) r.base) (sym whole) (starts_there (r.ram + 8 * k) r.base w.above c cs (let same = painted_total w.above in omega (arith, here, both, sum, left_is, same))))) ∙ w.heads k away;
           };
         }
 
@@ -201,6 +208,7 @@ pub record AllPainted (r : Range) (gs hs : List Granule) : Type 0 where
   pub settled : Settled r hs
   pub chunks_are : chunks r hs ≡ all_painted (chunks r gs)
   pub keeps : Keeps r (chunks r gs) gs hs
+  pub heads : OnlyHeads r (chunks r hs) gs hs
 
 pub painting_ends : (r : Range) (gs hs : List Granule) (left : ℕ) → Settled r gs → Painting r gs hs left → left ≡ 0 → AllPainted r gs hs
 painting_ends r gs hs left h w none = all w.rest w.whole w.now w.left_is (are_split w.above w.rest (subst AreChunks w.whole h.tiled.are)).1
@@ -209,5 +217,5 @@ painting_ends r gs hs left h w none = all w.rest w.whole w.now w.left_is (are_sp
     all [] whole now is are =
         let old : chunks r gs ≡ w.above = whole ∙ append-nil w.above in
         let new : chunks r hs ≡ all_painted (chunks r gs) = now ∙ append-nil (all_painted w.above) ∙ ap all_painted (sym old) in
-        record { settled = record { tiled = w.tiled; apart = subst NoneTouch (sym new) (all_painted_apart (chunks r gs) h.apart) }; chunks_are = new; keeps = w.keeps }
+        record { settled = record { tiled = w.tiled; apart = subst NoneTouch (sym new) (all_painted_apart (chunks r gs) h.apart) }; chunks_are = new; keeps = w.keeps; heads = λ k away. w.heads k (λ head. away (subst (Starts (r.ram + 8 * k) r.base) (sym new) (starts_painted (r.ram + 8 * k) r.base (chunks r gs) head))) }
     all (c ∷ cs) whole now is are = absurd (let wide = are.0.some in omega (arith, is, none, wide))

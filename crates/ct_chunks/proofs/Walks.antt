@@ -9,10 +9,10 @@ use Rattle.def_chunks.specs.declared.rows.Gap.{Gap}
 use Rattle.def_chunks.specs.declared.rows.Head.{Head}
 use Rattle.def_chunks.specs.Chunks.{Chunk, is_free, total, first_free, head_of, head_at, head_in, IsChunk, AreChunks}
 use Rattle.def_chunks.specs.Tiles.{chunks, TiledBy, Tiled}
-use Rattle.def_chunks.specs.Gaps.{Holds, NoFree, IsLastFree, LastFree, Stands, FreeStands, FreeLinked, IsGap, NoGap}
+use Rattle.def_chunks.specs.Gaps.{HasRoomAt, NoFree, IsLastFree, LastFree, ChunkStands, FreeStands, FreeLinked, IsGap, NoGap}
 use Rattle.law_chunks.proofs.Lays.{total_both, are_split}
 use Rattle.law_chunks.proofs.Reading.{Sits, sits, head_tells}
-use Rattle.law_chunks.proofs.Places.{holds_low, holds_split}
+use Rattle.law_chunks.proofs.Places.{room_low, room_split}
 use Rattle.ct_chunks.specs.Multiples.{up}
 use Rattle.ct_chunks.proofs.Multiples.{up_least, up_above, up_even}
 
@@ -44,13 +44,13 @@ last_free xs c before size is link size_is = inr (record { above = xs; chunk = c
 
 -- ---- places among those that were passed
 
-pub none_more : (base length at : ℕ) (xs : List Chunk) (c : Chunk) → (Holds base length at xs → ⊥) → ((is_free c ≡ true) → at + total xs + 8 ≤ base → base + length ≤ at + total xs + c.size → ⊥) → Holds base length at (xs ++ c ∷ []) → ⊥
-none_more base length at xs c none here h = elim (holds_split base length at xs (c ∷ []) h) [
+pub none_more : (base length at : ℕ) (xs : List Chunk) (c : Chunk) → (HasRoomAt base length at xs → ⊥) → ((is_free c ≡ true) → at + total xs + 8 ≤ base → base + length ≤ at + total xs + c.size → ⊥) → HasRoomAt base length at (xs ++ c ∷ []) → ⊥
+none_more base length at xs c none here h = elim (room_split base length at xs (c ∷ []) h) [
   | inl k ↦ none k
   | inr k ↦ elim k [ inl m ↦ here m.0 m.1 m.2 | inr m ↦ absurd m ]
 ]
 
-none_free : (base length at : ℕ) (cs : List Chunk) → NoFree cs → Holds base length at cs → ⊥
+none_free : (base length at : ℕ) (cs : List Chunk) → NoFree cs → HasRoomAt base length at cs → ⊥
 none_free base length at [] none h = absurd h
 none_free base length at (c ∷ cs) none (inl h) = let free_ = h.0 in let used = none.0 in let clash : true ≡ false = sym free_ ∙ used in cc
 none_free base length at (c ∷ cs) none (inr h) = none_free base length (at + c.size) cs none.1 h
@@ -82,15 +82,15 @@ pub record Walk (r : Range) (gs : List Granule) (unit length before size link : 
   pub rest : List Chunk
   pub whole : chunks r gs ≡ above ++ rest
   pub last : LastFree above before size
-  pub none : (b : ℕ) → b % unit ≡ 0 → Holds b length r.base above → ⊥
+  pub none : (b : ℕ) → b % unit ≡ 0 → HasRoomAt b length r.base above → ⊥
   pub here : link ≡ first_free r.base (r.base + total above) rest NO_CHUNK
 
 -- the free chunk that it comes to
 pub record Comes (r : Range) (gs : List Granule) (unit length before size link : ℕ) : Type 0 where
-  pub stands : Stands r gs (r.base + link)
+  pub stands : ChunkStands r gs (r.base + link)
   pub is : is_free stands.chunk ≡ true
   pub last : LastFree stands.above before size
-  pub none : (b : ℕ) → b % unit ≡ 0 → Holds b length r.base stands.above → ⊥
+  pub none : (b : ℕ) → b % unit ≡ 0 → HasRoomAt b length r.base stands.above → ⊥
 
 pub starts : (r : Range) (gs : List Granule) (unit length : ℕ) → Tiled r gs → Walk r gs unit length NO_CHUNK 0 r.first
 starts r gs unit length h = record {
@@ -102,7 +102,7 @@ starts r gs unit length h = record {
   here = let same : r.base + 0 ≡ r.base = omega arith in rw same h.first;
 }
 
-skip : (r : Range) (gs : List Granule) (unit length before size link : ℕ) (above rest : List Chunk) → chunks r gs ≡ above ++ rest → LastFree above before size → ((b : ℕ) → b % unit ≡ 0 → Holds b length r.base above → ⊥) → link ≡ first_free r.base (r.base + total above) rest NO_CHUNK → (link ≡ NO_CHUNK → ⊥) → Comes r gs unit length before size link
+skip : (r : Range) (gs : List Granule) (unit length before size link : ℕ) (above rest : List Chunk) → chunks r gs ≡ above ++ rest → LastFree above before size → ((b : ℕ) → b % unit ≡ 0 → HasRoomAt b length r.base above → ⊥) → link ≡ first_free r.base (r.base + total above) rest NO_CHUNK → (link ≡ NO_CHUNK → ⊥) → Comes r gs unit length before size link
 skip r gs unit length before size link above [] whole last none here some = absurd (some here)
 skip r gs unit length before size link above (c ∷ cs) whole last none here some = elim (bool_tells (is_free c)) [
   | inl free_ ↦
@@ -151,7 +151,7 @@ pub record Says (r : Range) (gs : List Granule) (unit length before size link : 
   pub some : 8 ≤ head.size
   pub fits : link + head.size ≤ r.length
   pub further : (link < head.rest) × (head.rest ≤ NO_CHUNK)
-  pub none : (b : ℕ) → b % unit ≡ 0 → Holds b length r.base linked.free_stands.stands.above → ⊥
+  pub none : (b : ℕ) → b % unit ≡ 0 → HasRoomAt b length r.base linked.free_stands.stands.above → ⊥
 
 pub says : (r : Range) (gs : List Granule) (unit length before size link : ℕ) (head : Head) → Tiled r gs → Comes r gs unit length before size link → head ≡ head_in (head_at gs r.ram (r.base + link)) → Says r gs unit length before size link head
 says r gs unit length before size link head h w head_is =
@@ -190,14 +190,14 @@ pub found : (r : Range) (gs : List Granule) (unit length before size link : ℕ)
     → g ≡ record { at = r.base + link; size = head.size; base = up unit (r.base + link + 8); before = before; before_size = size; next = head.rest } → IsGap r gs unit length g
 found r gs unit length before size link head g some w room is = subst (IsGap r gs unit length) (sym is) gap
   where
-    least : (s : Stands r gs (r.base + link)) → s.chunk.size ≡ head.size → ((b : ℕ) → b % unit ≡ 0 → Holds b length r.base s.above → ⊥) → (b : ℕ) → b < up unit (r.base + link + 8) → b % unit ≡ 0 → Holds b length r.base (chunks r gs) → ⊥
+    least : (s : ChunkStands r gs (r.base + link)) → s.chunk.size ≡ head.size → ((b : ℕ) → b % unit ≡ 0 → HasRoomAt b length r.base s.above → ⊥) → (b : ℕ) → b < up unit (r.base + link + 8) → b % unit ≡ 0 → HasRoomAt b length r.base (chunks r gs) → ⊥
     least s size_is none b lt even held =
         let place = s.place in
-        elim (holds_split b length r.base s.above (s.chunk ∷ s.below) (subst (Holds b length r.base) s.whole held)) [
+        elim (room_split b length r.base s.above (s.chunk ∷ s.below) (subst (HasRoomAt b length r.base) s.whole held)) [
           | inl k ↦ none b even k
           | inr k ↦ elim k [
             | inl m ↦ (let low = m.1 in let up_ = up_least unit (r.base + link + 8) b some even (omega (arith, low, place)) in omega (arith, up_, lt))
-            | inr m ↦ (let low = holds_low b length (r.base + total s.above + s.chunk.size) s.below m in omega (arith, low, place, size_is, lt, room))
+            | inr m ↦ (let low = room_low b length (r.base + total s.above + s.chunk.size) s.below m in omega (arith, low, place, size_is, lt, room))
           ]
         ]
 
@@ -237,7 +237,7 @@ ended r gs unit length before size link h w is b even held =
     let short = h.short in
     let whole = h.even.2 in
     let used = all_used r.base (r.base + total w.above) w.rest (omega arith) (omega (arith, both, sum, short, whole)) (sym w.here ∙ is) in
-    elim (holds_split b length r.base w.above w.rest (subst (Holds b length r.base) w.whole held)) [
+    elim (room_split b length r.base w.above w.rest (subst (HasRoomAt b length r.base) w.whole held)) [
       | inl k ↦ w.none b even k
       | inr k ↦ none_free b length (r.base + total w.above) w.rest used k
     ]

@@ -4,7 +4,7 @@ ghost use Rattle.std.specs.Prelude.{◌≡◌, ◌+◌, ◌-◌, ◌*◌, ◌/�
 ghost use Rattle.def_chunks.specs.declared.heads.TheConstants.{NO_CHUNK};
 ghost use Rattle.def_chunks.specs.Chunks.{Chunk};
 ghost use Rattle.def_chunks.specs.Tiles.{chunks, Tiled, Settled};
-ghost use Rattle.def_chunks.specs.Changes.{replaced, parts, taken, Keeps};
+ghost use Rattle.def_chunks.specs.Changes.{replaced, parts, taken, Keeps, OnlyHeads};
 ghost use Rattle.def_chunks.specs.Gaps.{FreeStands, FreeLinked, carved};
 ghost use Rattle.ct_chunks.specs.Cuts.{CutBack, CutFront, Fitting};
 
@@ -26,6 +26,8 @@ fn split<M: Memory>(range: &Range, mem: &mut M, at: u32, size: u32, first: u32, 
         ≡ replaced at (parts first) range.now.base (chunks range.now (M.granules mem.old)) }
     ensures keeps { Keeps range.now (chunks range.now (M.granules mem.old)) (M.granules mem.old)
         (M.granules mem.new) }
+    ensures heads { OnlyHeads range.now (chunks range.now (M.granules mem.new))
+        (M.granules mem.old) (M.granules mem.new) }
 {
     let _size = mem.size();
     write_head(mem, range.ram, at + first, size - first, next);
@@ -51,6 +53,8 @@ fn take<M: Memory>(
         ≡ replaced at (taken number) range.old.base (chunks range.old (M.granules mem.old)) }
     ensures keeps { Keeps range.old (chunks range.old (M.granules mem.old)) (M.granules mem.old)
         (M.granules mem.new) }
+    ensures heads { OnlyHeads range.old (chunks range.new (M.granules mem.new))
+        (M.granules mem.old) (M.granules mem.new) }
     ensures range { range.new ≡ record range.old { first = range.new.first } }
 {
     let _size = mem.size();
@@ -116,6 +120,8 @@ pub fn carve<M: Memory>(range: &mut Range, mem: &mut M, gap: &Gap, length: u32, 
         range.old.base (chunks range.old (M.granules mem.old)) }
     ensures keeps { Keeps range.old (chunks range.old (M.granules mem.old)) (M.granules mem.old)
         (M.granules mem.new) }
+    ensures heads { OnlyHeads range.old (chunks range.new (M.granules mem.new))
+        (M.granules mem.old) (M.granules mem.new) }
     ensures range { range.new ≡ record range.old { first = range.new.first } }
 {
     let front = gap.base - CHUNK_HEAD - gap.at;

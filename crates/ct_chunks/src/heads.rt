@@ -6,7 +6,7 @@ ghost use Rattle.def_memory.specs.Accesses.{stored_cap};
 ghost use Rattle.def_chunks.specs.declared.heads.TheConstants.{NO_CHUNK};
 ghost use Rattle.def_chunks.specs.Chunks.{head_at, head_in};
 ghost use Rattle.def_chunks.specs.Tiles.{Tiled};
-ghost use Rattle.def_chunks.specs.Gaps.{Stands};
+ghost use Rattle.def_chunks.specs.Gaps.{ChunkStands};
 ghost use Rattle.def_chunks.specs.Changes.{linked};
 ghost use Rattle.ct_chunks.specs.Writes.{Linkable};
 
@@ -34,7 +34,7 @@ pub fn read_head<M: Memory>(mem: &M, ram: u32, at: u32) -> Head
 /// What the head of the chunk at an address says.
 pub fn chunk_head<M: Memory>(range: &Range, mem: &M, at: u32) -> Head
     requires tiled { Tiled range.now (M.granules mem.now) }
-    requires stands { Stands range.now (M.granules mem.now) at }
+    requires stands { ChunkStands range.now (M.granules mem.now) at }
     ensures { result ≡ head_in (head_at (M.granules mem.now) range.now.ram at) }
 {
     read_head(mem, range.ram, at)

@@ -3,7 +3,7 @@
 ghost use Rattle.std.specs.Prelude.{◌≡◌, ◌+◌, ◌-◌, ◌*◌, ◌/◌, ◌%◌, ◌^◌, ◌≤◌, ◌<◌, true, false, List, length};
 ghost use Rattle.def_chunks.specs.Chunks.{Chunk, head_at, head_in};
 ghost use Rattle.def_chunks.specs.Tiles.{chunks, Tiled, Settled};
-ghost use Rattle.def_chunks.specs.Changes.{released, Keeps};
+ghost use Rattle.def_chunks.specs.Changes.{released, Keeps, OnlyHeads};
 ghost use Rattle.ct_chunks.specs.Joins.{goes, absorbed, last_after, first_after, Absorbs, Visits};
 
 use crate::heads::{read_head, relink, write_head};
@@ -72,6 +72,8 @@ pub fn join<M: Memory>(range: &mut Range, mem: &mut M)
         ≡ released (chunks range.old (M.granules mem.old)) }
     ensures keeps { Keeps range.old (chunks range.old (M.granules mem.old)) (M.granules mem.old)
         (M.granules mem.new) }
+    ensures heads { OnlyHeads range.old (chunks range.new (M.granules mem.new))
+        (M.granules mem.old) (M.granules mem.new) }
     ensures range { range.new ≡ record range.old { first = range.new.first } }
 {
     let _size = mem.size();

@@ -4,8 +4,8 @@ ghost use Rattle.std.specs.Prelude.{ℕ, ◌≡◌, ◌+◌, ◌-◌, ◌*◌, �
 ghost use Rattle.def_memory.specs.Granules.{granule_at};
 ghost use Rattle.def_chunks.specs.Chunks.{Chunk, head_at, head_in};
 ghost use Rattle.def_chunks.specs.Tiles.{chunks, Tiled, Settled};
-ghost use Rattle.def_chunks.specs.Changes.{replaced, in_state, painted_chunk, all_painted, Keeps};
-ghost use Rattle.def_chunks.specs.Gaps.{Stands, UsedStands};
+ghost use Rattle.def_chunks.specs.Changes.{replaced, in_state, painted_chunk, all_painted, Keeps, OnlyHeads};
+ghost use Rattle.def_chunks.specs.Gaps.{ChunkStands, UsedStands};
 
 use crate::heads::{chunk_head, write_head};
 use ct_mem::Memory;
@@ -32,7 +32,7 @@ pub fn set_state<M: Memory>(range: &Range, mem: &mut M, at: u32, size: u32, numb
 /// Paints the chunk at an address where it is quarantined; the chunk's size.
 fn paint_chunk<M: Memory>(range: &Range, mem: &mut M, at: u32) -> u32
     requires tiled { Tiled range.now (M.granules mem.old) }
-    requires stands { Stands range.now (M.granules mem.old) at }
+    requires stands { ChunkStands range.now (M.granules mem.old) at }
     ensures size { result ≡ (head_in (head_at (M.granules mem.old) range.now.ram at)).size }
     ensures tiled { Tiled range.now (M.granules mem.new) }
     ensures chunks { chunks range.now (M.granules mem.new)
@@ -40,6 +40,8 @@ fn paint_chunk<M: Memory>(range: &Range, mem: &mut M, at: u32) -> u32
         (chunks range.now (M.granules mem.old)) }
     ensures keeps { Keeps range.now (chunks range.now (M.granules mem.old)) (M.granules mem.old)
         (M.granules mem.new) }
+    ensures elsewhere { (k : ℕ) → (range.now.ram + 8 * k ≡ at → ⊥)
+        → granule_at (M.granules mem.new) k ≡ granule_at (M.granules mem.old) k }
 {
     let _size = mem.size();
     let head = chunk_head(range, mem, at);
@@ -57,6 +59,8 @@ pub fn paint<M: Memory>(range: &Range, mem: &mut M)
         ≡ all_painted (chunks range.now (M.granules mem.old)) }
     ensures keeps { Keeps range.now (chunks range.now (M.granules mem.old)) (M.granules mem.old)
         (M.granules mem.new) }
+    ensures heads { OnlyHeads range.now (chunks range.now (M.granules mem.new))
+        (M.granules mem.old) (M.granules mem.new) }
 {
     let mut left = range.length;
     while left != 0 {

@@ -1,6 +1,6 @@
 -- What is written into a slot is what its word says.
-use Rattle.std.proofs.Common.{ℕ, zero, suc, ◌≡◌, ◌∙◌, List, length, replicate, slice_set, slice_index_or, sym, ap}
-use Rattle.std.proofs.lemmas.List.{length-set, length-replicate}
+use Rattle.std.proofs.Common.{ℕ, zero, suc, ◌≡◌, ◌∙◌, List, length, replicate, ◌<◌, slice_set, slice_index_or, subst, sym, ap}
+use Rattle.std.proofs.lemmas.List.{get_or_read_under, length-set, length-replicate}
 use Rattle.ct_loadstore.specs.Shapes.{IsShape}
 use Rattle.ct_decoded.specs.declared.reading.Reading.{Reading}
 use Rattle.ct_decoded.specs.declared.decoded.TheConstants.{SLOTS}
@@ -19,6 +19,9 @@ kept_read rows i r h new = record {
   size = length-set rows i r ∙ h.size;
   each = λ k. after_set IsRead rows i k r (reading_of 0) new (h.each k);
 }
+
+pub row_read : (rows : List Reading) (i : ℕ) (x : Reading) → AreRead rows → i < SLOTS → x ≡ slice_index_or rows i x → IsRead x
+row_read rows i x h inside is = subst IsRead (sym (get_or_read_under rows i SLOTS x (reading_of 0) is inside (sym h.size))) (h.each i)
 
 of_copies : {A : Type 0} (P : A → Type 0) (n k : ℕ) (x z : A) → P x → P z → P (slice_index_or (replicate n x) k z)
 of_copies P zero k x z here past = past

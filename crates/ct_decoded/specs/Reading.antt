@@ -34,8 +34,8 @@ reading_of word = reading_by word (instruction_in word)
 abbrev pub slot_of : ℕ → ℕ
 slot_of at = at / 4 % SLOTS
 
-abbrev pub held : List Reading → ℕ → Reading
-held rows at = slice_index_or rows (slot_of at) (reading_of 0)
+abbrev pub slot_for : List Reading → ℕ → Reading
+slot_for rows at = slice_index_or rows (slot_of at) (reading_of 0)
 
 -- each is a register's number
 pub record AreRegisters (o : Operands) : Type 0 where

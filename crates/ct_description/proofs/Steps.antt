@@ -7,7 +7,7 @@ use Rattle.def_description.specs.declared.faults.Fault.{Fault}
 use Rattle.def_description.specs.Kinds.{has_kinds, has_only}
 use Rattle.def_description.specs.Names.{is_well_named, no_names, first_twice}
 use Rattle.def_description.specs.Limits.{keeps_limits}
-use Rattle.def_description.specs.Reading.{rows_of}
+use Rattle.def_description.specs.Reading.{description_of}
 use Rattle.def_description.specs.References.{refers_at, rights_fit_at, is_served_at}
 use Rattle.def_description.specs.Walk.{spots_of}
 use Rattle.def_description.specs.WellFormed.{first_failing, first_fault, fault_of, fault_or}
@@ -26,9 +26,9 @@ in_steps None None None None None None (Some p) h rest = refl
 in_steps None None None None None None None (Some p) rest = refl
 in_steps None None None None None None None None rest = refl
 
-pub fault_in_steps : (d : Data) → fault_of d ≡ option_or (value_faults d) (row_faults (rows_of d))
+pub fault_in_steps : (d : Data) → fault_of d ≡ option_or (value_faults d) (row_faults (description_of d))
 unfolding first_fault place_faults name_faults
 fault_in_steps d =
     let ss = spots_of d in
     in_steps (first_failing has_kinds ss) (first_failing has_only ss) (first_failing is_well_named ss) (first_twice no_names ss) (first_failing keeps_limits ss)
-    (first_failing (refers_at d) ss) (first_failing rights_fit_at ss) (first_failing is_served_at ss) (row_faults (rows_of d))
+    (first_failing (refers_at d) ss) (first_failing rights_fit_at ss) (first_failing is_served_at ss) (row_faults (description_of d))

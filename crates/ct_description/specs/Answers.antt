@@ -4,7 +4,7 @@ use Rattle.serde_json.specs.Data.{Data}
 use Rattle.serde_json.specs.Errors.{IsMemory}
 use Rattle.serde_json.specs.declared.error.Error.{Error}
 use Rattle.def_description.specs.Rows.{DescRow}
-use Rattle.def_description.specs.Reading.{rows_of}
+use Rattle.def_description.specs.Reading.{description_of}
 use Rattle.def_description.specs.Walk.{place}
 use Rattle.def_description.specs.WellFormed.{IsFaulty, fault, fault_of, text_fault}
 use Rattle.ct_description.specs.declared.DescFault.{DescFault}
@@ -16,7 +16,7 @@ Refused bytes NoMemory = Unit {0}
 
 -- the same, of a value that was read
 abbrev pub Good : Data → DescRow → Type 0
-Good d rows = (fault_of d ≡ None) × (rows ≡ rows_of d)
+Good d rows = (fault_of d ≡ None) × (rows ≡ description_of d)
 
 abbrev pub Faulty : Data → DescFault → Type 0
 Faulty d (At number part index item) = fault_of d ≡ Some (fault number (place part index item))

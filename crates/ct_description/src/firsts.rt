@@ -4,7 +4,7 @@ ghost use Rattle.std.specs.Prelude.{◌≡◌, [], ◌∷◌, List, map, IfOk, O
 ghost use Rattle.def_description.specs.Names.{name_of};
 ghost use Rattle.def_description.specs.Walk.{Spot as SpotRow};
 ghost use Rattle.def_description.specs.WellFormed as spec;
-ghost use Rattle.ct_value.specs.Seen.{seen};
+ghost use Rattle.ct_value.specs.Seen.{spot_view};
 ghost use Rattle.ct_description.specs.Judged.{after_kinds, after_members, after_names, after_twice, after_limits, place_faults};
 
 use crate::fault;
@@ -48,7 +48,7 @@ impl Firsts {
     fn judge_limits(&mut self, spot: &Spot)
         ensures kept { self.new ≡ record self.old { limits = self.new.limits } }
         ensures judged { (ss : List SpotRow)
-            → after_limits self.new ss ≡ after_limits self.old (seen spot.now ∷ ss) }
+            → after_limits self.new ss ≡ after_limits self.old (spot_view spot.now ∷ ss) }
     {
         if self.limits.is_some() || keeps_limits(spot) {
             return;
@@ -59,12 +59,12 @@ impl Firsts {
     /// F5, and then F6.
     #[tactic(auto, using(crate::proofs::Places::has_failed, crate::proofs::Places::new_name, crate::proofs::Places::known_name), unfolding(crate::specs::Judged::after_twice, crate::specs::Judged::after_limits))]
     fn judge_twice(&mut self, alloc: Global, spot: &Spot, name: &str) -> Result<(), AllocError>
-        requires { name.now ≡ name_of (seen spot.now) }
+        requires { name.now ≡ name_of (spot_view spot.now) }
         ensures kinds { self.new.kinds ≡ self.old.kinds }
         ensures members { self.new.members ≡ self.old.members }
         ensures names { self.new.names ≡ self.old.names }
         ensures judged { OnOk result ((ss : List SpotRow)
-            → after_twice self.new ss ≡ after_twice self.old (seen spot.now ∷ ss)) }
+            → after_twice self.new ss ≡ after_twice self.old (spot_view spot.now ∷ ss)) }
     {
         if self.twice.is_some() {
             return Ok(());
@@ -83,7 +83,7 @@ impl Firsts {
         ensures kinds { self.new.kinds ≡ self.old.kinds }
         ensures members { self.new.members ≡ self.old.members }
         ensures judged { OnOk result ((ss : List SpotRow)
-            → after_names self.new ss ≡ after_names self.old (seen spot.now ∷ ss)) }
+            → after_names self.new ss ≡ after_names self.old (spot_view spot.now ∷ ss)) }
     {
         if self.names.is_some() {
             return Ok(());
@@ -101,7 +101,7 @@ impl Firsts {
     fn judge_members(&mut self, alloc: Global, spot: &Spot) -> Result<(), AllocError>
         ensures kinds { self.new.kinds ≡ self.old.kinds }
         ensures judged { OnOk result ((ss : List SpotRow)
-            → after_members self.new ss ≡ after_members self.old (seen spot.now ∷ ss)) }
+            → after_members self.new ss ≡ after_members self.old (spot_view spot.now ∷ ss)) }
     {
         if self.members.is_some() {
             return Ok(());
@@ -117,7 +117,7 @@ impl Firsts {
     #[tactic(auto, using(crate::proofs::Places::has_failed, crate::proofs::Places::passes, crate::proofs::Places::fails), unfolding(crate::specs::Judged::after_kinds))]
     fn judge(&mut self, alloc: Global, spot: &Spot) -> Result<(), AllocError>
         ensures { OnOk result ((ss : List SpotRow)
-            → after_kinds self.new ss ≡ after_kinds self.old (seen spot.now ∷ ss)) }
+            → after_kinds self.new ss ≡ after_kinds self.old (spot_view spot.now ∷ ss)) }
     {
         if self.kinds.is_some() {
             return Ok(());
@@ -132,7 +132,7 @@ impl Firsts {
     /// F2 to F6 at each of these places, in order.
     fn judge_all(&mut self, alloc: Global, spots: &[Spot]) -> Result<(), AllocError>
         ensures { OnOk result
-            (after_kinds self.new [] ≡ after_kinds self.old (map seen spots.now)) }
+            (after_kinds self.new [] ≡ after_kinds self.old (map spot_view spots.now)) }
     {
         for spot in spots {
             self.judge(alloc, spot)?;
@@ -166,7 +166,7 @@ impl Firsts {
 
 /// F2 to F6, which need what stands at the places alone.
 pub fn place_fault(alloc: Global, spots: &[Spot]) -> Result<Option<Fault>, AllocError>
-    ensures { IfOk result (λ f. f ≡ place_faults (map seen spots.now)) }
+    ensures { IfOk result (λ f. f ≡ place_faults (map spot_view spots.now)) }
 {
     let mut firsts = Firsts::new(alloc);
     let judged = firsts.judge_all(alloc, spots);

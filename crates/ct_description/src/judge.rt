@@ -2,7 +2,7 @@
 
 ghost use Rattle.std.specs.Prelude.{◌≡◌, map, IfOk, MatchResult};
 ghost use Rattle.serde_json.specs.View.{view};
-ghost use Rattle.ct_value.specs.Seen.{seen};
+ghost use Rattle.ct_value.specs.Seen.{spot_view};
 ghost use Rattle.ct_description.specs.Answers.{Good, Faulty};
 ghost use Rattle.ct_description.specs.Judged.{name_faults, row_faults, value_faults};
 
@@ -20,7 +20,7 @@ use std::alloc::{AllocError, Global};
 /// F7 to F9, which need what may be named too.
 #[tactic(auto, unfolding(crate::specs::Judged::name_faults))]
 fn name_fault(named: &Named, spots: &[Spot]) -> Option<Fault>
-    ensures { result ≡ name_faults (view named.now.value.now) (map seen spots.now) }
+    ensures { result ≡ name_faults (view named.now.value.now) (map spot_view spots.now) }
 {
     if let Some(place) = named.first_unresolved(spots) {
         return fault(7, place);

@@ -7,7 +7,7 @@ ghost use Rattle.def_names.specs.Names.{with_names};
 ghost use Rattle.def_description.specs.Members as member;
 ghost use Rattle.def_description.specs.References as spec;
 ghost use Rattle.def_description.specs.WellFormed.{first_failing};
-ghost use Rattle.ct_value.specs.Seen.{seen};
+ghost use Rattle.ct_value.specs.Seen.{spot_view};
 
 use crate::names::Names;
 use ct_rows::target_at;
@@ -175,7 +175,7 @@ impl<'a> Named<'a> {
 
     /// F7 doesn't hold at a place: what it names is there.
     fn refers(&self, spot: &Spot) -> bool
-        ensures { result ≡ spec.refers_at (view self.now.value.now) (seen spot.now) }
+        ensures { result ≡ spec.refers_at (view self.now.value.now) (spot_view spot.now) }
     {
         match spot.place.part {
             PartWord::Import => self.import_resolves(spot.value),
@@ -188,7 +188,7 @@ impl<'a> Named<'a> {
     /// The first place that names nothing.
     pub fn first_unresolved(&self, spots: &[Spot]) -> Option<Place>
         ensures { result
-            ≡ first_failing (spec.refers_at (view self.now.value.now)) (map seen spots.now) }
+            ≡ first_failing (spec.refers_at (view self.now.value.now)) (map spot_view spots.now) }
     {
         for spot in spots {
             if !self.refers(spot) {

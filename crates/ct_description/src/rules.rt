@@ -4,7 +4,7 @@ ghost use Rattle.std.specs.Prelude.{◌≡◌, map};
 ghost use Rattle.def_names.specs.Names.{among};
 ghost use Rattle.def_description.specs.References as spec;
 ghost use Rattle.def_description.specs.WellFormed.{first_failing as first_of};
-ghost use Rattle.ct_value.specs.Seen.{seen};
+ghost use Rattle.ct_value.specs.Seen.{spot_view};
 
 use ct_rows::target_at;
 use ct_value::Spot;
@@ -46,7 +46,7 @@ fn rights_fit(form: Form, rights: &str) -> bool
 }
 
 fn rights_fit_at(spot: &Spot) -> bool
-    ensures { result ≡ spec.rights_fit_at (seen spot.now) }
+    ensures { result ≡ spec.rights_fit_at (spot_view spot.now) }
 {
     match spot.place.part {
         PartWord::Import => match target_at(spot.value) {
@@ -76,7 +76,7 @@ fn is_served(form: Form, name: &str) -> bool
 }
 
 fn is_served_at(spot: &Spot) -> bool
-    ensures { result ≡ spec.is_served_at (seen spot.now) }
+    ensures { result ≡ spec.is_served_at (spot_view spot.now) }
 {
     match spot.place.part {
         PartWord::Import => match target_at(spot.value) {
@@ -92,7 +92,7 @@ impl Rule {
 
     /// The rule holds at a place.
     fn holds(self, spot: &Spot) -> bool
-        ensures { result ≡ test_of self (seen spot.now) }
+        ensures { result ≡ test_of self (spot_view spot.now) }
     {
         match self {
             Rule::Rights => rights_fit_at(spot),
@@ -102,7 +102,7 @@ impl Rule {
 
     /// The first place at which the rule doesn't hold.
     pub fn first_failing(self, spots: &[Spot]) -> Option<Place>
-        ensures { result ≡ first_of (test_of self) (map seen spots.now) }
+        ensures { result ≡ first_of (test_of self) (map spot_view spots.now) }
     {
         for spot in spots {
             if !self.holds(spot) {

@@ -4,7 +4,7 @@ use Rattle.def_words.specs.declared.Cap.{Cap}
 use Rattle.def_words.specs.declared.Trap.{Trap}
 use Rattle.def_words.specs.Capability.{with_address}
 use Rattle.def_memory.specs.declared.Granule.{Granule}
-use Rattle.def_memory.specs.Granules.{plain, held}
+use Rattle.def_memory.specs.Granules.{plain, cap_in}
 use Rattle.def_memory.specs.Ranges.{zeroed_from}
 use Rattle.std.proofs.Math.ListN.{set}
 use Rattle.def_reach.specs.Roots.{gate_for}
@@ -13,7 +13,7 @@ use Rattle.def_machine.specs.Image.{Image, made_cap, code_entry, globals_entry, 
 use Rattle.def_machine.specs.State.{State, Thread, Frame, nobody, register}
 use Rattle.def_machine.specs.State as state
 use Rattle.def_machine.specs.Memory.{filtered_in}
-use Rattle.def_machine.specs.Frames.{given, entered_by, answer, answer_by, left_with, left_by}
+use Rattle.def_machine.specs.Frames.{callee_start, entered_by, answer, answer_by, left_with, left_by}
 use Rattle.def_step.specs.Switch.{Enters, switch_of, frame_top}
 use Rattle.def_step.specs.Handlers.{Handed, handed, is_handled, is_handled_by, handled_by, record_words, words_written}
 use Rattle.ct_areas.specs.Threads as areas
@@ -44,7 +44,7 @@ pub enters_is : (i : Image) (m : State) (s : Seen) (t export high : ℕ) → Sho
 enters_is i m s t export high h heads =
     let callee : ℕ = callee_of i.entries export in
     ap (λ g. switched s t high (entered_by i.entries (thread s t) callee export high g) s.running) (given_made i s t export high heads)
-    ∙ ap (λ u. switched s t high (entered_by i.entries u callee export high (given i u t callee export high)) s.running) h.thread
+    ∙ ap (λ u. switched s t high (entered_by i.entries u callee export high (callee_start i u t callee export high)) s.running) h.thread
     ∙ switched_is i m s t high (callee_thread i m t export high) s.running h
 
 frames_is : (i : Image) (m : State) (s : Seen) (t : ℕ) (fs : List Frame) → Shows i m s t → (state.thread m t).frames ≡ fs → (thread s t).frames ≡ fs
@@ -103,9 +103,9 @@ handed_made i s t actor h own =
     let handler : ℕ = handler_entry i actor in
     let code : ℕ = (gate_for i.entries.gates handler).code in
     let head : ℕ = head_at s i.entries handler in
-    let pcc : held s.granules head ≡ made_cap i (code_entry i actor) = h.code ∙ ap (λ b. made_cap i (code_entry i b)) own in
-    let globals : held s.granules (head + 1) ≡ made_cap i (globals_entry i actor) = h.globals ∙ ap (λ b. made_cap i (globals_entry i b)) own in
-    all_made (with_address (held s.granules head) code) return_sentry (held s.granules (head + 1))
+    let pcc : cap_in s.granules head ≡ made_cap i (code_entry i actor) = h.code ∙ ap (λ b. made_cap i (code_entry i b)) own in
+    let globals : cap_in s.granules (head + 1) ≡ made_cap i (globals_entry i actor) = h.globals ∙ ap (λ b. made_cap i (globals_entry i b)) own in
+    all_made (with_address (cap_in s.granules head) code) return_sentry (cap_in s.granules (head + 1))
     (with_address (made_cap i (code_entry i actor)) code) (made_cap i 0) (made_cap i (globals_entry i actor))
     (ap (λ c. with_address c code) pcc) (sym h.back) globals
   where

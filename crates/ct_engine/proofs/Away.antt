@@ -3,29 +3,29 @@ use Rattle.std.proofs.Common.{ℕ, zero, suc, ◌≡◌, ◌*◌, ◌/◌, ◌<�
 use Rattle.law_lists.proofs.Tests.{lt_tells}
 use Rattle.def_memory.specs.declared.Granule.{Granule}
 use Rattle.def_memory.specs.Accesses.{IsAccess, loaded}
-use Rattle.def_memory.specs.Granules.{held}
-use Rattle.def_veil.specs.Veil.{veiled}
-use Rattle.law_veil.proofs.Granules.{veiled_length, load_seen}
+use Rattle.def_memory.specs.Granules.{cap_in}
+use Rattle.law_hidden.specs.Hiding.{with_hidden}
+use Rattle.law_hidden.proofs.Granules.{with_hidden_length, load_seen}
 use Rattle.def_machine.specs.Objects.{Each}
 use Rattle.def_machine.specs.State.{Thread, Object, nobody}
 use Rattle.def_chunks.specs.Heaps.{objects_of}
-use Rattle.law_heaped.specs.Heaped.{hides_heap, heap_hides}
+use Rattle.law_hidden.specs.Heaped.{hides_heap, heap_hides}
 use Rattle.std.proofs.lemmas.Bool.{or_cases, or_left, or_right}
 use Rattle.ct_engine.proofs.HeapStays.{HeapStays, heap_keeps, heap_holds}
 use Rattle.std.proofs.Math.ListN.{get_or}
 use Rattle.ct_areas.specs.declared.thread.Thread as row
 use Rattle.ct_engine.specs.declared.rows.Rows.{Rows}
-use Rattle.ct_engine.specs.Seen.{Seen, hides, threads_of, seen, thread, with_granules, region_hides, seen_by, hidden}
-use Rattle.ct_engine.specs.Kept.{StackLies, Holds}
+use Rattle.ct_engine.specs.Seen.{Seen, hides, threads_of, engine_view, thread, with_granules, region_hides, seen_by, hidden}
+use Rattle.ct_engine.specs.Kept.{StackLies, IsEngine}
 use Rattle.ct_engine.proofs.Lists.{areas_same, threads_same, how_many}
 use Rattle.ct_engine.proofs.Whole.{hidden_is}
 
 -- what is hidden holds what it held
 abbrev pub HiddenStays : List Granule → List Granule → Rows → Type 0
-HiddenStays gs hs rows = (k : ℕ) → hidden gs rows k ≡ true → held hs k ≡ held gs k
+HiddenStays gs hs rows = (k : ℕ) → hidden gs rows k ≡ true → cap_in hs k ≡ cap_in gs k
 
 -- it is the region's or the heap's
-pub hidden_cases : (gs : List Granule) (rows : Rows) (k : ℕ) → Holds gs rows → hidden gs rows k ≡ true → (region_hides rows.region k ≡ true) ⊎ (heap_hides rows.heap gs k ≡ true)
+pub hidden_cases : (gs : List Granule) (rows : Rows) (k : ℕ) → IsEngine gs rows → hidden gs rows k ≡ true → (region_hides rows.region k ≡ true) ⊎ (heap_hides rows.heap gs k ≡ true)
 hidden_cases gs rows k holds is =
     subst (λ ram. (region_hides rows.region k ≡ true) ⊎ (hides_heap ram rows.heap.range.base (rows.heap.range.base + rows.heap.range.length) (objects_of rows.heap gs) k ≡ true)) (sym holds.heap.ram)
     (or_cases (region_hides rows.region k) _ is)
@@ -33,15 +33,15 @@ hidden_cases gs rows k holds is =
 pub region_hidden : (gs : List Granule) (rows : Rows) (k : ℕ) → region_hides rows.region k ≡ true → hidden gs rows k ≡ true
 region_hidden gs rows k is = or_left (region_hides rows.region k) _ is
 
-pub heap_hidden : (gs : List Granule) (rows : Rows) (k : ℕ) → Holds gs rows → heap_hides rows.heap gs k ≡ true → hidden gs rows k ≡ true
+pub heap_hidden : (gs : List Granule) (rows : Rows) (k : ℕ) → IsEngine gs rows → heap_hides rows.heap gs k ≡ true → hidden gs rows k ≡ true
 heap_hidden gs rows k holds is =
     or_right (region_hides rows.region k) (hides_heap rows.region.ram rows.heap.range.base (rows.heap.range.base + rows.heap.range.length) (objects_of rows.heap gs) k)
     (subst (λ ram. hides_heap ram rows.heap.range.base (rows.heap.range.base + rows.heap.range.length) (objects_of rows.heap gs) k ≡ true) holds.heap.ram is)
 
-heap_stays : (gs hs : List Granule) (rows : Rows) → Holds gs rows → HiddenStays gs hs rows → HeapStays rows.heap gs hs
+heap_stays : (gs hs : List Granule) (rows : Rows) → IsEngine gs rows → HiddenStays gs hs rows → HeapStays rows.heap gs hs
 heap_stays gs hs rows holds same k is = same k (heap_hidden gs rows k holds is)
 
-pub away_holds : (gs hs : List Granule) (rows : Rows) → Holds gs rows → length hs ≡ length gs → HiddenStays gs hs rows → Holds hs rows
+pub away_holds : (gs hs : List Granule) (rows : Rows) → IsEngine gs rows → length hs ≡ length gs → HiddenStays gs hs rows → IsEngine hs rows
 away_holds gs hs rows holds size same = record {
   areas = areas_same rows.region.ram gs hs rows.running rows.running 0 rows.region.trusted rows.region.end rows.list.items holds.areas size
       (λ m lo hi. same m (region_hidden gs rows m (hidden_is rows.region m lo hi))) (λ u lo. refl);
@@ -51,7 +51,7 @@ away_holds gs hs rows holds size same = record {
   room = holds.room;
 }
 
-pub away_seen : (gs hs : List Granule) (rows : Rows) → Holds gs rows → length hs ≡ length gs → HiddenStays gs hs rows → seen hs rows ≡ with_granules (seen gs rows) (veiled (hidden gs rows) hs)
+pub away_seen : (gs hs : List Granule) (rows : Rows) → IsEngine gs rows → length hs ≡ length gs → HiddenStays gs hs rows → engine_view hs rows ≡ with_granules (engine_view gs rows) (with_hidden (hidden gs rows) hs)
 away_seen gs hs rows holds size same =
     let objects : objects_of rows.heap hs ≡ objects_of rows.heap gs =
     (heap_keeps gs hs rows.region rows.heap rows.front holds.heap size (heap_stays gs hs rows holds same)).objects in
@@ -66,22 +66,22 @@ apart h k m open_ hidden e = let clash : true ≡ false = sym hidden ∙ ap (λ 
 
 -- ---- what is asked of a place
 
-pub size_is : (gs : List Granule) (rows : Rows) (v : Seen) → seen gs rows ≡ v → length v.granules ≡ length gs
-size_is gs rows v is = ap (λ (s : Seen). length s.granules) (sym is) ∙ veiled_length (hidden gs rows) gs
+pub size_is : (gs : List Granule) (rows : Rows) (v : Seen) → engine_view gs rows ≡ v → length v.granules ≡ length gs
+size_is gs rows v is = ap (λ (s : Seen). length s.granules) (sym is) ∙ with_hidden_length (hidden gs rows) gs
 
-pub access_by : (gs : List Granule) (rows : Rows) (v : Seen) (at width : ℕ) → seen gs rows ≡ v → IsAccess (8 * length v.granules) at width → IsAccess (8 * length gs) at width
+pub access_by : (gs : List Granule) (rows : Rows) (v : Seen) (at width : ℕ) → engine_view gs rows ≡ v → IsAccess (8 * length v.granules) at width → IsAccess (8 * length gs) at width
 access_by gs rows v at width is access = subst (λ n. IsAccess (8 * n) at width) (size_is gs rows v is) access
 
 -- ---- what is read
 
-pub load_is : (gs : List Granule) (rows : Rows) (v : Seen) (at width : ℕ) → seen gs rows ≡ v → hides v (at / 8) ≡ false → loaded gs at width ≡ loaded v.granules at width
+pub load_is : (gs : List Granule) (rows : Rows) (v : Seen) (at width : ℕ) → engine_view gs rows ≡ v → hides v (at / 8) ≡ false → loaded gs at width ≡ loaded v.granules at width
 load_is gs rows v at width is open_ =
     let here : hidden gs rows (at / 8) ≡ false = rw (← is) at open_ in
     sym (load_seen (hidden gs rows) gs at width here) ∙ ap (λ (s : Seen). loaded s.granules at width) is
 
 -- ---- how many there are
 
-pub count_is : (gs : List Granule) (rows : Rows) (v : Seen) → seen gs rows ≡ v → length rows.list.items ≡ length v.threads
+pub count_is : (gs : List Granule) (rows : Rows) (v : Seen) → engine_view gs rows ≡ v → length rows.list.items ≡ length v.threads
 count_is gs rows v is = sym (how_many gs rows.running 0 rows.list.items) ∙ ap (λ (s : Seen). length s.threads) is
 
 past_end : (ts : List Thread) (t : ℕ) → length ts ≤ t → get_or ts t nobody ≡ nobody
@@ -89,7 +89,7 @@ past_end [] t le = refl
 past_end (u ∷ us) zero le = absurd (omega (arith, le))
 past_end (u ∷ us) (suc t) le = past_end us t (omega (arith, le))
 
-pub alive_there : (gs : List Granule) (rows : Rows) (v : Seen) (t : ℕ) → seen gs rows ≡ v → 0 < length (thread v t).frames → t < length rows.list.items
+pub alive_there : (gs : List Granule) (rows : Rows) (v : Seen) (t : ℕ) → engine_view gs rows ≡ v → 0 < length (thread v t).frames → t < length rows.list.items
 alive_there gs rows v t is alive = elim (lt_tells t (length v.threads)) [
   | inl a ↦ (let lt = a.1 in let size = count_is gs rows v is in omega (arith, lt, size))
   | inr a ↦ absurd (let none : length (thread v t).frames ≡ 0 = ap (λ (u : Thread). length u.frames) (past_end v.threads t a.1) in omega (arith, alive, none))

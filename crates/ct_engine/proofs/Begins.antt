@@ -5,12 +5,12 @@ use Rattle.std.proofs.lemmas.Bool.{cases_eq}
 use Rattle.law_lists.proofs.Tests.{lt_tells}
 use Rattle.def_words.specs.declared.Cap.{Cap}
 use Rattle.def_memory.specs.declared.Granule.{Granule}
-use Rattle.def_memory.specs.Granules.{plain, held, holding}
+use Rattle.def_memory.specs.Granules.{plain, cap_in, holding}
 use Rattle.def_areas.specs.Areas.{frame_place}
 use Rattle.def_areas.specs.Touches.{Touches}
 use Rattle.law_areas.proofs.Writes.{put_other, put_same}
-use Rattle.def_veil.specs.Veil.{veiled}
-use Rattle.law_veil.proofs.Granules.{hidden_changes}
+use Rattle.law_hidden.specs.Hiding.{with_hidden}
+use Rattle.law_hidden.proofs.Granules.{hidden_changes}
 use Rattle.ct_areas.specs.declared.thread.Area.{Area}
 use Rattle.ct_areas.specs.declared.thread.Thread as row
 use Rattle.ct_areas.specs.Threads.{HasArea, area_begin, area_end, thread_of}
@@ -26,7 +26,7 @@ use Rattle.ct_engine.proofs.Whole.{hidden_is}
 -- ---- one thread
 
 pub fresh_kept : (gs hs : List Granule) (t : row.Thread) (export : ℕ) → HasArea (8 * length gs) t.area → t.depth ≡ 1 → get_or t.regs 0 (plain 0) ≡ plain 0
-    → ((k : ℕ) → area_begin t.area ≤ k → k < area_end t.area → held gs k ≡ plain 0)
+    → ((k : ℕ) → area_begin t.area ≤ k → k < area_end t.area → cap_in gs k ≡ plain 0)
     → hs ≡ holding gs (frame_place (area_begin t.area) 0 + 5) (plain export) → Touches (area_begin t.area) (area_end t.area) gs hs → IsKept hs true t
 fresh_kept gs hs t export has one zero_ clear wrote touches = record {
   area = rw touches.size has;
@@ -35,11 +35,11 @@ fresh_kept gs hs t export has one zero_ clear wrote touches = record {
   alive = λ e. omega (arith, one);
   clean = λ k lo hi. inr (rw wrote (elim (cases_eq k (frame_place (area_begin t.area) 0 + 5)) [
     | inl e ↦ (let lt : k < length gs = (let le = area_inside (length gs) t.area has in omega (arith, hi, le)) in
-        let here : held (holding gs (frame_place (area_begin t.area) 0 + 5) (plain export)) (frame_place (area_begin t.area) 0 + 5) ≡ plain export =
+        let here : cap_in (holding gs (frame_place (area_begin t.area) 0 + 5) (plain export)) (frame_place (area_begin t.area) 0 + 5) ≡ plain export =
         put_same gs (frame_place (area_begin t.area) 0 + 5) (plain export) (subst (λ n. n < length gs) e lt) in
-        plain_by (held (holding gs (frame_place (area_begin t.area) 0 + 5) (plain export)) k) export
-        (ap (λ n. held (holding gs (frame_place (area_begin t.area) 0 + 5) (plain export)) n) e ∙ here))
-    | inr n ↦ plain_by (held (holding gs (frame_place (area_begin t.area) 0 + 5) (plain export)) k) 0
+        plain_by (cap_in (holding gs (frame_place (area_begin t.area) 0 + 5) (plain export)) k) export
+        (ap (λ n. cap_in (holding gs (frame_place (area_begin t.area) 0 + 5) (plain export)) n) e ∙ here))
+    | inr n ↦ plain_by (cap_in (holding gs (frame_place (area_begin t.area) 0 + 5) (plain export)) k) 0
         (ap (λ (g : Granule). g.cap) (put_other gs (frame_place (area_begin t.area) 0 + 5) k (plain export) n) ∙ clear k lo hi)
   ]));
 }
@@ -101,18 +101,18 @@ end_last from (g ∷ gs) f = end_last (g.area.trusted + g.area.trusted_length) g
 -- some started, in memory that was otherwise, and others have yet to
 pub record Begun (g : Region) (was gs : List Granule) (ts : List row.Thread) (done todo : List Fresh) : Type 0 where
   pub size : length gs ≡ length was
-  pub veil : veiled (region_hides g) gs ≡ veiled (region_hides g) was
+  pub memory : with_hidden (region_hides g) gs ≡ with_hidden (region_hides g) was
   pub threads : threads_of gs None 0 ts ≡ map (λ f. first_of f) done
   pub places : map (λ (t : row.Thread). t.area) ts ≡ map (λ (f : Fresh). f.area) done
   pub areas : AreasFrom g.ram gs None 0 g.trusted (end_of g.trusted done) ts
-  pub clear : (k : ℕ) → end_of g.trusted done ≤ g.ram + 8 * k → g.ram + 8 * k < g.end → held gs k ≡ plain 0
+  pub clear : (k : ℕ) → end_of g.trusted done ≤ g.ram + 8 * k → g.ram + 8 * k < g.end → cap_in gs k ≡ plain 0
   pub rest : AreFresh g.ram (8 * length was) (end_of g.trusted done) g.end todo
 
 pub begun_first : (g : Region) (gs : List Granule) (fs : List Fresh) → AreFresh g.ram (8 * length gs) g.trusted g.end fs
-    → ((k : ℕ) → region_hides g k ≡ true → held gs k ≡ plain 0) → Begun g gs gs [] [] fs
+    → ((k : ℕ) → region_hides g k ≡ true → cap_in gs k ≡ plain 0) → Begun g gs gs [] [] fs
 begun_first g gs fs fresh clear = record {
   size = refl;
-  veil = refl;
+  memory = refl;
   threads = refl;
   places = refl;
   areas = (omega arith, no_plain g.ram gs g.trusted);
@@ -122,7 +122,7 @@ begun_first g gs fs fresh clear = record {
 
 -- the next one's area is clear
 pub next_clear : (g : Region) (was gs : List Granule) (ts : List row.Thread) (done todo : List Fresh) (f : Fresh) → Begun g was gs ts done (f ∷ todo)
-    → (k : ℕ) → area_begin f.area ≤ k → k < area_end f.area → held gs k ≡ plain 0
+    → (k : ℕ) → area_begin f.area ≤ k → k < area_end f.area → cap_in gs k ≡ plain 0
 next_clear g was gs ts done todo f b k lo hi =
     let low = b.rest.0 in
     let base = b.rest.1 in
@@ -153,19 +153,19 @@ begun_next g was gs hs ts t done todo f b touches kept place same =
     let areas : AreasFrom g.ram hs None 0 g.trusted (end_of g.trusted done) ts =
     areas_same g.ram gs hs None None 0 g.trusted (end_of g.trusted done) ts b.areas touches.size before (λ u lo. refl) in
     let between : ArePlain g.ram hs (end_of g.trusted done) f.area.trusted =
-    λ m lo hi. plain_zero (held hs m) (outside (8 * length was) f.area gs hs m has touches (inl (omega (arith, hi, base))) ∙ b.clear m lo (omega (arith, hi, high))) in
+    λ m lo hi. plain_zero (cap_in hs m) (outside (8 * length was) f.area gs hs m has touches (inl (omega (arith, hi, base))) ∙ b.clear m lo (omega (arith, hi, high))) in
     let last : AreasFrom g.ram hs None 0 g.trusted (t.area.trusted + t.area.trusted_length) (ts ++ t ∷ []) =
     areas_last g.ram hs 0 g.trusted (end_of g.trusted done) ts t areas (rw place low) (rw place base) kept
     (subst (λ (a : Area). ArePlain g.ram hs (end_of g.trusted done) a.trusted) (sym place) between) in
     let to : t.area.trusted + t.area.trusted_length ≡ end_of g.trusted (done ++ f ∷ []) = ap (λ (a : Area). a.trusted + a.trusted_length) place ∙ sym end in
     record {
       size = touches.size ∙ b.size;
-      veil = hidden_changes (region_hides g) gs hs (area_begin f.area) (area_end f.area) touches
+      memory = hidden_changes (region_hides g) gs hs (area_begin f.area) (area_end f.area) touches
           (λ k lo hi. let w = within (8 * length was) f.area k has lo hi in
           let l = w.0 in
           let h = w.1 in
           hidden_is g k (omega (arith, from, low, base, l)) (omega (arith, high, base, h)))
-          ∙ b.veil;
+          ∙ b.memory;
       threads = threads_last hs 0 ts t ∙ ap (λ xs. xs ++ thread_of hs false t ∷ []) (threads ∙ b.threads)
           ∙ ap (λ x. map (λ u. first_of u) done ++ x ∷ []) same ∙ sym (map_last (λ u. first_of u) done f);
       places = map_last (λ (u : row.Thread). u.area) ts t ∙ ap (λ xs. xs ++ t.area ∷ []) b.places
@@ -231,8 +231,8 @@ have_begun g was gs ts fs i b le =
     let all = begun_all g was gs ts fs i b le in
     record {
       size = all.size;
-      veil = all.veil;
+      memory = all.memory;
       threads = all.threads;
       places = all.places;
-      areas = areas_more g.ram gs None 0 g.trusted (end_of g.trusted fs) g.end ts all.rest (λ k lo hi. plain_zero (held gs k) (all.clear k lo hi)) all.areas;
+      areas = areas_more g.ram gs None 0 g.trusted (end_of g.trusted fs) g.end ts all.rest (λ k lo hi. plain_zero (cap_in gs k) (all.clear k lo hi)) all.areas;
     }

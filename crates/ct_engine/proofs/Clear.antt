@@ -3,11 +3,11 @@ use Rattle.std.proofs.Common.{ℕ, ◌≡◌, inl, inr, true, false, List, sym, 
 use Rattle.law_lists.proofs.Tests.{bool_tells}
 use Rattle.def_words.specs.declared.Cap.{Cap}
 use Rattle.def_memory.specs.declared.Granule.{Granule}
-use Rattle.def_memory.specs.Granules.{plain, held}
+use Rattle.def_memory.specs.Granules.{plain, cap_in}
 use Rattle.def_memory.specs.Ranges.{is_tagged}
 use Rattle.def_chunks.specs.Changes.{NoTagComes}
 use Rattle.def_chunks.specs.Heaps.{HeapRow}
-use Rattle.law_heaped.specs.Heaped.{heap_hides}
+use Rattle.law_hidden.specs.Heaped.{heap_hides}
 use Rattle.ct_engine.specs.Kept.{IsClear}
 
 -- no capability comes, and nothing more is hidden
@@ -18,5 +18,5 @@ clear_tags h n gs hs clear tags less k hid = elim (bool_tells (is_tagged hs k)) 
 ]
 
 -- what is zero holds none: what becomes hidden as it is zeroed
-pub zero_clear : (gs : List Granule) (k : ℕ) → held gs k ≡ plain 0 → is_tagged gs k ≡ false
+pub zero_clear : (gs : List Granule) (k : ℕ) → cap_in gs k ≡ plain 0 → is_tagged gs k ≡ false
 zero_clear gs k is = ap (λ (c : Cap). c.tag) is

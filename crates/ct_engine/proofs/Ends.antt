@@ -9,7 +9,7 @@ use Rattle.ct_areas.specs.declared.thread.Area.{Area}
 use Rattle.ct_areas.specs.declared.thread.Thread as row
 use Rattle.ct_areas.specs.Threads.{area_begin, area_end, thread_of}
 use Rattle.ct_engine.specs.declared.rows.Rows.{Rows}
-use Rattle.ct_engine.specs.Kept.{IsKept, AreasFrom, Holds}
+use Rattle.ct_engine.specs.Kept.{IsKept, AreasFrom, IsEngine}
 use Rattle.ct_engine.proofs.Lists.{OthersRun}
 use Rattle.ct_engine.proofs.Whole.{itself, other, runs_it, areas_turn, some_is, none_is}
 
@@ -26,7 +26,7 @@ area_of_row (u ∷ us) (suc t) d r lt = area_of_row us t d r (omega (arith, lt))
 pub stays_on : (run : Option ℕ) (t : ℕ) → OthersRun run run t
 stays_on run t = λ u no_. refl
 
-pub call_areas : (gs hs : List Granule) (rows : Rows) (t : ℕ) (r q : row.Thread) → Holds gs rows → rows.running ≡ Some t → r ≡ get_or rows.list.items t r
+pub call_areas : (gs hs : List Granule) (rows : Rows) (t : ℕ) (r q : row.Thread) → IsEngine gs rows → rows.running ≡ Some t → r ≡ get_or rows.list.items t r
     → Touches (area_begin r.area) (area_end r.area) gs hs → q.area ≡ r.area → IsKept hs true q
     → AreasFrom rows.region.ram hs rows.running 0 rows.region.trusted rows.region.end (set rows.list.items t q)
 call_areas gs hs rows t r q holds runs is touches place kept =

@@ -6,19 +6,19 @@ use Rattle.def_profile.specs.Areas.{area_length}
 use Rattle.law_lists.proofs.Tests.{bool_tells, lt_tells, eq_tells}
 use Rattle.def_words.specs.declared.Cap.{Cap}
 use Rattle.def_memory.specs.declared.Granule.{Granule}
-use Rattle.def_memory.specs.Granules.{plain, held, held_from}
+use Rattle.def_memory.specs.Granules.{plain, cap_in, caps_from}
 use Rattle.def_machine.specs.State.{Thread, Frame, Object, nobody}
 use Rattle.def_machine.specs.Slices.{is_number}
 use Rattle.def_machine.specs.Objects.{Each}
 use Rattle.def_areas.specs.Areas.{frame_place, frames_from, frames_in, caller_actor, caller_top, caller_handling}
-use Rattle.law_veil.proofs.Granules.{seen_at}
+use Rattle.law_hidden.proofs.Granules.{seen_at}
 use Rattle.ct_areas.specs.declared.thread.Area.{Area}
 use Rattle.ct_areas.specs.declared.thread.Thread as row
 use Rattle.ct_areas.specs.Threads.{HasArea, area_begin, area_end, frames_most, living, thread_of}
 use Rattle.ct_areas.proofs.Places.{alive_is, frames_of}
 use Rattle.ct_engine.specs.declared.rows.Rows.{Rows}
-use Rattle.ct_engine.specs.Seen.{Seen, threads_of, seen, hidden}
-use Rattle.ct_engine.specs.Kept.{IsPlain, IsSaved, IsKept, AreasFrom, Holds}
+use Rattle.ct_engine.specs.Seen.{Seen, threads_of, engine_view, hidden}
+use Rattle.ct_engine.specs.Kept.{IsPlain, IsSaved, IsKept, AreasFrom, IsEngine}
 use Rattle.law_sweeps.specs.Clean.{NotStale, SavedClean, StoppedClean}
 use Rattle.ct_engine.specs.Sweeps.{NoneLeft}
 use Rattle.ct_engine.proofs.Whole.{itself}
@@ -33,8 +33,8 @@ plain_clean objects c p = λ tagged some. absurd (let clash : true ≡ false = s
 same_clean : (objects : List Object) (c d : Cap) → c ≡ d → NotStale objects d → NotStale objects c
 same_clean objects c d e clean = subst (λ (x : Cap). NotStale objects x) (sym e) clean
 
-there : (objects : List Object) (gs : List Granule) (k m : ℕ) → k ≡ m → NotStale objects (held gs m) → NotStale objects (held gs k)
-there objects gs k m e clean = same_clean objects (held gs k) (held gs m) (ap (λ n. held gs n) e) clean
+there : (objects : List Object) (gs : List Granule) (k m : ℕ) → k ≡ m → NotStale objects (cap_in gs m) → NotStale objects (cap_in gs k)
+there objects gs k m e clean = same_clean objects (cap_in gs k) (cap_in gs m) (ap (λ n. cap_in gs n) e) clean
 
 -- ---- frames
 
@@ -44,7 +44,7 @@ frame_numbers b j k some from to low =
     omega (arith, r, from, to, low)
 
 from_clean : (objects : List Object) (gs : List Granule) (a actor top : ℕ) (handling : Bool) (depth : ℕ) → Each (SavedClean objects) (frames_from gs a actor top handling depth)
-    → (k : ℕ) → a + 20 ≤ k → k < frame_place a depth → (k - (a + 20)) % 8 < 5 → NotStale objects (held gs k)
+    → (k : ℕ) → a + 20 ≤ k → k < frame_place a depth → (k - (a + 20)) % 8 < 5 → NotStale objects (cap_in gs k)
 from_clean objects gs a actor top handling zero each k from to low = absurd (omega (arith, from, to))
 from_clean objects gs a actor top handling (suc j) each k from to low = elim (lt_tells k (frame_place a j)) [
   | inl x ↦ from_clean objects gs a (caller_actor gs (frame_place a j)) (caller_top gs (frame_place a j)) (caller_handling gs (frame_place a j)) j each.1 k from x.1 low
@@ -66,27 +66,27 @@ from_clean objects gs a actor top handling (suc j) each k from to low = elim (lt
 ]
 
 frames_clean : (objects : List Object) (gs : List Granule) (a actor top : ℕ) (handling : Bool) (depth : ℕ) → Each (SavedClean objects) (frames_in gs a actor top handling depth)
-    → (k : ℕ) → a + 20 ≤ k → k < frame_place a depth → (k - (a + 20)) % 8 < 5 → NotStale objects (held gs k)
+    → (k : ℕ) → a + 20 ≤ k → k < frame_place a depth → (k - (a + 20)) % 8 < 5 → NotStale objects (cap_in gs k)
 unfolding frames_in
 frames_clean objects gs a actor top handling depth each = from_clean objects gs a actor top handling depth each
 
 -- ---- registers
 
-held_at : (gs : List Granule) (k n m : ℕ) → m < n → get_or (held_from gs k n) m (plain 0) ≡ held gs (k + m)
+held_at : (gs : List Granule) (k n m : ℕ) → m < n → get_or (caps_from gs k n) m (plain 0) ≡ cap_in gs (k + m)
 held_at gs k zero m lt = absurd (omega (arith, lt))
 held_at gs k (suc n) zero lt = let here : k + zero ≡ k = omega arith in rw here refl
 held_at gs k (suc n) (suc m) lt = let next : k + suc m ≡ k + 1 + m = omega arith in rw next (held_at gs (k + 1) n m (omega (arith, lt)))
 
 register_clean : (objects : List Object) (gs : List Granule) (t : row.Thread) (m : ℕ) → StoppedClean objects (living gs false t) → m < 15
-    → NotStale objects (held gs (area_begin t.area + 1 + m))
+    → NotStale objects (cap_in gs (area_begin t.area + 1 + m))
 register_clean objects gs t m clean lt =
-    same_clean objects (held gs (area_begin t.area + 1 + m)) (get_or (held_from gs (area_begin t.area + 1) 15) m (plain 0)) (sym (held_at gs (area_begin t.area + 1) 15 m lt))
+    same_clean objects (cap_in gs (area_begin t.area + 1 + m)) (get_or (caps_from gs (area_begin t.area + 1) 15) m (plain 0)) (sym (held_at gs (area_begin t.area + 1) 15 m lt))
     (clean.registers (suc m))
 
 -- ---- a row
 
 saved_clean : (objects : List Object) (gs : List Granule) (runs : Bool) (t : row.Thread) → Each (SavedClean objects) (thread_of gs runs t).frames
-    → (runs ≡ false → StoppedClean objects (thread_of gs runs t)) → (k : ℕ) → area_begin t.area ≤ k → IsSaved runs t k → NotStale objects (held gs k)
+    → (runs ≡ false → StoppedClean objects (thread_of gs runs t)) → (k : ℕ) → area_begin t.area ≤ k → IsSaved runs t k → NotStale objects (cap_in gs k)
 saved_clean objects gs runs t frames stopped k from (inl s) =
     let clean : StoppedClean objects (living gs false t) =
     subst (λ b. StoppedClean objects (living gs b t)) s.0 (subst (λ (u : Thread). StoppedClean objects u) (alive_is gs runs t s.1) (stopped s.0)) in
@@ -124,10 +124,10 @@ not_running run n e = λ is. let clash : true ≡ false = sym (ap (λ o. is_numb
 areas_clean : (objects : List Object) (ram : ℕ) (gs : List Granule) (run : Option ℕ) (n from to : ℕ) (ts : List row.Thread) → AreasFrom ram gs run n from to ts
     → ((t : ℕ) → Each (SavedClean objects) (get_or (threads_of gs run n ts) t nobody).frames)
     → ((t : ℕ) → Stops run (n + t) → StoppedClean objects (get_or (threads_of gs run n ts) t nobody))
-    → (k : ℕ) → from ≤ ram + 8 * k → ram + 8 * k < to → NotStale objects (held gs k)
-areas_clean objects ram gs run n from to [] areas frames stopped k lo hi = plain_clean objects (held gs k) (areas.1 k lo hi)
+    → (k : ℕ) → from ≤ ram + 8 * k → ram + 8 * k < to → NotStale objects (cap_in gs k)
+areas_clean objects ram gs run n from to [] areas frames stopped k lo hi = plain_clean objects (cap_in gs k) (areas.1 k lo hi)
 areas_clean objects ram gs run n from to (t ∷ ts) areas frames stopped k lo hi = elim (lt_tells (ram + 8 * k) t.area.trusted) [
-  | inl a ↦ plain_clean objects (held gs k) (areas.4 k lo a.1)
+  | inl a ↦ plain_clean objects (cap_in gs k) (areas.4 k lo a.1)
   | inr a ↦ elim (lt_tells (ram + 8 * k) (t.area.trusted + t.area.trusted_length)) [
     | inl b ↦ (let base = areas.1 in
         let here : n + zero ≡ n = omega arith in
@@ -138,17 +138,17 @@ areas_clean objects ram gs run n from to (t ∷ ts) areas frames stopped k lo hi
         let ends = ends_by (8 * length gs) t.area k kept.area (omega (arith, high, base)) in
         elim (kept.clean k begins ends) [
           | inl s ↦ saved_clean objects gs (is_number run n) t (frames zero) (λ off. stopped zero (rw here (not_running run n off))) k begins s
-          | inr p ↦ plain_clean objects (held gs k) p
+          | inr p ↦ plain_clean objects (cap_in gs k) p
         ])
     | inr b ↦ areas_clean objects ram gs run (n + 1) (t.area.trusted + t.area.trusted_length) to ts areas.3 (λ u. frames (suc u))
         (λ u off. stopped (suc u) (let next : n + suc u ≡ n + 1 + u = omega arith in rw next off)) k b.1 hi
   ]
 ]
 
-pub none_stale : (objects : List Object) (gs : List Granule) (rows : Rows) (v : Seen) → seen gs rows ≡ v → Holds gs rows → NoneLeft objects v
-    → (k : ℕ) → NotStale objects (held gs k)
+pub none_stale : (objects : List Object) (gs : List Granule) (rows : Rows) (v : Seen) → engine_view gs rows ≡ v → IsEngine gs rows → NoneLeft objects v
+    → (k : ℕ) → NotStale objects (cap_in gs k)
 none_stale objects gs rows v is holds left k =
-    let mine : NoneLeft objects (seen gs rows) = subst (λ (s : Seen). NoneLeft objects s) (sym is) left in
+    let mine : NoneLeft objects (engine_view gs rows) = subst (λ (s : Seen). NoneLeft objects s) (sym is) left in
     elim (bool_tells (hidden gs rows k)) [
       | inl e ↦ elim (hidden_cases gs rows k holds e) [
         | inl region ↦ (let place = hidden_place rows.region k region in
@@ -156,5 +156,5 @@ none_stale objects gs rows v is holds left k =
             (λ t off. mine.stopped t (λ runs. off (let same : 0 + t ≡ t = omega arith in rw same runs))) k place.0 place.1)
         | inr heap ↦ (λ tagged some. absurd (let clash : true ≡ false = sym tagged ∙ holds.heap.clear k heap in cc))
       ]
-      | inr e ↦ same_clean objects (held gs k) (held (seen gs rows).granules k) (ap (λ (g : Granule). g.cap) (sym (seen_at (hidden gs rows) gs k e))) (mine.granules k)
+      | inr e ↦ same_clean objects (cap_in gs k) (cap_in (engine_view gs rows).granules k) (ap (λ (g : Granule). g.cap) (sym (seen_at (hidden gs rows) gs k e))) (mine.granules k)
     ]

@@ -15,28 +15,28 @@ use Rattle.def_step.specs.Quotas.{without_row}
 use Rattle.def_machine.specs.Memory.{filtered_in}
 use Rattle.def_machine.specs.Objects.{Each, charges, quarantine}
 use Rattle.def_hidden.specs.Hidden.{is_live_at}
-use Rattle.def_veil.specs.Veil.{veiled}
-use Rattle.law_veil.proofs.Granules.{zeroed_seen, marked_seen}
+use Rattle.law_hidden.specs.Hiding.{with_hidden}
+use Rattle.law_hidden.proofs.Granules.{zeroed_seen, marked_seen}
 use Rattle.def_chunks.specs.Heaps.{HeapRow, objects_of, Distinct, Laid}
 use Rattle.law_chunks.specs.Kept.{StandsIn, InOrder}
 use Rattle.law_chunks.proofs.Rows.{each_more, quarantine_others}
 use Rattle.law_chunks.proofs.Standing.{objects_inside, objects_apart}
-use Rattle.law_heaped.specs.Heaped.{heap_hides}
-use Rattle.law_heaped.specs.Objects.{Vanishes}
-use Rattle.law_heaped.proofs.Objects.{covers, covers_tells, object_vanishes}
+use Rattle.law_hidden.specs.Heaped.{heap_hides}
+use Rattle.law_hidden.specs.Objects.{Vanishes}
+use Rattle.law_hidden.proofs.Objects.{covers, covers_tells, object_vanishes}
 use Rattle.ct_heap.specs.declared.rows.Object as told
 use Rattle.ct_heap.specs.Lookups.{spans_of, whole_of}
 use Rattle.ct_heap.specs.Effects.{Frees}
 use Rattle.ct_token.specs.Table.{Table}
 use Rattle.ct_engine.specs.declared.rows.Rows.{Rows}
-use Rattle.ct_engine.specs.Seen.{Seen, region_hides, seen, sifted}
-use Rattle.ct_engine.specs.Kept.{IsClear, Holds}
+use Rattle.ct_engine.specs.Seen.{Seen, region_hides, engine_view, after_filter}
+use Rattle.ct_engine.specs.Kept.{IsClear, IsEngine}
 use Rattle.ct_engine.specs.Grants.{WasWhole, whole_in, quarantined, let_go, freed, freed_by}
 use Rattle.ct_engine.specs.Written.{state_with}
 use Rattle.ct_engine.proofs.Clear.{zero_clear}
-use Rattle.ct_engine.proofs.Veils.{seen_both}
+use Rattle.ct_engine.proofs.HiddenTwice.{seen_both}
 use Rattle.ct_engine.proofs.HeapTurns.{with_heap, HeapTurns, turned_holds, turned_seen}
-use Rattle.ct_engine.proofs.Granted.{seen_as, hides_by, veil_by}
+use Rattle.ct_engine.proofs.Granted.{seen_as, hides_by, hide_by}
 use Rattle.ct_engine.proofs.Tables.{with_table, table_holds}
 
 -- ---- an object that is found by its quota and its bounds
@@ -202,15 +202,15 @@ freed_turns gs hs rows n quota base top number place long live l f =
       same = f.same;
     }
 
-pub freed_holds : (gs hs : List Granule) (rows : Rows) (n : HeapRow) (k : Table) (quota base top number place long live : ℕ) → Holds gs rows → Laid n hs
-    → Frees rows.heap n gs hs quota base top number place long live → k.room ≡ rows.tokens.room → Holds hs (with_table (with_heap rows n rows.front) k)
+pub freed_holds : (gs hs : List Granule) (rows : Rows) (n : HeapRow) (k : Table) (quota base top number place long live : ℕ) → IsEngine gs rows → Laid n hs
+    → Frees rows.heap n gs hs quota base top number place long live → k.room ≡ rows.tokens.room → IsEngine hs (with_table (with_heap rows n rows.front) k)
 freed_holds gs hs rows n k quota base top number place long live holds laid f same =
     table_holds hs (with_heap rows n rows.front) k
     (turned_holds gs hs rows n rows.front holds (freed_turns gs hs rows n quota base top number place long live holds.heap.laid f) laid
     (freed_clear rows.heap n gs hs quota base top number place long live holds.heap.laid holds.heap.clear f) holds.heap.within) same
 
-freed_seen : (gs hs : List Granule) (rows : Rows) (n : HeapRow) (quota base top number place long live : ℕ) → Holds gs rows → (f : Frees rows.heap n gs hs quota base top number place long live)
-    → seen hs (with_heap rows n rows.front) ≡ quarantined (seen gs rows) f.object
+freed_seen : (gs hs : List Granule) (rows : Rows) (n : HeapRow) (quota base top number place long live : ℕ) → IsEngine gs rows → (f : Frees rows.heap n gs hs quota base top number place long live)
+    → engine_view hs (with_heap rows n rows.front) ≡ quarantined (engine_view gs rows) f.object
 freed_seen gs hs rows n quota base top number place long live holds f =
     let h : HeapRow = rows.heap in
     let r : Object = f.object in
@@ -218,10 +218,10 @@ freed_seen gs hs rows n quota base top number place long live holds f =
     let ram : ℕ = h.range.ram in
     let new : List Object = quarantine r.number (objects_of h gs) in
     let region : ℕ → Bool = region_hides rows.region in
-    let was : List Granule = veiled (heap_hides h gs) gs in
-    let now : List Granule = (seen gs rows).granules in
-    let memory : veiled region (veiled (heap_hides n hs) hs) ≡ marked_from (r.base - 8) (r.base + r.length) true rows.region.ram (zeroed_from r.base (r.base + r.length) rows.region.ram now) =
-    ap (λ xs. veiled region xs) (veil_by h n hs new f.same f.objects
+    let was : List Granule = with_hidden (heap_hides h gs) gs in
+    let now : List Granule = (engine_view gs rows).granules in
+    let memory : with_hidden region (with_hidden (heap_hides n hs) hs) ≡ marked_from (r.base - 8) (r.base + r.length) true rows.region.ram (zeroed_from r.base (r.base + r.length) rows.region.ram now) =
+    ap (λ xs. with_hidden region xs) (hide_by h n hs new f.same f.objects
     ∙ object_vanishes ram h.range.base (h.range.base + h.range.length) (objects_of h gs) new gs hs base top (freed_vanishes h n gs hs quota base top number place long live holds.heap.laid f))
     ∙ sym (marked_seen region (zeroed_from base top ram was) (base - 8) top true ram)
     ∙ ap (λ xs. marked_from (base - 8) top true ram xs) (sym (zeroed_seen region was base top ram))
@@ -229,7 +229,7 @@ freed_seen gs hs rows n quota base top number place long live holds f =
     ∙ wiped_as base top r.base (r.base + r.length) ram now w.base_is w.top_is
     ∙ ap (λ m. marked_from (r.base - 8) (r.base + r.length) true m (zeroed_from r.base (r.base + r.length) m now)) holds.heap.ram in
     turned_seen gs hs rows n rows.front holds (freed_turns gs hs rows n quota base top number place long live holds.heap.laid f)
-    ∙ seen_as (seen gs rows) _ _ _ _ _ _ memory f.objects f.next
+    ∙ seen_as (engine_view gs rows) _ _ _ _ _ _ memory f.objects f.next
 
 -- ---- a state of the machine where this is seen
 
@@ -257,27 +257,27 @@ freed_shown i m s statuses t r ram =
 -- ---- the call: memory is freed, the object's row goes, and then the registers pass
 
 -- without the object, and without its row
-gone_seen : (gs hs : List Granule) (rows : Rows) (n : HeapRow) (k : Table) (quota base top number place long live : ℕ) → Holds gs rows
+gone_seen : (gs hs : List Granule) (rows : Rows) (n : HeapRow) (k : Table) (quota base top number place long live : ℕ) → IsEngine gs rows
     → (f : Frees rows.heap n gs hs quota base top number place long live) → k.rows ≡ without_row number rows.tokens.rows
-    → seen hs (with_table (with_heap rows n rows.front) k) ≡ let_go (seen gs rows) f.object
+    → engine_view hs (with_table (with_heap rows n rows.front) k) ≡ let_go (engine_view gs rows) f.object
 gone_seen gs hs rows n k quota base top number place long live holds f gone =
     let with_rows : Seen → List Token → Seen = λ x ks. record x { tokens = ks } in
     ap (λ x. with_rows x k.rows) (freed_seen gs hs rows n quota base top number place long live holds f)
-    ∙ ap (with_rows (quarantined (seen gs rows) f.object)) (gone ∙ ap (λ m. without_row m rows.tokens.rows) f.number_is)
+    ∙ ap (with_rows (quarantined (engine_view gs rows) f.object)) (gone ∙ ap (λ m. without_row m rows.tokens.rows) f.number_is)
 
-pub free_is : (gs hs : List Granule) (rows : Rows) (n : HeapRow) (k : Table) (v z : Seen) (t quota base top number place long live : ℕ) → seen gs rows ≡ v → Holds gs rows
+pub free_is : (gs hs : List Granule) (rows : Rows) (n : HeapRow) (k : Table) (v z : Seen) (t quota base top number place long live : ℕ) → engine_view gs rows ≡ v → IsEngine gs rows
     → Frees rows.heap n gs hs quota base top number place long live → k.rows ≡ without_row number rows.tokens.rows
-    → z ≡ sifted (seen hs (with_table (with_heap rows n rows.front) k)) t → z ≡ freed_by v t (whole_in v quota base top)
-free_is gs hs rows n k v z t quota base top number place long live is holds f gone sift =
-    sift ∙ ap (λ x. sifted x t) (gone_seen gs hs rows n k quota base top number place long live holds f gone)
-    ∙ ap (freed_by (seen gs rows) t) (sym f.is)
+    → z ≡ after_filter (engine_view hs (with_table (with_heap rows n rows.front) k)) t → z ≡ freed_by v t (whole_in v quota base top)
+free_is gs hs rows n k v z t quota base top number place long live is holds f gone filtered =
+    filtered ∙ ap (λ x. after_filter x t) (gone_seen gs hs rows n k quota base top number place long live holds f gone)
+    ∙ ap (freed_by (engine_view gs rows) t) (sym f.is)
     ∙ ap (λ x. freed_by x t (whole_in x quota base top)) is
 
-pub free_told : (gs hs : List Granule) (rows : Rows) (n : HeapRow) (k : Table) (v z : Seen) (t quota base top : ℕ) (o : told.Object) → seen gs rows ≡ v
-    → Frees rows.heap n gs hs quota base top o.number o.base o.length o.live → z ≡ sifted (seen hs (with_table (with_heap rows n rows.front) k)) t → WasWhole v z quota base top o
-free_told gs hs rows n k v z t quota base top o is f sift =
+pub free_told : (gs hs : List Granule) (rows : Rows) (n : HeapRow) (k : Table) (v z : Seen) (t quota base top : ℕ) (o : told.Object) → engine_view gs rows ≡ v
+    → Frees rows.heap n gs hs quota base top o.number o.base o.length o.live → z ≡ after_filter (engine_view hs (with_table (with_heap rows n rows.front) k)) t → WasWhole v z quota base top o
+free_told gs hs rows n k v z t quota base top o is f filtered =
     let w = whole_says quota base top (objects_of rows.heap gs) f.object f.is in
-    let here : WasWhole (seen gs rows) (sifted (seen hs (with_table (with_heap rows n rows.front) k)) t) quota base top o = record {
+    let here : WasWhole (engine_view gs rows) (after_filter (engine_view hs (with_table (with_heap rows n rows.front) k)) t) quota base top o = record {
       object = f.object;
       is = f.is;
       told = record {
@@ -287,4 +287,4 @@ free_told gs hs rows n k v z t quota base top o is f sift =
         live = f.live_is ∙ ap (λ q. charges q (objects_of n hs)) (sym w.quota_is);
       };
     } in
-    subst (λ x. WasWhole v x quota base top o) (sym sift) (subst (λ x. WasWhole x (sifted (seen hs (with_table (with_heap rows n rows.front) k)) t) quota base top o) is here)
+    subst (λ x. WasWhole v x quota base top o) (sym filtered) (subst (λ x. WasWhole x (after_filter (engine_view hs (with_table (with_heap rows n rows.front) k)) t) quota base top o) is here)

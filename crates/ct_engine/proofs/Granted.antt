@@ -10,27 +10,27 @@ use Rattle.def_machine.specs.Heap as heap
 use Rattle.def_machine.specs.Heap.{length_for, charge_for, Fits, IsPlaceFor, place_of}
 use Rattle.def_hidden.specs.Hidden.{is_live_at}
 use Rattle.def_step.specs.Quotas.{Allocation, Refused, Made, at_place, allocation}
-use Rattle.def_veil.specs.Veil.{veiled}
+use Rattle.law_hidden.specs.Hiding.{with_hidden}
 use Rattle.def_chunks.specs.declared.rows.Range.{Range}
 use Rattle.def_chunks.specs.Heaps.{HeapRow, objects_of, account, Laid, IsHeapOf}
 use Rattle.law_routines.proofs.Places.{place_found, place_none}
 use Rattle.law_routines.proofs.Leaving.{option_tells}
 use Rattle.law_words.proofs.Leasts.{ceil_above}
 use Rattle.def_words.specs.LeastBounds.{exponent_for}
-use Rattle.law_heaped.specs.Heaped.{hides_heap, heap_hides}
-use Rattle.law_heaped.specs.Objects.{SeenAt, Appears}
-use Rattle.law_heaped.proofs.Objects.{covers_tells, among_live, placed_live, seen_place, place_seen, object_appears}
+use Rattle.law_hidden.specs.Heaped.{hides_heap, heap_hides}
+use Rattle.law_hidden.specs.Objects.{SeenAt, Appears}
+use Rattle.law_hidden.proofs.Objects.{covers_tells, among_live, placed_live, seen_place, place_seen, object_appears}
 use Rattle.ct_heap.specs.declared.rows.Object as told
 use Rattle.ct_heap.specs.declared.rows.HeapRefusal.{HeapRefusal}
 use Rattle.ct_heap.specs.declared.rows.HeapRefusal.TheVariants.{Size, Quota, NoGap}
-use Rattle.ct_heap.specs.Effects.{Same, Allocates, Refuses, made}
+use Rattle.ct_heap.specs.Effects.{Same, Allocates, RefusesSize, made}
 use Rattle.ct_engine.specs.declared.rows.Rows.{Rows}
-use Rattle.ct_engine.specs.Seen.{Seen, region_hides, seen, limit_at}
-use Rattle.ct_engine.specs.Kept.{IsClear, Holds}
+use Rattle.ct_engine.specs.Seen.{Seen, region_hides, engine_view, limit_at}
+use Rattle.ct_engine.specs.Kept.{IsClear, IsEngine}
 use Rattle.ct_engine.specs.Grants.{new_object, with_object, after_allocation, heap_alone, at_place_in, allocation_in, refused_as, allocation_told}
 use Rattle.ct_engine.specs.Written.{HasHeap, SharesObjects}
 use Rattle.ct_engine.proofs.Clear.{clear_tags}
-use Rattle.ct_engine.proofs.Veils.{seen_both}
+use Rattle.ct_engine.proofs.HiddenTwice.{seen_both}
 use Rattle.ct_engine.proofs.HeapTurns.{with_heap, limit_of, HeapTurns, turned_holds, turned_seen}
 
 -- ---- what is hidden
@@ -60,11 +60,11 @@ pub seen_as : (s : Seen) (gs gs' : List Granule) (os os' : List state.Object) (n
     → (let x : Seen = record s { granules = gs; objects = os; next = n } in x) ≡ record s { granules = gs'; objects = os'; next = n' }
 seen_as s gs gs' os os' n n' p q r = rw (p, q, r) refl
 
-pub veil_by : (h n : HeapRow) (hs : List Granule) (new : List state.Object) → Same h n → objects_of n hs ≡ new
-    → veiled (heap_hides n hs) hs ≡ veiled (λ k. hides_heap h.range.ram h.range.base (h.range.base + h.range.length) new k) hs
-veil_by h n hs new same is =
-    ap (λ (q : Range). veiled (λ k. hides_heap q.ram q.base (q.base + q.length) (objects_of n hs) k) hs) same.range
-    ∙ ap (λ os. veiled (λ k. hides_heap h.range.ram h.range.base (h.range.base + h.range.length) os k) hs) is
+pub hide_by : (h n : HeapRow) (hs : List Granule) (new : List state.Object) → Same h n → objects_of n hs ≡ new
+    → with_hidden (heap_hides n hs) hs ≡ with_hidden (λ k. hides_heap h.range.ram h.range.base (h.range.base + h.range.length) new k) hs
+hide_by h n hs new same is =
+    ap (λ (q : Range). with_hidden (λ k. hides_heap q.ram q.base (q.base + q.length) (objects_of n hs) k) hs) same.range
+    ∙ ap (λ os. with_hidden (λ k. hides_heap h.range.ram h.range.base (h.range.base + h.range.length) os k) hs) is
 
 -- an allocation's object appears
 allocated_appears : (h n : HeapRow) (gs hs : List Granule) (quota size number base long live : ℕ) → Allocates h n gs hs quota size number base long live
@@ -86,18 +86,18 @@ allocated_turns gs hs rows n quota size number base long live a = record {
   same = a.same;
 }
 
-pub allocated_seen : (gs hs : List Granule) (rows : Rows) (n : HeapRow) (quota size number base long live : ℕ) → Holds gs rows → Allocates rows.heap n gs hs quota size number base long live
-    → seen hs (with_heap rows n rows.front) ≡ with_object (seen gs rows) (new_object (seen gs rows) quota size base)
+pub allocated_seen : (gs hs : List Granule) (rows : Rows) (n : HeapRow) (quota size number base long live : ℕ) → IsEngine gs rows → Allocates rows.heap n gs hs quota size number base long live
+    → engine_view hs (with_heap rows n rows.front) ≡ with_object (engine_view gs rows) (new_object (engine_view gs rows) quota size base)
 allocated_seen gs hs rows n quota size number base long live holds a =
     let h : HeapRow = rows.heap in
     let region : ℕ → Bool = region_hides rows.region in
     let new : List state.Object = placed_among (made h quota size base) (objects_of h gs) in
-    let memory : veiled region (veiled (heap_hides n hs) hs) ≡ (seen gs rows).granules =
-    ap (λ xs. veiled region xs) (veil_by h n hs new a.same a.objects
+    let memory : with_hidden region (with_hidden (heap_hides n hs) hs) ≡ (engine_view gs rows).granules =
+    ap (λ xs. with_hidden region xs) (hide_by h n hs new a.same a.objects
     ∙ object_appears h.range.ram h.range.base (h.range.base + h.range.length) (objects_of h gs) new gs hs base (base + length_for size) (allocated_appears h n gs hs quota size number base long live a))
     ∙ sym (seen_both gs rows holds) in
     turned_seen gs hs rows n rows.front holds (allocated_turns gs hs rows n quota size number base long live a)
-    ∙ seen_as (seen gs rows) _ _ _ _ _ _ memory a.objects a.next
+    ∙ seen_as (engine_view gs rows) _ _ _ _ _ _ memory a.objects a.next
 
 -- an allocation keeps clear what it hides
 allocated_clear : (h n : HeapRow) (gs hs : List Granule) (quota size number base long live : ℕ) → Allocates h n gs hs quota size number base long live → IsClear h gs → IsClear n hs
@@ -122,7 +122,7 @@ fits_in i ram os long base f = record { eight = f.eight; aligned = f.aligned; lo
 fits_out : (i : Image) (ram : ℕ) (os : List state.Object) (long base : ℕ) → Fits (record i { ram = ram }) os long base → Fits i os long base
 fits_out i ram os long base f = record { eight = f.eight; aligned = f.aligned; low = f.low; high = f.high; apart = f.apart }
 
-heap_here : (gs : List Granule) (rows : Rows) → IsHeapOf (record (heap_alone (seen gs rows)) { ram = rows.heap.range.ram }) rows.heap.range
+heap_here : (gs : List Granule) (rows : Rows) → IsHeapOf (record (heap_alone (engine_view gs rows)) { ram = rows.heap.range.ram }) rows.heap.range
 heap_here gs rows = record { ram = refl; base = refl; end = refl }
 
 -- the least lawful place is the one that is written
@@ -185,7 +185,7 @@ first_test size_ limit_ last a = rw a refl
 
 module _ (gs : List Granule) (rows : Rows) (quota size : ℕ) where
   abbrev shown : Seen
-  shown = seen gs rows
+  shown = engine_view gs rows
 
   abbrev over_size : Bool
   over_size = (size == 0) || nat_lt (shown.heap_end - shown.heap_base) size
@@ -209,7 +209,7 @@ module _ (gs : List Granule) (rows : Rows) (quota size : ℕ) where
       (within_limit (limit_at shown quota) (account rows.heap quota).limit (charges quota shown.objects + charge_for size) (limit_of rows.heap.accounts quota) a.within)
       ∙ ap (at_place_in shown quota size) (place_is (heap_alone shown) shown.objects (length_for size) base (long_enough size a.some) at)
 
-  answer_refused : (why : HeapRefusal) → Refuses rows.heap gs quota size why → allocation_in shown quota size ≡ refused_as shown why
+  answer_refused : (why : HeapRefusal) → RefusesSize rows.heap gs quota size why → allocation_in shown quota size ≡ refused_as shown why
   answer_refused Size r = first_test over_size past_limit at_last (unsized rows.heap.range.base rows.heap.range.length size r)
   answer_refused Quota r =
       second_test over_size past_limit at_last (sized rows.heap.range.base rows.heap.range.length size r.0 r.1)
@@ -254,27 +254,27 @@ allocation_same i m s quota size has shares =
 -- what was answered, and that a refusal changed nothing
 abbrev pub Answers : HeapRow → HeapRow → List Granule → List Granule → ℕ → ℕ → Result told.Object HeapRefusal → Type 0
 Answers h n gs hs quota size result =
-    MatchResult result (λ o. Allocates h n gs hs quota size o.number o.base o.length o.live) (λ why. Refuses h gs quota size why)
+    MatchResult result (λ o. Allocates h n gs hs quota size o.number o.base o.length o.live) (λ why. RefusesSize h gs quota size why)
 
 abbrev pub NothingNew : HeapRow → HeapRow → List Granule → List Granule → Result told.Object HeapRefusal → Type 0
 NothingNew h n gs hs result = OnErr result ((n ≡ h) × (hs ≡ gs))
 
-pub holds_after : (gs hs : List Granule) (rows : Rows) (n : HeapRow) (quota size : ℕ) (result : Result told.Object HeapRefusal) → Holds gs rows → Laid n hs
-    → Answers rows.heap n gs hs quota size result → NothingNew rows.heap n gs hs result → Holds hs (with_heap rows n rows.front)
+pub holds_after : (gs hs : List Granule) (rows : Rows) (n : HeapRow) (quota size : ℕ) (result : Result told.Object HeapRefusal) → IsEngine gs rows → Laid n hs
+    → Answers rows.heap n gs hs quota size result → NothingNew rows.heap n gs hs result → IsEngine hs (with_heap rows n rows.front)
 holds_after gs hs rows n quota size (Ok o) holds laid a same =
     turned_holds gs hs rows n rows.front holds (allocated_turns gs hs rows n quota size o.number o.base o.length o.live a) laid
     (allocated_clear rows.heap n gs hs quota size o.number o.base o.length o.live a holds.heap.clear) holds.heap.within
 holds_after gs hs rows n quota size (Err why) holds laid a same =
-    subst (λ x. Holds hs (with_heap rows x rows.front)) (sym same.0) (subst (λ x. Holds x rows) (sym same.1) holds)
+    subst (λ x. IsEngine hs (with_heap rows x rows.front)) (sym same.0) (subst (λ x. IsEngine x rows) (sym same.1) holds)
 
-pub seen_after : (gs hs : List Granule) (rows : Rows) (n : HeapRow) (s : Seen) (quota size : ℕ) (result : Result told.Object HeapRefusal) → seen gs rows ≡ s → Holds gs rows
-    → Answers rows.heap n gs hs quota size result → NothingNew rows.heap n gs hs result → seen hs (with_heap rows n rows.front) ≡ after_allocation s quota size result
+pub seen_after : (gs hs : List Granule) (rows : Rows) (n : HeapRow) (s : Seen) (quota size : ℕ) (result : Result told.Object HeapRefusal) → engine_view gs rows ≡ s → IsEngine gs rows
+    → Answers rows.heap n gs hs quota size result → NothingNew rows.heap n gs hs result → engine_view hs (with_heap rows n rows.front) ≡ after_allocation s quota size result
 seen_after gs hs rows n s quota size (Ok o) is holds a same =
     allocated_seen gs hs rows n quota size o.number o.base o.length o.live holds a
     ∙ ap (λ x. with_object x (new_object x quota size o.base)) is
-seen_after gs hs rows n s quota size (Err why) is holds a same = ap (λ x. seen hs (with_heap rows x rows.front)) same.0 ∙ ap (λ x. seen x rows) same.1 ∙ is
+seen_after gs hs rows n s quota size (Err why) is holds a same = ap (λ x. engine_view hs (with_heap rows x rows.front)) same.0 ∙ ap (λ x. engine_view x rows) same.1 ∙ is
 
-pub answer_after : (gs hs : List Granule) (rows : Rows) (n : HeapRow) (s : Seen) (quota size : ℕ) (result : Result told.Object HeapRefusal) → seen gs rows ≡ s → Answers rows.heap n gs hs quota size result
+pub answer_after : (gs hs : List Granule) (rows : Rows) (n : HeapRow) (s : Seen) (quota size : ℕ) (result : Result told.Object HeapRefusal) → engine_view gs rows ≡ s → Answers rows.heap n gs hs quota size result
     → allocation_in s quota size ≡ allocation_told s quota size result
 answer_after gs hs rows n s quota size (Ok o) is a =
     subst (λ x. allocation_in x quota size ≡ Made (new_object x quota size o.base)) is (answer_made gs rows quota size hs n o.number o.base o.length o.live a)
@@ -283,12 +283,12 @@ answer_after gs hs rows n s quota size (Err why) is a =
 
 -- ---- what is left of a quota, and whether something is quarantined
 
-pub remaining_seen : (gs : List Granule) (rows : Rows) (s : Seen) (quota result : ℕ) → seen gs rows ≡ s → Holds gs rows
+pub remaining_seen : (gs : List Granule) (rows : Rows) (s : Seen) (quota result : ℕ) → engine_view gs rows ≡ s → IsEngine gs rows
     → ((xs : List Granule) → Laid rows.heap xs → result ≡ (account rows.heap quota).limit - charges quota (objects_of rows.heap xs)) → result ≡ limit_at s quota - charges quota s.objects
 remaining_seen gs rows s quota result is holds told =
     told gs holds.heap.laid ∙ ap (λ n. n - charges quota (objects_of rows.heap gs)) (sym (limit_of rows.heap.accounts quota)) ∙ ap (λ (x : Seen). limit_at x quota - charges quota x.objects) is
 
-pub quarantined_seen : (gs : List Granule) (rows : Rows) (s : Seen) (result : Bool) → seen gs rows ≡ s → Holds gs rows
+pub quarantined_seen : (gs : List Granule) (rows : Rows) (s : Seen) (result : Bool) → engine_view gs rows ≡ s → IsEngine gs rows
     → ((xs : List Granule) → Laid rows.heap xs → result ≡ has_quarantined (objects_of rows.heap xs)) → result ≡ has_quarantined s.objects
 quarantined_seen gs rows s result is holds told = told gs holds.heap.laid ∙ ap (λ (x : Seen). has_quarantined x.objects) is
 

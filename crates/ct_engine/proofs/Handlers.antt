@@ -10,7 +10,7 @@ use Rattle.def_words.specs.declared.Trap.{Trap}
 use Rattle.def_words.specs.Authority.{cap_address, cap_base}
 use Rattle.def_words.specs.Capability.{with_address}
 use Rattle.def_memory.specs.declared.Granule.{Granule}
-use Rattle.def_memory.specs.Granules.{plain, held}
+use Rattle.def_memory.specs.Granules.{plain, cap_in}
 use Rattle.def_reach.specs.Roots.{gate_for}
 use Rattle.def_boot.specs.Made.{return_sentry}
 use Rattle.def_machine.specs.State.{Thread, Frame, register}
@@ -20,7 +20,7 @@ use Rattle.def_step.specs.declared.TheConstants.{TRAP_RECORD}
 use Rattle.def_step.specs.Handlers.{Handed, has_room, record_end, is_handled_by, handled_by, record_by, record_words, words_written}
 use Rattle.def_areas.specs.Touches.{Touches}
 use Rattle.law_areas.proofs.Writes.{all_length}
-use Rattle.law_veil.proofs.Granules.{veiled_length, seen_at}
+use Rattle.law_hidden.proofs.Granules.{with_hidden_length, seen_at}
 use Rattle.ct_areas.specs.declared.thread.Area.{Area}
 use Rattle.ct_areas.specs.declared.thread.Thread as row
 use Rattle.ct_areas.specs.Threads.{area_begin, area_end, living, thread_of}
@@ -31,8 +31,8 @@ use Rattle.ct_exports.specs.Exports.{IsCallable, callee_of, table_of}
 use Rattle.ct_switch.specs.Ready.{IsReady}
 use Rattle.ct_switch.proofs.Failing.{AllPass, all_pass}
 use Rattle.ct_engine.specs.declared.rows.Rows.{Rows}
-use Rattle.ct_engine.specs.Seen.{Seen, seen, seen_of, thread, area_at, hidden, with_granules, with_running, with_thread}
-use Rattle.ct_engine.specs.Kept.{IsKept, AreasFrom, HeapHolds, Holds}
+use Rattle.ct_engine.specs.Seen.{Seen, engine_view, seen_of, thread, area_at, hidden, with_granules, with_running, with_thread}
+use Rattle.ct_engine.specs.Kept.{IsKept, AreasFrom, HeapHolds, IsEngine}
 use Rattle.ct_engine.specs.Calls.{IsEnterable, head_at}
 use Rattle.ct_engine.specs.Handling.{MayHandle, RowMayHandle, is_handled_of, is_handled_at, is_handled_in, handed_at, handed_in, record_place, handler_begun, after_trap, recorded, handling_row, memory_by, row_by}
 use Rattle.ct_engine.proofs.Whole.{runs_it, running_kept, seen_turn}
@@ -122,13 +122,13 @@ made pcc globals = record { pcc = pcc; back = return_sentry; globals = globals }
 
 -- ---- what is asked of the row
 
-module _ (gs : List Granule) (rows : Rows) (t : ℕ) (r : row.Thread) (holds : Holds gs rows) (runs : rows.running ≡ Some t) (is : r ≡ get_or rows.list.items t r) where
+module _ (gs : List Granule) (rows : Rows) (t : ℕ) (r : row.Thread) (holds : IsEngine gs rows) (runs : rows.running ≡ Some t) (is : r ≡ get_or rows.list.items t r) where
   base_is : r.area.ram ≡ rows.region.ram
   base_is = (running_kept gs rows t r holds runs is).base
 
-  pub row_may : (e : Listed) (handler : ℕ) → MayHandle (seen gs rows) t e handler → RowMayHandle gs r e handler
+  pub row_may : (e : Listed) (handler : ℕ) → MayHandle (engine_view gs rows) t e handler → RowMayHandle gs r e handler
   row_may e handler may =
-      let size : length (seen gs rows).granules ≡ length gs = veiled_length (hidden gs rows) gs in
+      let size : length (engine_view gs rows).granules ≡ length gs = with_hidden_length (hidden gs rows) gs in
       record {
         ready = ready_is gs rows t r holds runs is may.top;
         sorted = may.sorted;
@@ -139,26 +139,26 @@ module _ (gs : List Granule) (rows : Rows) (t : ℕ) (r : row.Thread) (holds : H
 
   -- ---- whether it is entered
 
-  pub handled_is : (handler : ℕ) → is_handled_in r handler ≡ is_handled_at (seen gs rows) t handler
+  pub handled_is : (handler : ℕ) → is_handled_in r handler ≡ is_handled_at (engine_view gs rows) t handler
   handled_is handler =
-      sym (ap (λ (fs : List Frame). is_handled_of (seen gs rows) t handler fs) (running_frames gs rows t r holds runs is)
-      ∙ ap (λ (u : Thread). is_handled_by handler (area_at (seen gs rows) t).stack u (inner_frame gs r)) (running_is gs rows t r holds runs is)
+      sym (ap (λ (fs : List Frame). is_handled_of (engine_view gs rows) t handler fs) (running_frames gs rows t r holds runs is)
+      ∙ ap (λ (u : Thread). is_handled_by handler (area_at (engine_view gs rows) t).stack u (inner_frame gs r)) (running_is gs rows t r holds runs is)
       ∙ ap (λ (a : Area). is_handled_by handler a.stack (living gs true r) (inner_frame gs r)) (running_area gs rows t r holds runs is))
 
   -- ---- what the handler gets
 
-  handed_is : (e : Listed) (handler : ℕ) → IsEnterable (seen gs rows) e handler → handed_in gs e r handler ≡ handed_at (seen gs rows) e handler
+  handed_is : (e : Listed) (handler : ℕ) → IsEnterable (engine_view gs rows) e handler → handed_in gs e r handler ≡ handed_at (engine_view gs rows) e handler
   unfolding made
   handed_is e handler open_ =
-      let head : ℕ = head_at (seen gs rows) e handler in
+      let head : ℕ = head_at (engine_view gs rows) e handler in
       let code : ℕ = (gate_for e.gates handler).code in
       let place : (table_of e (callee_of e handler) - r.area.ram) / 8 ≡ head = ap (λ n. (table_of e (callee_of e handler) - n) / 8) base_is in
-      let first : held gs ((table_of e (callee_of e handler) - r.area.ram) / 8) ≡ held (seen gs rows).granules head =
-      ap (λ n. held gs n) place ∙ sym (ap (λ (g : Granule). g.cap) (seen_at (hidden gs rows) gs head open_.code)) in
-      let second : held gs ((table_of e (callee_of e handler) - r.area.ram) / 8 + 1) ≡ held (seen gs rows).granules (head + 1) =
-      ap (λ n. held gs (n + 1)) place ∙ sym (ap (λ (g : Granule). g.cap) (seen_at (hidden gs rows) gs (head + 1) open_.globals)) in
-      ap (λ c. made (with_address c code) (held gs ((table_of e (callee_of e handler) - r.area.ram) / 8 + 1))) first
-      ∙ ap (λ c. made (with_address (held (seen gs rows).granules head) code) c) second
+      let first : cap_in gs ((table_of e (callee_of e handler) - r.area.ram) / 8) ≡ cap_in (engine_view gs rows).granules head =
+      ap (λ n. cap_in gs n) place ∙ sym (ap (λ (g : Granule). g.cap) (seen_at (hidden gs rows) gs head open_.code)) in
+      let second : cap_in gs ((table_of e (callee_of e handler) - r.area.ram) / 8 + 1) ≡ cap_in (engine_view gs rows).granules (head + 1) =
+      ap (λ n. cap_in gs (n + 1)) place ∙ sym (ap (λ (g : Granule). g.cap) (seen_at (hidden gs rows) gs (head + 1) open_.globals)) in
+      ap (λ c. made (with_address c code) (cap_in gs ((table_of e (callee_of e handler) - r.area.ram) / 8 + 1))) first
+      ∙ ap (λ c. made (with_address (cap_in (engine_view gs rows).granules head) code) c) second
 
   -- ---- the record
 
@@ -172,7 +172,7 @@ module _ (gs : List Granule) (rows : Rows) (t : ℕ) (r : row.Thread) (holds : H
 
   -- ---- where it is entered
 
-  module _ (e : Listed) (handler : ℕ) (why : Trap) (may : MayHandle (seen gs rows) t e handler) (entered : is_handled_in r handler ≡ true) where
+  module _ (e : Listed) (handler : ℕ) (why : Trap) (may : MayHandle (engine_view gs rows) t e handler) (entered : is_handled_in r handler ≡ true) where
     say : Says r handler
     say = says r handler entered
 
@@ -183,10 +183,10 @@ module _ (gs : List Granule) (rows : Rows) (t : ℕ) (r : row.Thread) (holds : H
     place = record_place r.area.ram (register_in r 2)
 
     -- memory with the record is open as before
-    with_record : Holds (recorded gs r why) rows
+    with_record : IsEngine (recorded gs r why) rows
     with_record = words_hold gs rows r.area place (map plain (words why)) holds (running_stack gs rows t r holds runs is) (record_in_stack handler ready say)
 
-    record_seen : seen (recorded gs r why) rows ≡ with_granules (seen gs rows) (words_written (seen gs rows).granules place (words why))
+    record_seen : engine_view (recorded gs r why) rows ≡ with_granules (engine_view gs rows) (words_written (engine_view gs rows).granules place (words why))
     record_seen = words_are_seen gs rows r.area place (map plain (words why)) holds (running_stack gs rows t r holds runs is) (record_in_stack handler ready say)
 
     untouched : Touches (area_begin r.area) (area_end r.area) (recorded gs r why) (recorded gs r why)
@@ -206,7 +206,7 @@ module _ (gs : List Granule) (rows : Rows) (t : ℕ) (r : row.Thread) (holds : H
 
     -- the thread in the handler, by what is seen before the trap
     entered_thread : thread_of (recorded gs r why) true (handling_row (handed_in gs e r handler) r why)
-        ≡ handled_over (handed_in gs e r handler) (thread (seen gs rows) t) why (thread (seen gs rows) t).frames
+        ≡ handled_over (handed_in gs e r handler) (thread (engine_view gs rows) t) why (thread (engine_view gs rows) t).frames
     entered_thread =
         handled_thread (recorded gs r why) r (handed_in gs e r handler) why ready.alive
         ∙ ap (λ (u : Thread). handled_over (handed_in gs e r handler) u why u.frames) (sym (running_thread (recorded gs r why) rows t r with_record runs is))
@@ -220,33 +220,33 @@ module _ (gs : List Granule) (rows : Rows) (t : ℕ) (r : row.Thread) (holds : H
     begun_by s h (f ∷ fs) same some = rw same refl
 
     entered_seen : seen_of (recorded gs r why) rows (set rows.list.items t (handling_row (handed_in gs e r handler) r why)) rows.running
-        ≡ handler_begun (seen gs rows) e t handler why (thread (seen gs rows) t).frames
+        ≡ handler_begun (engine_view gs rows) e t handler why (thread (engine_view gs rows) t).frames
     entered_seen =
-        let put : ℕ → Cap → Thread → Seen = λ ram c u. record (seen gs rows) {
-          granules = words_written (seen gs rows).granules (record_place ram c) (record_by u.registers (cap_address u.pcc) why);
-          threads = set (seen gs rows).threads t (handled_over (handed_in gs e r handler) (thread (seen gs rows) t) why (thread (seen gs rows) t).frames);
+        let put : ℕ → Cap → Thread → Seen = λ ram c u. record (engine_view gs rows) {
+          granules = words_written (engine_view gs rows).granules (record_place ram c) (record_by u.registers (cap_address u.pcc) why);
+          threads = set (engine_view gs rows).threads t (handled_over (handed_in gs e r handler) (thread (engine_view gs rows) t) why (thread (engine_view gs rows) t).frames);
         } in
         let frames = ap (λ (fs : List Frame). length fs) (running_frames gs rows t r holds runs is) in
         seen_turn rows (recorded gs r why) (recorded gs r why) rows.list.items rows.running rows.running t r (handling_row (handed_in gs e r handler) r why)
-        (handled_over (handed_in gs e r handler) (thread (seen gs rows) t) why (thread (seen gs rows) t).frames)
+        (handled_over (handed_in gs e r handler) (thread (engine_view gs rows) t) why (thread (engine_view gs rows) t).frames)
         with_record.areas with_record.heap (holds.runs t runs) is untouched (stays_on rows.running t) refl
-        (subst (λ b. thread_of (recorded gs r why) b (handling_row (handed_in gs e r handler) r why) ≡ handled_over (handed_in gs e r handler) (thread (seen gs rows) t) why (thread (seen gs rows) t).frames)
+        (subst (λ b. thread_of (recorded gs r why) b (handling_row (handed_in gs e r handler) r why) ≡ handled_over (handed_in gs e r handler) (thread (engine_view gs rows) t) why (thread (engine_view gs rows) t).frames)
         (sym (runs_it rows t runs)) entered_thread)
-        ∙ ap (λ (x : Seen). with_running (with_thread x t (handled_over (handed_in gs e r handler) (thread (seen gs rows) t) why (thread (seen gs rows) t).frames)) rows.running) record_seen
+        ∙ ap (λ (x : Seen). with_running (with_thread x t (handled_over (handed_in gs e r handler) (thread (engine_view gs rows) t) why (thread (engine_view gs rows) t).frames)) rows.running) record_seen
         ∙ ap (λ (u : Thread). put r.area.ram (register u 2) u) (sym (running_is gs rows t r holds runs is))
-        ∙ ap (λ n. put n (register (thread (seen gs rows) t) 2) (thread (seen gs rows) t)) base_is
-        ∙ begun_by (seen gs rows) (handed_in gs e r handler) (thread (seen gs rows) t).frames (handed_is e handler (may.enterable say.some)) (omega (arith, frames))
+        ∙ ap (λ n. put n (register (thread (engine_view gs rows) t) 2) (thread (engine_view gs rows) t)) base_is
+        ∙ begun_by (engine_view gs rows) (handed_in gs e r handler) (thread (engine_view gs rows) t).frames (handed_is e handler (may.enterable say.some)) (omega (arith, frames))
 
   -- ---- whether it is entered or not
 
-  pub trap_areas : (e : Listed) (handler : ℕ) (why : Trap) (b : Bool) (hs : List Granule) (q : row.Thread) → MayHandle (seen gs rows) t e handler → b ≡ is_handled_in r handler
+  pub trap_areas : (e : Listed) (handler : ℕ) (why : Trap) (b : Bool) (hs : List Granule) (q : row.Thread) → MayHandle (engine_view gs rows) t e handler → b ≡ is_handled_in r handler
       → hs ≡ memory_by b gs r why → q ≡ row_by b gs e r handler why
       → AreasFrom rows.region.ram hs rows.running 0 rows.region.trusted rows.region.end (set rows.list.items t q)
   trap_areas e handler why true hs q may which memory row_is = rw (memory, row_is) (entered_areas e handler why may (sym which))
   trap_areas e handler why false hs q may which memory row_is =
       rw (memory, row_is) (call_areas gs gs rows t r r holds runs is (record { size = refl; marks = λ k. refl; rest = λ k out. refl }) refl (running_kept gs rows t r holds runs is).kept)
 
-  pub trap_size : (e : Listed) (handler : ℕ) (why : Trap) (b : Bool) (hs : List Granule) → MayHandle (seen gs rows) t e handler → b ≡ is_handled_in r handler
+  pub trap_size : (e : Listed) (handler : ℕ) (why : Trap) (b : Bool) (hs : List Granule) → MayHandle (engine_view gs rows) t e handler → b ≡ is_handled_in r handler
       → hs ≡ memory_by b gs r why → length hs ≡ length gs
   trap_size e handler why true hs may which memory = rw memory (entered_size e handler why may (sym which))
   trap_size e handler why false hs may which memory = rw memory refl
@@ -255,18 +255,18 @@ module _ (gs : List Granule) (rows : Rows) (t : ℕ) (r : row.Thread) (holds : H
   trap_place e handler why true q row_is = rw row_is refl
   trap_place e handler why false q row_is = rw row_is refl
 
-  pub trap_heap : (e : Listed) (handler : ℕ) (why : Trap) (b : Bool) (hs : List Granule) → MayHandle (seen gs rows) t e handler → b ≡ is_handled_in r handler
+  pub trap_heap : (e : Listed) (handler : ℕ) (why : Trap) (b : Bool) (hs : List Granule) → MayHandle (engine_view gs rows) t e handler → b ≡ is_handled_in r handler
       → hs ≡ memory_by b gs r why → HeapHolds hs rows.region rows.heap rows.front
   trap_heap e handler why true hs may which memory = rw memory (entered_heap e handler why may (sym which))
   trap_heap e handler why false hs may which memory = rw memory holds.heap
 
-  pub trap_sees : (e : Listed) (handler : ℕ) (why : Trap) (b : Bool) (hs : List Granule) (q : row.Thread) → MayHandle (seen gs rows) t e handler → b ≡ is_handled_in r handler
+  pub trap_sees : (e : Listed) (handler : ℕ) (why : Trap) (b : Bool) (hs : List Granule) (q : row.Thread) → MayHandle (engine_view gs rows) t e handler → b ≡ is_handled_in r handler
       → hs ≡ memory_by b gs r why → q ≡ row_by b gs e r handler why
-      → seen_of hs rows (set rows.list.items t q) rows.running ≡ after_trap (seen gs rows) e t handler why
+      → seen_of hs rows (set rows.list.items t q) rows.running ≡ after_trap (engine_view gs rows) e t handler why
   trap_sees e handler why true hs q may which memory row_is =
       let whole = entered_seen e handler why may (sym which) in
       rw (memory, row_is) (whole
-      ∙ ap (λ b. cond b (handler_begun (seen gs rows) e t handler why (thread (seen gs rows) t).frames) (seen gs rows)) (which ∙ handled_is handler))
+      ∙ ap (λ b. cond b (handler_begun (engine_view gs rows) e t handler why (thread (engine_view gs rows) t).frames) (engine_view gs rows)) (which ∙ handled_is handler))
   trap_sees e handler why false hs q may which memory row_is =
       rw (memory, row_is) (same_seen gs gs rows t r r holds runs is (record { size = refl; marks = λ k. refl; rest = λ k out. refl }) refl refl
-      ∙ ap (λ b. cond b (handler_begun (seen gs rows) e t handler why (thread (seen gs rows) t).frames) (seen gs rows)) (which ∙ handled_is handler))
+      ∙ ap (λ b. cond b (handler_begun (engine_view gs rows) e t handler why (thread (engine_view gs rows) t).frames) (engine_view gs rows)) (which ∙ handled_is handler))

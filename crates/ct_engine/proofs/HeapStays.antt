@@ -3,13 +3,13 @@ use Rattle.std.proofs.Common.{ℕ, ◌≡◌, ◌+◌, ◌*◌, ◌≤◌, inl, 
 use Rattle.law_lists.proofs.Tests.{le_tells, lt_tells}
 use Rattle.def_words.specs.declared.Cap.{Cap}
 use Rattle.def_memory.specs.declared.Granule.{Granule}
-use Rattle.def_memory.specs.Granules.{held}
+use Rattle.def_memory.specs.Granules.{cap_in}
 use Rattle.def_areas.specs.Touches.{Touches}
 use Rattle.def_chunks.specs.Heaps.{HeapRow, objects_of}
 use Rattle.law_chunks.specs.Kept.{KeepsHeap}
-use Rattle.law_heaped.specs.Heaped.{heap_hides}
-use Rattle.law_heaped.proofs.Shown.{hidden_keeps, hides_same}
-use Rattle.law_heaped.proofs.Objects.{place_seen}
+use Rattle.law_hidden.specs.Heaped.{heap_hides}
+use Rattle.law_hidden.proofs.Shown.{hidden_keeps, hides_same}
+use Rattle.law_hidden.proofs.Objects.{place_seen}
 use Rattle.ct_areas.specs.declared.thread.Thread as row
 use Rattle.ct_areas.specs.Threads.{area_begin, area_end}
 use Rattle.ct_engine.specs.declared.rows.Region.{Region}
@@ -25,7 +25,7 @@ heap_low h gs k hidden = elim (le_tells h.range.base (h.range.ram + 8 * k)) [
 
 -- what the heap hides holds what it held
 abbrev pub HeapStays : HeapRow → List Granule → List Granule → Type 0
-HeapStays h gs hs = (k : ℕ) → heap_hides h gs k ≡ true → held hs k ≡ held gs k
+HeapStays h gs hs = (k : ℕ) → heap_hides h gs k ≡ true → cap_in hs k ≡ cap_in gs k
 
 pub heap_keeps : (gs hs : List Granule) (g : Region) (h : HeapRow) (front : Option ℕ) → HeapHolds gs g h front → length hs ≡ length gs → HeapStays h gs hs → KeepsHeap h gs hs
 heap_keeps gs hs g h front holds size same = hidden_keeps h gs hs holds.laid size same

@@ -2,21 +2,21 @@
 use Rattle.std.proofs.Common.{ℕ, zero, suc, ◌≡◌, ◌+◌, ◌*◌, ◌/◌, ◌<◌, ◌≤◌, List, [], ◌∷◌, length, map, Option, unwrap_or, refl, sym, ap, ◌∙◌, subst, arith}
 use Rattle.std.proofs.Math.ListN.{get_or}
 use Rattle.def_memory.specs.declared.Granule.{Granule}
-use Rattle.def_memory.specs.Granules.{held}
+use Rattle.def_memory.specs.Granules.{cap_in}
 use Rattle.def_machine.specs.State.{Thread}
 use Rattle.def_machine.specs.Objects.{Each}
-use Rattle.def_veil.specs.Veil.{veiled}
+use Rattle.law_hidden.specs.Hiding.{with_hidden}
 use Rattle.def_chunks.specs.declared.rows.Range.{Range}
 use Rattle.def_chunks.specs.declared.rows.Account.{Account}
 use Rattle.def_chunks.specs.Heaps.{HeapRow, objects_of, no_account, Laid}
-use Rattle.law_heaped.specs.Heaped.{hides_heap, heap_hides}
+use Rattle.law_hidden.specs.Heaped.{hides_heap, heap_hides}
 use Rattle.ct_heap.specs.Effects.{Same}
 use Rattle.ct_areas.specs.declared.thread.Thread as row
 use Rattle.ct_engine.specs.declared.rows.Rows.{Rows}
-use Rattle.ct_engine.specs.Seen.{Seen, region_hides, hides_over, limits_in, seen}
-use Rattle.ct_engine.specs.Kept.{IsClear, StackLies, Holds}
+use Rattle.ct_engine.specs.Seen.{Seen, region_hides, hides_over, limits_in, engine_view}
+use Rattle.ct_engine.specs.Kept.{IsClear, StackLies, IsEngine}
 use Rattle.ct_engine.proofs.Lists.{areas_same, threads_same}
-use Rattle.ct_engine.proofs.Veils.{veiled_both}
+use Rattle.ct_engine.proofs.HiddenTwice.{with_hidden_both}
 
 -- these rows, with this heap and this front
 abbrev pub with_heap : Rows → HeapRow → Option ℕ → Rows
@@ -46,7 +46,7 @@ limits_length [] = refl
 limits_length (a ∷ rest) = ap (λ n. suc n) (limits_length rest)
 
 -- a quota is one of the accounts
-pub quota_there : (gs : List Granule) (rows : Rows) (s : Seen) (quota : ℕ) → seen gs rows ≡ s → quota < length s.limits → quota < length rows.heap.accounts
+pub quota_there : (gs : List Granule) (rows : Rows) (s : Seen) (quota : ℕ) → engine_view gs rows ≡ s → quota < length s.limits → quota < length rows.heap.accounts
 quota_there gs rows s quota is lt =
     let count : length s.limits ≡ length rows.heap.accounts = ap (λ (x : Seen). length x.limits) (sym is) ∙ limits_length rows.heap.accounts in
     omega (arith, count, lt)
@@ -56,18 +56,18 @@ quota_there gs rows s quota is lt =
 -- the heap lies where it lay, and below it memory holds what it held
 pub record HeapTurns (gs hs : List Granule) (rows : Rows) (n : HeapRow) : Type 0 where
   pub size : length hs ≡ length gs
-  pub below : (k : ℕ) → rows.heap.range.ram + 8 * k < rows.heap.range.base → held hs k ≡ held gs k
+  pub below : (k : ℕ) → rows.heap.range.ram + 8 * k < rows.heap.range.base → cap_in hs k ≡ cap_in gs k
   pub same : Same rows.heap n
 
-region_same : (gs hs : List Granule) (rows : Rows) (n : HeapRow) → Holds gs rows → HeapTurns gs hs rows n
-    → (m : ℕ) → rows.region.trusted ≤ rows.region.ram + 8 * m → rows.region.ram + 8 * m < rows.region.end → held hs m ≡ held gs m
+region_same : (gs hs : List Granule) (rows : Rows) (n : HeapRow) → IsEngine gs rows → HeapTurns gs hs rows n
+    → (m : ℕ) → rows.region.trusted ≤ rows.region.ram + 8 * m → rows.region.ram + 8 * m < rows.region.end → cap_in hs m ≡ cap_in gs m
 region_same gs hs rows n holds t m lo hi =
     let ram = holds.heap.ram in
     let past = holds.heap.past in
     t.below m (omega (arith, hi, ram, past))
 
-pub turned_holds : (gs hs : List Granule) (rows : Rows) (n : HeapRow) (front : Option ℕ) → Holds gs rows → HeapTurns gs hs rows n → Laid n hs → IsClear n hs
-    → unwrap_or front 0 ≤ 8 * length gs → Holds hs (with_heap rows n front)
+pub turned_holds : (gs hs : List Granule) (rows : Rows) (n : HeapRow) (front : Option ℕ) → IsEngine gs rows → HeapTurns gs hs rows n → Laid n hs → IsClear n hs
+    → unwrap_or front 0 ≤ 8 * length gs → IsEngine hs (with_heap rows n front)
 turned_holds gs hs rows n front holds t laid clear within =
     let base : n.range.base ≡ rows.heap.range.base = ap (λ (r : Range). r.base) t.same.range in
     let ram : n.range.ram ≡ rows.heap.range.ram = ap (λ (r : Range). r.ram) t.same.range in
@@ -94,19 +94,19 @@ seen_as : (s : Seen) (gs gs' : List Granule) (ts ts' : List Thread) (b b' l l' :
     ≡ record s { granules = gs'; threads = ts'; heap_base = b'; heap_end = l'; limits = limits' }
 seen_as s gs gs' ts ts' b b' l l' limits limits' p q t u v = rw (p, q, t, u, v) refl
 
-veil_over : (rows : Rows) (n : HeapRow) (hs : List Granule) → n.range.ram ≡ rows.region.ram
-    → veiled (hides_over rows.region n.range (objects_of n hs)) hs ≡ veiled (region_hides rows.region) (veiled (heap_hides n hs) hs)
-veil_over rows n hs ram =
-    veiled_both (region_hides rows.region) (λ k. hides_heap rows.region.ram n.range.base (n.range.base + n.range.length) (objects_of n hs) k) hs
-    ∙ ap (λ a. veiled (region_hides rows.region) (veiled (λ k. hides_heap a n.range.base (n.range.base + n.range.length) (objects_of n hs) k) hs)) (sym ram)
+hide_over : (rows : Rows) (n : HeapRow) (hs : List Granule) → n.range.ram ≡ rows.region.ram
+    → with_hidden (hides_over rows.region n.range (objects_of n hs)) hs ≡ with_hidden (region_hides rows.region) (with_hidden (heap_hides n hs) hs)
+hide_over rows n hs ram =
+    with_hidden_both (region_hides rows.region) (λ k. hides_heap rows.region.ram n.range.base (n.range.base + n.range.length) (objects_of n hs) k) hs
+    ∙ ap (λ a. with_hidden (region_hides rows.region) (with_hidden (λ k. hides_heap a n.range.base (n.range.base + n.range.length) (objects_of n hs) k) hs)) (sym ram)
 
-pub turned_seen : (gs hs : List Granule) (rows : Rows) (n : HeapRow) (front : Option ℕ) → Holds gs rows → HeapTurns gs hs rows n
-    → seen hs (with_heap rows n front)
-    ≡ record (seen gs rows) { granules = veiled (region_hides rows.region) (veiled (heap_hides n hs) hs); objects = objects_of n hs; next = n.next; front = front }
+pub turned_seen : (gs hs : List Granule) (rows : Rows) (n : HeapRow) (front : Option ℕ) → IsEngine gs rows → HeapTurns gs hs rows n
+    → engine_view hs (with_heap rows n front)
+    ≡ record (engine_view gs rows) { granules = with_hidden (region_hides rows.region) (with_hidden (heap_hides n hs) hs); objects = objects_of n hs; next = n.next; front = front }
 turned_seen gs hs rows n front holds t =
-    let put : Seen = record (seen gs rows) { objects = objects_of n hs; next = n.next; front = front } in
+    let put : Seen = record (engine_view gs rows) { objects = objects_of n hs; next = n.next; front = front } in
     seen_as put _ _ _ _ _ _ _ _ _ _
-    (veil_over rows n hs (ap (λ (r : Range). r.ram) t.same.range ∙ holds.heap.ram))
+    (hide_over rows n hs (ap (λ (r : Range). r.ram) t.same.range ∙ holds.heap.ram))
     (threads_same rows.region.ram gs hs rows.running rows.running 0 rows.region.trusted rows.region.end rows.list.items holds.areas
     (region_same gs hs rows n holds t) (λ u lo. refl))
     (ap (λ (r : Range). r.base) t.same.range)

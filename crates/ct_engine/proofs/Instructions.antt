@@ -8,7 +8,7 @@ use Rattle.def_words.specs.declared.Trap.{Trap}
 use Rattle.def_words.specs.Authority.{cap_address}
 use Rattle.def_words.specs.Loaded.{stored_through}
 use Rattle.def_memory.specs.declared.Granule.{Granule}
-use Rattle.def_memory.specs.Granules.{held}
+use Rattle.def_memory.specs.Granules.{cap_in}
 use Rattle.def_instr.specs.declared.Instr.{Instr}
 use Rattle.def_instr.specs.Reading.{instruction_in}
 use Rattle.def_step.specs.declared.Access.{Access}
@@ -16,30 +16,30 @@ use Rattle.def_step.specs.Checks.{first_failed}
 use Rattle.def_step.specs.Devices.{Bank}
 use Rattle.def_step.specs.Accesses.{Space, Accessed, access_of, access_address, access_checks, access_result, accessed, in_ram, on_device, is_ram, ram_stored, unless}
 use Rattle.def_step.specs.Instructions.{next_at, next_word}
-use Rattle.def_veil.specs.Veil.{veiled}
-use Rattle.def_veil.specs.Steps.{veil_space, veil_result, IsSeen, SeesAccess}
-use Rattle.law_veil.proofs.Granules.{veiled_length}
-use Rattle.law_veil.proofs.Steps.{access_same, next_same}
+use Rattle.law_hidden.specs.Hiding.{with_hidden}
+use Rattle.law_hidden.specs.Steps.{hide_space, hide_result, IsSeen, SeesAccess}
+use Rattle.law_hidden.proofs.Granules.{with_hidden_length}
+use Rattle.law_hidden.proofs.Steps.{access_same, next_same}
 use Rattle.ct_loadstore.specs.Shapes.{MovedRow, space_of}
 use Rattle.ct_engine.specs.declared.rows.Rows.{Rows}
-use Rattle.ct_engine.specs.Seen.{Seen, hides, seen, with_granules, hidden}
-use Rattle.ct_engine.specs.Kept.{Holds}
+use Rattle.ct_engine.specs.Seen.{Seen, hides, engine_view, with_granules, hidden}
+use Rattle.ct_engine.specs.Kept.{IsEngine}
 use Rattle.ct_engine.specs.Steps.{space_in, no_bank, next_in, IsHeapPlaced, IsMoved}
 use Rattle.ct_engine.proofs.Away.{HiddenStays, away_holds, away_seen, apart, size_is}
 
 -- ---- a fetch
 
-pub even_by : (gs : List Granule) (rows : Rows) (v : Seen) → seen gs rows ≡ v → v.region.ram % 16 ≡ 0 → rows.region.ram % 16 ≡ 0
+pub even_by : (gs : List Granule) (rows : Rows) (v : Seen) → engine_view gs rows ≡ v → v.region.ram % 16 ≡ 0 → rows.region.ram % 16 ≡ 0
 even_by gs rows v is even = rw (← is) at even
 
-pub next_is : (gs : List Granule) (rows : Rows) (v : Seen) (at : ℕ) → seen gs rows ≡ v → IsSeen (hides v) v.region.ram at
+pub next_is : (gs : List Granule) (rows : Rows) (v : Seen) (at : ℕ) → engine_view gs rows ≡ v → IsSeen (hides v) v.region.ram at
     → next_at (space_of rows.region.ram gs no_bank 0) at ≡ next_in v at
 next_is gs rows v at is open_ =
     let here : IsSeen (hidden gs rows) rows.region.ram at = rw (← is) at open_ in
     sym (next_same (hidden gs rows) (space_of rows.region.ram gs no_bank 0) at here) ∙ ap (λ (s : Seen). next_in s at) is
 
 -- of a word
-pub word_is : (gs : List Granule) (rows : Rows) (v : Seen) (at : ℕ) (r : Option ℕ) → seen gs rows ≡ v → IsSeen (hides v) v.region.ram at
+pub word_is : (gs : List Granule) (rows : Rows) (v : Seen) (at : ℕ) (r : Option ℕ) → engine_view gs rows ≡ v → IsSeen (hides v) v.region.ram at
     → IfSome r (λ w. next_at (space_of rows.region.ram gs no_bank 0) at ≡ next_word (instruction_in w)) → IfSome r (λ w. next_in v at ≡ next_word (instruction_in w))
 word_is gs rows v at None is open_ e = e
 word_is gs rows v at (Some w) is open_ e = sym (next_is gs rows v at is open_) ∙ e
@@ -47,15 +47,15 @@ word_is gs rows v at (Some w) is open_ e = sym (next_is gs rows v at is open_) �
 -- ---- what a load or a store leaves of what is hidden
 
 stored_stays : (h : ℕ → Bool) (a : Access) (x y : Cap) (at ram : ℕ) (gs : List Granule) (k : ℕ) → h ((at - ram) / 8) ≡ false → h k ≡ true
-    → held (ram_stored a x y at ram gs) k ≡ held gs k
-stored_stays h a x y at ram gs k open_ hidden = chosen (λ (hs : List Granule). held hs k ≡ held gs k) a.whole _ _
+    → cap_in (ram_stored a x y at ram gs) k ≡ cap_in gs k
+stored_stays h a x y at ram gs k open_ hidden = chosen (λ (hs : List Granule). cap_in hs k ≡ cap_in gs k) a.whole _ _
     (λ whole. ap (λ (g : Granule). g.cap) (cap_rest gs (at - ram) (stored_through x y) k (apart h k ((at - ram) / 8) open_ hidden)))
     (λ part. ap (λ (g : Granule). g.cap) (store_rest gs (at - ram) a.width (cap_address y) k (apart h k ((at - ram) / 8) open_ hidden)))
 
 accessed_stays : (h : ℕ → Bool) (a : Access) (x y : Cap) (at : ℕ) (p : Space) (k : ℕ) → (p.ram ≤ at → h ((at - p.ram) / 8) ≡ false) → h k ≡ true
-    → held (accessed a x y at p).granules k ≡ held p.granules k
+    → cap_in (accessed a x y at p).granules k ≡ cap_in p.granules k
 accessed_stays h a x y at p k open_ hidden =
-    let P : Accessed → Type 0 = λ m. held m.granules k ≡ held p.granules k in
+    let P : Accessed → Type 0 = λ m. cap_in m.granules k ≡ cap_in p.granules k in
     chosen P (is_ram p at a.width) (in_ram a x y at p) (on_device a x y at p)
     (λ ram. chosen P a.loads _ _
     (λ loads. refl)
@@ -63,38 +63,38 @@ accessed_stays h a x y at p k open_ hidden =
     (λ out. chosen P a.loads _ _ (λ loads. refl) (λ stores. refl))
 
 result_stays : (h : ℕ → Bool) (i : Instr) (x y : Cap) (p : Space) (m : Accessed) (k : ℕ) → SeesAccess h p.ram i x y → access_result i x y p ≡ Ok m → h k ≡ true
-    → held m.granules k ≡ held p.granules k
+    → cap_in m.granules k ≡ cap_in p.granules k
 unfolding access_result
 result_stays h i x y p m k open_ is hidden = by_checks (first_failed (access_checks (access_of i) x y (access_address (access_of i) x))) open_ is
   where
     by_checks : (o : Option Trap) → (o ≡ None → p.ram ≤ access_address (access_of i) x → h ((access_address (access_of i) x - p.ram) / 8) ≡ false)
-        → unless o (accessed (access_of i) x y (access_address (access_of i) x) p) ≡ Ok m → held m.granules k ≡ held p.granules k
+        → unless o (accessed (access_of i) x y (access_address (access_of i) x) p) ≡ Ok m → cap_in m.granules k ≡ cap_in p.granules k
     by_checks None see e =
         let same : accessed (access_of i) x y (access_address (access_of i) x) p ≡ m = cc in
-        subst (λ (n : Accessed). held n.granules k ≡ held p.granules k) same (accessed_stays h (access_of i) x y (access_address (access_of i) x) p k (see refl) hidden)
+        subst (λ (n : Accessed). cap_in n.granules k ≡ cap_in p.granules k) same (accessed_stays h (access_of i) x y (access_address (access_of i) x) p k (see refl) hidden)
     by_checks (Some w) see e = absurd (let clash : Err w ≡ Ok m = e in cc)
 
 -- ---- a load or a store, whole
 
 pub moved_stays : (h : ℕ → Bool) (i : Instr) (x y : Cap) (p : Space) (hs : List Granule) (k : Bank) (r : Result MovedRow Trap) → SeesAccess h p.ram i x y → IsMoved i x y p hs k r
-    → (n : ℕ) → h n ≡ true → held hs n ≡ held p.granules n
+    → (n : ℕ) → h n ≡ true → cap_in hs n ≡ cap_in p.granules n
 moved_stays h i x y p hs k (Ok m) open_ c n hidden = result_stays h i x y p (record { value = m.value; act = m.device; granules = hs; bank = k }) n open_ c hidden
-moved_stays h i x y p hs k (Err w) open_ c n hidden = ap (λ (gs : List Granule). held gs n) c.1
+moved_stays h i x y p hs k (Err w) open_ c n hidden = ap (λ (gs : List Granule). cap_in gs n) c.1
 
 pub moved_seen : (h : ℕ → Bool) (i : Instr) (x y : Cap) (p : Space) (hs : List Granule) (k : Bank) (r : Result MovedRow Trap) → SeesAccess h p.ram i x y → IsMoved i x y p hs k r
-    → IsMoved i x y (veil_space h p) (veiled h hs) k r
-moved_seen h i x y p hs k (Ok m) open_ c = access_same h i x y p open_ ∙ ap (λ r. veil_result h r) c
-moved_seen h i x y p hs k (Err w) open_ c = (access_same h i x y p open_ ∙ ap (λ r. veil_result h r) c.0, ap (λ gs. veiled h gs) c.1, c.2)
+    → IsMoved i x y (hide_space h p) (with_hidden h hs) k r
+moved_seen h i x y p hs k (Ok m) open_ c = access_same h i x y p open_ ∙ ap (λ r. hide_result h r) c
+moved_seen h i x y p hs k (Err w) open_ c = (access_same h i x y p open_ ∙ ap (λ r. hide_result h r) c.0, ap (λ gs. with_hidden h gs) c.1, c.2)
 
-pub heap_by : (gs : List Granule) (rows : Rows) (v : Seen) (heap : ℕ) → seen gs rows ≡ v → IsHeapPlaced v.region.ram heap (length v.granules) → IsHeapPlaced rows.region.ram heap (length gs)
+pub heap_by : (gs : List Granule) (rows : Rows) (v : Seen) (heap : ℕ) → engine_view gs rows ≡ v → IsHeapPlaced v.region.ram heap (length v.granules) → IsHeapPlaced rows.region.ram heap (length gs)
 heap_by gs rows v heap is placed =
-    let here : IsHeapPlaced rows.region.ram heap (length (seen gs rows).granules) = subst (λ (s : Seen). IsHeapPlaced s.region.ram heap (length s.granules)) (sym is) placed in
-    subst (λ n. IsHeapPlaced rows.region.ram heap n) (veiled_length (hidden gs rows) gs) here
+    let here : IsHeapPlaced rows.region.ram heap (length (engine_view gs rows).granules) = subst (λ (s : Seen). IsHeapPlaced s.region.ram heap (length s.granules)) (sym is) placed in
+    subst (λ n. IsHeapPlaced rows.region.ram heap n) (with_hidden_length (hidden gs rows) gs) here
 
 -- what is known of an access of seen granules, of which the real ones are gs before it and hs after it
 pub record Moving (gs hs : List Granule) (rows : Rows) (v : Seen) (i : Instr) (x y : Cap) (k after : Bank) (time : ℕ) (r : Result MovedRow Trap) : Type 0 where
-  pub is : seen gs rows ≡ v
-  pub holds : Holds gs rows
+  pub is : engine_view gs rows ≡ v
+  pub holds : IsEngine gs rows
   pub meets : SeesAccess (hides v) v.region.ram i x y
   pub moved : IsMoved i x y (space_of rows.region.ram gs k time) hs after r
   pub size : length hs ≡ length gs
@@ -109,26 +109,26 @@ move_stays gs hs rows v i x y k after time r m =
     moved_stays (hidden gs rows) i x y (space_of rows.region.ram gs k time) hs after r (meets_here gs hs rows v i x y k after time r m) m.moved
 
 pub move_holds : (gs hs : List Granule) (rows : Rows) (v : Seen) (i : Instr) (x y : Cap) (k after : Bank) (time : ℕ) (r : Result MovedRow Trap) → Moving gs hs rows v i x y k after time r
-    → Holds hs rows
+    → IsEngine hs rows
 move_holds gs hs rows v i x y k after time r m = away_holds gs hs rows m.holds m.size (move_stays gs hs rows v i x y k after time r m)
 
 -- nothing but granules changes
 pub move_kept : (gs hs : List Granule) (rows : Rows) (v : Seen) (i : Instr) (x y : Cap) (k after : Bank) (time : ℕ) (r : Result MovedRow Trap) → Moving gs hs rows v i x y k after time r
-    → seen hs rows ≡ with_granules v (seen hs rows).granules
+    → engine_view hs rows ≡ with_granules v (engine_view hs rows).granules
 move_kept gs hs rows v i x y k after time r m =
     let whole = away_seen gs hs rows m.holds m.size (move_stays gs hs rows v i x y k after time r m) in
     whole
-    ∙ ap (λ (xs : List Granule). with_granules (seen gs rows) xs) (sym (ap (λ (s : Seen). s.granules) whole))
-    ∙ ap (λ (s : Seen). with_granules s (seen hs rows).granules) m.is
+    ∙ ap (λ (xs : List Granule). with_granules (engine_view gs rows) xs) (sym (ap (λ (s : Seen). s.granules) whole))
+    ∙ ap (λ (s : Seen). with_granules s (engine_view hs rows).granules) m.is
 
-pub move_size : (gs hs : List Granule) (rows : Rows) (v : Seen) → seen gs rows ≡ v → length hs ≡ length gs → length (seen hs rows).granules ≡ length v.granules
-move_size gs hs rows v is size = veiled_length (hidden hs rows) hs ∙ size ∙ sym (size_is gs rows v is)
+pub move_size : (gs hs : List Granule) (rows : Rows) (v : Seen) → engine_view gs rows ≡ v → length hs ≡ length gs → length (engine_view hs rows).granules ≡ length v.granules
+move_size gs hs rows v is size = with_hidden_length (hidden hs rows) hs ∙ size ∙ sym (size_is gs rows v is)
 
 -- it comes to what the written access comes to over the seen granules
 pub move_is : (gs hs : List Granule) (rows : Rows) (v : Seen) (i : Instr) (x y : Cap) (k after : Bank) (time : ℕ) (r : Result MovedRow Trap) → Moving gs hs rows v i x y k after time r
-    → IsMoved i x y (space_in v k time) (seen hs rows).granules after r
+    → IsMoved i x y (space_in v k time) (engine_view hs rows).granules after r
 move_is gs hs rows v i x y k after time r m =
     let whole = away_seen gs hs rows m.holds m.size (move_stays gs hs rows v i x y k after time r m) in
-    subst (λ (s : Seen). IsMoved i x y (space_in s k time) (seen hs rows).granules after r) m.is
-    (subst (λ (xs : List Granule). IsMoved i x y (space_in (seen gs rows) k time) xs after r) (sym (ap (λ (s : Seen). s.granules) whole))
+    subst (λ (s : Seen). IsMoved i x y (space_in s k time) (engine_view hs rows).granules after r) m.is
+    (subst (λ (xs : List Granule). IsMoved i x y (space_in (engine_view gs rows) k time) xs after r) (sym (ap (λ (s : Seen). s.granules) whole))
     (moved_seen (hidden gs rows) i x y (space_of rows.region.ram gs k time) hs after r (meets_here gs hs rows v i x y k after time r m) m.moved))

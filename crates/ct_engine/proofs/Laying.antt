@@ -3,29 +3,29 @@ use Rattle.std.proofs.Common.{ℕ, ◌≡◌, ◌+◌, ◌*◌, ◌/◌, ◌≤�
 use Rattle.law_lists.proofs.Tests.{bool_tells, le_tells, lt_tells}
 use Rattle.def_words.specs.declared.Cap.{Cap}
 use Rattle.def_memory.specs.declared.Granule.{Granule}
-use Rattle.def_memory.specs.Granules.{plain, granule_at, blank, held}
+use Rattle.def_memory.specs.Granules.{plain, granule_at, blank, cap_in}
 use Rattle.def_memory.specs.Ranges.{is_tagged}
 use Rattle.def_machine.specs.Objects.{Each}
 use Rattle.def_machine.specs.State.{Thread, Object, Token}
-use Rattle.def_veil.specs.Veil.{veiled}
-use Rattle.law_veil.proofs.Granules.{veiled_is, seen_at}
+use Rattle.law_hidden.specs.Hiding.{with_hidden}
+use Rattle.law_hidden.proofs.Granules.{with_hidden_is, seen_at}
 use Rattle.def_chunks.specs.declared.rows.Range.{Range}
 use Rattle.def_chunks.specs.Heaps.{HeapRow, objects_of, Laid}
 use Rattle.ct_heap.specs.Effects.{Stays, Same}
-use Rattle.law_heaped.specs.Heaped.{hides_heap}
-use Rattle.law_heaped.specs.Objects.{Appears}
-use Rattle.law_heaped.proofs.Objects.{place_seen, object_appears}
+use Rattle.law_hidden.specs.Heaped.{hides_heap}
+use Rattle.law_hidden.specs.Objects.{Appears}
+use Rattle.law_hidden.proofs.Objects.{place_seen, object_appears}
 use Rattle.ct_areas.specs.declared.thread.Area.{Area}
 use Rattle.ct_engine.specs.declared.rows.Region.{Region}
 use Rattle.ct_engine.specs.declared.rows.Rows.{Rows}
 use Rattle.ct_engine.specs.declared.starting.Fresh.{Fresh}
-use Rattle.ct_engine.specs.Seen.{Seen, region_hides, hides_over, threads_of, seen}
-use Rattle.ct_engine.specs.Kept.{AreasFrom, StackLies, IsClear, Holds}
+use Rattle.ct_engine.specs.Seen.{Seen, region_hides, hides_over, threads_of, engine_view}
+use Rattle.ct_engine.specs.Kept.{AreasFrom, StackLies, IsClear, IsEngine}
 use Rattle.ct_engine.specs.Starts.{HaveBegun, MayStart, started}
 use Rattle.ct_engine.proofs.Lists.{areas_same, threads_same}
 use Rattle.ct_engine.proofs.Whole.{none_is}
 use Rattle.ct_engine.proofs.Stacks.{hidden_place}
-use Rattle.ct_engine.proofs.Veils.{veiled_both}
+use Rattle.ct_engine.proofs.HiddenTwice.{with_hidden_both}
 use Rattle.ct_engine.proofs.HeapTurns.{limits_stay}
 
 -- Of memory `was`, in which threads started and left gs, once the heap is laid in it, which leaves hs.
@@ -48,9 +48,9 @@ zero_is : (g : Granule) → g.cap ≡ plain 0 → g ≡ blank g
 zero_is g e = ap (λ (c : Cap). let z : Granule = record { cap = c; mark = g.mark } in z) e
 
 -- where what is hidden reads as zero all is seen
-clear_seen : (hidden : ℕ → Bool) (gs : List Granule) → ((k : ℕ) → hidden k ≡ true → held gs k ≡ plain 0) → veiled hidden gs ≡ gs
+clear_seen : (hidden : ℕ → Bool) (gs : List Granule) → ((k : ℕ) → hidden k ≡ true → cap_in gs k ≡ plain 0) → with_hidden hidden gs ≡ gs
 clear_seen hidden gs clear =
-    sym (veiled_is hidden gs gs refl (λ k lt. elim (bool_tells (hidden k)) [
+    sym (with_hidden_is hidden gs gs refl (λ k lt. elim (bool_tells (hidden k)) [
       | inl e ↦ rw e (zero_is (granule_at gs k) (clear k e))
       | inr e ↦ rw e refl
     ]))
@@ -79,12 +79,12 @@ past_region g k past = elim (bool_tells (region_hides g k)) [
 
 -- the heap reads as zero also once threads started
 heap_zero : (was gs hs : List Granule) (rows : Rows) (fs : List Fresh) (h : HeapRow) → Lays was gs hs rows fs h
-    → (k : ℕ) → h.range.base ≤ rows.region.ram + 8 * k → rows.region.ram + 8 * k < h.range.base + h.range.length → held gs k ≡ plain 0
+    → (k : ℕ) → h.range.base ≤ rows.region.ram + 8 * k → rows.region.ram + 8 * k < h.range.base + h.range.length → cap_in gs k ≡ plain 0
 heap_zero was gs hs rows fs h l k low high =
     let past = l.may.heap.past in
     let shown : region_hides rows.region k ≡ false = past_region rows.region k (omega (arith, past, low)) in
     ap (λ (x : Granule). x.cap) (sym (seen_at (region_hides rows.region) gs k shown))
-    ∙ ap (λ xs. held xs k) l.begun.veil
+    ∙ ap (λ xs. cap_in xs k) l.begun.memory
     ∙ ap (λ (x : Granule). x.cap) (seen_at (region_hides rows.region) was k shown)
     ∙ l.may.heap.clear k low high
 
@@ -100,24 +100,24 @@ nothing_appears r gs hs s = record {
 }
 
 memory_is : (was gs hs : List Granule) (rows : Rows) (fs : List Fresh) (h : HeapRow) → Lays was gs hs rows fs h
-    → veiled (hides_over rows.region rows.heap.range (objects_of rows.heap hs)) hs ≡ was
+    → with_hidden (hides_over rows.region rows.heap.range (objects_of rows.heap hs)) hs ≡ was
 memory_is was gs hs rows fs h l =
-    let over : ℕ → List Granule → List Granule = λ ram xs. veiled (λ k. hides_heap ram h.range.base (h.range.base + h.range.length) [] k) xs in
-    ap (λ (os : List Object). veiled (hides_over rows.region rows.heap.range os) hs) l.objects
-    ∙ ap (λ (r : Range). veiled (hides_over rows.region r []) hs) l.same.range
-    ∙ veiled_both (region_hides rows.region) (λ k. hides_heap rows.region.ram h.range.base (h.range.base + h.range.length) [] k) hs
-    ∙ ap (λ ram. veiled (region_hides rows.region) (over ram hs)) (sym l.may.heap.ram)
-    ∙ ap (λ xs. veiled (region_hides rows.region) xs) (object_appears h.range.ram h.range.base (h.range.base + h.range.length) [] [] gs hs 0 0 (nothing_appears h.range gs hs l.stays))
-    ∙ ap (λ ram. veiled (region_hides rows.region) (over ram gs)) l.may.heap.ram
-    ∙ ap (λ xs. veiled (region_hides rows.region) xs) (clear_seen (λ k. hides_heap rows.region.ram h.range.base (h.range.base + h.range.length) [] k) gs
+    let over : ℕ → List Granule → List Granule = λ ram xs. with_hidden (λ k. hides_heap ram h.range.base (h.range.base + h.range.length) [] k) xs in
+    ap (λ (os : List Object). with_hidden (hides_over rows.region rows.heap.range os) hs) l.objects
+    ∙ ap (λ (r : Range). with_hidden (hides_over rows.region r []) hs) l.same.range
+    ∙ with_hidden_both (region_hides rows.region) (λ k. hides_heap rows.region.ram h.range.base (h.range.base + h.range.length) [] k) hs
+    ∙ ap (λ ram. with_hidden (region_hides rows.region) (over ram hs)) (sym l.may.heap.ram)
+    ∙ ap (λ xs. with_hidden (region_hides rows.region) xs) (object_appears h.range.ram h.range.base (h.range.base + h.range.length) [] [] gs hs 0 0 (nothing_appears h.range gs hs l.stays))
+    ∙ ap (λ ram. with_hidden (region_hides rows.region) (over ram gs)) l.may.heap.ram
+    ∙ ap (λ xs. with_hidden (region_hides rows.region) xs) (clear_seen (λ k. hides_heap rows.region.ram h.range.base (h.range.base + h.range.length) [] k) gs
     (λ k hid. let lies = hidden_lies rows.region.ram h.range.base (h.range.base + h.range.length) [] k hid in heap_zero was gs hs rows fs h l k lies.0 lies.1))
-    ∙ l.begun.veil
+    ∙ l.begun.memory
     ∙ clear_seen (region_hides rows.region) was l.may.clear
 
 -- ---- threads
 
 region_same : (was gs hs : List Granule) (rows : Rows) (fs : List Fresh) (h : HeapRow) → Lays was gs hs rows fs h
-    → (m : ℕ) → rows.region.trusted ≤ rows.region.ram + 8 * m → rows.region.ram + 8 * m < rows.region.end → held hs m ≡ held gs m
+    → (m : ℕ) → rows.region.trusted ≤ rows.region.ram + 8 * m → rows.region.ram + 8 * m < rows.region.end → cap_in hs m ≡ cap_in gs m
 region_same was gs hs rows fs h l m lo hi =
     let ram = l.may.heap.ram in
     let past = l.may.heap.past in
@@ -132,7 +132,7 @@ seen_as : (s : Seen) (gs gs' : List Granule) (ts ts' : List Thread) (ps ps' : Li
 seen_as s gs gs' ts ts' ps ps' os os' ks ks' n n' b b' l l' limits limits' run run' front front' p q r t o u v w x y z = rw (p, q, r, t, o, u, v, w, x, y, z) refl
 
 pub laid_seen : (was gs hs : List Granule) (rows : Rows) (fs : List Fresh) (h : HeapRow) → Lays was gs hs rows fs h
-    → seen hs rows ≡ started was rows.region fs h
+    → engine_view hs rows ≡ started was rows.region fs h
 laid_seen was gs hs rows fs h l =
     seen_as (started was rows.region fs h) _ _ _ _ _ _ _ _ _ _ _ _ _ _ _ _ _ _ _ _ _ _
     (memory_is was gs hs rows fs h l)
@@ -159,13 +159,13 @@ laid_clear was gs hs rows fs h l k hid =
     let lies = hidden_lies rows.heap.range.ram rows.heap.range.base (rows.heap.range.base + rows.heap.range.length) (objects_of rows.heap hs) k hid in
     let low = lies.0 in
     let high = lies.1 in
-    let zero_ : held gs k ≡ plain 0 = heap_zero was gs hs rows fs h l k (omega (arith, low, base, ram, here)) (omega (arith, high, base, ram, long, here)) in
+    let zero_ : cap_in gs k ≡ plain 0 = heap_zero was gs hs rows fs h l k (omega (arith, low, base, ram, here)) (omega (arith, high, base, ram, long, here)) in
     elim (bool_tells (is_tagged hs k)) [
       | inl on ↦ absurd (let clash : true ≡ false = sym on ∙ ap (λ (c : Cap). c.tag) (l.stays.tags k on) ∙ ap (λ (c : Cap). c.tag) zero_ in cc)
       | inr off ↦ off
     ]
 
-pub laid_holds : (was gs hs : List Granule) (rows : Rows) (fs : List Fresh) (h : HeapRow) → Lays was gs hs rows fs h → Holds hs rows
+pub laid_holds : (was gs hs : List Granule) (rows : Rows) (fs : List Fresh) (h : HeapRow) → Lays was gs hs rows fs h → IsEngine hs rows
 laid_holds was gs hs rows fs h l =
     let base : rows.heap.range.base ≡ h.range.base = ap (λ (r : Range). r.base) l.same.range in
     let ram : rows.heap.range.ram ≡ h.range.ram = ap (λ (r : Range). r.ram) l.same.range in

@@ -4,7 +4,7 @@ pub mod Whole
 pub mod Clean
 pub mod Ends
 pub mod Away
-pub mod Veils
+pub mod HiddenTwice
 pub mod HeapTurns
 pub mod Begins
 pub mod Goes

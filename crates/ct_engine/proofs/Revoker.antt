@@ -9,26 +9,26 @@ use Rattle.def_machine.specs.State.{Object}
 use Rattle.def_machine.specs.Objects.{Each, has_quarantined, painted, unpainted, is_painted_at}
 use Rattle.def_machine.specs.Slices.{marks_cleared}
 use Rattle.def_hidden.specs.Hidden.{is_live_at}
-use Rattle.def_veil.specs.Veil.{veil, veiled}
-use Rattle.law_veil.proofs.Granules.{veiled_length, veiled_at, veiled_is, appears}
+use Rattle.law_hidden.specs.Hiding.{hide, with_hidden}
+use Rattle.law_hidden.proofs.Granules.{with_hidden_length, with_hidden_at, with_hidden_is, appears}
 use Rattle.def_chunks.specs.declared.rows.Range.{Range}
 use Rattle.def_chunks.specs.Chunks.{Chunk, is_free}
 use Rattle.def_chunks.specs.Tiles.{chunks}
 use Rattle.def_chunks.specs.Heaps.{HeapRow, object_at, objects_in, quota_named, objects_of, Laid}
 use Rattle.ct_heap.specs.Effects.{Same, NoneStale, Paints, Flushes}
 use Rattle.ct_revoke.specs.Slices.{IsSliced}
-use Rattle.law_heaped.specs.Heaped.{hides_heap, heap_hides}
-use Rattle.law_heaped.proofs.Slices.{kept_length}
-use Rattle.law_heaped.proofs.Objects.{seen_place}
+use Rattle.law_hidden.specs.Heaped.{hides_heap, heap_hides}
+use Rattle.law_hidden.proofs.Slices.{kept_length}
+use Rattle.law_hidden.proofs.Objects.{seen_place}
 use Rattle.ct_engine.specs.declared.rows.Rows.{Rows}
-use Rattle.ct_engine.specs.Seen.{Seen, region_hides, hidden, seen}
-use Rattle.ct_engine.specs.Kept.{IsClear, Holds}
+use Rattle.ct_engine.specs.Seen.{Seen, region_hides, hidden, engine_view}
+use Rattle.ct_engine.specs.Kept.{IsClear, IsEngine}
 use Rattle.ct_engine.specs.Sweeps.{NoneLeft, size_of, passes, began, over, with_slice, slice_end, passed_on}
 use Rattle.ct_engine.proofs.Clear.{clear_tags}
 use Rattle.ct_engine.proofs.Flushing.{none_stale}
 use Rattle.ct_engine.proofs.HeapTurns.{with_heap, HeapTurns, turned_holds, turned_seen}
 use Rattle.ct_engine.proofs.Sweeps.{with_front, slice_holds, slice_seen}
-use Rattle.ct_engine.proofs.Veils.{veiled_both, seen_both}
+use Rattle.ct_engine.proofs.HiddenTwice.{with_hidden_both, seen_both}
 
 -- ---- a sweep begins
 
@@ -78,7 +78,7 @@ alike_hides h n gs hs ram base long live k =
 
 -- what is seen where what is hidden changes alone
 same_seen : (a b : ℕ → Bool) (gs hs : List Granule) → length hs ≡ length gs → ((k : ℕ) → b k ≡ a k) → ((k : ℕ) → (granule_at hs k).mark ≡ (granule_at gs k).mark)
-    → ((k : ℕ) → a k ≡ false → granule_at hs k ≡ granule_at gs k) → veiled b hs ≡ veiled a gs
+    → ((k : ℕ) → a k ≡ false → granule_at hs k ≡ granule_at gs k) → with_hidden b hs ≡ with_hidden a gs
 same_seen a b gs hs size same marks rest =
     appears a b gs hs size
     (λ k lt open_. (same k ∙ open_, rest k open_))
@@ -89,8 +89,8 @@ paint_hides : (h : HeapRow) (gs hs : List Granule) → Paints h gs hs → (k : �
 paint_hides h gs hs p k =
     alike_hides h h gs hs refl refl refl (λ x. ap (λ rs. is_live_at rs x) p.objects ∙ painted_live (objects_of h gs) x) k
 
-paint_veiled : (h : HeapRow) (gs hs : List Granule) → Paints h gs hs → veiled (heap_hides h hs) hs ≡ veiled (heap_hides h gs) gs
-paint_veiled h gs hs p =
+paint_with_hidden : (h : HeapRow) (gs hs : List Granule) → Paints h gs hs → with_hidden (heap_hides h hs) hs ≡ with_hidden (heap_hides h gs) gs
+paint_with_hidden h gs hs p =
     same_seen (heap_hides h gs) (heap_hides h hs) gs hs p.stays.size (paint_hides h gs hs p) p.stays.marks
     (λ k open_. p.stays.rest k (seen_place h.range.ram h.range.base (h.range.base + h.range.length) (objects_of h gs) k open_))
 
@@ -110,41 +110,41 @@ paint_turns gs hs rows p = record {
 paint_clear : (gs hs : List Granule) (h : HeapRow) → IsClear h gs → Paints h gs hs → IsClear h hs
 paint_clear gs hs h clear p = clear_tags h h gs hs clear p.stays.tags (λ k hid. sym (paint_hides h gs hs p k) ∙ hid)
 
-pub begun_holds : (gs hs : List Granule) (rows : Rows) (n : HeapRow) (front : Option ℕ) → Holds gs rows → Painted gs hs rows n
-    → unwrap_or front 0 ≤ 8 * length gs → Holds hs (with_heap rows n front)
+pub begun_holds : (gs hs : List Granule) (rows : Rows) (n : HeapRow) (front : Option ℕ) → IsEngine gs rows → Painted gs hs rows n
+    → unwrap_or front 0 ≤ 8 * length gs → IsEngine hs (with_heap rows n front)
 begun_holds gs hs rows n front holds p within =
-    subst (λ h. Holds hs (with_heap rows h front)) (sym p.heap)
+    subst (λ h. IsEngine hs (with_heap rows h front)) (sym p.heap)
     (turned_holds gs hs rows rows.heap front holds (paint_turns gs hs rows p.paints) (subst (λ h. Laid h hs) p.heap p.laid)
     (paint_clear gs hs rows.heap holds.heap.clear p.paints) within)
 
-begun_seen : (gs hs : List Granule) (rows : Rows) (n : HeapRow) (front : Option ℕ) → Holds gs rows → Painted gs hs rows n
-    → seen hs (with_heap rows n front) ≡ record (seen gs rows) { objects = painted (objects_of rows.heap gs); front = front }
+begun_seen : (gs hs : List Granule) (rows : Rows) (n : HeapRow) (front : Option ℕ) → IsEngine gs rows → Painted gs hs rows n
+    → engine_view hs (with_heap rows n front) ≡ record (engine_view gs rows) { objects = painted (objects_of rows.heap gs); front = front }
 begun_seen gs hs rows n front holds p =
-    let put : List Granule → List Object → Seen = λ xs os. record (seen gs rows) { granules = xs; objects = os; front = front } in
-    let memory : veiled (region_hides rows.region) (veiled (heap_hides rows.heap hs) hs) ≡ (seen gs rows).granules =
-    ap (λ xs. veiled (region_hides rows.region) xs) (paint_veiled rows.heap gs hs p.paints) ∙ sym (seen_both gs rows holds) in
-    ap (λ h. seen hs (with_heap rows h front)) p.heap
+    let put : List Granule → List Object → Seen = λ xs os. record (engine_view gs rows) { granules = xs; objects = os; front = front } in
+    let memory : with_hidden (region_hides rows.region) (with_hidden (heap_hides rows.heap hs) hs) ≡ (engine_view gs rows).granules =
+    ap (λ xs. with_hidden (region_hides rows.region) xs) (paint_with_hidden rows.heap gs hs p.paints) ∙ sym (seen_both gs rows holds) in
+    ap (λ h. engine_view hs (with_heap rows h front)) p.heap
     ∙ turned_seen gs hs rows rows.heap front holds (paint_turns gs hs rows p.paints)
     ∙ ap (λ xs. put xs (objects_of rows.heap hs)) memory
-    ∙ ap (λ os. put (seen gs rows).granules os) p.paints.objects
+    ∙ ap (λ os. put (engine_view gs rows).granules os) p.paints.objects
 
 -- a sweep began, or nothing is quarantined
-pub begun_then : (gs hs : List Granule) (rows : Rows) (v : Seen) (n : HeapRow) (front : Option ℕ) → seen gs rows ≡ v → Holds gs rows → rows.front ≡ None → Painted gs hs rows n
-    → front ≡ Some 0 → has_quarantined (objects_of rows.heap gs) ≡ true → seen hs (with_heap rows n front) ≡ began v v.front
+pub begun_then : (gs hs : List Granule) (rows : Rows) (v : Seen) (n : HeapRow) (front : Option ℕ) → engine_view gs rows ≡ v → IsEngine gs rows → rows.front ≡ None → Painted gs hs rows n
+    → front ≡ Some 0 → has_quarantined (objects_of rows.heap gs) ≡ true → engine_view hs (with_heap rows n front) ≡ began v v.front
 begun_then gs hs rows v n front is holds none p first some =
     let os : List Object = objects_of rows.heap gs in
-    let s : Seen = seen gs rows in
+    let s : Seen = engine_view gs rows in
     begun_seen gs hs rows n front holds p
     ∙ ap (λ f. let x : Seen = record s { objects = painted os; front = f } in x) first
     ∙ ap (λ b. cond b (let x : Seen = record s { objects = painted os; front = Some 0 } in x) s) (sym some)
     ∙ ap (λ f. began s f) (sym none)
     ∙ ap (λ x. began x x.front) is
 
-pub begun_else : (gs hs : List Granule) (rows : Rows) (v : Seen) (n : HeapRow) → seen gs rows ≡ v → Holds gs rows → rows.front ≡ None → Painted gs hs rows n
-    → has_quarantined (objects_of rows.heap gs) ≡ false → seen hs (with_heap rows n rows.front) ≡ began v v.front
+pub begun_else : (gs hs : List Granule) (rows : Rows) (v : Seen) (n : HeapRow) → engine_view gs rows ≡ v → IsEngine gs rows → rows.front ≡ None → Painted gs hs rows n
+    → has_quarantined (objects_of rows.heap gs) ≡ false → engine_view hs (with_heap rows n rows.front) ≡ began v v.front
 begun_else gs hs rows v n is holds none p nothing_ =
     let os : List Object = objects_of rows.heap gs in
-    let s : Seen = seen gs rows in
+    let s : Seen = engine_view gs rows in
     begun_seen gs hs rows n rows.front holds p
     ∙ ap (λ xs. let x : Seen = record s { objects = xs } in x) (none_painted os nothing_ (live_plain rows.heap gs))
     ∙ ap (λ b. cond b (let x : Seen = record s { objects = painted os; front = Some 0 } in x) s) (sym nothing_)
@@ -198,9 +198,9 @@ cleared_at rs x (g ∷ gs) (suc k) lt =
 granule_of : (c c' : Cap) (m m' : Bool) → c ≡ c' → m ≡ m' → (let x : Granule = record { cap = c; mark = m } in x) ≡ record { cap = c'; mark = m' }
 granule_of c c' m m' p q = rw (p, q) refl
 
-cleared_veil : (b p : Bool) (g h : Granule) → h.mark ≡ cond p false g.mark → (b ≡ false → h.cap ≡ g.cap) → cleared p (veil b g) ≡ veil b h
-cleared_veil true p g h mark cap = granule_of (plain 0) (plain 0) (cond p false g.mark) h.mark refl (sym mark)
-cleared_veil false p g h mark cap = granule_of g.cap h.cap (cond p false g.mark) h.mark (sym (cap refl)) (sym mark)
+cleared_with_hidden : (b p : Bool) (g h : Granule) → h.mark ≡ cond p false g.mark → (b ≡ false → h.cap ≡ g.cap) → cleared p (hide b g) ≡ hide b h
+cleared_with_hidden true p g h mark cap = granule_of (plain 0) (plain 0) (cond p false g.mark) h.mark refl (sym mark)
+cleared_with_hidden false p g h mark cap = granule_of g.cap h.cap (cond p false g.mark) h.mark (sym (cap refl)) (sym mark)
 
 flush_hides : (h n : HeapRow) (gs hs : List Granule) → Flushes h n gs hs → (k : ℕ) → heap_hides n hs k ≡ heap_hides h gs k
 flush_hides h n gs hs f k =
@@ -209,15 +209,15 @@ flush_hides h n gs hs f k =
 -- what is seen where marks are cleared, and what is hidden is the same
 cleared_seen : (a b : ℕ → Bool) (rs : List Object) (ram : ℕ) (gs hs : List Granule) → length hs ≡ length gs → ((k : ℕ) → b k ≡ a k)
     → ((k : ℕ) → (granule_at hs k).mark ≡ cond (is_painted_at rs (ram + 8 * k)) false (granule_at gs k).mark)
-    → ((k : ℕ) → a k ≡ false → (granule_at hs k).cap ≡ (granule_at gs k).cap) → veiled b hs ≡ marks_cleared rs ram (veiled a gs)
+    → ((k : ℕ) → a k ≡ false → (granule_at hs k).cap ≡ (granule_at gs k).cap) → with_hidden b hs ≡ marks_cleared rs ram (with_hidden a gs)
 cleared_seen a b rs ram gs hs size same marks rest =
-    sym (veiled_is b hs (marks_cleared rs ram (veiled a gs)) (cleared_length rs ram (veiled a gs) ∙ veiled_length a gs ∙ sym size)
+    sym (with_hidden_is b hs (marks_cleared rs ram (with_hidden a gs)) (cleared_length rs ram (with_hidden a gs) ∙ with_hidden_length a gs ∙ sym size)
     (λ k lt.
-    let long = veiled_length a gs in
-    cleared_at rs ram (veiled a gs) k (omega (arith, lt, size, long))
-    ∙ ap (λ g. cleared (is_painted_at rs (ram + 8 * k)) g) (veiled_at a gs k)
-    ∙ cleared_veil (a k) (is_painted_at rs (ram + 8 * k)) (granule_at gs k) (granule_at hs k) (marks k) (rest k)
-    ∙ ap (λ b. veil b (granule_at hs k)) (sym (same k))))
+    let long = with_hidden_length a gs in
+    cleared_at rs ram (with_hidden a gs) k (omega (arith, lt, size, long))
+    ∙ ap (λ g. cleared (is_painted_at rs (ram + 8 * k)) g) (with_hidden_at a gs k)
+    ∙ cleared_with_hidden (a k) (is_painted_at rs (ram + 8 * k)) (granule_at gs k) (granule_at hs k) (marks k) (rest k)
+    ∙ ap (λ b. hide b (granule_at hs k)) (sym (same k))))
 
 -- heap and memory after the flush
 pub record Flushed (gs hs : List Granule) (rows : Rows) (n : HeapRow) : Type 0 where
@@ -227,34 +227,34 @@ pub record Flushed (gs hs : List Granule) (rows : Rows) (n : HeapRow) : Type 0 w
 flush_turns : (gs hs : List Granule) (rows : Rows) (n : HeapRow) → Flushes rows.heap n gs hs → HeapTurns gs hs rows n
 flush_turns gs hs rows n f = record { size = f.size; below = λ k low. f.rest k (inl low); same = f.same }
 
-flush_memory : (gs hs : List Granule) (rows : Rows) (n : HeapRow) → Holds gs rows → Flushes rows.heap n gs hs
-    → veiled (region_hides rows.region) (veiled (heap_hides n hs) hs) ≡ marks_cleared (objects_of rows.heap gs) rows.region.ram (seen gs rows).granules
+flush_memory : (gs hs : List Granule) (rows : Rows) (n : HeapRow) → IsEngine gs rows → Flushes rows.heap n gs hs
+    → with_hidden (region_hides rows.region) (with_hidden (heap_hides n hs) hs) ≡ marks_cleared (objects_of rows.heap gs) rows.region.ram (engine_view gs rows).granules
 flush_memory gs hs rows n holds f =
     let h : HeapRow = rows.heap in
     let os : List Object = objects_of h gs in
-    sym (veiled_both (region_hides rows.region) (heap_hides n hs) hs)
+    sym (with_hidden_both (region_hides rows.region) (heap_hides n hs) hs)
     ∙ cleared_seen (λ k. region_hides rows.region k || heap_hides h gs k) (λ k. region_hides rows.region k || heap_hides n hs k) os h.range.ram gs hs f.size
     (λ k. ap (λ b. region_hides rows.region k || b) (flush_hides h n gs hs f k)) f.marks
     (λ k open_. f.rest k (seen_place h.range.ram h.range.base (h.range.base + h.range.length) os k (or_parts (region_hides rows.region k) (heap_hides h gs k) open_).1))
-    ∙ ap (λ ram. marks_cleared os ram (veiled (λ k. region_hides rows.region k || hides_heap ram h.range.base (h.range.base + h.range.length) os k) gs)) holds.heap.ram
+    ∙ ap (λ ram. marks_cleared os ram (with_hidden (λ k. region_hides rows.region k || hides_heap ram h.range.base (h.range.base + h.range.length) os k) gs)) holds.heap.ram
 
 -- no capability of a painted object is left in memory
-pub finish_none : (gs : List Granule) (rows : Rows) (v : Seen) → seen gs rows ≡ v → Holds gs rows → NoneLeft v.objects v → NoneStale (objects_of rows.heap gs) gs
+pub finish_none : (gs : List Granule) (rows : Rows) (v : Seen) → engine_view gs rows ≡ v → IsEngine gs rows → NoneLeft v.objects v → NoneStale (objects_of rows.heap gs) gs
 finish_none gs rows v is holds none =
     subst (λ (s : Seen). NoneStale s.objects gs) (sym is) (λ k. none_stale v.objects gs rows v is holds none k)
 
-pub finish_holds : (gs hs : List Granule) (rows : Rows) (n : HeapRow) (front : Option ℕ) → Holds gs rows → Flushed gs hs rows n → front ≡ None → Holds hs (with_heap rows n front)
+pub finish_holds : (gs hs : List Granule) (rows : Rows) (n : HeapRow) (front : Option ℕ) → IsEngine gs rows → Flushed gs hs rows n → front ≡ None → IsEngine hs (with_heap rows n front)
 finish_holds gs hs rows n front holds w none =
     turned_holds gs hs rows n front holds (flush_turns gs hs rows n w.flushes) w.laid
     (clear_tags rows.heap n gs hs holds.heap.clear w.flushes.tags (λ k hid. sym (flush_hides rows.heap n gs hs w.flushes k) ∙ hid))
     (subst (λ f. unwrap_or f 0 ≤ 8 * length gs) (sym none) (omega arith))
 
-pub finish_seen : (gs hs : List Granule) (rows : Rows) (v : Seen) (n : HeapRow) (front : Option ℕ) → seen gs rows ≡ v → Holds gs rows → Flushed gs hs rows n → front ≡ None
-    → seen hs (with_heap rows n front) ≡ over v
+pub finish_seen : (gs hs : List Granule) (rows : Rows) (v : Seen) (n : HeapRow) (front : Option ℕ) → engine_view gs rows ≡ v → IsEngine gs rows → Flushed gs hs rows n → front ≡ None
+    → engine_view hs (with_heap rows n front) ≡ over v
 finish_seen gs hs rows v n front is holds w none =
     let os : List Object = objects_of rows.heap gs in
-    let put : List Granule → List Object → ℕ → Option ℕ → Seen = λ xs rs next f. record (seen gs rows) { granules = xs; objects = rs; next = next; front = f } in
-    let left : List Granule = marks_cleared os rows.region.ram (seen gs rows).granules in
+    let put : List Granule → List Object → ℕ → Option ℕ → Seen = λ xs rs next f. record (engine_view gs rows) { granules = xs; objects = rs; next = next; front = f } in
+    let left : List Granule = marks_cleared os rows.region.ram (engine_view gs rows).granules in
     turned_seen gs hs rows n front holds (flush_turns gs hs rows n w.flushes)
     ∙ ap (λ xs. put xs (objects_of n hs) n.next front) (flush_memory gs hs rows n holds w.flushes)
     ∙ ap (λ rs. put left rs n.next front) w.flushes.objects
@@ -273,15 +273,15 @@ front_none None h = refl
 front_none (Some n) h = absurd (let clash : true ≡ false = h in cc)
 
 -- where the slice ends, in RAM as it is seen
-high_is : (gs : List Granule) (rows : Rows) (rate low : ℕ) → min (low + 8 * rate) (8 * length gs) ≡ slice_end (seen gs rows) rate low
-high_is gs rows rate low = ap (λ n. min (low + 8 * rate) (8 * n)) (sym (veiled_length (hidden gs rows) gs))
+high_is : (gs : List Granule) (rows : Rows) (rate low : ℕ) → min (low + 8 * rate) (8 * length gs) ≡ slice_end (engine_view gs rows) rate low
+high_is gs rows rate low = ap (λ n. min (low + 8 * rate) (8 * n)) (sym (with_hidden_length (hidden gs rows) gs))
 
 -- memory and rows after the slice
 pub record Mid (hs : List Granule) (rows : Rows) (v : Seen) (low high : ℕ) : Type 0 where
-  pub holds : Holds hs rows
-  pub is : seen hs rows ≡ with_slice v low high
+  pub holds : IsEngine hs rows
+  pub is : engine_view hs rows ≡ with_slice v low high
 
-pub slice_mid : (gs hs : List Granule) (rows : Rows) (v : Seen) (rate : ℕ) (front : Option ℕ) → seen gs rows ≡ v → Holds gs rows
+pub slice_mid : (gs hs : List Granule) (rows : Rows) (v : Seen) (rate : ℕ) (front : Option ℕ) → engine_view gs rows ≡ v → IsEngine gs rows
     → front ≡ Some (min (unwrap_or rows.front 0 + 8 * rate) (8 * length gs)) → IsSliced rows.region.ram (unwrap_or rows.front 0) (unwrap_or front 0) gs hs
     → Mid hs (with_front rows front) v (unwrap_or rows.front 0) (slice_end v rate (unwrap_or rows.front 0))
 slice_mid gs hs rows v rate front is holds ends passed =
@@ -290,14 +290,14 @@ slice_mid gs hs rows v rate front is holds ends passed =
     let inside : high ≤ 8 * length gs = omega arith in
     let here : IsSliced rows.region.ram low high gs hs = subst (λ f. IsSliced rows.region.ram low (unwrap_or f 0) gs hs) ends passed in
     record {
-      holds = subst (λ f. Holds hs (with_front rows f)) (sym ends) (slice_holds gs hs rows low high here holds inside);
-      is = ap (λ f. seen hs (with_front rows f)) ends ∙ slice_seen gs hs rows low high here holds
-          ∙ ap (λ n. with_slice (seen gs rows) low n) (high_is gs rows rate low) ∙ ap (λ s. with_slice s low (slice_end s rate low)) is;
+      holds = subst (λ f. IsEngine hs (with_front rows f)) (sym ends) (slice_holds gs hs rows low high here holds inside);
+      is = ap (λ f. engine_view hs (with_front rows f)) ends ∙ slice_seen gs hs rows low high here holds
+          ∙ ap (λ n. with_slice (engine_view gs rows) low n) (high_is gs rows rate low) ∙ ap (λ s. with_slice s low (slice_end s rate low)) is;
     }
 
 -- ---- what a slice comes to
 
-pub front_is : (gs : List Granule) (rows : Rows) (v : Seen) → seen gs rows ≡ v → v.front ≡ rows.front
+pub front_is : (gs : List Granule) (rows : Rows) (v : Seen) → engine_view gs rows ≡ v → v.front ≡ rows.front
 front_is gs rows v is = ap (λ (s : Seen). s.front) (sym is)
 
 size_slice : (v : Seen) (low high : ℕ) → size_of (with_slice v low high) ≡ size_of v
@@ -322,7 +322,7 @@ same_number a b e = cc
 
 mid_size : (hs : List Granule) (rows : Rows) (v : Seen) (low high : ℕ) → Mid hs rows v low high → 8 * length hs ≡ size_of v
 mid_size hs rows v low high m =
-    ap (λ n. 8 * n) (sym (veiled_length (hidden hs rows) hs)) ∙ ap (λ (s : Seen). size_of s) m.is ∙ size_slice v low high
+    ap (λ n. 8 * n) (sym (with_hidden_length (hidden hs rows) hs)) ∙ ap (λ (s : Seen). size_of s) m.is ∙ size_slice v low high
 
 mid_front : (hs : List Granule) (rows : Rows) (v : Seen) (low high : ℕ) → Mid hs rows v low high → rows.front ≡ Some high
 mid_front hs rows v low high m = ap (λ (s : Seen). s.front) m.is

@@ -3,7 +3,7 @@ use Rattle.std.proofs.Common.{ℕ, zero, suc, ◌≡◌, ◌+◌, ◌*◌, ◌%�
 use Rattle.std.proofs.Math.ListN.{get_or}
 use Rattle.def_profile.specs.declared.limits.TheConstants.{RAM_END}
 use Rattle.def_memory.specs.declared.Granule.{Granule}
-use Rattle.def_memory.specs.Granules.{plain, nothing, held}
+use Rattle.def_memory.specs.Granules.{plain, nothing, cap_in}
 use Rattle.def_machine.specs.Objects.{Each}
 use Rattle.def_chunks.specs.Heaps.{HeapRow}
 use Rattle.ct_heap.specs.Effects.{Empty, empty, range_of}
@@ -18,7 +18,7 @@ count_of : (n : ℕ) → length (replicate n nothing) ≡ n
 count_of zero = refl
 count_of (suc n) = ap (λ m. suc m) (count_of n)
 
-none_held : (n k : ℕ) → held (replicate n nothing) k ≡ plain 0
+none_held : (n k : ℕ) → cap_in (replicate n nothing) k ≡ plain 0
 none_held zero k = refl
 none_held (suc n) zero = refl
 none_held (suc n) (suc k) = none_held n k
@@ -29,7 +29,7 @@ sample_area trusted stack = record { ram = 2147483648; stack = stack; stack_leng
 has_area : (trusted stack : ℕ) → trusted % 16 ≡ 0 → 2147483648 ≤ trusted → trusted + 288 ≤ 2147485696 → HasArea 2048 (sample_area trusted stack)
 has_area trusted stack even low high = record { ram = refl; even = even; low = low; high = omega (arith, high); whole = refl; some = omega arith }
 
-fresh_is : (f : Fresh) (trusted stack : ℕ) → f.area ≡ sample_area trusted stack → get_or f.regs 0 (plain 0) ≡ plain 0
+fresh_is : (f : Fresh) (trusted stack : ℕ) → f.area ≡ sample_area trusted stack → get_or f.first.regs 0 (plain 0) ≡ plain 0
     → HasArea 2048 (sample_area trusted stack) → stack + 256 ≤ RAM_END → IsFresh 2048 f
 fresh_is f trusted stack is zero_ has le = record {
   area = subst (λ (a : Area). HasArea 2048 a) (sym is) has;
@@ -48,7 +48,7 @@ abbrev sample_heap : HeapRow
 sample_heap = empty (range_of 2147483648 2147485184 512) []
 
 pub may_start : (gs : List Granule) (f g : Fresh) (h : HeapRow) → gs ≡ replicate 256 nothing → f.area ≡ sample_area 2147483664 2147484672 → g.area ≡ sample_area 2147483952 2147484928
-    → get_or f.regs 0 (plain 0) ≡ plain 0 → get_or g.regs 0 (plain 0) ≡ plain 0
+    → get_or f.first.regs 0 (plain 0) ≡ plain 0 → get_or g.first.regs 0 (plain 0) ≡ plain 0
     → h ≡ sample_heap → Empty h → MayStart gs sample_region (f ∷ g ∷ []) h
 may_start gs f g h is first second zero_f zero_g heap none =
     let size : 8 * length gs ≡ 2048 = ap (λ (xs : List Granule). 8 * length xs) is ∙ ap (λ n. 8 * n) (count_of 256) in
@@ -70,12 +70,12 @@ may_start gs f g h is first second zero_f zero_g heap none =
         subst (λ (a : Area). StackLies sample_region 2147485184 2048 a) (sym first) (stack_lies 2147483664 2147484672 refl (omega arith) (omega arith)),
         (subst (λ (a : Area). StackLies sample_region 2147485184 2048 a) (sym second) (stack_lies 2147483952 2147484928 refl (omega arith) (omega arith)), tt),
       );
-      clear = λ k hidden. subst (λ (xs : List Granule). held xs k ≡ plain 0) (sym is) (none_held 256 k);
+      clear = λ k hidden. subst (λ (xs : List Granule). cap_in xs k ≡ plain 0) (sym is) (none_held 256 k);
       heap = record {
         empty = subst Empty heap none;
         ram = refl;
         past = omega arith;
         inside = omega (arith, size);
-        clear = λ k low high. subst (λ (xs : List Granule). held xs k ≡ plain 0) (sym is) (none_held 256 k);
+        clear = λ k low high. subst (λ (xs : List Granule). cap_in xs k ≡ plain 0) (sym is) (none_held 256 k);
       };
     })

@@ -6,7 +6,7 @@ use Rattle.law_lists.proofs.Tests.{bool_tells, both_left, both_right, lt_tells}
 use Rattle.law_granules.proofs.Lists.{zeroed_length, zeroed_at}
 use Rattle.def_memory.specs.declared.Granule.{Granule}
 use Rattle.def_words.specs.declared.Cap.{Cap}
-use Rattle.def_memory.specs.Granules.{granule_at, blank, held, holding_all}
+use Rattle.def_memory.specs.Granules.{granule_at, blank, cap_in, holding_all}
 use Rattle.def_memory.specs.Ranges.{zeroed_from}
 use Rattle.def_machine.specs.State.{Thread, Frame}
 use Rattle.def_machine.specs.Objects.{Each}
@@ -14,8 +14,8 @@ use Rattle.def_step.specs.Switch.{frame_top}
 use Rattle.def_areas.specs.Touches.{Touches}
 use Rattle.law_areas.proofs.Changes.{all_touches}
 use Rattle.law_areas.proofs.Writes.{all_length}
-use Rattle.law_veil.proofs.Granules.{zeroed_seen}
-use Rattle.law_held.proofs.Seen.{held_seen}
+use Rattle.law_hidden.proofs.Granules.{zeroed_seen}
+use Rattle.law_hidden.proofs.Seen.{held_seen}
 use Rattle.ct_areas.specs.declared.thread.Area.{Area}
 use Rattle.ct_areas.specs.declared.thread.Thread as row
 use Rattle.ct_areas.specs.Threads.{thread_of}
@@ -23,8 +23,8 @@ use Rattle.ct_areas.proofs.Rows.{frames_are}
 use Rattle.ct_switch.specs.Ready.{HasStack, IsReady}
 use Rattle.ct_engine.specs.declared.rows.Region.{Region}
 use Rattle.ct_engine.specs.declared.rows.Rows.{Rows}
-use Rattle.ct_engine.specs.Seen.{seen, thread, with_granules, no_area, area_at, region_hides, hidden}
-use Rattle.ct_engine.specs.Kept.{StackLies, Holds}
+use Rattle.ct_engine.specs.Seen.{engine_view, thread, with_granules, no_area, area_at, region_hides, hidden}
+use Rattle.ct_engine.specs.Kept.{StackLies, IsEngine}
 use Rattle.ct_engine.specs.Calls.{TopLies}
 use Rattle.ct_engine.proofs.Lists.{Lies, places_put}
 use Rattle.ct_engine.proofs.Whole.{runs_it, thread_is, running_kept}
@@ -42,7 +42,7 @@ stacks_put g base gs hs ts t d q stacks size is lt =
     subst (λ (as_ : List Area). Each (StackLies g base (8 * length hs)) as_) (sym (places_put ts t d q is lt))
     (subst (λ n. Each (StackLies g base (8 * n)) (map (λ (u : row.Thread). u.area) ts)) (sym size) stacks)
 
-pub stacks_turn : (gs hs : List Granule) (rows : Rows) (t : ℕ) (r q : row.Thread) → Holds gs rows → t < length rows.list.items → r ≡ get_or rows.list.items t r
+pub stacks_turn : (gs hs : List Granule) (rows : Rows) (t : ℕ) (r q : row.Thread) → IsEngine gs rows → t < length rows.list.items → r ≡ get_or rows.list.items t r
     → length hs ≡ length gs → q.area ≡ r.area → Each (StackLies rows.region rows.heap.range.base (8 * length hs)) (map (λ (u : row.Thread). u.area) (set rows.list.items t q))
 stacks_turn gs hs rows t r q holds lt is size place =
     stacks_put rows.region rows.heap.range.base gs hs rows.list.items t r q holds.stacks size (place ∙ ap (λ (u : row.Thread). u.area) is) lt
@@ -54,21 +54,21 @@ stack_at g base size (u ∷ us) zero d stacks lt = stacks.0
 stack_at g base size (u ∷ us) (suc t) d stacks lt = stack_at g base size us t d stacks.1 (omega (arith, lt))
 
 -- of the running thread
-pub running_stack : (gs : List Granule) (rows : Rows) (t : ℕ) (r : row.Thread) → Holds gs rows → rows.running ≡ Some t → r ≡ get_or rows.list.items t r
+pub running_stack : (gs : List Granule) (rows : Rows) (t : ℕ) (r : row.Thread) → IsEngine gs rows → rows.running ≡ Some t → r ≡ get_or rows.list.items t r
     → StackLies rows.region rows.heap.range.base (8 * length gs) r.area
 running_stack gs rows t r holds runs is =
     subst (λ (u : row.Thread). StackLies rows.region rows.heap.range.base (8 * length gs) u.area) (sym is) (stack_at rows.region rows.heap.range.base (8 * length gs) rows.list.items t r holds.stacks (holds.runs t runs))
 
-pub running_area : (gs : List Granule) (rows : Rows) (t : ℕ) (r : row.Thread) → Holds gs rows → rows.running ≡ Some t → r ≡ get_or rows.list.items t r
-    → area_at (seen gs rows) t ≡ r.area
+pub running_area : (gs : List Granule) (rows : Rows) (t : ℕ) (r : row.Thread) → IsEngine gs rows → rows.running ≡ Some t → r ≡ get_or rows.list.items t r
+    → area_at (engine_view gs rows) t ≡ r.area
 running_area gs rows t r holds runs is = area_of_row rows.list.items t no_area r (holds.runs t runs) ∙ ap (λ (u : row.Thread). u.area) (sym is)
 
-pub running_thread : (gs : List Granule) (rows : Rows) (t : ℕ) (r : row.Thread) → Holds gs rows → rows.running ≡ Some t → r ≡ get_or rows.list.items t r
-    → thread (seen gs rows) t ≡ thread_of gs true r
+pub running_thread : (gs : List Granule) (rows : Rows) (t : ℕ) (r : row.Thread) → IsEngine gs rows → rows.running ≡ Some t → r ≡ get_or rows.list.items t r
+    → thread (engine_view gs rows) t ≡ thread_of gs true r
 running_thread gs rows t r holds runs is = thread_is gs rows.list.items rows.running t r true (holds.runs t runs) is (runs_it rows t runs)
 
-pub running_top : (gs : List Granule) (rows : Rows) (t : ℕ) (r : row.Thread) → Holds gs rows → rows.running ≡ Some t → r ≡ get_or rows.list.items t r
-    → frame_top (thread (seen gs rows) t).frames ≡ r.top
+pub running_top : (gs : List Granule) (rows : Rows) (t : ℕ) (r : row.Thread) → IsEngine gs rows → rows.running ≡ Some t → r ≡ get_or rows.list.items t r
+    → frame_top (thread (engine_view gs rows) t).frames ≡ r.top
 running_top gs rows t r holds runs is =
     ap (λ (u : Thread). frame_top u.frames) (running_thread gs rows t r holds runs is)
     ∙ ap (λ (fs : List Frame). frame_top fs) (frames_are gs true r ((running_kept gs rows t r holds runs is).kept.alive refl))
@@ -90,15 +90,15 @@ has_stack g base gs runs t l s =
     }
 
 -- what a call and a frame's end ask of the row
-pub ready_is : (gs : List Granule) (rows : Rows) (t : ℕ) (r : row.Thread) → Holds gs rows → rows.running ≡ Some t → r ≡ get_or rows.list.items t r
-    → TopLies (seen gs rows) t → IsReady gs r
+pub ready_is : (gs : List Granule) (rows : Rows) (t : ℕ) (r : row.Thread) → IsEngine gs rows → rows.running ≡ Some t → r ≡ get_or rows.list.items t r
+    → TopLies (engine_view gs rows) t → IsReady gs r
 ready_is gs rows t r holds runs is top =
     let l = running_kept gs rows t r holds runs is in
     let area = running_area gs rows t r holds runs is in
     let here = running_top gs rows t r holds runs is in
-    let low : (area_at (seen gs rows) t).stack ≤ r.top = subst (λ n. (area_at (seen gs rows) t).stack ≤ n) here top.low in
-    let high : r.top ≤ (area_at (seen gs rows) t).stack + (area_at (seen gs rows) t).stack_length =
-    subst (λ n. n ≤ (area_at (seen gs rows) t).stack + (area_at (seen gs rows) t).stack_length) here top.high in
+    let low : (area_at (engine_view gs rows) t).stack ≤ r.top = subst (λ n. (area_at (engine_view gs rows) t).stack ≤ n) here top.low in
+    let high : r.top ≤ (area_at (engine_view gs rows) t).stack + (area_at (engine_view gs rows) t).stack_length =
+    subst (λ n. n ≤ (area_at (engine_view gs rows) t).stack + (area_at (engine_view gs rows) t).stack_length) here top.high in
     record {
       area = l.kept.area;
       stack = has_stack rows.region rows.heap.range.base gs true r l (running_stack gs rows t r holds runs is);
@@ -121,7 +121,7 @@ hidden_place g k hidden = (
     below a b e = elim (lt_tells a b) [ inl x ↦ x.1 | inr x ↦ absurd (let clash : true ≡ false = sym e ∙ x.0 in cc) ]
 
 -- what stands in a stack
-stack_seen : (gs : List Granule) (rows : Rows) (a : Area) (j : ℕ) → Holds gs rows → StackLies rows.region rows.heap.range.base (8 * length gs) a
+stack_seen : (gs : List Granule) (rows : Rows) (a : Area) (j : ℕ) → IsEngine gs rows → StackLies rows.region rows.heap.range.base (8 * length gs) a
     → a.stack ≤ rows.region.ram + 8 * j → rows.region.ram + 8 * j < a.stack + a.stack_length → hidden gs rows j ≡ false
 stack_seen gs rows a j holds s low high = elim (bool_tells (hidden gs rows j)) [
   | inl is_hidden ↦ absurd (elim (hidden_cases gs rows j holds is_hidden) [
@@ -140,24 +140,24 @@ never_hidden gs rows j is_hidden open_ = let clash : true ≡ false = sym is_hid
 
 -- ---- one is zeroed
 
-stack_stays : (gs : List Granule) (rows : Rows) (a : Area) (high : ℕ) → Holds gs rows → StackLies rows.region rows.heap.range.base (8 * length gs) a → high ≤ a.stack + a.stack_length
+stack_stays : (gs : List Granule) (rows : Rows) (a : Area) (high : ℕ) → IsEngine gs rows → StackLies rows.region rows.heap.range.base (8 * length gs) a → high ≤ a.stack + a.stack_length
     → HiddenStays gs (zeroed_from a.stack high rows.region.ram gs) rows
 stack_stays gs rows a high holds s le = λ k is_hidden.
-    zeroed_at a.stack high rows.region.ram gs k (λ (g : Granule). g.cap ≡ held gs k)
+    zeroed_at a.stack high rows.region.ram gs k (λ (g : Granule). g.cap ≡ cap_in gs k)
     (λ lo hi. absurd (never_hidden gs rows k is_hidden (stack_seen gs rows a k holds s lo (omega (arith, hi, le)))))
     (λ out. refl)
 
-pub zeroed_holds : (gs : List Granule) (rows : Rows) (a : Area) (high : ℕ) → Holds gs rows → StackLies rows.region rows.heap.range.base (8 * length gs) a
-    → high ≤ a.stack + a.stack_length → Holds (zeroed_from a.stack high rows.region.ram gs) rows
+pub zeroed_holds : (gs : List Granule) (rows : Rows) (a : Area) (high : ℕ) → IsEngine gs rows → StackLies rows.region rows.heap.range.base (8 * length gs) a
+    → high ≤ a.stack + a.stack_length → IsEngine (zeroed_from a.stack high rows.region.ram gs) rows
 zeroed_holds gs rows a high holds s le =
     away_holds gs (zeroed_from a.stack high rows.region.ram gs) rows holds (zeroed_length a.stack high rows.region.ram gs) (stack_stays gs rows a high holds s le)
 
-pub zeroed_is_seen : (gs : List Granule) (rows : Rows) (a : Area) (high : ℕ) → Holds gs rows → StackLies rows.region rows.heap.range.base (8 * length gs) a
+pub zeroed_is_seen : (gs : List Granule) (rows : Rows) (a : Area) (high : ℕ) → IsEngine gs rows → StackLies rows.region rows.heap.range.base (8 * length gs) a
     → high ≤ a.stack + a.stack_length
-    → seen (zeroed_from a.stack high rows.region.ram gs) rows ≡ with_granules (seen gs rows) (zeroed_from a.stack high rows.region.ram (seen gs rows).granules)
+    → engine_view (zeroed_from a.stack high rows.region.ram gs) rows ≡ with_granules (engine_view gs rows) (zeroed_from a.stack high rows.region.ram (engine_view gs rows).granules)
 zeroed_is_seen gs rows a high holds s le =
     away_seen gs (zeroed_from a.stack high rows.region.ram gs) rows holds (zeroed_length a.stack high rows.region.ram gs) (stack_stays gs rows a high holds s le)
-    ∙ ap (λ xs. with_granules (seen gs rows) xs) (sym (zeroed_seen (hidden gs rows) gs a.stack high rows.region.ram))
+    ∙ ap (λ xs. with_granules (engine_view gs rows) xs) (sym (zeroed_seen (hidden gs rows) gs a.stack high rows.region.ram))
 
 -- a change of a range, before and after other granules are zeroed
 pub zeroed_touches : (lo hi from to place : ℕ) (gs hs : List Granule) → Touches lo hi gs hs → Touches lo hi (zeroed_from from to place gs) (zeroed_from from to place hs)
@@ -182,7 +182,7 @@ pub record InStack (rows : Rows) (a : Area) (k n : ℕ) : Type 0 where
   pub low : a.stack ≤ rows.region.ram + 8 * k
   pub high : rows.region.ram + 8 * (k + n) ≤ a.stack + a.stack_length
 
-words_stay : (gs : List Granule) (rows : Rows) (a : Area) (k : ℕ) (cs : List Cap) → Holds gs rows → StackLies rows.region rows.heap.range.base (8 * length gs) a
+words_stay : (gs : List Granule) (rows : Rows) (a : Area) (k : ℕ) (cs : List Cap) → IsEngine gs rows → StackLies rows.region rows.heap.range.base (8 * length gs) a
     → InStack rows a k (length cs) → HiddenStays gs (holding_all gs k cs) rows
 words_stay gs rows a k cs holds s place = λ j is_hidden.
     let low = place.low in
@@ -198,16 +198,16 @@ words_stay gs rows a k cs holds s place = λ j is_hidden.
       ]
     ]))
 
-pub words_hold : (gs : List Granule) (rows : Rows) (a : Area) (k : ℕ) (cs : List Cap) → Holds gs rows → StackLies rows.region rows.heap.range.base (8 * length gs) a
-    → InStack rows a k (length cs) → Holds (holding_all gs k cs) rows
+pub words_hold : (gs : List Granule) (rows : Rows) (a : Area) (k : ℕ) (cs : List Cap) → IsEngine gs rows → StackLies rows.region rows.heap.range.base (8 * length gs) a
+    → InStack rows a k (length cs) → IsEngine (holding_all gs k cs) rows
 words_hold gs rows a k cs holds s place =
     away_holds gs (holding_all gs k cs) rows holds (all_length gs k cs) (words_stay gs rows a k cs holds s place)
 
-pub words_are_seen : (gs : List Granule) (rows : Rows) (a : Area) (k : ℕ) (cs : List Cap) → Holds gs rows → StackLies rows.region rows.heap.range.base (8 * length gs) a
-    → InStack rows a k (length cs) → seen (holding_all gs k cs) rows ≡ with_granules (seen gs rows) (holding_all (seen gs rows).granules k cs)
+pub words_are_seen : (gs : List Granule) (rows : Rows) (a : Area) (k : ℕ) (cs : List Cap) → IsEngine gs rows → StackLies rows.region rows.heap.range.base (8 * length gs) a
+    → InStack rows a k (length cs) → engine_view (holding_all gs k cs) rows ≡ with_granules (engine_view gs rows) (holding_all (engine_view gs rows).granules k cs)
 words_are_seen gs rows a k cs holds s place =
     let low = place.low in
     let high = place.high in
     away_seen gs (holding_all gs k cs) rows holds (all_length gs k cs) (words_stay gs rows a k cs holds s place)
-    ∙ ap (λ xs. with_granules (seen gs rows) xs)
+    ∙ ap (λ xs. with_granules (engine_view gs rows) xs)
     (sym (held_seen (hidden gs rows) gs k cs (λ j from to. stack_seen gs rows a j holds s (omega (arith, low, from)) (omega (arith, high, to)))))

@@ -1,4 +1,4 @@
--- A slice of a sweep over memory, as what is seen of it: behind the veil, and in the threads' areas; and what it leaves
+-- A slice of a sweep over memory, as what is seen of it: with hidden granules, and in the threads' areas; and what it leaves
 -- of the heap.
 use Rattle.std.proofs.Common.{ℕ, zero, suc, ◌≡◌, ◌+◌, ◌-◌, ◌*◌, ◌==◌, ◌<◌, ◌≤◌, ◌⊎◌, inl, inr, ◌&&◌, Bool, true, false, nat_le, nat_lt, List, [], ◌∷◌, length, map, Option, Some, refl, sym, ap, ◌∙◌, arith, subst}
 use Rattle.std.proofs.lemmas.List.{ext_get_or}
@@ -6,28 +6,28 @@ use Rattle.std.proofs.Math.ListN.{get_or}
 use Rattle.law_lists.proofs.Tests.{bool_tells, le_tells, lt_tells}
 use Rattle.def_words.specs.declared.Cap.{Cap}
 use Rattle.def_memory.specs.declared.Granule.{Granule}
-use Rattle.def_memory.specs.Granules.{plain, nothing, granule_at, held, held_from}
+use Rattle.def_memory.specs.Granules.{plain, nothing, granule_at, cap_in, caps_from}
 use Rattle.def_memory.specs.Ranges.{is_tagged}
 use Rattle.def_machine.specs.State.{Thread, Frame, nobody}
 use Rattle.def_machine.specs.Objects.{Each}
 use Rattle.def_machine.specs.Slices.{is_number, filtered_between, kept_granules, kept_frames, kept_registers, kept_thread, kept_threads, KeepsWords}
 use Rattle.def_machine.specs.Memory.{filtered_in}
 use Rattle.def_areas.specs.Areas.{frames_in, frames_from}
-use Rattle.def_veil.specs.Veil.{veiled}
+use Rattle.law_hidden.specs.Hiding.{with_hidden}
 use Rattle.def_chunks.specs.Heaps.{HeapRow, objects_of, Laid}
 use Rattle.law_chunks.specs.Kept.{KeepsHeap, KeepsUntagged}
 use Rattle.law_chunks.proofs.Kept.{untag_keeps}
 use Rattle.ct_revoke.specs.Slices.{IsSliced}
-use Rattle.law_heaped.specs.Heaped.{heap_hides}
-use Rattle.law_heaped.proofs.Shown.{hides_same}
-use Rattle.law_heaped.proofs.Slices.{kept_same, kept_length, passed_same, slice_veiled}
-use Rattle.law_heaped.proofs.Areas.{held_kept, registers_kept, frames_kept, passed_keeps}
+use Rattle.law_hidden.specs.Heaped.{heap_hides}
+use Rattle.law_hidden.proofs.Shown.{hides_same}
+use Rattle.law_hidden.proofs.Slices.{kept_same, kept_length, passed_same, slice_with_hidden}
+use Rattle.law_hidden.proofs.Areas.{held_kept, registers_kept, frames_kept, passed_keeps}
 use Rattle.ct_areas.specs.declared.thread.Thread as row
 use Rattle.ct_areas.specs.Threads.{HasArea, area_begin, living, thread_of}
 use Rattle.ct_areas.proofs.Places.{area_even}
 use Rattle.ct_engine.specs.declared.rows.Rows.{Rows}
-use Rattle.ct_engine.specs.Seen.{Seen, threads_of, seen, seen_by, hidden, no_area}
-use Rattle.ct_engine.specs.Kept.{IsPlain, IsKept, AreasFrom, StackLies, IsClear, Holds}
+use Rattle.ct_engine.specs.Seen.{Seen, threads_of, engine_view, seen_by, hidden, no_area}
+use Rattle.ct_engine.specs.Kept.{IsPlain, IsKept, AreasFrom, StackLies, IsClear, IsEngine}
 use Rattle.ct_engine.specs.Sweeps.{area_offset, with_slice}
 
 -- ---- granule by granule
@@ -80,21 +80,21 @@ frames_area f z gs t area is =
     ∙ ap (λ m. kept_frames f m (frames_from gs (area_begin t.area) t.actor t.top t.handling t.depth)) (sym is)
 
 registers_area : (f : ℕ → Cap → Cap) → KeepsWords f → (gs : List Granule) (begin area : ℕ) → area ≡ 8 * begin
-    → plain 0 ∷ held_from (kept_granules f 0 gs) (begin + 1) 15 ≡ kept_registers f area (plain 0 ∷ held_from gs (begin + 1) 15)
+    → plain 0 ∷ caps_from (kept_granules f 0 gs) (begin + 1) 15 ≡ kept_registers f area (plain 0 ∷ caps_from gs (begin + 1) 15)
 registers_area f z gs begin area is =
     let next : 8 * (begin + 1) ≡ area + 8 = omega (arith, is) in
-    ap (λ cs. plain 0 ∷ cs) (registers_kept f z gs (begin + 1) 15 ∙ ap (λ m. kept_registers f m (held_from gs (begin + 1) 15)) next)
-    ∙ ap (λ c. c ∷ kept_registers f (area + 8) (held_from gs (begin + 1) 15)) (sym (z.zero_is area))
+    ap (λ cs. plain 0 ∷ cs) (registers_kept f z gs (begin + 1) 15 ∙ ap (λ m. kept_registers f m (caps_from gs (begin + 1) 15)) next)
+    ∙ ap (λ c. c ∷ kept_registers f (area + 8) (caps_from gs (begin + 1) 15)) (sym (z.zero_is area))
 
 living_kept : (f : ℕ → Cap → Cap) → KeepsWords f → (gs : List Granule) (t : row.Thread) (area : ℕ) → area ≡ 8 * area_begin t.area → (runs : Bool)
     → living (kept_granules f 0 gs) runs t ≡ kept_thread f area runs (living gs runs t)
 living_kept f z gs t area is true = ap (λ fs. let x : Thread = record (living gs true t) { frames = fs } in x) (frames_area f z gs t area is)
 living_kept f z gs t area is false =
     let put : Cap → List Cap → List Frame → Thread = λ p rs fs. record (living gs false t) { pcc = p; registers = rs; frames = fs } in
-    let head : held (kept_granules f 0 gs) (area_begin t.area) ≡ f area (held gs (area_begin t.area)) = held_kept f z gs (area_begin t.area) ∙ ap (λ m. f m (held gs (area_begin t.area))) (sym is) in
-    ap (λ p. put p (plain 0 ∷ held_from (kept_granules f 0 gs) (area_begin t.area + 1) 15) (frames_in (kept_granules f 0 gs) (area_begin t.area) t.actor t.top t.handling t.depth)) head
-    ∙ ap (λ rs. put (f area (held gs (area_begin t.area))) rs (frames_in (kept_granules f 0 gs) (area_begin t.area) t.actor t.top t.handling t.depth)) (registers_area f z gs (area_begin t.area) area is)
-    ∙ ap (λ fs. put (f area (held gs (area_begin t.area))) (kept_registers f area (plain 0 ∷ held_from gs (area_begin t.area + 1) 15)) fs) (frames_area f z gs t area is)
+    let head : cap_in (kept_granules f 0 gs) (area_begin t.area) ≡ f area (cap_in gs (area_begin t.area)) = held_kept f z gs (area_begin t.area) ∙ ap (λ m. f m (cap_in gs (area_begin t.area))) (sym is) in
+    ap (λ p. put p (plain 0 ∷ caps_from (kept_granules f 0 gs) (area_begin t.area + 1) 15) (frames_in (kept_granules f 0 gs) (area_begin t.area) t.actor t.top t.handling t.depth)) head
+    ∙ ap (λ rs. put (f area (cap_in gs (area_begin t.area))) rs (frames_in (kept_granules f 0 gs) (area_begin t.area) t.actor t.top t.handling t.depth)) (registers_area f z gs (area_begin t.area) area is)
+    ∙ ap (λ fs. put (f area (cap_in gs (area_begin t.area))) (kept_registers f area (plain 0 ∷ caps_from gs (area_begin t.area + 1) 15)) fs) (frames_area f z gs t area is)
 
 thread_kept : (f : ℕ → Cap → Cap) → KeepsWords f → (gs : List Granule) (size : ℕ) (runs : Bool) (t : row.Thread) → HasArea size t.area
     → thread_of (kept_granules f 0 gs) runs t ≡ kept_thread f (t.area.trusted - t.area.ram) runs (thread_of gs runs t)
@@ -138,8 +138,8 @@ plain_is c n e = rw e refl
 abbrev KeepsPlain : (ℕ → Cap → Cap) → Type 0
 KeepsPlain f = (n w : ℕ) → f n (plain w) ≡ plain w
 
-word_kept : (f : ℕ → Cap → Cap) → KeepsWords f → KeepsPlain f → (gs : List Granule) (m : ℕ) → IsPlain (held gs m) → IsPlain (held (kept_granules f 0 gs) m)
-word_kept f z p gs m q = plain_is (held (kept_granules f 0 gs) m) (held gs m).word (held_kept f z gs m ∙ ap (λ c. f (8 * m) c) q ∙ p (8 * m) (held gs m).word)
+word_kept : (f : ℕ → Cap → Cap) → KeepsWords f → KeepsPlain f → (gs : List Granule) (m : ℕ) → IsPlain (cap_in gs m) → IsPlain (cap_in (kept_granules f 0 gs) m)
+word_kept f z p gs m q = plain_is (cap_in (kept_granules f 0 gs) m) (cap_in gs m).word (held_kept f z gs m ∙ ap (λ c. f (8 * m) c) q ∙ p (8 * m) (cap_in gs m).word)
 
 row_kept : (f : ℕ → Cap → Cap) → KeepsWords f → KeepsPlain f → (gs : List Granule) (runs : Bool) (t : row.Thread) → IsKept gs runs t → IsKept (kept_granules f 0 gs) runs t
 row_kept f z p gs runs t k = record {
@@ -171,7 +171,7 @@ slice_untags : (ram : ℕ) (gs : List Granule) (low high : ℕ) → KeepsUntagge
 slice_untags ram gs low high = record {
   size = kept_length (λ n c. filtered_between ram gs low high n c) 0 gs;
   same = λ k off. held_kept (λ n c. filtered_between ram gs low high n c) (passed_keeps ram gs low high) gs k
-      ∙ untagged_passes ram gs low high (8 * k) (held gs k) off;
+      ∙ untagged_passes ram gs low high (8 * k) (cap_in gs k) off;
 }
 
 slice_heap : (ram : ℕ) (gs : List Granule) (low high : ℕ) (h : HeapRow) → Laid h gs → KeepsHeap h gs (kept_granules (λ n c. filtered_between ram gs low high n c) 0 gs)
@@ -189,10 +189,10 @@ slice_clear ram gs low high h laid clear k hid =
 abbrev pub with_front : Rows → Option ℕ → Rows
 with_front rows front = record rows { front = front }
 
-pub slice_holds : (gs hs : List Granule) (rows : Rows) (low high : ℕ) → IsSliced rows.region.ram low high gs hs → Holds gs rows → high ≤ 8 * length gs → Holds hs (with_front rows (Some high))
+pub slice_holds : (gs hs : List Granule) (rows : Rows) (low high : ℕ) → IsSliced rows.region.ram low high gs hs → IsEngine gs rows → high ≤ 8 * length gs → IsEngine hs (with_front rows (Some high))
 slice_holds gs hs rows low high is holds inside =
     let f : ℕ → Cap → Cap = λ n c. filtered_between rows.region.ram gs low high n c in
-    let kept : Holds (kept_granules f 0 gs) (with_front rows (Some high)) = record {
+    let kept : IsEngine (kept_granules f 0 gs) (with_front rows (Some high)) = record {
       areas = areas_kept f (passed_keeps rows.region.ram gs low high) (λ n w. plain_passes rows.region.ram gs low high n w)
           rows.region.ram gs rows.running 0 rows.region.trusted rows.region.end rows.list.items holds.areas;
       runs = holds.runs;
@@ -206,24 +206,24 @@ slice_holds gs hs rows low high is holds inside =
       };
       room = holds.room;
     } in
-    subst (λ xs. Holds xs (with_front rows (Some high))) (sym (slice_kept rows.region.ram low high gs hs is)) kept
+    subst (λ xs. IsEngine xs (with_front rows (Some high))) (sym (slice_kept rows.region.ram low high gs hs is)) kept
 
-slice_objects : (gs hs : List Granule) (rows : Rows) (low high : ℕ) → IsSliced rows.region.ram low high gs hs → Holds gs rows → objects_of rows.heap hs ≡ objects_of rows.heap gs
+slice_objects : (gs hs : List Granule) (rows : Rows) (low high : ℕ) → IsSliced rows.region.ram low high gs hs → IsEngine gs rows → objects_of rows.heap hs ≡ objects_of rows.heap gs
 slice_objects gs hs rows low high is holds =
     ap (λ xs. objects_of rows.heap xs) (slice_kept rows.region.ram low high gs hs is) ∙ (slice_heap rows.region.ram gs low high rows.heap holds.heap.laid).objects
 
-pub slice_seen : (gs hs : List Granule) (rows : Rows) (low high : ℕ) → IsSliced rows.region.ram low high gs hs → Holds gs rows → seen hs (with_front rows (Some high)) ≡ with_slice (seen gs rows) low high
+pub slice_seen : (gs hs : List Granule) (rows : Rows) (low high : ℕ) → IsSliced rows.region.ram low high gs hs → IsEngine gs rows → engine_view hs (with_front rows (Some high)) ≡ with_slice (engine_view gs rows) low high
 slice_seen gs hs rows low high is holds =
     let ram : ℕ = rows.region.ram in
     let v : ℕ → Bool = hidden gs rows in
-    let shown : List Granule = veiled v gs in
+    let shown : List Granule = with_hidden v gs in
     let f : ℕ → Cap → Cap = λ n c. filtered_between ram shown low high n c in
-    let area : ℕ → ℕ = area_offset (seen gs rows) in
-    let put : List Granule → List Thread → Seen = λ xs ts. record (seen gs rows) { granules = xs; threads = ts; front = Some high } in
+    let area : ℕ → ℕ = area_offset (engine_view gs rows) in
+    let put : List Granule → List Thread → Seen = λ xs ts. record (engine_view gs rows) { granules = xs; threads = ts; front = Some high } in
     let memory : hs ≡ kept_granules f 0 gs = slice_kept ram low high gs hs is
     ∙ sym (kept_same f (λ n c. filtered_between ram gs low high n c) (λ n c. passed_same v ram gs low high n c) 0 gs) in
-    let granules : veiled v hs ≡ kept_granules f 0 shown =
-    ap (λ xs. veiled v xs) (slice_kept ram low high gs hs is) ∙ sym (slice_veiled v ram gs low high) in
+    let granules : with_hidden v hs ≡ kept_granules f 0 shown =
+    ap (λ xs. with_hidden v xs) (slice_kept ram low high gs hs is) ∙ sym (slice_with_hidden v ram gs low high) in
     let begins : BeginAt area ram 0 rows.list.items = λ k lt. (let none : 0 + k ≡ k = omega arith in ap area none) in
     let threads : threads_of hs rows.running 0 rows.list.items ≡ kept_threads f area rows.running 0 (threads_of gs rows.running 0 rows.list.items) =
     ap (λ xs. threads_of xs rows.running 0 rows.list.items) memory

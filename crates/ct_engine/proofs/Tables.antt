@@ -3,11 +3,11 @@ use Rattle.std.proofs.Common.{◌≡◌, List, ◌∙◌}
 use Rattle.def_memory.specs.declared.Granule.{Granule}
 use Rattle.ct_token.specs.Table.{Table}
 use Rattle.ct_engine.specs.declared.rows.Rows.{Rows}
-use Rattle.ct_engine.specs.Kept.{Holds}
+use Rattle.ct_engine.specs.Kept.{IsEngine}
 
 -- these rows, with this table
 abbrev pub with_table : Rows → Table → Rows
 with_table rows k = record rows { tokens = k }
 
-pub table_holds : (gs : List Granule) (rows : Rows) (k : Table) → Holds gs rows → k.room ≡ rows.tokens.room → Holds gs (with_table rows k)
+pub table_holds : (gs : List Granule) (rows : Rows) (k : Table) → IsEngine gs rows → k.room ≡ rows.tokens.room → IsEngine gs (with_table rows k)
 table_holds gs rows k holds same = record { areas = holds.areas; runs = holds.runs; stacks = holds.stacks; heap = holds.heap; room = same ∙ holds.room }

@@ -3,7 +3,7 @@ use Rattle.std.proofs.Common.{ℕ, ◌≡◌, ◌+◌, ◌*◌, ◌<◌, ◌≤�
 use Rattle.std.proofs.Math.ListN.{get_or, set}
 use Rattle.law_granules.proofs.Lists.{zeroed_length, zeroed_at}
 use Rattle.def_memory.specs.declared.Granule.{Granule}
-use Rattle.def_memory.specs.Granules.{plain, held}
+use Rattle.def_memory.specs.Granules.{plain, cap_in}
 use Rattle.def_memory.specs.Ranges.{zeroed_from}
 use Rattle.def_machine.specs.State.{Thread}
 use Rattle.def_machine.specs.Slices.{is_number}
@@ -14,8 +14,8 @@ use Rattle.ct_areas.specs.Threads.{area_begin, area_end, thread_of}
 use Rattle.ct_areas.specs.Parts.{register_in}
 use Rattle.ct_switch.specs.Ready.{IsReady}
 use Rattle.ct_engine.specs.declared.rows.Rows.{Rows}
-use Rattle.ct_engine.specs.Seen.{Seen, seen, with_thread, with_running, seen_of}
-use Rattle.ct_engine.specs.Kept.{IsKept, AreasFrom, HeapHolds, Holds}
+use Rattle.ct_engine.specs.Seen.{Seen, engine_view, with_thread, with_running, seen_of}
+use Rattle.ct_engine.specs.Kept.{IsKept, AreasFrom, HeapHolds, IsEngine}
 use Rattle.ct_engine.proofs.HeapStays.{turn_heap}
 use Rattle.ct_engine.specs.Calls.{switched}
 use Rattle.ct_engine.proofs.Lists.{OthersRun, within, kept_same}
@@ -36,12 +36,12 @@ kept_as gs runs t q k place deep zero_ = record {
 
 -- zeroing the stack up to an address leaves the area
 pub beside_stack : (gs : List Granule) (t : row.Thread) (high m : ℕ) → IsReady gs t → high ≤ t.area.stack + t.area.stack_length → (ms : List Granule)
-    → area_begin t.area ≤ m → m < area_end t.area → held (zeroed_from t.area.stack high t.area.ram ms) m ≡ held ms m
+    → area_begin t.area ≤ m → m < area_end t.area → cap_in (zeroed_from t.area.stack high t.area.ram ms) m ≡ cap_in ms m
 beside_stack gs t high m ready le ms lo hi =
     let w = within (8 * length gs) t.area m ready.area lo hi in
     let from = w.0 in
     let to = w.1 in
-    zeroed_at t.area.stack high t.area.ram ms m (λ (g : Granule). g.cap ≡ held ms m)
+    zeroed_at t.area.stack high t.area.ram ms m (λ (g : Granule). g.cap ≡ cap_in ms m)
     (λ a b. absurd (elim ready.stack.apart [ inl x ↦ omega (arith, x, le, from, b) | inr x ↦ omega (arith, x, to, a) ]))
     (λ out. refl)
 
@@ -53,7 +53,7 @@ kept_beside gs ms t u high runs ready le place k =
 
 -- ---- all that is seen
 
-pub switched_areas : (gs hs : List Granule) (rows : Rows) (t : ℕ) (r q : row.Thread) (high : ℕ) (now : Option ℕ) → Holds gs rows → rows.running ≡ Some t
+pub switched_areas : (gs hs : List Granule) (rows : Rows) (t : ℕ) (r q : row.Thread) (high : ℕ) (now : Option ℕ) → IsEngine gs rows → rows.running ≡ Some t
     → r ≡ get_or rows.list.items t r → high ≤ r.area.stack + r.area.stack_length
     → Touches (area_begin r.area) (area_end r.area) (zeroed_from r.area.stack high r.area.ram gs) hs → OthersRun rows.running now t → q.area ≡ r.area
     → IsKept hs (is_number now t) q → AreasFrom rows.region.ram hs now 0 rows.region.trusted rows.region.end (set rows.list.items t q)
@@ -65,10 +65,10 @@ switched_areas gs hs rows t r q high now holds runs is le touches others place k
     areas_turn rows.region ms hs rows.list.items rows.running now t r q
     (zeroed_holds gs rows r.area high holds (running_stack gs rows t r holds runs is) le).areas (holds.runs t runs) is after others place kept
 
-pub switched_seen : (gs hs : List Granule) (rows : Rows) (t : ℕ) (r q : row.Thread) (high : ℕ) (now : Option ℕ) (x : Thread) → Holds gs rows → rows.running ≡ Some t
+pub switched_seen : (gs hs : List Granule) (rows : Rows) (t : ℕ) (r q : row.Thread) (high : ℕ) (now : Option ℕ) (x : Thread) → IsEngine gs rows → rows.running ≡ Some t
     → r ≡ get_or rows.list.items t r → high ≤ r.area.stack + r.area.stack_length
     → Touches (area_begin r.area) (area_end r.area) (zeroed_from r.area.stack high r.area.ram gs) hs → OthersRun rows.running now t → q.area ≡ r.area
-    → thread_of hs (is_number now t) q ≡ x → seen_of hs rows (set rows.list.items t q) now ≡ switched (seen gs rows) t high x now
+    → thread_of hs (is_number now t) q ≡ x → seen_of hs rows (set rows.list.items t q) now ≡ switched (engine_view gs rows) t high x now
 switched_seen gs hs rows t r q high now x holds runs is le touches others place same =
     let base = (running_kept gs rows t r holds runs is).base in
     let stack = running_stack gs rows t r holds runs is in
@@ -80,18 +80,18 @@ switched_seen gs hs rows t r q high now x holds runs is le touches others place 
     ∙ ap (λ (a : Area). switched_at a) (sym (running_area gs rows t r holds runs is))
   where
     switched_at : Area → Seen
-    switched_at a = record (seen gs rows) {
-      granules = zeroed_from a.stack high rows.region.ram (seen gs rows).granules;
-      threads = set (seen gs rows).threads t x;
+    switched_at a = record (engine_view gs rows) {
+      granules = zeroed_from a.stack high rows.region.ram (engine_view gs rows).granules;
+      threads = set (engine_view gs rows).threads t x;
       running = now;
     }
 
-pub running_heap : (gs hs : List Granule) (rows : Rows) (t : ℕ) (r : row.Thread) → Holds gs rows → rows.running ≡ Some t
+pub running_heap : (gs hs : List Granule) (rows : Rows) (t : ℕ) (r : row.Thread) → IsEngine gs rows → rows.running ≡ Some t
     → r ≡ get_or rows.list.items t r → Touches (area_begin r.area) (area_end r.area) gs hs → HeapHolds hs rows.region rows.heap rows.front
 running_heap gs hs rows t r holds runs is touches =
     turn_heap gs hs rows.region rows.heap rows.front true r holds.heap (running_kept gs rows t r holds runs is) touches
 
-pub switched_heap : (gs hs : List Granule) (rows : Rows) (t : ℕ) (r : row.Thread) (high : ℕ) → Holds gs rows → rows.running ≡ Some t
+pub switched_heap : (gs hs : List Granule) (rows : Rows) (t : ℕ) (r : row.Thread) (high : ℕ) → IsEngine gs rows → rows.running ≡ Some t
     → r ≡ get_or rows.list.items t r → high ≤ r.area.stack + r.area.stack_length
     → Touches (area_begin r.area) (area_end r.area) (zeroed_from r.area.stack high r.area.ram gs) hs → HeapHolds hs rows.region rows.heap rows.front
 switched_heap gs hs rows t r high holds runs is le touches =

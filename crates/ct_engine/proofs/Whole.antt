@@ -11,17 +11,17 @@ use Rattle.def_machine.specs.Slices.{is_number}
 use Rattle.def_machine.specs.Threads.{picked_with}
 use Rattle.def_machine.specs.Memory.{filtered_in}
 use Rattle.def_areas.specs.Touches.{Touches}
-use Rattle.def_veil.specs.Veil.{veiled}
-use Rattle.law_veil.proofs.Granules.{hidden_changes}
-use Rattle.law_veil.proofs.Steps.{filtered_same}
+use Rattle.law_hidden.specs.Hiding.{with_hidden}
+use Rattle.law_hidden.proofs.Granules.{hidden_changes}
+use Rattle.law_hidden.proofs.Steps.{filtered_same}
 use Rattle.law_areas.proofs.Frames.{frames_count}
 use Rattle.ct_areas.proofs.Places.{frames_of}
 use Rattle.ct_areas.specs.declared.thread.Thread as row
 use Rattle.ct_areas.specs.Threads.{area_begin, area_end, thread_of}
 use Rattle.ct_engine.specs.declared.rows.Region.{Region}
 use Rattle.ct_engine.specs.declared.rows.Rows.{Rows}
-use Rattle.ct_engine.specs.Seen.{Seen, threads_of, seen, thread, with_thread, with_running, resumed, region_hides, hides_over, seen_by, seen_of, hidden}
-use Rattle.ct_engine.specs.Kept.{IsKept, AreasFrom, HeapHolds, Holds}
+use Rattle.ct_engine.specs.Seen.{Seen, threads_of, engine_view, thread, with_thread, with_running, resumed, region_hides, hides_over, seen_by, seen_of, hidden}
+use Rattle.ct_engine.specs.Kept.{IsKept, AreasFrom, HeapHolds, IsEngine}
 use Rattle.ct_engine.proofs.Lists.{Lies, OthersRun, lies, within, areas_put, threads_put, places_put, the_thread}
 use Rattle.ct_engine.proofs.HeapStays.{turn_objects}
 
@@ -44,7 +44,7 @@ hidden_is g k low high = elim (le_tells g.trusted (g.ram + 8 * k)) [
 
 -- a change of one area isn't seen
 pub unseen : (os : List Object) (rows : Rows) (gs hs : List Granule) (runs : Bool) (t : row.Thread) → Lies rows.region.ram gs runs rows.region.trusted rows.region.end t
-    → Touches (area_begin t.area) (area_end t.area) gs hs → veiled (hides_over rows.region rows.heap.range os) hs ≡ veiled (hides_over rows.region rows.heap.range os) gs
+    → Touches (area_begin t.area) (area_end t.area) gs hs → with_hidden (hides_over rows.region rows.heap.range os) hs ≡ with_hidden (hides_over rows.region rows.heap.range os) gs
 unseen os rows gs hs runs t l touches =
     hidden_changes (hides_over rows.region rows.heap.range os) gs hs (area_begin t.area) (area_end t.area) touches (λ k lo hi.
     let w = within (8 * length gs) t.area k l.kept.area lo hi in
@@ -141,34 +141,34 @@ takes_on : (run : Option ℕ) (t : ℕ) → run ≡ None → OthersRun run (Some
 takes_on run t runs = λ u no_. other t u no_ ∙ sym (ap (λ o. is_number o u) runs)
 
 -- what the row of the running thread keeps, and of one that doesn't
-pub running_kept : (gs : List Granule) (rows : Rows) (t : ℕ) (r : row.Thread) → Holds gs rows → rows.running ≡ Some t → r ≡ get_or rows.list.items t r
+pub running_kept : (gs : List Granule) (rows : Rows) (t : ℕ) (r : row.Thread) → IsEngine gs rows → rows.running ≡ Some t → r ≡ get_or rows.list.items t r
     → Lies rows.region.ram gs true rows.region.trusted rows.region.end r
 running_kept gs rows t r holds runs is =
     kept_of rows.region gs rows.list.items rows.running t r true holds.areas (holds.runs t runs) is (runs_it rows t runs)
 
-pub stopped_lies : (gs : List Granule) (rows : Rows) (t : ℕ) (r : row.Thread) → Holds gs rows → rows.running ≡ None → t < length rows.list.items
+pub stopped_lies : (gs : List Granule) (rows : Rows) (t : ℕ) (r : row.Thread) → IsEngine gs rows → rows.running ≡ None → t < length rows.list.items
     → r ≡ get_or rows.list.items t r → Lies rows.region.ram gs false rows.region.trusted rows.region.end r
 stopped_lies gs rows t r holds runs lt is =
     kept_of rows.region gs rows.list.items rows.running t r false holds.areas lt is (none_runs rows t runs)
 
 -- ---- a stop
 
-pub stop_areas : (gs hs : List Granule) (rows : Rows) (t : ℕ) (r q : row.Thread) → Holds gs rows → rows.running ≡ Some t → r ≡ get_or rows.list.items t r
+pub stop_areas : (gs hs : List Granule) (rows : Rows) (t : ℕ) (r q : row.Thread) → IsEngine gs rows → rows.running ≡ Some t → r ≡ get_or rows.list.items t r
     → Touches (area_begin r.area) (area_end r.area) gs hs → q.area ≡ r.area → IsKept hs false q
     → AreasFrom rows.region.ram hs None 0 rows.region.trusted rows.region.end (set rows.list.items t q)
 stop_areas gs hs rows t r q holds runs is touches place kept =
     areas_turn rows.region gs hs rows.list.items rows.running None t r q holds.areas (holds.runs t runs) is touches (leaves_off rows.running t runs) place kept
 
-pub stop_seen : (gs hs : List Granule) (rows : Rows) (t : ℕ) (r q : row.Thread) → Holds gs rows → rows.running ≡ Some t → r ≡ get_or rows.list.items t r
+pub stop_seen : (gs hs : List Granule) (rows : Rows) (t : ℕ) (r q : row.Thread) → IsEngine gs rows → rows.running ≡ Some t → r ≡ get_or rows.list.items t r
     → Touches (area_begin r.area) (area_end r.area) gs hs → q.area ≡ r.area → thread_of hs false q ≡ thread_of gs true r
-    → seen_of hs rows (set rows.list.items t q) None ≡ with_running (seen gs rows) None
+    → seen_of hs rows (set rows.list.items t q) None ≡ with_running (engine_view gs rows) None
 stop_seen gs hs rows t r q holds runs is touches place same =
     let ts : List row.Thread = rows.list.items in
     let lt : t < length rows.list.items = holds.runs t runs in
     let here : get_or (threads_of gs rows.running 0 rows.list.items) t nobody ≡ thread_of gs true r = thread_is gs rows.list.items rows.running t r true lt is (runs_it rows t runs) in
     let turn = seen_turn rows gs hs rows.list.items rows.running None t r q (get_or (threads_of gs rows.running 0 rows.list.items) t nobody) holds.areas holds.heap lt is touches
     (leaves_off rows.running t runs) place (same ∙ sym here) in
-    turn ∙ ap (λ (xs : List Thread). let s : Seen = record (seen gs rows) { threads = xs; running = None } in s) (set_self (threads_of gs rows.running 0 rows.list.items) t nobody)
+    turn ∙ ap (λ (xs : List Thread). let s : Seen = record (engine_view gs rows) { threads = xs; running = None } in s) (set_self (threads_of gs rows.running 0 rows.list.items) t nobody)
 
 -- ---- a pick
 
@@ -179,28 +179,28 @@ map_same f k same (c ∷ cs) = rw (same c, map_same f k same cs) refl
 picked_same : (f k : Cap → Cap) (t : Thread) → ((c : Cap) → f c ≡ k c) → picked_with f t ≡ picked_with k t
 picked_same f k t same = rw (same t.pcc, map_same f k same t.registers) refl
 
-pub pick_areas : (gs hs : List Granule) (rows : Rows) (t : ℕ) (r q : row.Thread) → Holds gs rows → rows.running ≡ None → t < length rows.list.items
+pub pick_areas : (gs hs : List Granule) (rows : Rows) (t : ℕ) (r q : row.Thread) → IsEngine gs rows → rows.running ≡ None → t < length rows.list.items
     → r ≡ get_or rows.list.items t r → Touches (area_begin r.area) (area_end r.area) gs hs → q.area ≡ r.area → IsKept hs true q
     → AreasFrom rows.region.ram hs (Some t) 0 rows.region.trusted rows.region.end (set rows.list.items t q)
 pick_areas gs hs rows t r q holds runs lt is touches place kept =
     areas_turn rows.region gs hs rows.list.items rows.running (Some t) t r q holds.areas lt is touches (takes_on rows.running t runs) place
     (subst (λ b. IsKept hs b q) (sym (itself t)) kept)
 
-pub pick_seen : (gs hs : List Granule) (rows : Rows) (t : ℕ) (r q : row.Thread) → Holds gs rows → rows.running ≡ None → t < length rows.list.items
+pub pick_seen : (gs hs : List Granule) (rows : Rows) (t : ℕ) (r q : row.Thread) → IsEngine gs rows → rows.running ≡ None → t < length rows.list.items
     → r ≡ get_or rows.list.items t r → Touches (area_begin r.area) (area_end r.area) gs hs → q.area ≡ r.area
     → thread_of hs true q ≡ picked_with (filtered_in r.area.ram gs) (thread_of gs false r)
-    → seen_of hs rows (set rows.list.items t q) (Some t) ≡ resumed (seen gs rows) t
+    → seen_of hs rows (set rows.list.items t q) (Some t) ≡ resumed (engine_view gs rows) t
 pick_seen gs hs rows t r q holds runs lt is touches place same =
     let l = stopped_lies gs rows t r holds runs lt is in
     let here : get_or (threads_of gs rows.running 0 rows.list.items) t nobody ≡ thread_of gs false r = thread_is gs rows.list.items rows.running t r false lt is (none_runs rows t runs) in
-    let keep : (c : Cap) → filtered_in rows.region.ram (veiled (hidden gs rows) gs) c ≡ filtered_in r.area.ram gs c =
+    let keep : (c : Cap) → filtered_in rows.region.ram (with_hidden (hidden gs rows) gs) c ≡ filtered_in r.area.ram gs c =
     λ c. filtered_same (hidden gs rows) rows.region.ram gs c ∙ ap (λ n. filtered_in n gs c) (sym l.base) in
-    let new : picked_with (filtered_in rows.region.ram (veiled (hidden gs rows) gs)) (get_or (threads_of gs rows.running 0 rows.list.items) t nobody)
+    let new : picked_with (filtered_in rows.region.ram (with_hidden (hidden gs rows) gs)) (get_or (threads_of gs rows.running 0 rows.list.items) t nobody)
     ≡ picked_with (filtered_in r.area.ram gs) (thread_of gs false r) =
-    ap (λ (u : Thread). picked_with (filtered_in rows.region.ram (veiled (hidden gs rows) gs)) u) here
-    ∙ picked_same (filtered_in rows.region.ram (veiled (hidden gs rows) gs)) (filtered_in r.area.ram gs) (thread_of gs false r) keep in
-    let now : thread_of hs (is_number (Some t) t) q ≡ picked_with (filtered_in rows.region.ram (veiled (hidden gs rows) gs)) (get_or (threads_of gs rows.running 0 rows.list.items) t nobody) =
-    subst (λ b. thread_of hs b q ≡ picked_with (filtered_in rows.region.ram (veiled (hidden gs rows) gs)) (get_or (threads_of gs rows.running 0 rows.list.items) t nobody)) (sym (itself t)) (same ∙ sym new) in
+    ap (λ (u : Thread). picked_with (filtered_in rows.region.ram (with_hidden (hidden gs rows) gs)) u) here
+    ∙ picked_same (filtered_in rows.region.ram (with_hidden (hidden gs rows) gs)) (filtered_in r.area.ram gs) (thread_of gs false r) keep in
+    let now : thread_of hs (is_number (Some t) t) q ≡ picked_with (filtered_in rows.region.ram (with_hidden (hidden gs rows) gs)) (get_or (threads_of gs rows.running 0 rows.list.items) t nobody) =
+    subst (λ b. thread_of hs b q ≡ picked_with (filtered_in rows.region.ram (with_hidden (hidden gs rows) gs)) (get_or (threads_of gs rows.running 0 rows.list.items) t nobody)) (sym (itself t)) (same ∙ sym new) in
     seen_turn rows gs hs rows.list.items rows.running (Some t) t r q _ holds.areas holds.heap lt is touches (takes_on rows.running t runs) place now
 
 -- ---- how many frames
@@ -209,7 +209,7 @@ pub thread_depth : (gs : List Granule) (runs : Bool) (r : row.Thread) → length
 thread_depth gs runs r = ap (λ (fs : List Frame). length fs) (frames_of gs runs r) ∙ frames_count gs (area_begin r.area) r.actor r.top r.handling r.depth
 
 pub depth_is : (gs : List Granule) (rows : Rows) (t : ℕ) (r : row.Thread) (runs : Bool) → t < length rows.list.items → r ≡ get_or rows.list.items t r
-    → is_number rows.running t ≡ runs → length (thread (seen gs rows) t).frames ≡ r.depth
+    → is_number rows.running t ≡ runs → length (thread (engine_view gs rows) t).frames ≡ r.depth
 depth_is gs rows t r runs lt is who =
     ap (λ (u : Thread). length u.frames) (thread_is gs rows.list.items rows.running t r runs lt is who) ∙ thread_depth gs runs r
 

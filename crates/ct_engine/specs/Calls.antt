@@ -8,7 +8,7 @@ use Rattle.def_words.specs.declared.Cap.{Cap}
 use Rattle.def_words.specs.Capability.{with_address}
 use Rattle.def_words.specs.Seals.{cap_seal}
 use Rattle.def_memory.specs.declared.Granule.{Granule}
-use Rattle.def_memory.specs.Granules.{plain, held}
+use Rattle.def_memory.specs.Granules.{plain, cap_in}
 use Rattle.def_memory.specs.Ranges.{zeroed_from}
 use Rattle.def_reach.specs.Roots.{root_of, gate_for}
 use Rattle.def_boot.specs.Made.{return_sentry}
@@ -63,10 +63,10 @@ switch_at s e t =
 -- What the callee is given: its code and its globals stand in the head of its export table.
 abbrev pub given_at : Seen → Listed → ℕ → ℕ → ℕ → Given
 given_at s e t export high = record {
-  pcc = with_address (held s.granules (head_at s e export)) (gate_for e.gates export).code;
+  pcc = with_address (cap_in s.granules (head_at s e export)) (gate_for e.gates export).code;
   back = return_sentry;
   stack = stack_cap (area_at s t).stack high (register (thread s t) 2).shadow;
-  globals = held s.granules (head_at s e export + 1);
+  globals = cap_in s.granules (head_at s e export + 1);
 }
 
 -- a thread changes whole, its stack from its base up to an address is zeroed, and who runs is told
@@ -127,9 +127,9 @@ pub record Ends (gs hs : List Granule) (t new : row.Thread) (more : Bool)
 
 -- The head of an export's table is as boot made it, and so is the return sentry; the stack begins where the image has it.
 pub record HeadStands (i : Image) (s : Seen) (t export : ℕ) : Type 0 where
-  pub code : held s.granules (head_at s i.entries export)
+  pub code : cap_in s.granules (head_at s i.entries export)
       ≡ made_cap i (code_entry i (callee_of i.entries export))
-  pub globals : held s.granules (head_at s i.entries export + 1)
+  pub globals : cap_in s.granules (head_at s i.entries export + 1)
       ≡ made_cap i (globals_entry i (callee_of i.entries export))
   pub back : made_cap i 0 ≡ return_sentry
   pub stack : stack_base i t ≡ (area_at s t).stack

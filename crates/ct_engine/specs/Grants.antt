@@ -14,7 +14,7 @@ use Rattle.ct_heap.specs.declared.rows.HeapRefusal.{HeapRefusal}
 use Rattle.ct_heap.specs.declared.rows.HeapRefusal.TheVariants.{Size, Quota, NoGap}
 use Rattle.ct_heap.specs.Lookups.{whole_of}
 use Rattle.ct_token.specs.Table.{row_for}
-use Rattle.ct_engine.specs.Seen.{Seen, sifted, limit_at}
+use Rattle.ct_engine.specs.Seen.{Seen, after_filter, limit_at}
 
 -- ---- allocate
 
@@ -119,7 +119,7 @@ let_go s r = record (quarantined s r) { tokens = without_row r.number s.tokens }
 
 -- and the running thread's registers pass the load filter
 abbrev pub freed : Seen → ℕ → state.Object → Seen
-freed s t r = sifted (let_go s r) t
+freed s t r = after_filter (let_go s r) t
 
 abbrev pub freed_by : Seen → ℕ → Option state.Object → Seen
 freed_by s t None = s

@@ -8,7 +8,7 @@ use Rattle.def_words.specs.declared.Trap.{Trap}
 use Rattle.def_words.specs.Authority.{cap_address}
 use Rattle.def_words.specs.Capability.{with_address}
 use Rattle.def_memory.specs.declared.Granule.{Granule}
-use Rattle.def_memory.specs.Granules.{held}
+use Rattle.def_memory.specs.Granules.{cap_in}
 use Rattle.def_reach.specs.Roots.{gate_for}
 use Rattle.def_boot.specs.Made.{return_sentry}
 use Rattle.def_machine.specs.State.{Frame, register, interrupts_on}
@@ -50,9 +50,9 @@ is_marked (f ∷ fs) = f.handling
 -- What the handler gets: its code and its globals stand in the head of its export table.
 abbrev pub handed_at : Seen → Listed → ℕ → Handed
 handed_at s e handler = record {
-  pcc = with_address (held s.granules (head_at s e handler)) (gate_for e.gates handler).code;
+  pcc = with_address (cap_in s.granules (head_at s e handler)) (gate_for e.gates handler).code;
   back = return_sentry;
-  globals = held s.granules (head_at s e handler + 1);
+  globals = cap_in s.granules (head_at s e handler + 1);
 }
 
 -- the granule with which the record of a trap begins, below a c2, in RAM from an address on
@@ -88,10 +88,10 @@ is_handled_in t handler =
 abbrev pub handed_in : List Granule → Listed → row.Thread → ℕ → Handed
 handed_in gs e t handler = record {
   pcc =
-      with_address (held gs (head_of e t.area (callee_of e handler)))
+      with_address (cap_in gs (head_of e t.area (callee_of e handler)))
       (gate_for e.gates handler).code;
   back = return_sentry;
-  globals = held gs (head_of e t.area (callee_of e handler) + 1);
+  globals = cap_in gs (head_of e t.area (callee_of e handler) + 1);
 }
 
 -- memory with the record

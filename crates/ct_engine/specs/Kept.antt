@@ -3,11 +3,11 @@
 use Rattle.std.specs.Prelude.{ℕ, ◌+◌, ◌-◌, ◌*◌, ◌/◌, ◌%◌, ◌≡◌, ◌≤◌, ◌<◌, ◌⊎◌, Bool, true, false, List, [], ◌∷◌, length, map, Option, Some, unwrap_or}
 use Rattle.def_words.specs.declared.Cap.{Cap}
 use Rattle.def_memory.specs.declared.Granule.{Granule}
-use Rattle.def_memory.specs.Granules.{plain, held}
+use Rattle.def_memory.specs.Granules.{plain, cap_in}
 use Rattle.def_memory.specs.Ranges.{is_tagged}
 use Rattle.def_chunks.specs.declared.heads.TheConstants.{SLOT}
 use Rattle.def_chunks.specs.Heaps.{HeapRow, Laid}
-use Rattle.law_heaped.specs.Heaped.{heap_hides}
+use Rattle.law_hidden.specs.Heaped.{heap_hides}
 use Rattle.def_machine.specs.Slices.{is_number}
 use Rattle.def_machine.specs.Objects.{Each}
 use Rattle.def_areas.specs.Areas.{frame_place}
@@ -39,12 +39,12 @@ pub record IsKept (gs : List Granule) (runs : Bool) (t : row.Thread) : Type 0 wh
   pub zero : register_in t 0 ≡ plain 0
   pub alive : runs ≡ true → 0 < t.depth
   pub clean : (k : ℕ) → area_begin t.area ≤ k → k < area_end t.area
-      → IsSaved runs t k ⊎ IsPlain (held gs k)
+      → IsSaved runs t k ⊎ IsPlain (cap_in gs k)
 
 -- from one address up to another, of RAM from `ram` on, a plain word stands in each granule
 abbrev pub ArePlain : ℕ → List Granule → ℕ → ℕ → Type 0
 ArePlain ram gs from to =
-    (k : ℕ) → from ≤ ram + 8 * k → ram + 8 * k < to → IsPlain (held gs k)
+    (k : ℕ) → from ≤ ram + 8 * k → ram + 8 * k < to → IsPlain (cap_in gs k)
 
 -- Areas stand one after another from one address up to another, of RAM from `ram` on, and plain words between them; the
 -- first thread has number n.
@@ -78,7 +78,7 @@ pub record HeapHolds (gs : List Granule) (g : Region) (h : HeapRow) (front : Opt
 
 -- All areas in the region, the thread that runs is one of them, their stacks lie apart from the region and before the
 -- heap, the heap, and room for a row of each object that it may have.
-pub record Holds (gs : List Granule) (r : Rows) : Type 0 where
+pub record IsEngine (gs : List Granule) (r : Rows) : Type 0 where
   pub areas : AreasFrom r.region.ram gs r.running 0 r.region.trusted r.region.end r.list.items
   pub runs : (t : ℕ) → r.running ≡ Some t → t < length r.list.items
   pub stacks : Each (StackLies r.region r.heap.range.base (8 * length gs))

@@ -1,4 +1,4 @@
--- What contracts see of an engine: memory behind the veil, its threads as the machine's state has them, its heap's
+-- What contracts see of an engine: memory with hidden granules, its threads as the machine's state has them, its heap's
 -- objects as rows, and the rows of those that are keys and tokens.
 use Rattle.std.specs.Prelude.{ℕ, ◌+◌, ◌*◌, ◌&&◌, ◌||◌, Bool, nat_le, nat_lt, List, [], ◌∷◌, Option, Some, map, slice_set, slice_index_or}
 use Rattle.def_profile.specs.declared.layout.TheConstants.{GRANULE}
@@ -8,7 +8,7 @@ use Rattle.def_machine.specs.State.{Thread, Object, Token, nobody}
 use Rattle.def_chunks.specs.declared.rows.Range.{Range}
 use Rattle.def_chunks.specs.declared.rows.Account.{Account}
 use Rattle.def_chunks.specs.Heaps.{objects_of}
-use Rattle.law_heaped.specs.Heaped.{hides_heap}
+use Rattle.law_hidden.specs.Heaped.{hides_heap}
 use Rattle.def_machine.specs.Slices.{is_number}
 use Rattle.def_machine.specs.Threads.{picked_with, jumped}
 use Rattle.def_machine.specs.Registers.{written}
@@ -16,7 +16,7 @@ use Rattle.def_words.specs.declared.Cap.{Cap}
 use Rattle.def_words.specs.Capability.{integer, raised, with_address}
 use Rattle.def_words.specs.declared.Posture.{Posture}
 use Rattle.def_machine.specs.Memory.{filtered_in}
-use Rattle.def_veil.specs.Veil.{veiled}
+use Rattle.law_hidden.specs.Hiding.{with_hidden}
 use Rattle.ct_areas.specs.declared.thread.Area.{Area}
 use Rattle.ct_areas.specs.declared.thread.Thread as row
 use Rattle.ct_areas.specs.Threads.{thread_of}
@@ -71,7 +71,7 @@ limits_in accounts = map (λ (a : Account). a.limit) accounts
 -- of these objects, threads, and who runs
 abbrev pub seen_by : List Object → Rows → List Granule → List row.Thread → Option ℕ → Seen
 seen_by objects r gs ts running = record {
-  granules = veiled (hides_over r.region r.heap.range objects) gs;
+  granules = with_hidden (hides_over r.region r.heap.range objects) gs;
   threads = threads_of gs running 0 ts;
   running = running;
   region = r.region;
@@ -88,8 +88,8 @@ seen_by objects r gs ts running = record {
 abbrev pub seen_of : List Granule → Rows → List row.Thread → Option ℕ → Seen
 seen_of gs r ts running = seen_by (objects_of r.heap gs) r gs ts running
 
-abbrev pub seen : List Granule → Rows → Seen
-seen gs r = seen_of gs r r.list.items r.running
+abbrev pub engine_view : List Granule → Rows → Seen
+engine_view gs r = seen_of gs r r.list.items r.running
 
 abbrev pub hidden : List Granule → Rows → ℕ → Bool
 hidden gs r k = hides_over r.region r.heap.range (objects_of r.heap gs) k
@@ -118,17 +118,17 @@ abbrev pub no_area : Area
 no_area = record { ram = 0; stack = 0; stack_length = 0; trusted = 0; trusted_length = 0 }
 
 -- a thread goes on elsewhere, and a register gets a value
-abbrev pub went : Seen → ℕ → Cap → Posture → ℕ → Cap → Seen
-went s t pcc posture to value = with_thread s t (jumped (thread s t) pcc posture to value)
+abbrev pub after_jump : Seen → ℕ → Cap → Posture → ℕ → Cap → Seen
+after_jump s t pcc posture to value = with_thread s t (jumped (thread s t) pcc posture to value)
 
 -- it goes on after its instruction
 abbrev pub advanced : Seen → ℕ → ℕ → Cap → Seen
-advanced s t to value = went s t (raised (thread s t).pcc 4) (thread s t).posture to value
+advanced s t to value = after_jump s t (raised (thread s t).pcc 4) (thread s t).posture to value
 
 -- it goes on at an address, by the address rule, and no register changes
 abbrev pub moved_to : Seen → ℕ → ℕ → Seen
 moved_to s t at =
-    went s t (with_address (thread s t).pcc at) (thread s t).posture 0 (integer 0)
+    after_jump s t (with_address (thread s t).pcc at) (thread s t).posture 0 (integer 0)
 
 -- its row
 abbrev pub row_gone : row.Thread → Cap → Posture → ℕ → Cap → row.Thread
@@ -146,8 +146,8 @@ limit_at s quota = slice_index_or s.limits quota 0
 -- ---- the running thread's registers
 
 -- each register of a thread passes the load filter
-abbrev pub sifted : Seen → ℕ → Seen
-sifted s t =
+abbrev pub after_filter : Seen → ℕ → Seen
+after_filter s t =
     with_thread s t
     (record (thread s t) {
       registers = map (filtered_in s.region.ram s.granules) (thread s t).registers;

@@ -2,12 +2,12 @@
 use Rattle.std.specs.Prelude.{ℕ, ◌+◌, ◌*◌, ◌≡◌, ◌≤◌, ◌<◌, true, List, [], ◌∷◌, length, None, map, slice_index_or}
 use Rattle.def_profile.specs.declared.limits.TheConstants.{RAM_END}
 use Rattle.def_memory.specs.declared.Granule.{Granule}
-use Rattle.def_memory.specs.Granules.{plain, held}
+use Rattle.def_memory.specs.Granules.{plain, cap_in}
 use Rattle.def_machine.specs.State.{Thread}
 use Rattle.def_machine.specs.Objects.{Each}
 use Rattle.def_chunks.specs.Heaps.{HeapRow}
 use Rattle.ct_heap.specs.Effects.{Empty}
-use Rattle.def_veil.specs.Veil.{veiled}
+use Rattle.law_hidden.specs.Hiding.{with_hidden}
 use Rattle.ct_areas.specs.declared.thread.Thread as row
 use Rattle.ct_areas.specs.Threads.{HasArea, first}
 use Rattle.ct_engine.specs.declared.rows.Region.{Region}
@@ -18,7 +18,7 @@ use Rattle.ct_engine.specs.Kept.{AreasFrom, StackLies}
 -- its area lies in RAM of so many bytes, register 0 is zero, and its stack ends below the last granules of addresses
 pub record IsFresh (size : ℕ) (f : Fresh) : Type 0 where
   pub area : HasArea size f.area
-  pub zero : slice_index_or f.regs 0 (plain 0) ≡ plain 0
+  pub zero : slice_index_or f.first.regs 0 (plain 0) ≡ plain 0
   pub stack : f.area.stack + f.area.stack_length ≤ RAM_END
 
 -- their areas stand one after another from one address up to another, of RAM from `ram` on
@@ -30,12 +30,14 @@ AreFresh ram size from to (f ∷ fs) =
 
 -- the thread as the machine's state has it: its one frame's top is the stack's end
 abbrev pub first_of : Fresh → Thread
-first_of f = first f.pcc f.regs f.posture f.actor f.export (f.area.stack + f.area.stack_length)
+first_of f =
+    first f.first.pcc f.first.regs f.first.posture f.first.actor f.first.export
+    (f.area.stack + f.area.stack_length)
 
 -- They have begun, stopped, in memory that was otherwise: outside the region it is as it was.
 pub record HaveBegun (g : Region) (was gs : List Granule) (ts : List row.Thread) (fs : List Fresh) : Type 0 where
   pub size : length gs ≡ length was
-  pub veil : veiled (region_hides g) gs ≡ veiled (region_hides g) was
+  pub memory : with_hidden (region_hides g) gs ≡ with_hidden (region_hides g) was
   pub threads : threads_of gs None 0 ts ≡ map (λ f. first_of f) fs
   pub places : map (λ (t : row.Thread). t.area) ts ≡ map (λ (f : Fresh). f.area) fs
   pub areas : AreasFrom g.ram gs None 0 g.trusted g.end ts
@@ -47,14 +49,14 @@ pub record MayHold (gs : List Granule) (g : Region) (h : HeapRow) : Type 0 where
   pub past : g.end ≤ h.range.base
   pub inside : h.range.base + h.range.length ≤ g.ram + 8 * length gs
   pub clear : (k : ℕ) → h.range.base ≤ g.ram + 8 * k
-      → g.ram + 8 * k < h.range.base + h.range.length → held gs k ≡ plain 0
+      → g.ram + 8 * k < h.range.base + h.range.length → cap_in gs k ≡ plain 0
 
 -- Memory in which threads may start and an empty heap may lie: their areas stand in a region that reads as zero, their
 -- stacks lie apart from it and end before the heap, and the heap lies past the region, where memory reads as zero.
 pub record MayStart (gs : List Granule) (g : Region) (fs : List Fresh) (h : HeapRow) : Type 0 where
   pub areas : AreFresh g.ram (8 * length gs) g.trusted g.end fs
   pub stacks : Each (StackLies g h.range.base (8 * length gs)) (map (λ (f : Fresh). f.area) fs)
-  pub clear : (k : ℕ) → region_hides g k ≡ true → held gs k ≡ plain 0
+  pub clear : (k : ℕ) → region_hides g k ≡ true → cap_in gs k ≡ plain 0
   pub heap : MayHold gs g h
 
 abbrev pub started : List Granule → Region → List Fresh → HeapRow → Seen

@@ -1,7 +1,7 @@
 -- A slice of the revoker over all that is seen: it begins a sweep, passes granules, and ends a sweep.
 use Rattle.std.specs.Prelude.{ℕ, ◌+◌, ◌-◌, ◌*◌, ◌≡◌, ◌≤◌, cond, nat_le, List, length, min, Option, Some, None}
 use Rattle.def_words.specs.declared.Cap.{Cap}
-use Rattle.def_memory.specs.Granules.{held}
+use Rattle.def_memory.specs.Granules.{cap_in}
 use Rattle.def_machine.specs.State.{Object}
 use Rattle.def_machine.specs.Objects.{Each, has_quarantined, painted, unpainted}
 use Rattle.def_machine.specs.Slices.{filtered_between, kept_granules, kept_threads, marks_cleared}
@@ -28,7 +28,7 @@ sliced s low high = record s {
 
 -- None is left in memory that is seen, in a frame, or in a thread that doesn't run.
 pub record NoneLeft (objects : List Object) (s : Seen) : Type 0 where
-  pub granules : (k : ℕ) → NotStale objects (held s.granules k)
+  pub granules : (k : ℕ) → NotStale objects (cap_in s.granules k)
   pub frames : (t : ℕ) → Each (SavedClean objects) (thread s t).frames
   pub stopped : (t : ℕ) → (s.running ≡ Some t → ⊥) → StoppedClean objects (thread s t)
 

@@ -32,7 +32,7 @@ written i m s t high new run = seen_so s t new (machine.switched i m t high new 
 abbrev pub callee_thread : Image → State → ℕ → ℕ → ℕ → Thread
 callee_thread i m t export high =
     machine.entered i (state.thread m t) (compartment_of (root i export).owner) export high
-    (machine.given i (state.thread m t) t (compartment_of (root i export).owner) export high)
+    (machine.callee_start i (state.thread m t) t (compartment_of (root i export).owner) export high)
 
 -- and after the written entry of an error handler; who runs is as it was
 abbrev pub handler_seen : Image → State → Seen → ℕ → Trap → Frame → List Frame → Seen

@@ -4,29 +4,29 @@ ghost use Rattle.std.specs.Prelude.{ℕ, ◌≡◌, Some, None, true, cond, nat_
 ghost use Rattle.def_memory.specs.Granules.{plain};
 ghost use Rattle.def_machine.specs.Image.{Image};
 ghost use Rattle.def_machine.specs.State.{register};
-ghost use Rattle.def_machine.specs.Frames.{given};
+ghost use Rattle.def_machine.specs.Frames.{callee_start};
 ghost use Rattle.def_areas.specs.Touches.{Touches};
 ghost use Rattle.ct_areas.specs.Threads.{area_begin, area_end, thread_of};
 ghost use Rattle.ct_areas.specs.Parts.{register_in};
 ghost use Rattle.ct_exports.specs.Exports.{AreSorted, callee_of};
 ghost use Rattle.ct_switch.specs.Ready as ready;
-ghost use Rattle.ct_switch.specs.Calls.{told, switch_in, thread_after, returned_by};
-ghost use Rattle.ct_engine.specs.Kept.{IsKept, Holds};
-ghost use Rattle.ct_engine.specs.Seen.{Seen, seen, thread};
+ghost use Rattle.ct_switch.specs.Calls.{call_outcome, switch_in, thread_after, returned_by};
+ghost use Rattle.ct_engine.specs.Kept.{IsKept, IsEngine};
+ghost use Rattle.ct_engine.specs.Seen.{Seen, engine_view, thread};
 ghost use Rattle.ct_engine.specs.Calls.{TopLies, MayCall, switch_at, given_at, after_call, returned, ended_with, cleared, Ends, HeadStands};
 
 use crate::rows::Rows;
 use ct_areas::Thread;
 use ct_entry::Entries;
 use ct_mem::Memory;
-use ct_switch::{Called, call as switch, end_with as end, give_back as hand_back};
+use ct_switch::{Called, call as switch, end_with as end, return_to_caller as hand_back};
 
 /// A thread that runs calls: its stack is zeroed where the callee is entered, and beside it its area alone changes.
 fn call_row<M: Memory>(t: &mut Thread, mem: &mut M, e: &Entries) -> Called
     requires kept { IsKept (M.granules mem.old) true t.old }
     requires may { ready.MayCall (M.granules mem.old) t.old e.now }
     ensures result { result
-        ≡ told (register_in t.old 6) (switch_in (M.granules mem.old) e.now t.old) }
+        ≡ call_outcome (register_in t.old 6) (switch_in (M.granules mem.old) e.now t.old) }
     ensures kept { IsKept (M.granules mem.new) true t.new }
     ensures area { t.new.area ≡ t.old.area }
     ensures thread { thread_of (M.granules mem.new) true t.new
@@ -69,30 +69,31 @@ fn still(t: u32, more: bool) -> Option<u32>
 
 /// The running thread calls.
 pub(crate) fn call<M: Memory>(rows: &mut Rows, mem: &mut M, t: u32, e: &Entries) -> Called
-    requires holds { Holds (M.granules mem.old) rows.old }
+    requires holds { IsEngine (M.granules mem.old) rows.old }
     requires runs { rows.old.running ≡ Some t }
-    requires may { MayCall (seen (M.granules mem.old) rows.old) t e.now }
-    ensures holds { Holds (M.granules mem.new) rows.new }
-    ensures result { result ≡ told (register (thread (seen (M.granules mem.old) rows.old) t) 6)
-        (switch_at (seen (M.granules mem.old) rows.old) e.now t) }
-    ensures seen { seen (M.granules mem.new) rows.new
-        ≡ after_call (seen (M.granules mem.old) rows.old) e.now t
-        (switch_at (seen (M.granules mem.old) rows.old) e.now t) }
+    requires may { MayCall (engine_view (M.granules mem.old) rows.old) t e.now }
+    ensures holds { IsEngine (M.granules mem.new) rows.new }
+    ensures result { result
+        ≡ call_outcome (register (thread (engine_view (M.granules mem.old) rows.old) t) 6)
+        (switch_at (engine_view (M.granules mem.old) rows.old) e.now t) }
+    ensures seen { engine_view (M.granules mem.new) rows.new
+        ≡ after_call (engine_view (M.granules mem.old) rows.old) e.now t
+        (switch_at (engine_view (M.granules mem.old) rows.old) e.now t) }
 {
     call_row(&mut rows.list[t as usize], mem, e)
 }
 
 /// The running thread returns. `false` exactly where that ends it.
-pub(crate) fn give_back<M: Memory>(rows: &mut Rows, mem: &mut M, t: u32, e: &Entries) -> bool
-    requires holds { Holds (M.granules mem.old) rows.old }
+pub(crate) fn return_to_caller<M: Memory>(rows: &mut Rows, mem: &mut M, t: u32, e: &Entries) -> bool
+    requires holds { IsEngine (M.granules mem.old) rows.old }
     requires runs { rows.old.running ≡ Some t }
-    requires top { TopLies (seen (M.granules mem.old) rows.old) t }
+    requires top { TopLies (engine_view (M.granules mem.old) rows.old) t }
     requires sorted { AreSorted e.now.gates }
-    ensures holds { Holds (M.granules mem.new) rows.new }
+    ensures holds { IsEngine (M.granules mem.new) rows.new }
     ensures result { result
-        ≡ nat_lt 1 (length (thread (seen (M.granules mem.old) rows.old) t).frames) }
-    ensures seen { seen (M.granules mem.new) rows.new
-        ≡ returned (seen (M.granules mem.old) rows.old) e.now t }
+        ≡ nat_lt 1 (length (thread (engine_view (M.granules mem.old) rows.old) t).frames) }
+    ensures seen { engine_view (M.granules mem.new) rows.new
+        ≡ returned (engine_view (M.granules mem.old) rows.old) e.now t }
 {
     let more = return_row(&mut rows.list[t as usize], mem, e);
     rows.running = still(t, more);
@@ -107,14 +108,14 @@ pub(crate) fn end_with<M: Memory>(
     e: &Entries,
     value: u32,
 ) -> bool
-    requires holds { Holds (M.granules mem.old) rows.old }
+    requires holds { IsEngine (M.granules mem.old) rows.old }
     requires runs { rows.old.running ≡ Some t }
-    requires top { TopLies (seen (M.granules mem.old) rows.old) t }
-    ensures holds { Holds (M.granules mem.new) rows.new }
+    requires top { TopLies (engine_view (M.granules mem.old) rows.old) t }
+    ensures holds { IsEngine (M.granules mem.new) rows.new }
     ensures result { result
-        ≡ nat_lt 1 (length (thread (seen (M.granules mem.old) rows.old) t).frames) }
-    ensures seen { seen (M.granules mem.new) rows.new
-        ≡ ended_with (seen (M.granules mem.old) rows.old) t value }
+        ≡ nat_lt 1 (length (thread (engine_view (M.granules mem.old) rows.old) t).frames) }
+    ensures seen { engine_view (M.granules mem.new) rows.new
+        ≡ ended_with (engine_view (M.granules mem.old) rows.old) t value }
 {
     let more = end_row(&mut rows.list[t as usize], mem, e, value);
     rows.running = still(t, more);
@@ -125,5 +126,5 @@ pub(crate) fn end_with<M: Memory>(
 pub fn callee_given()
     ensures { (i : Image) (s : Seen) (t export high : ℕ) → HeadStands i s t export
         → given_at s i.entries t export high
-        ≡ given i (thread s t) t (callee_of i.entries export) export high }
+        ≡ callee_start i (thread s t) t (callee_of i.entries export) export high }
 {}

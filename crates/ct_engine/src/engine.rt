@@ -7,12 +7,12 @@ ghost use Rattle.def_memory.specs.Accesses.{IsAccess, loaded};
 ghost use Rattle.def_machine.specs.State.{register};
 ghost use Rattle.def_step.specs.Instructions.{actor_of};
 ghost use Rattle.def_step.specs.Handlers.{handler_value};
-ghost use Rattle.def_veil.specs.Steps.{IsSeen, SeesAccess};
+ghost use Rattle.law_hidden.specs.Steps.{IsSeen, SeesAccess};
 ghost use Rattle.ct_engine.specs.Starts.{MayStart, started};
-ghost use Rattle.ct_engine.specs.Seen.{hides, thread, with_granules, with_running, resumed, went};
+ghost use Rattle.ct_engine.specs.Seen.{hides, thread, with_granules, with_running, resumed, after_jump};
 ghost use Rattle.ct_engine.specs.Steps.{space_in, next_in, NextInRange, HeapLies, IsMoved};
 ghost use Rattle.ct_exports.specs.Exports.{AreSorted};
-ghost use Rattle.ct_switch.specs.Calls.{told};
+ghost use Rattle.ct_switch.specs.Calls.{call_outcome};
 ghost use Rattle.ct_engine.specs.Calls.{TopLies, MayCall, switch_at, after_call, returned, ended_with};
 ghost use Rattle.ct_engine.specs.Handling.{MayHandle, is_handled_at, is_marked, after_trap};
 
@@ -22,7 +22,7 @@ use crate::fetching::next;
 use crate::handling::{handle, is_handling, value_in};
 use crate::rows::{Region, Rows};
 use crate::starting::{Fresh, start};
-use crate::steps::{actor, go, pcc, posture, register};
+use crate::steps::{actor, jump_to, pcc, posture, register};
 use crate::turns::{pick, stop};
 use ct_bus::Bus;
 use ct_cap::{Live, Posture, Trap};
@@ -50,14 +50,14 @@ pub struct Engine<M: Memory + Drop> {
 }
 
 impl<M: Memory + Drop> Model for Engine<M> {
-    ghost use Rattle.ct_engine.specs.Seen.{Seen, seen};
-    ghost use Rattle.ct_engine.specs.Kept.{Holds};
+    ghost use Rattle.ct_engine.specs.Seen.{Seen, engine_view};
+    ghost use Rattle.ct_engine.specs.Kept.{IsEngine};
 
     ghost Value = { Seen };
 
-    ghost view = { λ m. seen (M.granules m.mem) m.rows };
+    ghost view = { λ m. engine_view (M.granules m.mem) m.rows };
 
-    ghost invariant = { λ m. Holds (M.granules m.mem) m.rows };
+    ghost invariant = { λ m. IsEngine (M.granules m.mem) m.rows };
 }
 
 impl<M: Memory + Drop> Engine<M> {
@@ -145,12 +145,12 @@ impl<M: Memory + Drop> Engine<M> {
     }
 
     /// The running thread goes on elsewhere, with this posture, and a register gets a value, which register 0 drops.
-    pub fn go(&mut self, t: u32, pcc: Live, posture: Posture, to: u32, value: Live)
+    pub fn jump_to(&mut self, t: u32, pcc: Live, posture: Posture, to: u32, value: Live)
         requires runs { self.old.running ≡ Some t }
         requires to { to < 16 }
-        ensures { self.new ≡ went self.old t pcc posture to value }
+        ensures { self.new ≡ after_jump self.old t pcc posture to value }
     {
-        go(&mut self.rows, t, pcc, posture, to, value);
+        jump_to(&mut self.rows, t, pcc, posture, to, value);
     }
 
     /// The running thread stops. Nothing else changes.
@@ -179,7 +179,7 @@ impl<M: Memory + Drop> Engine<M> {
         requires runs { self.old.running ≡ Some t }
         requires may { MayCall self.old t e.now }
         ensures result { result
-            ≡ told (register (thread self.old t) 6) (switch_at self.old e.now t) }
+            ≡ call_outcome (register (thread self.old t) 6) (switch_at self.old e.now t) }
         ensures is { self.new ≡ after_call self.old e.now t (switch_at self.old e.now t) }
     {
         calls::call(&mut self.rows, &mut self.mem, t, e)
@@ -188,14 +188,14 @@ impl<M: Memory + Drop> Engine<M> {
     /// The running thread returns to its caller, with c10 and c11, untagged where the frame's export passes plain
     /// values; the stack is zeroed up to the frame's top. `false` exactly where the frame was its last: then it has
     /// ended, and none runs. No memory is taken. docs/use/machine.md.
-    pub fn give_back(&mut self, t: u32, e: &Entries) -> bool
+    pub fn return_to_caller(&mut self, t: u32, e: &Entries) -> bool
         requires runs { self.old.running ≡ Some t }
         requires top { TopLies self.old t }
         requires sorted { AreSorted e.now.gates }
         ensures result { result ≡ nat_lt 1 (length (thread self.old t).frames) }
         ensures is { self.new ≡ returned self.old e.now t }
     {
-        calls::give_back(&mut self.rows, &mut self.mem, t, e)
+        calls::return_to_caller(&mut self.rows, &mut self.mem, t, e)
     }
 
     /// The innermost frame of the running thread is unwound after a trap: the return with c10 = -1 and c11 = 0. `false`

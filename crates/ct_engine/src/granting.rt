@@ -7,7 +7,7 @@ ghost use Rattle.ct_engine.specs.Grants.{new_object, after_allocation, allocatio
 ghost use Rattle.ct_engine.specs.Seen.{limit_at};
 
 use crate::engine::Engine;
-use crate::steps::sift;
+use crate::steps::filter_registers;
 use ct_heap::{HeapRefusal, NotWhole, Object};
 use ct_mem::Memory;
 
@@ -42,7 +42,7 @@ impl<M: Memory + Drop> Engine<M> {
     {
         let object = self.rows.heap.free(&mut self.mem, quota, base, top)?;
         self.rows.tokens.drop_row(object.number);
-        sift(&mut self.rows, &self.mem, t);
+        filter_registers(&mut self.rows, &self.mem, t);
         Ok(object)
     }
 

@@ -5,15 +5,15 @@ ghost use Rattle.def_profile.specs.declared.answers.TheConstants.{UNWOUND};
 ghost use Rattle.def_words.specs.Authority.{cap_address};
 ghost use Rattle.def_words.specs.Capability.{with_address};
 ghost use Rattle.def_memory.specs.declared.Granule.{Granule};
-ghost use Rattle.def_memory.specs.Granules.{held};
+ghost use Rattle.def_memory.specs.Granules.{cap_in};
 ghost use Rattle.def_boot.specs.Made.{return_sentry};
 ghost use Rattle.def_machine.specs.State.{interrupts_on};
 ghost use Rattle.def_step.specs.declared.TheConstants.{TRAP_RECORD};
 ghost use Rattle.def_step.specs.Handlers.{record_end, handler_registers, handler_value};
 ghost use Rattle.ct_areas.specs.Parts.{register_in};
 ghost use Rattle.ct_exports.specs.Exports.{AreSorted, IsCallable};
-ghost use Rattle.ct_engine.specs.Kept.{Holds};
-ghost use Rattle.ct_engine.specs.Seen.{seen, thread};
+ghost use Rattle.ct_engine.specs.Kept.{IsEngine};
+ghost use Rattle.ct_engine.specs.Seen.{engine_view, thread};
 ghost use Rattle.ct_engine.specs.Handling.{MayHandle, RowMayHandle, is_handled_at, is_handled_in, is_marked, handed_in, recorded, handling_row, memory_by, row_by, after_trap};
 
 use crate::rows::Rows;
@@ -42,7 +42,7 @@ fn record_for(t: &Thread, handler: u32) -> Option<u32>
 fn held_at<M: Memory>(mem: &M, at: u32) -> Live
     requires even { at % 8 ≡ 0 }
     requires inside { at + 8 ≤ 8 * length (M.granules mem.now) }
-    ensures { result ≡ held (M.granules mem.now) (at / 8) }
+    ensures { result ≡ cap_in (M.granules mem.now) (at / 8) }
 {
     expand(mem.load_cap(at))
 }
@@ -136,14 +136,14 @@ pub(crate) fn handle<M: Memory>(
     handler: u32,
     trap: Trap,
 ) -> bool
-    requires holds { Holds (M.granules mem.old) rows.old }
+    requires holds { IsEngine (M.granules mem.old) rows.old }
     requires runs { rows.old.running ≡ Some t }
-    requires may { MayHandle (seen (M.granules mem.old) rows.old) t e.now handler }
-    ensures holds { Holds (M.granules mem.new) rows.new }
+    requires may { MayHandle (engine_view (M.granules mem.old) rows.old) t e.now handler }
+    ensures holds { IsEngine (M.granules mem.new) rows.new }
     ensures result { result
-        ≡ is_handled_at (seen (M.granules mem.old) rows.old) t handler }
-    ensures seen { seen (M.granules mem.new) rows.new
-        ≡ after_trap (seen (M.granules mem.old) rows.old) e.now t handler trap }
+        ≡ is_handled_at (engine_view (M.granules mem.old) rows.old) t handler }
+    ensures seen { engine_view (M.granules mem.new) rows.new
+        ≡ after_trap (engine_view (M.granules mem.old) rows.old) e.now t handler trap }
 {
     handle_row(&mut rows.list[t as usize], mem, e, handler, trap)
 }
@@ -152,8 +152,8 @@ pub(crate) fn handle<M: Memory>(
 pub(crate) fn is_handling(rows: &Rows, t: u32) -> bool
     requires there { t < length rows.now.list.items }
     requires runs { rows.now.running ≡ Some t }
-    ensures { (gs : List Granule) → Holds gs rows.now
-        → result ≡ is_marked (thread (seen gs rows.now) t).frames }
+    ensures { (gs : List Granule) → IsEngine gs rows.now
+        → result ≡ is_marked (thread (engine_view gs rows.now) t).frames }
 {
     rows.list[t as usize].handling
 }
@@ -172,8 +172,8 @@ fn value_of(c10: Live, c11: Live) -> u32
 pub(crate) fn value_in(rows: &Rows, t: u32) -> u32
     requires there { t < length rows.now.list.items }
     requires runs { rows.now.running ≡ Some t }
-    ensures { (gs : List Granule) → Holds gs rows.now
-        → result ≡ handler_value (thread (seen gs rows.now) t) }
+    ensures { (gs : List Granule) → IsEngine gs rows.now
+        → result ≡ handler_value (thread (engine_view gs rows.now) t) }
 {
     let ten = register(rows, t, 10);
     let eleven = register(rows, t, 11);

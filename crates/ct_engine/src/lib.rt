@@ -1,7 +1,7 @@
 //! Threads over a memory with a quota heap, and the heap's revoker: frames, saved registers and chunks stand in memory
 //! that firmware never sees.
 //!
-//! Contracts see memory behind one veil, over what threads keep and over the heap outside live objects; the threads of
+//! Contracts see memory of which what threads keep is hidden, and the heap outside live objects; the threads of
 //! the machine's state, the heap's objects and the keys and tokens among them as its rows, which are functions of memory
 //! and of what is kept beside it (specs/Seen). A thread that stops and one that is picked change nothing of these but
 //! who runs, and what the load filter takes from the picked one; a store of what isn't hidden changes no thread and no
@@ -30,5 +30,5 @@ pub use ct_switch::Called;
 pub use def_refusals::NoMemory;
 pub use engine::Engine;
 pub use rows::Region;
-pub use starting::Fresh;
+pub use starting::{First, Fresh};
 pub use written::{calls_written, ends_written, grants_written, handlers_written, sweeps_written};

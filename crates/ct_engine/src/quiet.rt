@@ -8,7 +8,7 @@ ghost use Rattle.def_words.specs.Authority.{cap_address};
 ghost use Rattle.def_words.specs.Capability.{integer};
 ghost use Rattle.def_step.specs.Checks.{first_failed};
 ghost use Rattle.def_step.specs.Instructions.{fetch_checks, next_word};
-ghost use Rattle.def_veil.specs.Steps.{IsSeen};
+ghost use Rattle.law_hidden.specs.Steps.{IsSeen};
 ghost use Rattle.ct_loadstore.specs.Shapes.{IsShape};
 ghost use Rattle.ct_engine.specs.Seen.{hides, thread, advanced, moved_to, with_granules};
 ghost use Rattle.ct_engine.specs.Steps.{is_word_of_ram, next_in, loads_ram, stores_ram, Loads, SeesLoad, SeesStore, Stores};
@@ -50,21 +50,21 @@ impl<M: Memory + Drop> Engine<M> {
 
     /// A register of the running thread, where it stands.
     #[inline(always)]
-    pub fn lend(&self, t: u32, number: u32) -> &Live
+    pub fn register_ref(&self, t: u32, number: u32) -> &Live
         requires runs { self.now.running ≡ Some t }
         requires number { number < 16 }
         ensures { result.now ≡ register (thread self.now t) number }
     {
-        steps::lent(&self.rows, t, number)
+        steps::register_ref(&self.rows, t, number)
     }
 
     /// The program counter capability of the running thread, where it stands.
     #[inline(always)]
-    pub fn lend_pcc(&self, t: u32) -> &Live
+    pub fn pcc_ref(&self, t: u32) -> &Live
         requires { self.now.running ≡ Some t }
         ensures { result.now ≡ (thread self.now t).pcc }
     {
-        steps::lent_pcc(&self.rows, t)
+        steps::pcc_ref(&self.rows, t)
     }
 
     /// The word at an address, where it lies past the native routines, is a multiple of 4, and a whole word of RAM
@@ -127,7 +127,7 @@ impl<M: Memory + Drop> Engine<M> {
         ensures when { is_some result ≡ loads_ram self.now t number access.now }
         ensures given { IfSome result (λ n. Loads self.now t number access.now (integer n)) }
     {
-        let x = steps::lent(&self.rows, t, number);
+        let x = steps::register_ref(&self.rows, t, number);
         ct_loadstore::load_number(access, x, &self.mem, self.rows.region.ram)
     }
 
@@ -147,7 +147,7 @@ impl<M: Memory + Drop> Engine<M> {
         ensures when { is_some result ≡ loads_ram self.now t number access.now }
         ensures given { IfSome result (λ c. Loads self.now t number access.now c) }
     {
-        let x = steps::lent(&self.rows, t, number);
+        let x = steps::register_ref(&self.rows, t, number);
         ct_loadstore::load_capability(access, x, &self.mem, self.rows.region.ram)
     }
 
@@ -172,8 +172,8 @@ impl<M: Memory + Drop> Engine<M> {
         ensures size { length self.new.granules ≡ length self.old.granules }
     {
         let ram = self.rows.region.ram;
-        let through = steps::lent(&self.rows, t, number);
-        let value = steps::lent(&self.rows, t, stored);
+        let through = steps::register_ref(&self.rows, t, number);
+        let value = steps::register_ref(&self.rows, t, stored);
         ct_loadstore::store_quietly(access, through, value, &mut self.mem, ram)
     }
 }

@@ -1,11 +1,11 @@
 //! How threads start: stopped before their first step, with one frame each.
 
 ghost use Rattle.std.specs.Prelude.{ℕ, ◌≡◌, ◌*◌, ◌≤◌, ◌<◌, true, false, length, IfOk};
-ghost use Rattle.def_memory.specs.Granules.{plain, held};
+ghost use Rattle.def_memory.specs.Granules.{plain, cap_in};
 ghost use Rattle.def_areas.specs.Touches.{Touches};
 ghost use Rattle.ct_areas.specs.Threads.{area_begin, area_end, thread_of};
-ghost use Rattle.ct_engine.specs.Kept.{IsKept, Holds};
-ghost use Rattle.ct_engine.specs.Seen.{seen, region_hides};
+ghost use Rattle.ct_engine.specs.Kept.{IsKept, IsEngine};
+ghost use Rattle.ct_engine.specs.Seen.{engine_view, region_hides};
 ghost use Rattle.ct_engine.specs.Starts.{IsFresh, AreFresh, HaveBegun, MayStart, first_of, started};
 
 use crate::rows::{Region, Rows};
@@ -19,15 +19,21 @@ use ct_token::Tokens;
 use def_refusals::NoMemory;
 use std::alloc::Global;
 
-/// A thread before its first step: its program counter capability, registers and posture, the compartment and the
-/// export of its first frame, and where its stack and its area lie.
-#[derive(Drop)]
-pub struct Fresh {
+/// How a thread starts: its program counter capability, its registers, its posture, the index of the compartment that
+/// it enters, and the entry number of the export by which it does.
+#[derive(Clone, Copy, Drop)]
+pub struct First {
     pub pcc: Live,
     pub regs: [Live; 16],
     pub posture: Posture,
     pub actor: u32,
     pub export: u32,
+}
+
+/// A thread before its first step: how it starts, and where its stack and its area lie.
+#[derive(Drop)]
+pub struct Fresh {
+    pub first: First,
     pub area: Area,
 }
 
@@ -35,7 +41,7 @@ pub struct Fresh {
 fn first_row<M: Memory>(mem: &mut M, fresh: &Fresh) -> Thread
     requires fresh { IsFresh (8 * length (M.granules mem.old)) fresh.now }
     requires clear { (k : ℕ) → area_begin fresh.now.area ≤ k → k < area_end fresh.now.area
-        → held (M.granules mem.old) k ≡ plain 0 }
+        → cap_in (M.granules mem.old) k ≡ plain 0 }
     ensures kept { IsKept (M.granules mem.new) true result }
     ensures area { result.area ≡ fresh.now.area }
     ensures thread { thread_of (M.granules mem.new) true result ≡ first_of fresh.now }
@@ -44,11 +50,11 @@ fn first_row<M: Memory>(mem: &mut M, fresh: &Fresh) -> Thread
 {
     Thread::new(
         mem,
-        fresh.pcc,
-        fresh.regs,
-        fresh.posture,
-        fresh.actor,
-        fresh.export,
+        fresh.first.pcc,
+        fresh.first.regs,
+        fresh.first.posture,
+        fresh.first.actor,
+        fresh.first.export,
         fresh.area,
     )
 }
@@ -57,7 +63,7 @@ fn first_row<M: Memory>(mem: &mut M, fresh: &Fresh) -> Thread
 fn begin<M: Memory>(mem: &mut M, fresh: &Fresh) -> Thread
     requires fresh { IsFresh (8 * length (M.granules mem.old)) fresh.now }
     requires clear { (k : ℕ) → area_begin fresh.now.area ≤ k → k < area_end fresh.now.area
-        → held (M.granules mem.old) k ≡ plain 0 }
+        → cap_in (M.granules mem.old) k ≡ plain 0 }
     ensures kept { IsKept (M.granules mem.new) false result }
     ensures area { result.area ≡ fresh.now.area }
     ensures thread { thread_of (M.granules mem.new) false result ≡ first_of fresh.now }
@@ -79,7 +85,7 @@ fn begin_all<M: Memory>(
     requires fresh { AreFresh region.ram (8 * length (M.granules mem.old)) region.trusted region.end
         fresh.now }
     requires clear { (k : ℕ) → region_hides region k ≡ true
-        → held (M.granules mem.old) k ≡ plain 0 }
+        → cap_in (M.granules mem.old) k ≡ plain 0 }
     ensures { IfOk result (λ list. HaveBegun region (M.granules mem.old) (M.granules mem.new)
         list.items fresh.now) }
 {
@@ -100,8 +106,8 @@ pub(crate) fn start<M: Memory>(
     heap: Heap,
 ) -> Result<Rows, NoMemory>
     requires { MayStart (M.granules mem.old) region fresh.now heap }
-    ensures holds { IfOk result (λ rows. Holds (M.granules mem.new) rows) }
-    ensures seen { IfOk result (λ rows. seen (M.granules mem.new) rows
+    ensures holds { IfOk result (λ rows. IsEngine (M.granules mem.new) rows) }
+    ensures seen { IfOk result (λ rows. engine_view (M.granules mem.new) rows
         ≡ started (M.granules mem.old) region fresh.now heap) }
 {
     let list = begin_all(alloc, mem, region, fresh)?;

@@ -10,8 +10,8 @@ ghost use Rattle.def_machine.specs.Registers.{written};
 ghost use Rattle.def_machine.specs.State.{register};
 ghost use Rattle.def_step.specs.Checks.{first_failed};
 ghost use Rattle.def_step.specs.Instructions.{actor_of, fetch_checks};
-ghost use Rattle.ct_engine.specs.Kept.{Holds};
-ghost use Rattle.ct_engine.specs.Seen.{seen, thread, sifted, went, advanced, moved_to, row_gone};
+ghost use Rattle.ct_engine.specs.Kept.{IsEngine};
+ghost use Rattle.ct_engine.specs.Seen.{engine_view, thread, after_filter, after_jump, advanced, moved_to, row_gone};
 
 use crate::rows::Rows;
 use ct_areas::Thread;
@@ -40,7 +40,7 @@ fn read(registers: &[Live; 16], number: u32) -> Live
 }
 
 /// A row whose thread goes on elsewhere, with this posture; a register gets a value.
-fn go_row(t: &mut Thread, pcc: Live, posture: Posture, to: u32, value: Live)
+fn jump_row(t: &mut Thread, pcc: Live, posture: Posture, to: u32, value: Live)
     requires { to < 16 }
     ensures { t.new ≡ row_gone t.old pcc posture to value }
 {
@@ -50,15 +50,15 @@ fn go_row(t: &mut Thread, pcc: Live, posture: Posture, to: u32, value: Live)
 }
 
 /// The running thread goes on elsewhere, with this posture; a register gets a value.
-pub(crate) fn go(rows: &mut Rows, t: u32, pcc: Live, posture: Posture, to: u32, value: Live)
+pub(crate) fn jump_to(rows: &mut Rows, t: u32, pcc: Live, posture: Posture, to: u32, value: Live)
     requires there { t < length rows.old.list.items }
     requires runs { rows.old.running ≡ Some t }
     requires to { to < 16 }
-    ensures holds { (gs : List Granule) → Holds gs rows.old → Holds gs rows.new }
-    ensures seen { (gs : List Granule) → Holds gs rows.old
-        → seen gs rows.new ≡ went (seen gs rows.old) t pcc posture to value }
+    ensures holds { (gs : List Granule) → IsEngine gs rows.old → IsEngine gs rows.new }
+    ensures seen { (gs : List Granule) → IsEngine gs rows.old
+        → engine_view gs rows.new ≡ after_jump (engine_view gs rows.old) t pcc posture to value }
 {
-    go_row(&mut rows.list[t as usize], pcc, posture, to, value);
+    jump_row(&mut rows.list[t as usize], pcc, posture, to, value);
 }
 
 /// A register of the running thread.
@@ -67,8 +67,8 @@ pub(crate) fn register(rows: &Rows, t: u32, number: u32) -> Live
     requires there { t < length rows.now.list.items }
     requires runs { rows.now.running ≡ Some t }
     requires number { number < 16 }
-    ensures { (gs : List Granule) → Holds gs rows.now
-        → result ≡ register (thread (seen gs rows.now) t) number }
+    ensures { (gs : List Granule) → IsEngine gs rows.now
+        → result ≡ register (thread (engine_view gs rows.now) t) number }
 {
     read(&rows.list[t as usize].regs, number)
 }
@@ -78,8 +78,8 @@ pub(crate) fn register(rows: &Rows, t: u32, number: u32) -> Live
 pub(crate) fn pcc(rows: &Rows, t: u32) -> Live
     requires there { t < length rows.now.list.items }
     requires runs { rows.now.running ≡ Some t }
-    ensures { (gs : List Granule) → Holds gs rows.now
-        → result ≡ (thread (seen gs rows.now) t).pcc }
+    ensures { (gs : List Granule) → IsEngine gs rows.now
+        → result ≡ (thread (engine_view gs rows.now) t).pcc }
 {
     rows.list[t as usize].pcc
 }
@@ -88,8 +88,8 @@ pub(crate) fn pcc(rows: &Rows, t: u32) -> Live
 pub(crate) fn posture(rows: &Rows, t: u32) -> Posture
     requires there { t < length rows.now.list.items }
     requires runs { rows.now.running ≡ Some t }
-    ensures { (gs : List Granule) → Holds gs rows.now
-        → result ≡ (thread (seen gs rows.now) t).posture }
+    ensures { (gs : List Granule) → IsEngine gs rows.now
+        → result ≡ (thread (engine_view gs rows.now) t).posture }
 {
     rows.list[t as usize].posture
 }
@@ -98,16 +98,16 @@ pub(crate) fn posture(rows: &Rows, t: u32) -> Posture
 pub(crate) fn actor(rows: &Rows, t: u32) -> u32
     requires there { t < length rows.now.list.items }
     requires runs { rows.now.running ≡ Some t }
-    ensures is { (gs : List Granule) → Holds gs rows.now
-        → result ≡ actor_of (thread (seen gs rows.now) t).frames }
-    ensures some { (gs : List Granule) → Holds gs rows.now
-        → 0 < length (thread (seen gs rows.now) t).frames }
+    ensures is { (gs : List Granule) → IsEngine gs rows.now
+        → result ≡ actor_of (thread (engine_view gs rows.now) t).frames }
+    ensures some { (gs : List Granule) → IsEngine gs rows.now
+        → 0 < length (thread (engine_view gs rows.now) t).frames }
 {
     rows.list[t as usize].actor
 }
 
 /// Each register passes the load filter.
-fn sift_registers<M: Memory>(registers: &mut [Live; 16], mem: &M, ram: u32)
+fn filter_each<M: Memory>(registers: &mut [Live; 16], mem: &M, ram: u32)
     ensures { registers.new ≡ map (filtered_in ram (M.granules mem.now)) registers.old }
 {
     for number in 0..16usize {
@@ -116,23 +116,23 @@ fn sift_registers<M: Memory>(registers: &mut [Live; 16], mem: &M, ram: u32)
 }
 
 /// A row whose registers have passed the load filter.
-fn sift_row<M: Memory>(t: &mut Thread, mem: &M)
+fn filter_row<M: Memory>(t: &mut Thread, mem: &M)
     ensures { t.new ≡ record t.old {
       regs = map (filtered_in t.old.area.ram (M.granules mem.now)) t.old.regs;
     } }
 {
-    sift_registers(&mut t.regs, mem, t.area.ram);
+    filter_each(&mut t.regs, mem, t.area.ram);
 }
 
 /// The registers of the running thread pass the load filter.
-pub(crate) fn sift<M: Memory>(rows: &mut Rows, mem: &M, t: u32)
-    requires holds { Holds (M.granules mem.now) rows.old }
+pub(crate) fn filter_registers<M: Memory>(rows: &mut Rows, mem: &M, t: u32)
+    requires holds { IsEngine (M.granules mem.now) rows.old }
     requires runs { rows.old.running ≡ Some t }
-    ensures holds { Holds (M.granules mem.now) rows.new }
-    ensures seen { seen (M.granules mem.now) rows.new
-        ≡ sifted (seen (M.granules mem.now) rows.old) t }
+    ensures holds { IsEngine (M.granules mem.now) rows.new }
+    ensures seen { engine_view (M.granules mem.now) rows.new
+        ≡ after_filter (engine_view (M.granules mem.now) rows.old) t }
 {
-    sift_row(&mut rows.list[t as usize], mem);
+    filter_row(&mut rows.list[t as usize], mem);
 }
 
 /// Whether each check of a fetch passes.
@@ -153,8 +153,8 @@ fn may_fetch(pcc: &Live) -> bool
 pub(crate) fn fetches(rows: &Rows, t: u32) -> bool
     requires there { t < length rows.now.list.items }
     requires runs { rows.now.running ≡ Some t }
-    ensures { (gs : List Granule) → Holds gs rows.now
-        → result ≡ is_none (first_failed (fetch_checks (thread (seen gs rows.now) t).pcc)) }
+    ensures { (gs : List Granule) → IsEngine gs rows.now
+        → result ≡ is_none (first_failed (fetch_checks (thread (engine_view gs rows.now) t).pcc)) }
 {
     may_fetch(&rows.list[t as usize].pcc)
 }
@@ -164,15 +164,15 @@ pub(crate) fn fetches(rows: &Rows, t: u32) -> bool
 pub(crate) fn address(rows: &Rows, t: u32) -> u32
     requires there { t < length rows.now.list.items }
     requires runs { rows.now.running ≡ Some t }
-    ensures { (gs : List Granule) → Holds gs rows.now
-        → result ≡ cap_address (thread (seen gs rows.now) t).pcc }
+    ensures { (gs : List Granule) → IsEngine gs rows.now
+        → result ≡ cap_address (thread (engine_view gs rows.now) t).pcc }
 {
     rows.list[t as usize].pcc.address()
 }
 
 /// A register's value where it stands.
 #[inline(always)]
-fn lend(registers: &[Live; 16], number: u32) -> &Live
+fn read_ref(registers: &[Live; 16], number: u32) -> &Live
     requires { number < 16 }
     ensures { result.now ≡ slice_index_or registers.now number (plain 0) }
 {
@@ -181,23 +181,23 @@ fn lend(registers: &[Live; 16], number: u32) -> &Live
 
 /// A register of the running thread where it stands.
 #[inline(always)]
-pub(crate) fn lent(rows: &Rows, t: u32, number: u32) -> &Live
+pub(crate) fn register_ref(rows: &Rows, t: u32, number: u32) -> &Live
     requires there { t < length rows.now.list.items }
     requires runs { rows.now.running ≡ Some t }
     requires number { number < 16 }
-    ensures { (gs : List Granule) → Holds gs rows.now
-        → result.now ≡ register (thread (seen gs rows.now) t) number }
+    ensures { (gs : List Granule) → IsEngine gs rows.now
+        → result.now ≡ register (thread (engine_view gs rows.now) t) number }
 {
-    lend(&rows.list[t as usize].regs, number)
+    read_ref(&rows.list[t as usize].regs, number)
 }
 
 /// The program counter capability of the running thread where it stands.
 #[inline(always)]
-pub(crate) fn lent_pcc(rows: &Rows, t: u32) -> &Live
+pub(crate) fn pcc_ref(rows: &Rows, t: u32) -> &Live
     requires there { t < length rows.now.list.items }
     requires runs { rows.now.running ≡ Some t }
-    ensures { (gs : List Granule) → Holds gs rows.now
-        → result.now ≡ (thread (seen gs rows.now) t).pcc }
+    ensures { (gs : List Granule) → IsEngine gs rows.now
+        → result.now ≡ (thread (engine_view gs rows.now) t).pcc }
 {
     &rows.list[t as usize].pcc
 }
@@ -208,10 +208,10 @@ pub(crate) fn address_in(rows: &Rows, t: u32, number: u32) -> u32
     requires there { t < length rows.now.list.items }
     requires runs { rows.now.running ≡ Some t }
     requires number { number < 16 }
-    ensures { (gs : List Granule) → Holds gs rows.now
-        → result ≡ cap_address (register (thread (seen gs rows.now) t) number) }
+    ensures { (gs : List Granule) → IsEngine gs rows.now
+        → result ≡ cap_address (register (thread (engine_view gs rows.now) t) number) }
 {
-    lent(rows, t, number).address()
+    register_ref(rows, t, number).address()
 }
 
 /// A row whose thread goes on after its instruction; a register gets a value.
@@ -232,9 +232,9 @@ pub(crate) fn put(rows: &mut Rows, t: u32, to: u32, value: Live)
     requires there { t < length rows.old.list.items }
     requires runs { rows.old.running ≡ Some t }
     requires to { to < 16 }
-    ensures holds { (gs : List Granule) → Holds gs rows.old → Holds gs rows.new }
-    ensures seen { (gs : List Granule) → Holds gs rows.old
-        → seen gs rows.new ≡ advanced (seen gs rows.old) t to value }
+    ensures holds { (gs : List Granule) → IsEngine gs rows.old → IsEngine gs rows.new }
+    ensures seen { (gs : List Granule) → IsEngine gs rows.old
+        → engine_view gs rows.new ≡ advanced (engine_view gs rows.old) t to value }
 {
     put_row(&mut rows.list[t as usize], to, value);
 }
@@ -252,9 +252,9 @@ fn branch_row(t: &mut Thread, target: u32)
 pub(crate) fn branch_to(rows: &mut Rows, t: u32, target: u32)
     requires there { t < length rows.old.list.items }
     requires runs { rows.old.running ≡ Some t }
-    ensures holds { (gs : List Granule) → Holds gs rows.old → Holds gs rows.new }
-    ensures seen { (gs : List Granule) → Holds gs rows.old
-        → seen gs rows.new ≡ moved_to (seen gs rows.old) t target }
+    ensures holds { (gs : List Granule) → IsEngine gs rows.old → IsEngine gs rows.new }
+    ensures seen { (gs : List Granule) → IsEngine gs rows.old
+        → engine_view gs rows.new ≡ moved_to (engine_view gs rows.old) t target }
 {
     branch_row(&mut rows.list[t as usize], target);
 }

@@ -5,8 +5,8 @@ ghost use Rattle.def_machine.specs.Memory.{filtered_in};
 ghost use Rattle.def_machine.specs.Threads.{picked_with};
 ghost use Rattle.def_areas.specs.Touches.{Touches};
 ghost use Rattle.ct_areas.specs.Threads.{area_begin, area_end, thread_of};
-ghost use Rattle.ct_engine.specs.Kept.{IsKept, Holds};
-ghost use Rattle.ct_engine.specs.Seen.{seen, thread, with_running, resumed};
+ghost use Rattle.ct_engine.specs.Kept.{IsKept, IsEngine};
+ghost use Rattle.ct_engine.specs.Seen.{engine_view, thread, with_running, resumed};
 
 use crate::rows::Rows;
 use ct_areas::{Thread, resume, save};
@@ -49,11 +49,11 @@ fn pick_row<M: Memory>(t: &mut Thread, mem: &mut M)
 
 /// The running thread stops.
 pub(crate) fn stop<M: Memory>(rows: &mut Rows, mem: &mut M, t: u32)
-    requires holds { Holds (M.granules mem.old) rows.old }
+    requires holds { IsEngine (M.granules mem.old) rows.old }
     requires runs { rows.old.running ≡ Some t }
-    ensures holds { Holds (M.granules mem.new) rows.new }
-    ensures seen { seen (M.granules mem.new) rows.new
-        ≡ with_running (seen (M.granules mem.old) rows.old) None }
+    ensures holds { IsEngine (M.granules mem.new) rows.new }
+    ensures seen { engine_view (M.granules mem.new) rows.new
+        ≡ with_running (engine_view (M.granules mem.old) rows.old) None }
 {
     stop_row(&mut rows.list[t as usize], mem);
     rows.running = None;
@@ -61,13 +61,13 @@ pub(crate) fn stop<M: Memory>(rows: &mut Rows, mem: &mut M, t: u32)
 
 /// A thread that hasn't ended is picked, where none runs.
 pub(crate) fn pick<M: Memory>(rows: &mut Rows, mem: &mut M, t: u32)
-    requires holds { Holds (M.granules mem.old) rows.old }
+    requires holds { IsEngine (M.granules mem.old) rows.old }
     requires none { rows.old.running ≡ None }
     requires there { t < length rows.old.list.items }
-    requires alive { 0 < length (thread (seen (M.granules mem.old) rows.old) t).frames }
-    ensures holds { Holds (M.granules mem.new) rows.new }
-    ensures seen { seen (M.granules mem.new) rows.new
-        ≡ resumed (seen (M.granules mem.old) rows.old) t }
+    requires alive { 0 < length (thread (engine_view (M.granules mem.old) rows.old) t).frames }
+    ensures holds { IsEngine (M.granules mem.new) rows.new }
+    ensures seen { engine_view (M.granules mem.new) rows.new
+        ≡ resumed (engine_view (M.granules mem.old) rows.old) t }
 {
     pick_row(&mut rows.list[t as usize], mem);
     rows.running = Some(t);

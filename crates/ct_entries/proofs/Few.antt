@@ -1,12 +1,12 @@
 -- An image whose parts stand has few entries.
 use Rattle.std.proofs.Common.{◌^◌, ◌<◌, length, arith}
 use Rattle.def_image.specs.Parts.{PartsRow}
-use Rattle.def_boot.specs.Entries.{rows_of}
+use Rattle.def_boot.specs.Entries.{entry_rows}
 use Rattle.law_image.proofs.Members.{all_at}
 use Rattle.law_listed.proofs.Few.{few_rows as few_of}
-use Rattle.ct_entries.specs.Fits.{CodeStands, CompartmentStands, Stands}
+use Rattle.ct_entries.specs.Fits.{CodeStands, CompartmentStands, PartsFit}
 
-pub few_rows : (p : PartsRow) → Stands p → length (rows_of p) < 2 ^ 32
+pub few_rows : (p : PartsRow) → PartsFit p → length (entry_rows p) < 2 ^ 32
 few_rows p s =
     let few = few_of p
     (λ k c is. let h = all_at (CompartmentStands p) p.compartments k c s.compartments is in (h.code.few, h.code.exports))

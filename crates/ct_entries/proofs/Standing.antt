@@ -13,7 +13,7 @@ use Rattle.def_image.specs.Sound.{Sound}
 use Rattle.law_image.proofs.Members.{all_at}
 use Rattle.law_image.proofs.Sounds.{sound}
 use Rattle.def_image.specs.Accepted.{IsFaultless}
-use Rattle.ct_entries.specs.Fits.{HasFit, Starts, CodeStands, CompartmentStands, Stands}
+use Rattle.ct_entries.specs.Fits.{HasFit, Starts, CodeStands, CompartmentStands, PartsFit}
 
 pub faultless_is_sound : (p : PartsRow) → IsFaultless p → Sound p
 faultless_is_sound p f = sound p f
@@ -124,7 +124,7 @@ module _ (p : PartsRow) (s : Sound p) where
         starts = all_of (Starts (length c.text)) c.exports (λ j x at. (f.export j x at).offset.inside);
       }
 
-  pub stands : Stands p
+  pub stands : PartsFit p
   stands = record {
     compartments = all_of (CompartmentStands p) p.compartments compartment_stands;
     libraries = all_of (CodeStands p) p.libraries library_stands;

@@ -27,7 +27,7 @@ pub record CompartmentStands (p : PartsRow) (c : CompartmentRow) : Type 0 where
   pub code : CodeStands p c.code
   pub table : c.table + TABLE_HEAD + TABLE_ROW * length c.code.exports < 2 ^ 32
 
-pub record Stands (p : PartsRow) : Type 0 where
+pub record PartsFit (p : PartsRow) : Type 0 where
   pub compartments : AllByRecursion (CompartmentStands p) p.compartments
   pub libraries : AllByRecursion (CodeStands p) p.libraries
   pub few : length p.compartments ≤ most.MOST_COMPARTMENTS

@@ -26,10 +26,10 @@ pub(crate) fn row(owner: Owner, kind: Kind, base: u32, length: u32, rights: u32,
 }
 
 /// The rows of an image's parts, in the order of their numbers.
-#[tactic(auto, using(crate::proofs::Standing::stands), unfolding(def_boot::specs::Entries::rows_of))]
+#[tactic(auto, using(crate::proofs::Standing::stands), unfolding(def_boot::specs::Entries::entry_rows))]
 pub(crate) fn rows_of(alloc: Global, parts: &Parts) -> Result<Vec<Entry>, AllocError>
     requires { Sound parts.now }
-    ensures { IfOk result (λ v. v.items ≡ spec.rows_of parts.now) }
+    ensures { IfOk result (λ v. v.items ≡ spec.entry_rows parts.now) }
 {
     let mut rows = Vec::new(alloc);
     add_compartments(&mut rows, parts, parts.compartments.as_slice())?;

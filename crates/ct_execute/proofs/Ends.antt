@@ -7,7 +7,7 @@ use Rattle.def_words.specs.Authority.{cap_address}
 use Rattle.def_step.specs.declared.Next.{Next}
 use Rattle.def_step.specs.Checks.{first_failed}
 use Rattle.def_step.specs.Devices.{Bank}
-use Rattle.def_step.specs.Instructions.{Done, fetch_checks}
+use Rattle.def_step.specs.Instructions.{Effect, fetch_checks}
 use Rattle.ct_engine.specs.Seen.{Seen, thread}
 use Rattle.ct_engine.specs.Steps.{space_in, next_in}
 use Rattle.ct_execute.specs.declared.ran.Ran.{Ran}
@@ -22,7 +22,7 @@ decided_unfinished (Serves number) t s new k bank r h = subst (λ (x : Ran). IfU
 decided_unfinished (Traps why) t s new k bank r h = subst (λ (x : Ran). IfUnfinished x ((new ≡ s) × (bank ≡ k))) (sym h.2) (h.0, h.1)
 
 -- an instruction goes on or traps
-pub no_routine : (entry : ℕ) (d : Result Done Trap) (t : ℕ) (s new : Seen) (k bank : Bank) (r : Ran) → Decided (by_result entry d) t s k new bank r → RanInRange r
+pub no_routine : (entry : ℕ) (d : Result Effect Trap) (t : ℕ) (s new : Seen) (k bank : Bank) (r : Ran) → Decided (by_result entry d) t s k new bank r → RanInRange r
 no_routine entry (Ok d) t s new k bank r h = subst RanInRange (sym h.2) tt
 no_routine entry (Err why) t s new k bank r h = subst RanInRange (sym h.2) tt
 

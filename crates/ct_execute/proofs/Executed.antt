@@ -8,11 +8,11 @@ use Rattle.def_step.specs.declared.Next.{Next}
 use Rattle.def_step.specs.declared.Next.TheVariants.{Returning, Instruction, Native, Nothing}
 use Rattle.def_step.specs.Checks.{first_failed}
 use Rattle.def_step.specs.Operands.{operands_of, class_of}
-use Rattle.def_step.specs.Instructions.{Done, executed, after_fetch, goes_on, ends, fetch_checks, next_at, space_of, operand, carried_out, named_by, around}
+use Rattle.def_step.specs.Instructions.{Effect, executed, after_fetch, goes_on, instruction_end, fetch_checks, next_at, space_of, operand, carried_out, named_by, around}
 use Rattle.def_machine.specs.Board.{Board}
 use Rattle.ct_execute.specs.Deciding.{by_result, decide, decide_fetched, decide_next, settle}
 
-result_is : (b : Board) (s : State) (t : ℕ) (x : Cap) (r : Result Done Trap) → ends b s t x r ≡ settle b s t (by_result x.shadow.root r)
+result_is : (b : Board) (s : State) (t : ℕ) (x : Cap) (r : Result Effect Trap) → instruction_end b s t x r ≡ settle b s t (by_result x.shadow.root r)
 result_is b s t x (Err why) = refl
 result_is b s t x (Ok d) = refl
 

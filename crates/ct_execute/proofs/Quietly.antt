@@ -21,7 +21,7 @@ use Rattle.def_step.specs.Jumps.{flow_result, is_taken, target_at, jumped_to, br
 use Rattle.def_step.specs.Operands.{class_of, operands_of}
 use Rattle.ct_decoded.specs.declared.reading.Reading.{Reading}
 use Rattle.ct_decoded.specs.Reading.{reading_by}
-use Rattle.ct_engine.specs.Seen.{Seen, thread, went}
+use Rattle.ct_engine.specs.Seen.{Seen, thread, after_jump}
 use Rattle.ct_engine.specs.Steps.{space_in, next_in, is_word_of_ram}
 use Rattle.ct_execute.specs.Deciding.{decision, decide_fetched, decide_next, named_in, WentQuietly}
 use Rattle.ct_execute.specs.Quiet.{offset_of, address_in, takes, plain_jump, jump_by, jump_offset, goes_at, goes_quietly, Says, CarriesQuietly}
@@ -69,8 +69,8 @@ decided_quietly s t word new o r is checks next goes carries e k time =
 
 -- ---- when
 
-both_pass : (a b c went : Bool) → a ≡ true → b ≡ true → went ≡ c → went ≡ (a && (b && c))
-both_pass a b c went first second is = rw (first, second) is
+both_pass : (a b c after_jump : Bool) → a ≡ true → b ≡ true → after_jump ≡ c → after_jump ≡ (a && (b && c))
+both_pass a b c after_jump first second is = rw (first, second) is
 
 -- the fetch passes, a whole word stands there, and it goes or not
 pub when_fetched : (s : Seen) (t word at : ℕ) (o : Option Instr) (r : Reading) (went : Bool) → r ≡ reading_by word o
@@ -103,7 +103,7 @@ branch_goes false pcc posture offset n is whole =
     subst (λ (m : ℕ). branched false pcc posture offset ≡ Ok (record { link = None; pcc = with_address pcc (target_at pcc m); posture = posture })) (sym is) refl
 
 abbrev Turned : Seen → ℕ → ℕ → Seen → Type 0
-Turned s t n new = new ≡ went s t (with_address (thread s t).pcc (target_at (thread s t).pcc n)) (thread s t).posture 0 (integer 0)
+Turned s t n new = new ≡ after_jump s t (with_address (thread s t).pcc (target_at (thread s t).pcc n)) (thread s t).posture 0 (integer 0)
 
 -- what a branch comes to is by its offset
 branch_flows : (i : Instr) (offset : ℕ) (x y pcc : Cap) (posture : Posture) (named : ℕ) → offset_of i ≡ Some offset
@@ -173,7 +173,7 @@ moved_quiet s t i (Some offset) n new e by whole is = branch_by s t i offset n n
 
 pub jump_quiet : (s new : Seen) (t : ℕ) (i : Instr) (n : ℕ) → Some n ≡ jump_offset (thread s t) i
     → (target_at (thread s t).pcc n % 4 == 0) ≡ true
-    → new ≡ (went s t (with_address (thread s t).pcc (target_at (thread s t).pcc n)) (thread s t).posture 0 (integer 0))
+    → new ≡ (after_jump s t (with_address (thread s t).pcc (target_at (thread s t).pcc n)) (thread s t).posture 0 (integer 0))
     → CarriesQuietly s t i new
 jump_quiet s new t i n by whole turned =
     moved_quiet s t i (offset_of i) n new refl by whole turned

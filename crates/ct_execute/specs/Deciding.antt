@@ -2,6 +2,7 @@
 -- That the written step is this decision, carried out, is proved.
 use Rattle.std.specs.Prelude.{ℕ, ◌≡◌, length, Option, Some, None, option_map, Result, Ok, Err}
 use Rattle.ct_entry.specs.Listed.{Listed}
+use Rattle.ct_entry.specs.declared.acts.Act.{Act}
 use Rattle.ct_entry.specs.declared.acts.Deed.{Deed}
 use Rattle.def_words.specs.declared.Cap.{Cap}
 use Rattle.def_words.specs.declared.Trap.{Trap}
@@ -21,27 +22,28 @@ use Rattle.def_step.specs.Handlers.{return_taken}
 use Rattle.def_step.specs.Devices.{Bank}
 use Rattle.def_step.specs.Accesses.{Space}
 use Rattle.def_step.specs.Operands.{operands_of, class_of}
-use Rattle.def_step.specs.Instructions.{Done, Around, carried_out, fetch_checks, next_at, served, trapped, put_done, deed}
+use Rattle.def_step.specs.Instructions.{Effect, Context, carried_out, fetch_checks, next_at, served, trapped, put_done, deed}
 use Rattle.def_machine.specs.Board.{Board}
 use Rattle.ct_decoded.specs.Reading.{AreRegisters}
-use Rattle.ct_engine.specs.Seen.{Seen, thread, went, with_granules}
+use Rattle.ct_engine.specs.Seen.{Seen, thread, after_jump, with_granules}
 use Rattle.def_step.specs.Native.{native}
 use Rattle.ct_engine.specs.Steps.{space_in, IsRoutine}
+use Rattle.ct_execute.specs.declared.ran.ActBy.{ActBy}
 use Rattle.ct_execute.specs.declared.ran.Ran.{Ran}
 use Rattle.ct_execute.specs.declared.ran.Ran.TheVariants.{Went, Returned, Native, Trapped}
 
 -- it goes on, and the capability that was used has this root; it returns; a native routine of this number serves it;
 -- it traps
 pub data Decision : Type 0 where
-  Goes : Done → ℕ → Decision
+  Goes : Effect → ℕ → Decision
   Returns : Decision
   Serves : ℕ → Decision
   Traps : Trap → Decision
 
-abbrev pub around_of : Thread → Space → Around
+abbrev pub around_of : Thread → Space → Context
 around_of w p = record { pcc = w.pcc; posture = w.posture; space = p }
 
-abbrev pub by_result : ℕ → Result Done Trap → Decision
+abbrev pub by_result : ℕ → Result Effect Trap → Decision
 by_result entry (Err why) = Traps why
 by_result entry (Ok d) = Goes d entry
 
@@ -83,11 +85,15 @@ settle b s t (Traps why) = trapped b s t why
 abbrev pub decision : Listed → Seen → ℕ → Bank → ℕ → Decision
 decision e s t k time = decide e (thread s t) (space_in s k time)
 
+-- an act, by this entry
+abbrev pub act_by : ℕ → Act → ActBy
+act_by entry a = record { act = a; entry = entry }
+
 -- what the code leaves of the engine and of the devices, and answers
 abbrev pub Decided : Decision → ℕ → Seen → Bank → Seen → Bank → Ran → Type 0
 Decided (Goes d entry) t s k new bank r =
-    (new ≡ with_granules (went s t d.pcc d.posture d.to d.value) d.granules) × (bank ≡ d.bank)
-    × (r ≡ Went d.act entry)
+    (new ≡ with_granules (after_jump s t d.pcc d.posture d.to d.value) d.granules) × (bank ≡ d.bank)
+    × (r ≡ Went (option_map (act_by entry) d.act))
 Decided Returns t s k new bank r = (new ≡ s) × (bank ≡ k) × (r ≡ Returned)
 Decided (Serves number) t s k new bank r = (new ≡ s) × (bank ≡ k) × (r ≡ Native number)
 Decided (Traps why) t s k new bank r = (new ≡ s) × (bank ≡ k) × (r ≡ Trapped why)
@@ -96,7 +102,7 @@ Decided (Traps why) t s k new bank r = (new ≡ s) × (bank ≡ k) × (r ≡ Tra
 -- the posture; no other decision is so
 abbrev pub WentQuietly : Decision → ℕ → Seen → Bank → Seen → Type 0
 WentQuietly (Goes d entry) t s k new =
-    (new ≡ with_granules (went s t d.pcc d.posture d.to d.value) d.granules) × (k ≡ d.bank)
+    (new ≡ with_granules (after_jump s t d.pcc d.posture d.to d.value) d.granules) × (k ≡ d.bank)
     × (d.act ≡ None) × (d.posture ≡ (thread s t).posture)
 WentQuietly Returns t s k new = ⊥
 WentQuietly (Serves number) t s k new = ⊥
@@ -104,7 +110,7 @@ WentQuietly (Traps why) t s k new = ⊥
 
 -- of one instruction after which something is left to do: it returned or trapped, or a native routine is to run
 abbrev pub IfUnfinished : Ran → Type 0 → Type 0
-IfUnfinished (Went act entry) P = Unit {0}
+IfUnfinished (Went acted) P = Unit {0}
 IfUnfinished Returned P = P
 IfUnfinished (Native number) P = P
 IfUnfinished (Trapped why) P = P

@@ -4,7 +4,7 @@ ghost use Rattle.std.specs.Prelude.{◌≡◌};
 ghost use Rattle.ct_execute.specs.Deciding.{decision, Decided, IfUnfinished, RanInRange, Stays};
 ghost use Rattle.ct_execute.specs.Opening.{MayGo};
 
-use crate::carrying::carry_out;
+use crate::classes::execute_instruction;
 use crate::fetching::fetch_trap;
 use crate::ran::Ran;
 use ct_bus::Bus;
@@ -43,7 +43,7 @@ pub fn execute<M: Memory + Drop>(
         Next::Returning => Ran::Returned,
         Next::Native { number } => Ran::Native { number },
         Next::Instruction { instruction } => {
-            carry_out(instruction, entries, engine, t, bus, heap, time)
+            execute_instruction(instruction, entries, engine, t, bus, heap, time)
         }
         Next::Nothing => Ran::Trapped {
             trap: Trap::plain(ILLEGAL_INSTRUCTION),

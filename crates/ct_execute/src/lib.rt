@@ -6,7 +6,7 @@
 //! nothing, where no check fails, and leaves all else to `execute`. docs/use/machine.md tells the same in prose.
 #![tactic(auto)]
 
-mod carrying;
+mod classes;
 mod executing;
 mod fetching;
 mod laws;
@@ -16,4 +16,4 @@ mod ran;
 pub use executing::execute;
 pub use laws::{executed_decided, running_opened};
 pub use quiet::execute_quietly;
-pub use ran::Ran;
+pub use ran::{ActBy, Ran};

@@ -57,7 +57,7 @@ pub fn execute_quietly<M: Memory + Drop>(
     match engine.word_at(at) {
         Some(word) => {
             decoded.keep(at, word);
-            carry(engine, t, decoded.reading(at))
+            execute_class(engine, t, decoded.reading(at))
         }
         None => false,
     }
@@ -65,7 +65,7 @@ pub fn execute_quietly<M: Memory + Drop>(
 
 /// What was read is carried out where it is such an instruction; else `false`, and nothing changes.
 #[inline(always)]
-fn carry<M: Memory + Drop>(engine: &mut Engine<M>, t: u32, reading: &Reading) -> bool
+fn execute_class<M: Memory + Drop>(engine: &mut Engine<M>, t: u32, reading: &Reading) -> bool
     requires runs { engine.old.running ≡ Some t }
     requires opened { IsOpen engine.old t }
     requires even { engine.old.region.ram % 16 ≡ 0 }
@@ -239,9 +239,9 @@ fn derive<M: Memory + Drop>(engine: &mut Engine<M>, t: u32, reading: &Reading, i
 {
     let value = derived(
         instruction,
-        engine.lend(t, reading.operands.first),
-        engine.lend(t, reading.operands.second),
-        engine.lend_pcc(t),
+        engine.register_ref(t, reading.operands.first),
+        engine.register_ref(t, reading.operands.second),
+        engine.pcc_ref(t),
     );
     engine.put(t, reading.operands.to, value);
 }

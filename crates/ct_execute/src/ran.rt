@@ -3,12 +3,19 @@
 use ct_entry::Act;
 use def_words::Trap;
 
-/// The thread went on, with its deed, if it did one, and the entry of the capability that it used: an instruction's
-/// deed is at a device, a routine's is a call, an allocation or a free. Or it came to the native return, or to the
-/// native routine of another number; or a check failed.
+/// An act, and the entry of the capability that was used for it.
+#[derive(Clone, Copy, PartialEq, Eq, Drop)]
+pub struct ActBy {
+    pub act: Act,
+    pub entry: u32,
+}
+
+/// The thread went on, with what it did that is told: an instruction's act is at a device, a routine's is a call, an
+/// allocation or a free. Or it came to the native return, or to the native routine of another number; or a check
+/// failed.
 #[derive(Clone, Copy, PartialEq, Eq, Drop)]
 pub enum Ran {
-    Went { act: Option<Act>, entry: u32 },
+    Went { done: Option<ActBy> },
     Returned,
     Native { number: u32 },
     Trapped { trap: Trap },

@@ -7,7 +7,7 @@ use Rattle.law_lists.proofs.Tests.{bool_tells, eq_tells, lt_tells}
 use Rattle.ct_entry.specs.Listed.{Listed}
 use Rattle.ct_entry.specs.declared.rows.Entry.{Entry}
 use Rattle.ct_entry.specs.declared.rows.Gate.{Gate}
-use Rattle.def_reach.specs.Roots.{root_of, gate_for, no_gate, compartment_of, is_disabled}
+use Rattle.def_reach.specs.Roots.{root_of, gate_for, no_gate, compartment_of, turns_interrupts_off}
 use Rattle.ct_exports.specs.Exports.{AreSorted, AreTogether, no_row, row_at, row_named, is_export_of, table_in, export_of}
 
 -- ---- rows
@@ -23,7 +23,7 @@ pub export_found : (e : Listed) (n : ℕ) (r : Entry) → row_named e.rows n ≡
   stack = (gate_for e.gates n).stack;
   args = (gate_for e.gates n).args;
   passes = (gate_for e.gates n).capabilities;
-  disabled = is_disabled (gate_for e.gates n).posture;
+  disabled = turns_interrupts_off (gate_for e.gates n).posture;
 }
 unfolding root_of
 export_found e zero r is = absurd (cc)

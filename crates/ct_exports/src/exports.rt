@@ -1,7 +1,7 @@
 //! The export that a call enters.
 
 ghost use Rattle.std.specs.Prelude.{◌≡◌};
-ghost use Rattle.def_reach.specs.Roots.{compartment_of, is_disabled, root_of};
+ghost use Rattle.def_reach.specs.Roots.{compartment_of, turns_interrupts_off, root_of};
 ghost use Rattle.ct_exports.specs.Exports.{AreSorted, export_of};
 
 use crate::looking::{gate_of, named};
@@ -34,7 +34,7 @@ fn home_of(owner: Owner) -> u32
 
 /// Whether an export runs with interrupts disabled.
 fn is_disabled(posture: Mode) -> bool
-    ensures { result ≡ is_disabled posture }
+    ensures { result ≡ turns_interrupts_off posture }
 {
     match posture {
         Mode::Disabled => true,

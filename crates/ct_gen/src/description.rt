@@ -292,7 +292,7 @@ fn add_running(
 /// A thread of a firmware with so many compartments.
 fn thread_value(alloc: Global, count: u32, name: &str) -> Result<Value, AllocError>
     requires { count ≤ 64 }
-    ensures { IfOk result (λ v. view v ≡ spec.thread count name.now) }
+    ensures { IfOk result (λ v. view v ≡ spec.thread_json count name.now) }
 {
     let mut members = Map::new(alloc);
     add_entry(&mut members, alloc, count)?;

@@ -7,7 +7,7 @@ mod numbers;
 mod sources;
 
 ghost use Rattle.std.specs.Prelude.{◌≡◌, IfOk, map, string_bytes};
-ghost use Rattle.def_description.specs.Reading.{rows_of};
+ghost use Rattle.def_description.specs.Reading.{description_of};
 ghost use Rattle.def_description.specs.WellFormed.{WellFormed};
 ghost use Rattle.def_gen.specs.Description as spec;
 ghost use Rattle.def_gen.specs.Sources as spec_sources;
@@ -34,7 +34,7 @@ pub fn generate(alloc: Global, number: u32) -> Result<Generated, NoMemory>
     ensures description { IfOk result
         (λ g. string_bytes g.description ≡ spec.description number) }
     ensures well_formed { IfOk result
-        (λ g. WellFormed (string_bytes g.description) (rows_of (spec.firmware number))) }
+        (λ g. WellFormed (string_bytes g.description) (description_of (spec.firmware number))) }
     ensures sources { IfOk result
         (λ g. map string_bytes g.sources.items ≡ spec_sources.sources number) }
 {

@@ -6,16 +6,16 @@ use Rattle.ct_entry.specs.declared.rows.Owner.TheVariants.{Trusted, Compartment,
 use Rattle.ct_entry.specs.Listed.{Listed}
 use Rattle.def_reach.specs.Sharing.{Brings, Joined, Imports, Reaches}
 use Rattle.def_reach.specs.Sharing as reach
-use Rattle.def_graph.specs.Route.{Leads}
+use Rattle.def_graph.specs.Route.{IsWay}
 use Rattle.law_reach.proofs.Joins.{no_imports, same_compartment}
 
 -- a list of steps
 pub record Way (e : Listed) (o : Owner) (b : ℕ) : Type 0 where
   pub members : List Owner
-  pub leads : Leads e o members (Compartment b)
+  pub leads : IsWay e o members (Compartment b)
 
 -- an edge from a compartment to itself is no step; it is left out
-along_edges : (e : Listed) (a : ℕ) (xs : List ℕ) (b : ℕ) → reach.Leads e a xs b → Way e (Compartment a) b
+along_edges : (e : Listed) (a : ℕ) (xs : List ℕ) (b : ℕ) → reach.IsEdgeList e a xs b → Way e (Compartment a) b
 along_edges e a [] b h = record { members = []; leads = ap (λ n. Compartment n) h }
 along_edges e a (x ∷ xs) b h =
     let rest : Way e (Compartment x) b = along_edges e x xs b h.1 in
@@ -38,7 +38,7 @@ imports_on : (e : Listed) (a : Owner) (xs : List Owner) (o p : Owner) → Import
 imports_on e a [] o p h brings = let here : Brings e a p = subst (λ x. Brings e x p) (sym h) brings in (here, refl)
 imports_on e a (x ∷ xs) o p h brings = (h.0, imports_on e x xs o p h.1 brings)
 
-back : (e : Listed) (o : Owner) (xs : List Owner) (b : ℕ) → Leads e o xs (Compartment b) → Reaches e o b
+back : (e : Listed) (o : Owner) (xs : List Owner) (b : ℕ) → IsWay e o xs (Compartment b) → Reaches e o b
 back e o [] b h = record { by = b; through = []; imports = sym h; joined = record { members = []; leads = refl } }
 back e (Library l) (x ∷ xs) b (inl step, rest) =
     let later : Reaches e x b = back e x xs b rest in

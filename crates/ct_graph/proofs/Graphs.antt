@@ -11,7 +11,7 @@ use Rattle.def_graph.specs.Reach.{same_owner, has_entry, Reached}
 use Rattle.def_graph.specs.Route.{IsPath, Neighbours, Step, precedes}
 use Rattle.ct_graph.specs.Cells.{cell, far, IsDistance, Walks}
 use Rattle.ct_graph.specs.Links.{links_of, link_of, own, goes}
-use Rattle.ct_graph.specs.Nodes.{is_node, nodes_of, with_node, node, matrix_of, Stands, AllDistances, HasRows, IsGraph, IsNear, IsRoute, HasStep, NoStep, NotNear, stands_among, row_of, rows_of}
+use Rattle.ct_graph.specs.Nodes.{is_node, nodes_of, with_node, node, matrix_of, IsNode, AllDistances, HasRows, IsGraph, IsNear, IsRoute, HasStep, NoStep, NotNear, stands_among, row_of, rows_of}
 use Rattle.ct_graph.specs.declared.links.Link.{Link}
 use Rattle.ct_graph.proofs.Orders.{nodes_have, stands_at, among}
 use Rattle.ct_graph.proofs.Steps.{step_found, step_made}
@@ -34,7 +34,7 @@ distances_to e ns steps all g k lt =
     let here : IsDistance (cell steps) (length steps) k (slice_index_or all k []) = g.distances.each k (omega (arith, lt, size)) in
     subst (λ m. IsDistance (cell m) (length ns) k (slice_index_or all k [])) g.steps_are (subst (λ n. IsDistance (cell steps) n k (slice_index_or all k [])) size here)
 
-listed : (e : Listed) (ns : List Owner) (o : Owner) (i : ℕ) → ns ≡ nodes_of (links_of e) → is_node o ≡ true → Stands ns o i → has_entry e.rows o ≡ true
+listed : (e : Listed) (ns : List Owner) (o : Owner) (i : ℕ) → ns ≡ nodes_of (links_of e) → is_node o ≡ true → IsNode ns o i → has_entry e.rows o ≡ true
 listed e ns o i is part stands =
     let there : list_any (λ (n : Owner). same_owner n o) ns ≡ true = subst (λ p. list_any (λ (n : Owner). same_owner n p) ns ≡ true) (stands.here Trusted) (among ns i stands.inside) in
     sym (nodes_have e o part) ∙ subst (λ l. list_any (λ (n : Owner). same_owner n o) l ≡ true) is there
@@ -61,7 +61,7 @@ both_of e (Library l) c part r = record { start = r.0; end = r.1; reaches = r.2 
 both_of e Trusted c part r = absurd (both_ways false refl part)
 both_of e (Thread t) c part r = absurd (both_ways false refl part)
 
-stands_of : (e : Listed) (ns : List Owner) (o : Owner) → ns ≡ nodes_of (links_of e) → is_node o ≡ true → has_entry e.rows o ≡ true → (i : ℕ) × Stands ns o i
+stands_of : (e : Listed) (ns : List Owner) (o : Owner) → ns ≡ nodes_of (links_of e) → is_node o ≡ true → has_entry e.rows o ≡ true → (i : ℕ) × IsNode ns o i
 stands_of e ns o is part has = stands_at ns o (subst (λ l. list_any (λ (n : Owner). same_owner n o) l ≡ true) (sym is) (nodes_have e o part ∙ has))
 
 pub not_reached : (e : Listed) (ns : List Owner) (steps : List (List Bool)) (all : List (List ℕ)) (o : Owner) (c : ℕ) → IsGraph e ns steps all → is_node o ≡ true → NotNear ns all o (Compartment c) → Reached e o c → ⊥
@@ -150,7 +150,7 @@ neighbours_of e a b (inl brings) = absurd brings.is_library
 neighbours_of e a b (inr n) = n
 
 -- what stands in the matrix at two owners' places
-cell_goes : (e : Listed) (ns : List Owner) (steps : List (List Bool)) (all : List (List ℕ)) (a b : Owner) (i k : ℕ) → IsGraph e ns steps all → Stands ns a i → Stands ns b k → cell steps i k ≡ goes e a b
+cell_goes : (e : Listed) (ns : List Owner) (steps : List (List Bool)) (all : List (List ℕ)) (a b : Owner) (i k : ℕ) → IsGraph e ns steps all → IsNode ns a i → IsNode ns b k → cell steps i k ≡ goes e a b
 cell_goes e ns steps all a b i k g start end =
     ap (λ m. cell m i k) g.steps_are ∙ cell_is e ns i k start.inside end.inside ∙ ap (λ o. goes e o (node ns k)) (start.here Trusted) ∙ ap (λ o. goes e a o) (end.here Trusted)
 

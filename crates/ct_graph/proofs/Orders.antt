@@ -10,7 +10,7 @@ use Rattle.def_graph.specs.Reach.{same_owner, has_entry}
 use Rattle.def_graph.specs.Route.{precedes}
 use Rattle.ct_graph.specs.declared.links.Link.{Link}
 use Rattle.ct_graph.specs.Links.{link_of, links_of}
-use Rattle.ct_graph.specs.Nodes.{is_node, with_node, nodes_of, node, Stands}
+use Rattle.ct_graph.specs.Nodes.{is_node, with_node, nodes_of, node, IsNode}
 use Rattle.ct_graph.proofs.Owners.{same_is, same_self, precedes_trans, one_first}
 
 -- each of the nodes comes after o
@@ -98,11 +98,11 @@ nodes_have e p h = found_nodes p (links_of e) h ∙ links_owners e e.rows p
 
 -- ---- by place
 
-pub stands_at : (ns : List Owner) (o : Owner) → list_any (λ (n : Owner). same_owner n o) ns ≡ true → (i : ℕ) × Stands ns o i
+pub stands_at : (ns : List Owner) (o : Owner) → list_any (λ (n : Owner). same_owner n o) ns ≡ true → (i : ℕ) × IsNode ns o i
 stands_at [] o h = absurd (both_ways false refl h)
 stands_at (n ∷ ns) o h = elim (or_cases _ _ h) [
   | inl here ↦ (0, record { inside = omega arith; here = λ z. same_is n o here })
-  | inr later ↦ let found : (i : ℕ) × Stands ns o i = stands_at ns o later in (suc found.0, record { inside = omega (arith, found.1.inside); here = found.1.here })
+  | inr later ↦ let found : (i : ℕ) × IsNode ns o i = stands_at ns o later in (suc found.0, record { inside = omega (arith, found.1.inside); here = found.1.here })
 ]
 
 pub among : (ns : List Owner) (i : ℕ) → i < length ns → list_any (λ (n : Owner). same_owner n (node ns i)) ns ≡ true

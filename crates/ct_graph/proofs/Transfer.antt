@@ -10,10 +10,10 @@ use Rattle.ct_entry.specs.Listed.{Listed}
 use Rattle.def_reach.specs.Roots.{root_of, listed_root, gate_for}
 use Rattle.def_reach.specs.Sharing.{Edge, Reaches}
 use Rattle.def_graph.specs.Reach.{same_owner, has_entry}
-use Rattle.def_graph.specs.Route.{Step, Leads, IsLeft, Before, IsPath}
+use Rattle.def_graph.specs.Route.{Step, IsWay, IsLeft, Before, IsPath}
 use Rattle.ct_graph.specs.Cells.{cell, Links, LowLeft, Shorter, far, IsDistance, Walks}
 use Rattle.ct_graph.specs.Links.{links_of, goes}
-use Rattle.ct_graph.specs.Nodes.{is_node, nodes_of, node, matrix_of, Stands}
+use Rattle.ct_graph.specs.Nodes.{is_node, nodes_of, node, matrix_of, IsNode}
 use Rattle.ct_graph.proofs.Owners.{same_of, any_at}
 use Rattle.ct_graph.proofs.Steps.{step_found, step_made}
 use Rattle.ct_graph.proofs.Connects.{Way, way_of, reaches_by}
@@ -59,7 +59,7 @@ cell_is e ns i k hi hk = ap (λ (r : List Bool). slice_index_or r k false) (row_
 
 -- ---- up
 
-pub up : (e : Listed) (ns : List Owner) (i : ℕ) (xs : List ℕ) (k : ℕ) → Links (cell (matrix_of e ns)) i xs k → Leads e (node ns i) (map (node ns) xs) (node ns k)
+pub up : (e : Listed) (ns : List Owner) (i : ℕ) (xs : List ℕ) (k : ℕ) → Links (cell (matrix_of e ns)) i xs k → IsWay e (node ns i) (map (node ns) xs) (node ns k)
 up e ns i [] k h = ap (λ n. node ns n) h
 up e ns i (x ∷ xs) k h =
     let inside : (i < length ns) × (x < length ns) = cell_inside e ns i x h.0 in
@@ -99,7 +99,7 @@ starts_node e Trusted y (inr n) = absurd n
 starts_node e (Thread t) y (inl b) = absurd b.is_library
 starts_node e (Thread t) y (inr n) = absurd n
 
-leads_node : (e : Listed) (y : Owner) (ys : List Owner) (b : ℕ) → Leads e y ys (Compartment b) → is_node y ≡ true
+leads_node : (e : Listed) (y : Owner) (ys : List Owner) (b : ℕ) → IsWay e y ys (Compartment b) → is_node y ≡ true
 leads_node e y [] b h = rw h refl
 leads_node e y (z ∷ ys) b h = starts_node e y z h.0
 
@@ -108,7 +108,7 @@ pub record Down (e : Listed) (ns : List Owner) (i : ℕ) (ys : List Owner) (k : 
   pub named : ys ≡ map (node ns) places
   pub links : Links (cell (matrix_of e ns)) i places k
 
-pub down : (e : Listed) (ns : List Owner) (b k : ℕ) → ns ≡ nodes_of (links_of e) → k < length ns → node ns k ≡ Compartment b → (i : ℕ) (ys : List Owner) → i < length ns → Leads e (node ns i) ys (Compartment b) → Down e ns i ys k
+pub down : (e : Listed) (ns : List Owner) (b k : ℕ) → ns ≡ nodes_of (links_of e) → k < length ns → node ns k ≡ Compartment b → (i : ℕ) (ys : List Owner) → i < length ns → IsWay e (node ns i) ys (Compartment b) → Down e ns i ys k
 down e ns b k is hk end i [] hi h =
     let ordered : Ordered ns = rw is (ordered_nodes (links_of e)) in
     record { places = []; named = refl; links = once ns i k ordered hi hk (h ∙ sym end) }
@@ -116,9 +116,9 @@ down e ns b k is hk end i (y ∷ ys) hi h =
     let part : is_node y ≡ true = leads_node e y ys b h.1 in
     let listed : has_entry e.rows y ≡ true = step_listed e (node ns i) y part h.0 in
     let there : list_any (λ (n : Owner). same_owner n y) ns ≡ true = rw is (nodes_have e y part ∙ listed) in
-    let place : (j : ℕ) × Stands ns y j = stands_at ns y there in
+    let place : (j : ℕ) × IsNode ns y j = stands_at ns y there in
     let here : node ns place.0 ≡ y = place.1.here Trusted in
-    let rest : Down e ns place.0 ys k = down e ns b k is hk end place.0 ys place.1.inside (subst (λ o. Leads e o ys (Compartment b)) (sym here) h.1) in
+    let rest : Down e ns place.0 ys k = down e ns b k is hk end place.0 ys place.1.inside (subst (λ o. IsWay e o ys (Compartment b)) (sym here) h.1) in
     let joins : cell (matrix_of e ns) i place.0 ≡ true = cell_is e ns i place.0 hi place.1.inside ∙ ap (λ o. goes e (node ns i) o) here ∙ step_made e (node ns i) y h.0 in
     record { places = place.0 ∷ rest.places; named = both (sym here) rest.named; links = (joins, rest.links) }
   where
@@ -143,7 +143,7 @@ pub path_is : (e : Listed) (ns : List Owner) (b k n : ℕ) (ds : List ℕ) → n
 path_is e ns b k n ds is hk end h i xs hi walks = record {
   members = map (node ns) xs;
   starts = refl;
-  leads = subst (λ o. Leads e (node ns i) (map (node ns) xs) o) end (up e ns i xs k (walk_leads (cell (matrix_of e ns)) n k ds i xs walks));
+  leads = subst (λ o. IsWay e (node ns i) (map (node ns) xs) o) end (up e ns i xs k (walk_leads (cell (matrix_of e ns)) n k ds i xs walks));
   first = λ ys leads. first_of ys (down e ns b k is hk end i ys hi leads);
 }
   where
@@ -157,7 +157,7 @@ path_is e ns b k n ds is hk end h i xs hi walks = record {
 pub near_reaches : (e : Listed) (ns : List Owner) (b k n : ℕ) (ds : List ℕ) → node ns k ≡ Compartment b → IsDistance (cell (matrix_of e ns)) n k ds → (i : ℕ) → far n ds i < n → Reaches e (node ns i) b
 near_reaches e ns b k n ds end h i near =
     let way : (xs : List ℕ) × (Links (cell (matrix_of e ns)) i xs k × (length xs ≡ far n ds i)) = h.sound i near in
-    reaches_by e (node ns i) b (record { members = map (node ns) way.0; leads = subst (λ o. Leads e (node ns i) (map (node ns) way.0) o) end (up e ns i way.0 k way.1.0) })
+    reaches_by e (node ns i) b (record { members = map (node ns) way.0; leads = subst (λ o. IsWay e (node ns i) (map (node ns) way.0) o) end (up e ns i way.0 k way.1.0) })
 
 pub reaches_near : (e : Listed) (ns : List Owner) (b k n : ℕ) (ds : List ℕ) → ns ≡ nodes_of (links_of e) → k < length ns → node ns k ≡ Compartment b → IsDistance (cell (matrix_of e ns)) n k ds → (i : ℕ) → i < length ns → Reaches e (node ns i) b → far n ds i < n
 reaches_near e ns b k n ds is hk end h i hi reaches =

@@ -30,7 +30,7 @@ pub record IsPlaceFor (o : Owner) (ns : List Owner) (i : ℕ) : Type 0 where
   pub stops : (z : Owner) → i < length ns → precedes (slice_index_or ns i z) o ≡ false
 
 -- where an owner stands
-pub record Stands (ns : List Owner) (o : Owner) (i : ℕ) : Type 0 where
+pub record IsNode (ns : List Owner) (o : Owner) (i : ℕ) : Type 0 where
   pub inside : i < length ns
   pub here : (z : Owner) → slice_index_or ns i z ≡ o
 
@@ -74,16 +74,16 @@ HasRows n far = (length far ≡ n) × ((b : ℕ) → b < n → length (slice_ind
 -- an owner and a target stand at these places, and the first has a distance to the second
 pub record IsNear (ns : List Owner) (all : List (List ℕ)) (o target : Owner) (i k : ℕ) : Type 0
   where
-    pub start : Stands ns o i
-    pub end : Stands ns target k
+    pub start : IsNode ns o i
+    pub end : IsNode ns target k
     pub known : far (length ns) (slice_index_or all k []) i < length ns
 
 -- they stand at these places, and the first has no distance to the second
 pub record IsFarOff (ns : List Owner) (all : List (List ℕ)) (o target : Owner) : Type 0 where
   pub i : ℕ
   pub k : ℕ
-  pub start : Stands ns o i
-  pub end : Stands ns target k
+  pub start : IsNode ns o i
+  pub end : IsNode ns target k
   pub never : length ns ≤ far (length ns) (slice_index_or all k []) i
 
 abbrev pub stands_among : List Owner → Owner → Bool
@@ -108,16 +108,16 @@ pub record IsRoute (ns : List Owner) (steps : List (List Bool)) (all : List (Lis
 pub record HasStep (ns : List Owner) (steps : List (List Bool)) (a b : Owner) : Type 0 where
   pub i : ℕ
   pub k : ℕ
-  pub start : Stands ns a i
-  pub end : Stands ns b k
+  pub start : IsNode ns a i
+  pub end : IsNode ns b k
   pub goes : cell steps i k ≡ true
 
 -- they stand at these places, and the first has no step to the second
 pub record StaysOff (ns : List Owner) (steps : List (List Bool)) (a b : Owner) : Type 0 where
   pub i : ℕ
   pub k : ℕ
-  pub start : Stands ns a i
-  pub end : Stands ns b k
+  pub start : IsNode ns a i
+  pub end : IsNode ns b k
   pub stays : cell steps i k ≡ false
 
 -- one of them doesn't stand among the nodes, or there is no step

@@ -8,7 +8,7 @@ ghost use Rattle.def_graph.specs.Reach.{same_owner};
 ghost use Rattle.def_graph.specs.Route.{precedes};
 ghost use Rattle.ct_graph.specs.Cells.{cell};
 ghost use Rattle.ct_graph.specs.Links.{own, steps};
-ghost use Rattle.ct_graph.specs.Nodes.{is_node, row_of, rows_of, with_node, nodes_of, IsPlaceFor, Stands};
+ghost use Rattle.ct_graph.specs.Nodes.{is_node, row_of, rows_of, with_node, nodes_of, IsPlaceFor, IsNode};
 
 use crate::links::{Link, goes, own_links, same};
 use ct_entry::Owner;
@@ -78,7 +78,7 @@ fn place_for(nodes: &[Owner], owner: Owner) -> usize
 /// Where an owner stands among the nodes.
 pub(crate) fn place_of(nodes: &[Owner], owner: Owner) -> Option<usize>
     ensures { MatchOption result (list_any (λ (n : Owner). same_owner n owner) nodes.now ≡ false)
-        (λ i. Stands nodes.now owner i) }
+        (λ i. IsNode nodes.now owner i) }
 {
     for place in 0..nodes.len() {
         if same(nodes[place], owner) {

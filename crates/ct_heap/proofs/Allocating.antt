@@ -1,5 +1,5 @@
 -- An object is placed: what becomes of chunks, table, accounts and rows.
-use Rattle.std.proofs.Common.{ℕ, ◌≡◌, ◌+◌, ◌-◌, ◌*◌, ◌/◌, ◌%◌, ◌^◌, ◌<◌, ◌≤◌, inl, inr, true, false, cond, nat_eq, List, [], ◌∷◌, ◌++◌, length, refl, sym, ap, ◌∙◌, arith, subst}
+use Rattle.std.proofs.Common.{ℕ, ◌≡◌, ◌+◌, ◌-◌, ◌*◌, ◌/◌, ◌%◌, ◌^◌, ◌<◌, ◌≤◌, ◌⊎◌, inl, inr, true, false, cond, nat_eq, List, [], ◌∷◌, ◌++◌, length, refl, sym, ap, ◌∙◌, arith, subst}
 use Rattle.std.proofs.Math.ListN.{set}
 use Rattle.std.proofs.lemmas.List.{length-set, append_assoc}
 use Rattle.law_lists.proofs.Tests.{bool_tells, eq_tells, le_tells, lt_tells}
@@ -13,7 +13,7 @@ use Rattle.def_chunks.specs.declared.rows.Gap.{Gap}
 use Rattle.def_chunks.specs.declared.rows.Account.{Account}
 use Rattle.def_chunks.specs.Chunks.{Chunk, is_free, total, Starts, AreChunks}
 use Rattle.def_chunks.specs.Tiles.{chunks, Settled}
-use Rattle.def_chunks.specs.Changes.{replaced, gap, InUse, Spared, Keeps}
+use Rattle.def_chunks.specs.Changes.{replaced, gap, InUse, Spared, Keeps, NoHead, OnlyHeads}
 use Rattle.def_chunks.specs.Gaps.{carved}
 use Rattle.def_chunks.specs.Heaps.{HeapRow, account, name_of, is_named, quota_named, is_used_at, object_at, objects_in, objects_of, Distinct, waiting_in, Laid}
 use Rattle.law_chunks.proofs.Lays.{total_both, are_split, are_join}
@@ -157,6 +157,7 @@ pub record Left (h n : HeapRow) (gs ms hs : List Granule) (quota extent : ℕ) (
   pub settled : Settled n.range ms
   pub chunks_are : chunks n.range ms ≡ replaced g.at (carved (g.base - 8 - g.at) extent h.next) h.range.base (chunks h.range gs)
   pub keeps : Keeps h.range (chunks h.range gs) gs ms
+  pub heads : OnlyHeads h.range (chunks n.range ms) gs ms
   pub range : n.range ≡ record h.range { first = n.range.first }
   pub zeroed : IsZeroed (g.base - h.range.ram) (g.base - h.range.ram + extent) ms hs
   pub names : n.names ≡ set h.names ((g.base - 8 - h.range.base) / 16) (name_of quota (g.base - 8 - h.range.base))
@@ -169,6 +170,7 @@ pub record Done (h n : HeapRow) (gs hs : List Granule) (quota extent : ℕ) (g :
   pub objects : objects_of n hs ≡ placed_among (placed_object h quota extent g.base) (objects_of h gs)
   pub charged : (account n quota).charged ≡ charges quota (objects_of n hs)
   pub zero : (k : ℕ) → g.base ≤ h.range.ram + 8 * k → h.range.ram + 8 * k < g.base + extent → (granule_at hs k).cap ≡ plain 0
+  pub rest : (k : ℕ) → NoHead h.range (chunks n.range hs) k → (h.range.ram + 8 * k < g.base) ⊎ (g.base + extent ≤ h.range.ram + 8 * k) → granule_at hs k ≡ granule_at gs k
   pub stays : Stays h.range (objects_of h gs) gs hs
   pub same : Same h n
 
@@ -304,6 +306,9 @@ place_done h n gs ms hs quota extent g l quota_in few p left =
       objects = new_rows ∙ placed;
       charged = charged_now quota ∙ ap (charges quota) (sym new_rows);
       zero = λ j from to. ap (λ (x : Granule). x.cap) (left.zeroed.zero j (omega (arith, from), omega (arith, to, low, place, ram_low)));
+      rest = λ j away beside.
+          left.zeroed.rest j (elim beside [ inl a ↦ inl (omega (arith, a)) | inr b ↦ inr (omega (arith, b, low, place, ram_low)) ])
+          ∙ left.heads j (λ head. away (subst (Starts (r.ram + 8 * j) base) (sym same.chunks_are) head));
       stays = record {
         size = left.zeroed.size ∙ left.keeps.size;
         marks = λ j. zero_marks (g.base - r.ram) (g.base - r.ram + extent) ms hs j left.zeroed ∙ left.keeps.marks j;

@@ -62,6 +62,7 @@ allocates h n gs hs quota size unit g number base extent live l some most within
       live_is = p.tells.live_is;
       next = p.next;
       zero = p.zero;
+      rest = p.rest;
       stays = p.stays;
       same = p.same;
     })
@@ -192,6 +193,7 @@ placed_ends h n gs ms hs quota extent g live l quota_in few p left live_is =
         tells = tells_so h n hs quota h.next g.base extent ((account h quota).charged + (extent + 8)) live quota_in left.accounts d.charged live_is;
         next = left.next;
         zero = d.zero;
+        rest = d.rest;
         stays = d.stays;
         same = d.same;
       };

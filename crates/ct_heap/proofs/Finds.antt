@@ -7,14 +7,14 @@ use Rattle.def_machine.specs.Objects.{Each, charges}
 use Rattle.def_chunks.specs.declared.rows.Head.{Head}
 use Rattle.def_chunks.specs.Chunks.{Chunk, is_free, total, head_at, head_in, IsChunk, AreChunks}
 use Rattle.def_chunks.specs.Tiles.{chunks}
-use Rattle.def_chunks.specs.Gaps.{Stands, UsedStands}
+use Rattle.def_chunks.specs.Gaps.{ChunkStands, UsedStands}
 use Rattle.def_chunks.specs.Heaps.{HeapRow, object_at, objects_in, objects_of, quota_named, is_named, is_used_at, account, Laid}
 use Rattle.law_chunks.proofs.Reading.{sits}
 use Rattle.law_chunks.proofs.Rows.{objects_both, UsedStarts, each_split}
 use Rattle.ct_chunks.proofs.Painting.{tells}
 use Rattle.ct_heap.specs.declared.rows.Found.{Found}
 use Rattle.ct_heap.specs.Steps.{Freeing}
-use Rattle.ct_heap.specs.Told.{told, found}
+use Rattle.ct_heap.specs.Told.{object_row, found}
 use Rattle.ct_heap.specs.Table.{owner_at}
 use Rattle.ct_heap.specs.Lookups.{spans, whole_at, spans_of, whole_of, found_as, may_begin, owner_of}
 use Rattle.ct_heap.proofs.Named.{used_low, used_high, used_even, used_test, used_says, used_chunk}
@@ -96,7 +96,7 @@ around names low at above c below are shape place used = record {
 
 -- the object whose chunk stands at an address
 pub record Owned (h : HeapRow) (gs : List Granule) (base quota : ℕ) : Type 0 where
-  pub stands : Stands h.range gs (base - 8)
+  pub stands : ChunkStands h.range gs (base - 8)
   pub used : is_free stands.chunk ≡ false
   pub quota_is : quota ≡ quota_named h.names (base - 8 - h.range.base)
   pub low : h.range.base + 8 ≤ base
@@ -296,7 +296,7 @@ find_other h gs base top quota head l e is no_ =
     ap (found_as (objects_of h gs)) (f.is ∙ ap (λ b. cond b (Some (object_at quota (base - 8) o.stands.chunk)) None) (p.is ∙ no_))
 
 pub find_some : (h : HeapRow) (gs : List Granule) (base top quota : ℕ) (head : Head) → Laid h gs → owner_of h base ≡ Some quota → head ≡ head_in (head_at gs h.range.ram (base - 8))
-    → (nat_eq head.state 1 && nat_eq (base - 8 + head.size) top) ≡ true → found_as (objects_of h gs) (whole_at base top (objects_of h gs)) ≡ Some (found (told head.rest base (head.size - 8) (account h quota).charged) quota)
+    → (nat_eq head.state 1 && nat_eq (base - 8 + head.size) top) ≡ true → found_as (objects_of h gs) (whole_at base top (objects_of h gs)) ≡ Some (found (object_row head.rest base (head.size - 8) (account h quota).charged) quota)
 find_some h gs base top quota head l e is yes_ =
     let o = owned h gs base quota l e in
     let f = found_row h gs base top quota l o in
@@ -305,10 +305,10 @@ find_some h gs base top quota head l e is yes_ =
     let c : Chunk = o.stands.chunk in
     let row : whole_at base top (objects_of h gs) ≡ Some (object_at quota (base - 8) c) = f.is ∙ ap (λ b. cond b (Some (object_at quota (base - 8) c)) None) (p.is ∙ yes_) in
     ap (found_as (objects_of h gs)) row
-    ∙ ap (λ n. Some (found (told n (base - 8 + 8) (c.size - 8) (charges quota (objects_of h gs))) quota)) (sym p.number)
-    ∙ ap (λ b. Some (found (told head.rest b (c.size - 8) (charges quota (objects_of h gs))) quota)) (omega (arith, low))
-    ∙ ap (λ n. Some (found (told head.rest base (n - 8) (charges quota (objects_of h gs))) quota)) (sym p.size)
-    ∙ ap (λ n. Some (found (told head.rest base (head.size - 8) n) quota)) (sym (l.charged quota))
+    ∙ ap (λ n. Some (found (object_row n (base - 8 + 8) (c.size - 8) (charges quota (objects_of h gs))) quota)) (sym p.number)
+    ∙ ap (λ b. Some (found (object_row head.rest b (c.size - 8) (charges quota (objects_of h gs))) quota)) (omega (arith, low))
+    ∙ ap (λ n. Some (found (object_row head.rest base (n - 8) (charges quota (objects_of h gs))) quota)) (sym p.size)
+    ∙ ap (λ n. Some (found (object_row head.rest base (head.size - 8) n) quota)) (sym (l.charged quota))
 
 -- the three ends of `find`
 pub other_state : (h : HeapRow) (gs : List Granule) (base top quota : ℕ) (head : Head) → Laid h gs → owner_of h base ≡ Some quota → head ≡ head_in (head_at gs h.range.ram (base - 8)) → (head.state ≡ 1 → ⊥) → found_as (objects_of h gs) (whole_at base top (objects_of h gs)) ≡ None
@@ -320,7 +320,7 @@ other_end h gs base top quota head l e is other = find_other h gs base top quota
   | inr x ↦ elim (bool_tells (nat_eq head.state 1)) [ inl y ↦ rw (y, x.0) refl | inr y ↦ rw y refl ]
 ])
 
-pub is_found : (h : HeapRow) (gs : List Granule) (base top quota : ℕ) (head : Head) → Laid h gs → owner_of h base ≡ Some quota → head ≡ head_in (head_at gs h.range.ram (base - 8)) → head.state ≡ 1 → base - 8 + head.size ≡ top → found_as (objects_of h gs) (whole_at base top (objects_of h gs)) ≡ Some (found (told head.rest base (head.size - 8) (account h quota).charged) quota)
+pub is_found : (h : HeapRow) (gs : List Granule) (base top quota : ℕ) (head : Head) → Laid h gs → owner_of h base ≡ Some quota → head ≡ head_in (head_at gs h.range.ram (base - 8)) → head.state ≡ 1 → base - 8 + head.size ≡ top → found_as (objects_of h gs) (whole_at base top (objects_of h gs)) ≡ Some (found (object_row head.rest base (head.size - 8) (account h quota).charged) quota)
 is_found h gs base top quota head l e is live ends =
     let a : nat_eq head.state 1 ≡ true = elim (eq_tells head.state 1) [ inl x ↦ x.0 | inr x ↦ absurd (x.1 live) ] in
     let b : nat_eq (base - 8 + head.size) top ≡ true = elim (eq_tells (base - 8 + head.size) top) [ inl x ↦ x.0 | inr x ↦ absurd (x.1 ends) ] in
@@ -341,7 +341,7 @@ pub record FoundTells (h : HeapRow) (gs : List Granule) (base top : ℕ) (f : Fo
 
 -- of the row of a chunk
 row_tells : (h : HeapRow) (gs : List Granule) (base top quota : ℕ) → Laid h gs → owner_of h base ≡ Some quota → (o : Owned h gs base quota) → spans base top (object_at quota (base - 8) o.stands.chunk) ≡ true
-    → FoundTells h gs base top (found (told o.stands.chunk.number (base - 8 + 8) (o.stands.chunk.size - 8) (charges quota (objects_of h gs))) quota)
+    → FoundTells h gs base top (found (object_row o.stands.chunk.number (base - 8 + 8) (o.stands.chunk.size - 8) (charges quota (objects_of h gs))) quota)
 row_tells h gs base top quota l e o yes_ =
     let c : Chunk = o.stands.chunk in
     let row : Object = object_at quota (base - 8) c in
@@ -391,7 +391,7 @@ found_tells h gs base top f l is = by_owner (owner_of h base) refl
         elim (bool_tells (spans base top row)) [
           | inr no_ ↦ absurd (let clash : Some f ≡ None = is ∙ ap (found_as (objects_of h gs)) (fr.is ∙ ap (λ b. cond b (Some row) None) no_) in cc)
           | inl yes_ ↦
-              let made : Found = found (told c.number (base - 8 + 8) (c.size - 8) (charges quota (objects_of h gs))) quota in
+              let made : Found = found (object_row c.number (base - 8 + 8) (c.size - 8) (charges quota (objects_of h gs))) quota in
               let all : Some f ≡ Some made = is ∙ ap (found_as (objects_of h gs)) (fr.is ∙ ap (λ b. cond b (Some row) None) yes_) in
               let same : made ≡ f = cc in
               subst (FoundTells h gs base top) same (row_tells h gs base top quota l e o yes_)
@@ -410,7 +410,7 @@ found_nothing h gs base top quota l is = by_owner (owner_of h base) refl
         let fr = found_row h gs base top q l o in
         elim (bool_tells (spans base top row)) [
           | inl yes_ ↦ absurd (
-              let made : Found = found (told c.number (base - 8 + 8) (c.size - 8) (charges q (objects_of h gs))) q in
+              let made : Found = found (object_row c.number (base - 8 + 8) (c.size - 8) (charges q (objects_of h gs))) q in
               let clash : None ≡ Some made = is ∙ ap (found_as (objects_of h gs)) (fr.is ∙ ap (λ b. cond b (Some row) None) yes_) in cc)
           | inr no_ ↦ fr.of quota ∙ ap (λ b. cond b (Some row) None) (spans_both quota base top row ∙ ap (λ b. b && (q == quota)) no_)
         ]

@@ -10,7 +10,7 @@ use Rattle.def_chunks.specs.declared.rows.Range.{Range}
 use Rattle.def_chunks.specs.declared.rows.Account.{Account}
 use Rattle.def_chunks.specs.Chunks.{Chunk, is_free, AreChunks}
 use Rattle.def_chunks.specs.Tiles.{chunks, Settled}
-use Rattle.def_chunks.specs.Changes.{all_painted, leaves, gap, joined, released, Spared, Keeps}
+use Rattle.def_chunks.specs.Changes.{all_painted, leaves, gap, joined, released, Spared, Keeps, OnlyHeads}
 use Rattle.def_chunks.specs.Heaps.{HeapRow, account, no_account, is_named, quota_named, is_used_at, objects_in, objects_of, Distinct, waiting_in, Laid}
 use Rattle.law_chunks.proofs.Joins.{stays_used, joined_are, painted_free, painted_size}
 use Rattle.law_chunks.proofs.Rows.{UsedStarts, painted_rows, joined_rows}
@@ -83,6 +83,7 @@ pub paints_none : (h : HeapRow) (gs : List Granule) → Laid h gs → h.waiting 
 unfolding objects_of
 paints_none h gs l none = record {
   objects = sym (none_painted h.names h.range.base h.range.base (chunks h.range gs) l.settled.tiled.are (none_waiting (objects_in h.names h.range.base h.range.base (chunks h.range gs)) (sym l.waiting ∙ none)));
+  heads = λ k away. refl;
   stays = record { size = refl; marks = λ k. refl; tags = λ k tagged. refl; rest = λ k s. refl };
 }
 
@@ -120,9 +121,9 @@ pub record PaintDone (h : HeapRow) (gs hs : List Granule) : Type 0 where
   pub laid : Laid h hs
   pub paints : Paints h gs hs
 
-pub paint_done : (h : HeapRow) (gs hs : List Granule) → Laid h gs → Settled h.range hs → chunks h.range hs ≡ all_painted (chunks h.range gs) → Keeps h.range (chunks h.range gs) gs hs → PaintDone h gs hs
+pub paint_done : (h : HeapRow) (gs hs : List Granule) → Laid h gs → Settled h.range hs → chunks h.range hs ≡ all_painted (chunks h.range gs) → Keeps h.range (chunks h.range gs) gs hs → OnlyHeads h.range (chunks h.range hs) gs hs → PaintDone h gs hs
 unfolding objects_of
-paint_done h gs hs l settled is keeps =
+paint_done h gs hs l settled is keeps heads =
     let base : ℕ = h.range.base in
     let old : List Object = objects_in h.names base base (chunks h.range gs) in
     let rows : objects_in h.names base base (chunks h.range hs) ≡ painted (objects_in h.names base base (chunks h.range gs)) = ap (λ cs. objects_in h.names base base cs) is ∙ painted_rows h.names base base (chunks h.range gs) l.settled.tiled.are in
@@ -141,6 +142,7 @@ paint_done h gs hs l settled is keeps =
       };
       paints = record {
         objects = rows;
+        heads = heads;
         stays = record { size = keeps.size; marks = keeps.marks; tags = keeps.tags; rest = λ k s. keeps.rest k (seen_spared h gs (h.range.ram + 8 * k) l s) };
       };
     }
@@ -273,6 +275,7 @@ pub record Left (h n : HeapRow) (gs ms hs : List Granule) : Type 0 where
   pub settled : Settled n.range hs
   pub chunks_are : chunks n.range hs ≡ released (chunks h.range ms)
   pub keeps : Keeps h.range (chunks h.range ms) ms hs
+  pub heads : OnlyHeads h.range (chunks n.range hs) ms hs
   pub range : n.range ≡ record h.range { first = n.range.first }
   pub accounts : n.accounts ≡ h.accounts
   pub next : n.next ≡ h.next
@@ -332,6 +335,7 @@ flush_done h n gs ms hs l left =
         next = left.next;
         size = left.keeps.size ∙ u.size;
         marks = λ k. left.keeps.marks k ∙ u.marks k ∙ ap (λ b. cond b false (granule_at gs k).mark) (painted_at h.names base (r.ram + 8 * k) base (chunks r gs) are);
+        heads = λ k away. ap (λ (g : Granule). g.cap) (left.heads k away) ∙ u.caps k;
         tags = λ k tagged. left.keeps.tags k tagged ∙ u.caps k;
         rest = λ k s. ap (λ (g : Granule). g.cap) (left.keeps.rest k (subst (λ x. Spared r x (r.ram + 8 * k)) (sym same.chunks_are) (seen_spared h gs (r.ram + 8 * k) l s))) ∙ u.caps k;
         same = record { range = left.range; limits = λ q. ap (λ (a : Account). a.limit) (account_same q); quotas = ap length left.accounts };

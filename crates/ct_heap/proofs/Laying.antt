@@ -10,13 +10,13 @@ use Rattle.def_machine.specs.Objects.{charges}
 use Rattle.def_chunks.specs.declared.heads.TheConstants.{NO_CHUNK}
 use Rattle.def_chunks.specs.declared.rows.Range.{Range}
 use Rattle.def_chunks.specs.declared.rows.Account.{Account}
-use Rattle.def_chunks.specs.Chunks.{Chunk, head_at, NoneTouch}
+use Rattle.def_chunks.specs.Chunks.{Chunk, total, head_at, Starts, NoneTouch}
 use Rattle.def_chunks.specs.Tiles.{chunks, TiledBy, Settled}
-use Rattle.def_chunks.specs.Changes.{free_chunk, Keeps}
+use Rattle.def_chunks.specs.Changes.{free_chunk, Keeps, OnlyHeads}
 use Rattle.def_chunks.specs.Heaps.{HeapRow, account, no_account, is_named, name_at, is_used_at, objects_in, objects_of, Laid}
 use Rattle.law_chunks.proofs.Reading.{chunks_are}
 use Rattle.law_chunks.proofs.Carves.{head_same, store_length}
-use Rattle.law_chunks.proofs.Spares.{keeps_store, loose}
+use Rattle.law_chunks.proofs.Spares.{keeps_store, loose, heads_store}
 use Rattle.ct_heap.specs.Effects.{Empty, accounts_for, Stays, Same}
 
 -- ---- what an empty heap keeps
@@ -184,11 +184,25 @@ lay_stays h gs hs e some is =
     more zero base other = absurd (other refl)
     more (suc n) base other = omega arith
 
+pub lay_heads : (h n : HeapRow) (gs hs : List Granule) → Empty h → (h.range.length ≡ 0 → ⊥)
+    → hs ≡ stored_cap gs (h.range.base - h.range.ram) (plain (h.range.length + NO_CHUNK * 2 ^ 32)) → n.range.length ≡ h.range.length → Laid n hs → OnlyHeads h.range (chunks n.range hs) gs hs
+lay_heads h n gs hs e some is length_is l =
+    let e0 = e.even.0 in
+    let e1 = e.even.1 in
+    let above = e.above in
+    let size = l.settled.tiled.size in
+    heads_store h.range (chunks n.range hs) gs hs h.range.base (plain (h.range.length + NO_CHUNK * 2 ^ 32)) above (omega (arith, e0, e1, above)) (begins h.range.base (chunks n.range hs) (λ none. some (sym (size ∙ length_is) ∙ none))) is
+  where
+    begins : (at : ℕ) (cs : List Chunk) → (total cs ≡ 0 → ⊥) → Starts at at cs
+    begins at [] other = absurd (other refl)
+    begins at (c ∷ cs) other = inl refl
+
 -- ---- the whole
 
 pub record LayAll (h n : HeapRow) (gs hs : List Granule) : Type 0 where
   pub laid : Laid n hs
   pub objects : objects_of n hs ≡ []
+  pub heads : OnlyHeads h.range (chunks n.range hs) gs hs
   pub stays : Stays h.range [] gs hs
   pub same : Same h n
   pub next : n.next ≡ 1
@@ -229,6 +243,7 @@ lay_wrote h row n gs hs same e some inside is n_is =
     record {
       laid = d.laid;
       objects = d.objects;
+      heads = lay_heads h n gs hs e some wrote (ap (λ (x : HeapRow). x.range.length) new) d.laid;
       stays = lay_stays h gs hs e some wrote;
       same = first_moved h n 0 new;
       next = ap (λ (x : HeapRow). x.next) new ∙ next_is h e;
@@ -240,6 +255,7 @@ lay_left h row gs same e none inside =
     record {
       laid = d.laid;
       objects = d.objects;
+      heads = λ k away. refl;
       stays = record { size = refl; marks = λ k. refl; tags = λ k tagged. refl; rest = λ k s. refl };
       same = record { range = subst (λ (x : HeapRow). x.range ≡ record h.range { first = x.range.first }) (sym same) refl; limits = λ q. ap (λ (x : HeapRow). (account x q).limit) same; quotas = ap (λ (x : HeapRow). length x.accounts) same };
       next = ap (λ (x : HeapRow). x.next) same ∙ next_is h e;

@@ -10,7 +10,7 @@ use Rattle.def_memory.specs.Ranges.{IsMarked}
 use Rattle.def_chunks.specs.declared.rows.Range.{Range}
 use Rattle.def_chunks.specs.Chunks.{Chunk, is_free, total, head_at, head_in, IsChunk, AreChunks}
 use Rattle.def_chunks.specs.Tiles.{chunks, Settled}
-use Rattle.def_chunks.specs.Gaps.{Stands}
+use Rattle.def_chunks.specs.Gaps.{ChunkStands}
 use Rattle.def_chunks.specs.Heaps.{name_at, is_named, quota_named, is_used_at}
 use Rattle.law_chunks.proofs.Lays.{total_both, are_split, are_join}
 use Rattle.law_chunks.proofs.Reading.{sits}
@@ -92,10 +92,10 @@ unnaming_starts r gs names waiting h named is = record {
   now_is = omega (arith, is);
 }
 
-pub unnaming_stands : (r : Range) (gs hs : List Granule) (names more : List ℕ) (now left : ℕ) → Unnaming r gs hs names more now left → (left ≡ 0 → ⊥) → Stands r hs (r.base + (r.length - left))
+pub unnaming_stands : (r : Range) (gs hs : List Granule) (names more : List ℕ) (now left : ℕ) → Unnaming r gs hs names more now left → (left ≡ 0 → ⊥) → ChunkStands r hs (r.base + (r.length - left))
 unnaming_stands r gs hs names more now left w some = first w.rest w.whole w.left_is
   where
-    first : (rest : List Chunk) → chunks r gs ≡ w.above ++ rest → left ≡ total rest → Stands r hs (r.base + (r.length - left))
+    first : (rest : List Chunk) → chunks r gs ≡ w.above ++ rest → left ≡ total rest → ChunkStands r hs (r.base + (r.length - left))
     first [] whole is = absurd (some is)
     first (c ∷ cs) whole is =
         let both = total_both w.above (c ∷ cs) in
@@ -212,7 +212,7 @@ unnaming_step r gs hs ks names more last now left size one slots w some size_is 
         let both = total_both w.above (c ∷ cs) in
         let sum = sym (ap total (w.same ∙ whole)) ∙ w.settled.tiled.size in
         let place : at ≡ r.base + total w.above = omega (arith, both, sum, left_is) in
-        let s : Stands r hs at = record { above = w.above; chunk = c; below = cs; whole = w.same ∙ whole; place = place } in
+        let s : ChunkStands r hs at = record { above = w.above; chunk = c; below = cs; whole = w.same ∙ whole; place = place } in
         let k = sits r hs at w.settled.tiled s in
         let t = tells r hs at s w.settled.tiled in
         let size_c : size ≡ c.size = size_is ∙ t.size in

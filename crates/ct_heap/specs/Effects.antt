@@ -13,7 +13,8 @@ use Rattle.def_hidden.specs.Hidden.{is_live_at}
 use Rattle.def_chunks.specs.declared.heads.TheConstants.{NO_CHUNK}
 use Rattle.def_chunks.specs.declared.rows.Range.{Range}
 use Rattle.def_chunks.specs.declared.rows.Account.{Account}
-use Rattle.def_chunks.specs.Changes.{NoTagComes}
+use Rattle.def_chunks.specs.Tiles.{chunks}
+use Rattle.def_chunks.specs.Changes.{NoTagComes, NoHead, OnlyHeads}
 use Rattle.def_chunks.specs.Heaps.{HeapRow, objects_of, account, IsHeapOf}
 use Rattle.ct_heap.specs.declared.rows.HeapRefusal.{HeapRefusal}
 use Rattle.ct_heap.specs.declared.rows.HeapRefusal.TheVariants.{Size, Quota, NoGap}
@@ -77,6 +78,7 @@ abbrev pub made : HeapRow → ℕ → ℕ → ℕ → Object
 made h quota size base = live_object h.next quota base (length_for size)
 
 -- A live object of this size, charged to this quota, stands at the least lawful place; it reads as zero and untagged.
+-- Beside its granules nothing but heads of chunks was written.
 pub record Allocates (h n : HeapRow) (gs hs : List Granule)
     (quota size number base object_length live : ℕ) : Type 0 where
   pub some : 0 < size
@@ -91,6 +93,9 @@ pub record Allocates (h n : HeapRow) (gs hs : List Granule)
   pub next : n.next ≡ h.next + 1
   pub zero : (k : ℕ) → base ≤ h.range.ram + 8 * k → h.range.ram + 8 * k < base + length_for size
       → (granule_at hs k).cap ≡ plain 0
+  pub rest : (k : ℕ) → NoHead h.range (chunks n.range hs) k
+      → (h.range.ram + 8 * k < base) ⊎ (base + length_for size ≤ h.range.ram + 8 * k)
+      → granule_at hs k ≡ granule_at gs k
   pub stays : Stays h.range (objects_of h gs) gs hs
   pub same : Same h n
 
@@ -100,12 +105,12 @@ NoPlace h gs size =
     (i : Image) → IsHeapOf i h.range → (b : ℕ) → Fits i (objects_of h gs) (length_for size) b → ⊥
 
 -- why nothing is allocated: the first cause
-abbrev pub Refuses : HeapRow → List Granule → ℕ → ℕ → HeapRefusal → Type 0
-Refuses h gs quota size Size = (size ≡ 0) ⊎ (h.range.length < size)
-Refuses h gs quota size Quota =
+abbrev pub RefusesSize : HeapRow → List Granule → ℕ → ℕ → HeapRefusal → Type 0
+RefusesSize h gs quota size Size = (size ≡ 0) ⊎ (h.range.length < size)
+RefusesSize h gs quota size Quota =
     (0 < size) × (size ≤ h.range.length)
     × ((account h quota).limit < charges quota (objects_of h gs) + charge_for size)
-Refuses h gs quota size NoGap =
+RefusesSize h gs quota size NoGap =
     (0 < size) × (size ≤ h.range.length)
     × (charges quota (objects_of h gs) + charge_for size ≤ (account h quota).limit)
     × NoPlace h gs size
@@ -136,9 +141,10 @@ pub record Frees (h n : HeapRow) (gs hs : List Granule)
 
 -- ---- paint and flush
 
--- each quarantined object is painted
+-- each quarantined object is painted, by its chunk's head alone
 pub record Paints (h : HeapRow) (gs hs : List Granule) : Type 0 where
   pub objects : objects_of h hs ≡ painted (objects_of h gs)
+  pub heads : OnlyHeads h.range (chunks h.range hs) gs hs
   pub stays : Stays h.range (objects_of h gs) gs hs
 
 -- no tagged capability of non-empty authority has its base in a painted chunk
@@ -147,7 +153,8 @@ NoneStale objects gs =
     (k : ℕ) → is_tagged gs k ≡ true → cap_base (granule_at gs k).cap < cap_top (granule_at gs k).cap
     → is_painted_at objects (cap_base (granule_at gs k).cap) ≡ false
 
--- the painted objects leave, and their chunks' marks are cleared; what is seen stays, what isn't gets no capability
+-- The painted objects leave, and their chunks' marks are cleared; beside the marks nothing but heads of the chunks that
+-- are left was written. What is seen stays, what isn't gets no capability.
 pub record Flushes (h n : HeapRow) (gs hs : List Granule) : Type 0 where
   pub objects : objects_of n hs ≡ unpainted (objects_of h gs)
   pub next : n.next ≡ h.next
@@ -155,6 +162,8 @@ pub record Flushes (h n : HeapRow) (gs hs : List Granule) : Type 0 where
   pub marks : (k : ℕ)
       → (granule_at hs k).mark
       ≡ cond (is_painted_at (objects_of h gs) (h.range.ram + 8 * k)) false (granule_at gs k).mark
+  pub heads : (k : ℕ) → NoHead h.range (chunks n.range hs) k
+      → (granule_at hs k).cap ≡ (granule_at gs k).cap
   pub tags : NoTagComes gs hs
   pub rest : (k : ℕ) → Seen h.range (objects_of h gs) (h.range.ram + 8 * k)
       → (granule_at hs k).cap ≡ (granule_at gs k).cap

@@ -5,7 +5,7 @@ use Rattle.def_machine.specs.State.{Object}
 use Rattle.def_machine.specs.Objects.{charges}
 use Rattle.def_chunks.specs.Heaps.{HeapRow}
 use Rattle.ct_heap.specs.declared.rows.Found.{Found}
-use Rattle.ct_heap.specs.Told.{told, found}
+use Rattle.ct_heap.specs.Told.{object_row, found}
 use Rattle.ct_heap.specs.Table.{owner_at}
 
 -- a live object from base to top
@@ -26,7 +26,7 @@ whole_of quota base top rs = find (spans_of quota base top) rs
 -- how it is told
 abbrev pub found_as : List Object → Option Object → Option Found
 found_as rs None = None
-found_as rs (Some r) = Some (found (told r.number r.base r.length (charges r.quota rs)) r.quota)
+found_as rs (Some r) = Some (found (object_row r.number r.base r.length (charges r.quota rs)) r.quota)
 
 -- an address at which an object may begin: a granule of the heap, behind a head
 abbrev pub may_begin : HeapRow → ℕ → Bool

@@ -12,7 +12,7 @@ use Rattle.def_chunks.specs.declared.rows.Gap.{Gap}
 use Rattle.def_chunks.specs.declared.rows.Head.{Head}
 use Rattle.def_chunks.specs.Chunks.{Chunk, is_free}
 use Rattle.def_chunks.specs.Tiles.{chunks}
-use Rattle.def_chunks.specs.Changes.{NoTagComes}
+use Rattle.def_chunks.specs.Changes.{NoTagComes, NoHead}
 use Rattle.def_chunks.specs.Gaps.{FreeLinked, UsedStands}
 use Rattle.def_chunks.specs.Heaps.{HeapRow, objects_of, account, is_named, quota_named, is_used_at}
 use Rattle.ct_chunks.specs.Cuts.{Fitting}
@@ -48,6 +48,9 @@ pub record Placed (h n : HeapRow) (gs hs : List Granule)
   pub next : n.next ≡ h.next + 1
   pub zero : (k : ℕ) → base ≤ h.range.ram + 8 * k → h.range.ram + 8 * k < base + length
       → (granule_at hs k).cap ≡ plain 0
+  pub rest : (k : ℕ) → NoHead h.range (chunks n.range hs) k
+      → (h.range.ram + 8 * k < base) ⊎ (base + length ≤ h.range.ram + 8 * k)
+      → granule_at hs k ≡ granule_at gs k
   pub stays : Stays h.range (objects_of h gs) gs hs
   pub same : Same h n
 

@@ -5,9 +5,11 @@ ghost use Rattle.def_profile.specs.declared.limits.TheConstants.{MOST_STEPS};
 ghost use Rattle.def_memory.specs.declared.Granule.{Granule};
 ghost use Rattle.def_memory.specs.Granules.{plain, granule_at};
 ghost use Rattle.def_machine.specs.Objects.{charges, has_quarantined};
+ghost use Rattle.def_chunks.specs.Tiles.{chunks};
+ghost use Rattle.def_chunks.specs.Changes.{OnlyHeads};
 ghost use Rattle.def_chunks.specs.Heaps.{objects_of, account, Laid};
 ghost use Rattle.ct_heap.specs.Lookups.{whole_at, whole_of, found_as, owner_of};
-ghost use Rattle.ct_heap.specs.Effects.{Empty, Allocates, Refuses, Frees, Paints, NoneStale, Flushes, Stays, Same, AreFew, empty, range_of};
+ghost use Rattle.ct_heap.specs.Effects.{Empty, Allocates, RefusesSize, Frees, Paints, NoneStale, Flushes, Stays, Same, AreFew, empty, range_of};
 ghost use Rattle.ct_heap.specs.Steps.{Placing, Placed, Freeing, Freed};
 
 use crate::accounts::{accounts_of, charge, discharge};
@@ -91,13 +93,16 @@ impl Heap {
         self.range.length
     }
 
-    /// Writes the first free chunk, which is the whole heap. A heap without a byte has none.
+    /// Writes the first free chunk's head, and nothing else: the chunk is the whole heap. A heap without a byte
+    /// has none.
     pub fn lay<M: Memory>(&mut self, mem: &mut M)
         requires empty { Empty self.old }
         requires inside { self.old.range.base + self.old.range.length ≤ self.old.range.ram
             + 8 * length (M.granules mem.old) }
         ensures laid { Laid self.new (M.granules mem.new) }
         ensures objects { objects_of self.new (M.granules mem.new) ≡ [] }
+        ensures heads { OnlyHeads self.old.range (chunks self.new.range (M.granules mem.new))
+            (M.granules mem.old) (M.granules mem.new) }
         ensures stays { Stays self.old.range [] (M.granules mem.old) (M.granules mem.new) }
         ensures same { Same self.old self.new }
         ensures next { self.new.next ≡ 1 }
@@ -214,7 +219,7 @@ impl Heap {
             (λ o.
             Allocates self.old self.new (M.granules mem.old) (M.granules mem.new) quota size
             o.number o.base o.length o.live)
-            (λ e. Refuses self.old (M.granules mem.old) quota size e) }
+            (λ e. RefusesSize self.old (M.granules mem.old) quota size e) }
         ensures refused { OnErr result
             ((self.new ≡ self.old) × (M.granules mem.new ≡ M.granules mem.old)) }
         ensures quotas { length self.new.accounts ≡ length self.old.accounts }

@@ -3,7 +3,7 @@
 ghost use Rattle.std.specs.Prelude.{ℕ, ◌≡◌, ◌+◌, ◌-◌, ◌*◌, ◌/◌, ◌%◌, ◌^◌, ◌≤◌, ◌<◌, length, slice_set, cond, Option, Some, None};
 ghost use Rattle.def_chunks.specs.Chunks.{head_at, head_in};
 ghost use Rattle.def_chunks.specs.Tiles.{chunks, Tiled, Settled};
-ghost use Rattle.def_chunks.specs.Gaps.{Stands};
+ghost use Rattle.def_chunks.specs.Gaps.{ChunkStands};
 ghost use Rattle.def_chunks.specs.Heaps.{name_of, is_named, quota_named, is_used_at};
 ghost use Rattle.ct_heap.specs.Table.{owner_at};
 ghost use Rattle.ct_heap.specs.Steps.{waiting_chunks, Unnames, UnnamesChunk};
@@ -84,7 +84,7 @@ pub(crate) fn unname<M: Memory>(
 fn unname_chunk<M: Memory>(range: &Range, mem: &mut M, names: &mut Vec<u16>, at: u32) -> (u32, u32)
     requires tiled { Tiled range.now (M.granules mem.old) }
     requires slots { length names.old.items ≡ range.now.length / 16 }
-    requires stands { Stands range.now (M.granules mem.old) at }
+    requires stands { ChunkStands range.now (M.granules mem.old) at }
     ensures size { result.0 ≡ (head_in (head_at (M.granules mem.old) range.now.ram at)).size }
     ensures unnames { UnnamesChunk range.now (M.granules mem.old) (M.granules mem.new)
         names.old.items names.new.items at result.1

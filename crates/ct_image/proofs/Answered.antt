@@ -12,13 +12,13 @@ use Rattle.def_image.specs.Limits.{limit_checks}
 use Rattle.def_image.specs.Lying.{region_checks}
 use Rattle.def_image.specs.Indexes.{index_checks}
 use Rattle.def_image.specs.Rights.{right_checks}
-use Rattle.def_image.specs.Accepted.{is_begun, Spells, Stands, IsFaultless, IsImage, FaultAt}
+use Rattle.def_image.specs.Accepted.{is_begun, Spells, SpellsParts, IsFaultless, IsImage, FaultAt}
 use Rattle.law_image.proofs.Rows.{number_back}
 use Rattle.ct_parts.specs.Converted.{parts_of}
 use Rattle.ct_parts.proofs.Backs.{comes_back}
 use Rattle.ct_image.specs.declared.fault.ImageFault.{ImageFault}
 use Rattle.ct_image.specs.declared.fault.ImageFault.TheVariants.{At, NoMemory}
-use Rattle.ct_image.specs.Answers.{Refuses, Stand, Wrong, Breaks}
+use Rattle.ct_image.specs.Answers.{RefusesBytes, Stand, Wrong, Breaks}
 
 pub unbegun : (bytes : List ℕ) → is_begun bytes ≡ false → FaultAt bytes 1 0
 unbegun bytes e = inl (refl, e, refl)
@@ -62,7 +62,7 @@ spelled_by r bytes spells none = spells.1 ∙ ap spelled (sym (comes_back r spel
 
 -- ---- what is wrong with parts
 
-stands : (p : PartsRow) (bytes : List ℕ) → Stand p → bytes ≡ image_bytes p → Stands bytes p
+stands : (p : PartsRow) (bytes : List ℕ) → Stand p → bytes ≡ image_bytes p → SpellsParts bytes p
 stands p bytes s e = (s.spellable, e, s.limits)
 
 wrong : (p : PartsRow) (bytes : List ℕ) (n k : ℕ) → is_begun bytes ≡ true → Stand p → bytes ≡ image_bytes p → Wrong p n k → FaultAt bytes n k
@@ -74,7 +74,7 @@ wrong p bytes n k begun s e w = elim w [
   ]
 ]
 
-pub refused : (p : PartsRow) (bytes : List ℕ) (f : ImageFault) → is_begun bytes ≡ true → Stand p → bytes ≡ image_bytes p → Breaks p f → Refuses bytes f
+pub refused : (p : PartsRow) (bytes : List ℕ) (f : ImageFault) → is_begun bytes ≡ true → Stand p → bytes ≡ image_bytes p → Breaks p f → RefusesBytes bytes f
 refused p bytes (At n k) begun s e b = wrong p bytes n k begun s e b
 refused p bytes NoMemory begun s e b = tt
 
@@ -89,7 +89,7 @@ pub image_is : (r : RawImage) (p : PartsRow) (bytes : List ℕ) (x : Result Part
 image_is r p bytes (Ok i) spells none made same right = (right, spelled_by r bytes spells none ∙ sym (ap image_bytes (same ∙ made)))
 image_is r p bytes (Err e) spells none made same right = tt
 
-pub refused_is : (r : RawImage) (p : PartsRow) (bytes : List ℕ) (x : Result PartsRow ImageFault) → is_begun bytes ≡ true → Spells r bytes → first (limit_checks r) ≡ None → p ≡ parts_of r → Stand p → IfErr x (λ e. Breaks p e) → IfErr x (λ e. Refuses bytes e)
+pub refused_is : (r : RawImage) (p : PartsRow) (bytes : List ℕ) (x : Result PartsRow ImageFault) → is_begun bytes ≡ true → Spells r bytes → first (limit_checks r) ≡ None → p ≡ parts_of r → Stand p → IfErr x (λ e. Breaks p e) → IfErr x (λ e. RefusesBytes bytes e)
 refused_is r p bytes (Ok i) begun spells none made s b = tt
 refused_is r p bytes (Err e) begun spells none made s b = refused p bytes e begun s (spelled_by r bytes spells none ∙ sym (ap image_bytes made)) b
 

@@ -14,9 +14,9 @@ use Rattle.def_image.specs.Accepted.{FaultAt}
 use Rattle.ct_image.specs.declared.fault.ImageFault.{ImageFault}
 use Rattle.ct_image.specs.declared.fault.ImageFault.TheVariants.{At, NoMemory}
 
-abbrev pub Refuses : List ℕ → ImageFault → Type 0
-Refuses bytes (At number place) = FaultAt bytes number place
-Refuses bytes NoMemory = Unit {0}
+abbrev pub RefusesBytes : List ℕ → ImageFault → Type 0
+RefusesBytes bytes (At number place) = FaultAt bytes number place
+RefusesBytes bytes NoMemory = Unit {0}
 
 -- parts whose limits and forms hold, of a known version, with places of 32 bits
 pub record Stand (p : PartsRow) : Type 0 where

@@ -3,7 +3,7 @@
 ghost use Rattle.std.specs.Prelude.{◌≡◌, ◌<◌, ◌^◌, length, IfOk, IfErr};
 ghost use Rattle.def_image.specs.Accepted as spec;
 ghost use Rattle.def_image.specs.Accepted.{IsFaultless, IsImage};
-ghost use Rattle.ct_image.specs.Answers.{Refuses, Stand, Breaks};
+ghost use Rattle.ct_image.specs.Answers.{RefusesBytes, Stand, Breaks};
 
 use crate::fault::ImageFault;
 use crate::image::Image;
@@ -57,7 +57,7 @@ fn judged(alloc: Global, parts: Parts) -> Result<Image, ImageFault>
 pub fn accept(alloc: Global, bytes: &[u8]) -> Result<Image, ImageFault>
     requires { length bytes.now < 2 ^ 32 }
     ensures accepted { IfOk result (λ i. IsImage bytes.now i) }
-    ensures refused { IfErr result (λ e. Refuses bytes.now e) }
+    ensures refused { IfErr result (λ e. RefusesBytes bytes.now e) }
 {
     if !is_begun(bytes) {
         return Err(ImageFault::At {

@@ -14,7 +14,7 @@ mod shapes;
 mod system;
 
 ghost use Rattle.std.specs.Prelude.{◌≡◌, ◌↔◌, ℕ, IsNone, IfSome, Some};
-ghost use Rattle.def_instr.specs.Table.{EncodesTo, InRange, word_of};
+ghost use Rattle.def_instr.specs.Table.{EncodesTo, InRange, encoded};
 ghost use Rattle.def_instr.specs.Reading.{instruction_in};
 ghost use Rattle.def_instr.specs.declared.Instr.{Instr};
 
@@ -62,7 +62,7 @@ fn by_opcode(word: u32) -> Option<Instr>
 /// The word of an instruction whose fields are in range.
 pub fn encode(instruction: Instr) -> u32
     requires { InRange instruction }
-    ensures word { result ≡ word_of instruction }
+    ensures word { result ≡ encoded instruction }
     ensures table { EncodesTo instruction result }
 {
     rows::word(shapes::shape(instruction))

@@ -33,7 +33,7 @@ pub record HasRoom (s : SizesRow) (p : PlacesRow) : Type 0 where
   pub places : p ≡ places_of s
 
 -- a refusal other than for want of memory, and its cause
-abbrev pub Refuses : SizesRow → LayoutFault → Type 0
-Refuses s (NoRoom n h) =
+abbrev pub RefusesRegions : SizesRow → LayoutFault → Type 0
+RefusesRegions s (NoRoom n h) =
     (n ≡ needed s.base s.regions) × (h ≡ s.size) × (s.size < needed s.base s.regions)
-Refuses s NoMemory = Unit {0}
+RefusesRegions s NoMemory = Unit {0}

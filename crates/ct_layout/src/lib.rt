@@ -10,7 +10,7 @@ mod fault;
 mod sizes;
 
 ghost use Rattle.std.specs.Prelude.{◌≡◌, MatchResult};
-ghost use Rattle.ct_layout.specs.Rows.{HasRoom, IsPlaceable, Refuses, places_of};
+ghost use Rattle.ct_layout.specs.Rows.{HasRoom, IsPlaceable, RefusesRegions, places_of};
 
 pub use def_layout::Region;
 pub use ends::region_length;
@@ -29,7 +29,7 @@ pub fn place(alloc: Global, sizes: &Sizes) -> Result<Places, LayoutFault>
     requires { IsPlaceable sizes.now }
     ensures { MatchResult result
         (λ places. HasRoom sizes.now places)
-        (λ fault. Refuses sizes.now fault) }
+        (λ fault. RefusesRegions sizes.now fault) }
 {
     let base = sizes.base as u64;
     let end = ends::last_end(base, &sizes.regions);

@@ -4,13 +4,13 @@ use Rattle.std.proofs.lemmas.Bool.{both_ways}
 use Rattle.ct_entry.specs.declared.rows.Owner.{Owner}
 use Rattle.ct_entry.specs.declared.rows.Owner.TheVariants.{Trusted, Compartment, Library, Thread}
 use Rattle.ct_entry.specs.Listed.{Listed}
-use Rattle.def_reach.specs.Sharing.{Imports, IsLibrary, Leads, Reaches}
+use Rattle.def_reach.specs.Sharing.{Imports, IsLibrary, IsEdgeList, Reaches}
 use Rattle.def_graph.specs.Reach.{has_entry, Reached}
 use Rattle.ct_graph.proofs.Transfer.{owner_listed}
 use Rattle.ct_graph.proofs.Graphs.{ends_listed}
 
 -- a list of edges ends in a compartment with entries where it begins in one
-end_listed : (e : Listed) (a : ℕ) (xs : List ℕ) (b : ℕ) → Leads e a xs b → has_entry e.rows (Compartment a) ≡ true → has_entry e.rows (Compartment b) ≡ true
+end_listed : (e : Listed) (a : ℕ) (xs : List ℕ) (b : ℕ) → IsEdgeList e a xs b → has_entry e.rows (Compartment a) ≡ true → has_entry e.rows (Compartment b) ≡ true
 end_listed e a [] b h has = subst (λ n. has_entry e.rows (Compartment n) ≡ true) h has
 end_listed e a (x ∷ xs) b h has = end_listed e x xs b h.1 (ends_listed e a x h.0).1
 

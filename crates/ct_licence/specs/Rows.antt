@@ -3,7 +3,7 @@ use Rattle.std.specs.Prelude.{ℕ, zero, suc, ◌≡◌, ◌+◌, true, Option, 
 use Rattle.ct_entry.specs.declared.rows.Entry.{Entry}
 use Rattle.ct_entry.specs.declared.rows.Kind.{Kind}
 use Rattle.ct_entry.specs.Listed.{Listed}
-use Rattle.def_reach.specs.Roots.{Listing, gate_for, is_disabled, root_of}
+use Rattle.def_reach.specs.Roots.{Listing, gate_for, turns_interrupts_off, root_of}
 use Rattle.def_graph.specs.Reach.{has_entry}
 
 -- rows are numbered from 1
@@ -20,5 +20,5 @@ pub record IsRow (e : Listed) (n : ℕ) (k : Kind) (r : Entry) : Type 0 where
   pub rights_are : (root_of e n).rights ≡ r.rights
   pub of_is : (root_of e n).of ≡ r.of
   pub limit_is : (root_of e n).limit ≡ r.limit
-  pub disabled_is : (root_of e n).disabled ≡ is_disabled (gate_for e.gates n).posture
+  pub disabled_is : (root_of e n).disabled ≡ turns_interrupts_off (gate_for e.gates n).posture
   pub listed : has_entry e.rows r.owner ≡ true

@@ -2,7 +2,7 @@
 
 ghost use Rattle.std.specs.Prelude.{ℕ, ◌≡◌, ◌≢◌, ◌↔◌, ◌==◌, Bool, true, Option, IsTrue, MatchOption};
 ghost use Rattle.ct_entry.specs.Listed.{Listed};
-ghost use Rattle.def_reach.specs.Roots.{gate_for, is_disabled, Listing, root_of};
+ghost use Rattle.def_reach.specs.Roots.{gate_for, turns_interrupts_off, Listing, root_of};
 ghost use Rattle.def_reach.specs.Sharing.{Reaches};
 ghost use Rattle.def_graph.specs.Reach.{has_entry};
 ghost use Rattle.ct_licence.specs.Rows.{IsRow, row_at};
@@ -48,7 +48,7 @@ pub(crate) fn reaches(g: &Graph, owner: Owner, actor: u32) -> bool
 
 /// Whether the gate of an export has posture disabled; not where the number has no gate.
 pub(crate) fn disabled(e: &Entries, number: u32) -> bool
-    ensures { result ≡ is_disabled (gate_for e.now.gates number).posture }
+    ensures { result ≡ turns_interrupts_off (gate_for e.now.gates number).posture }
 {
     is_off(e.gates.as_slice(), number)
 }
@@ -56,7 +56,7 @@ pub(crate) fn disabled(e: &Entries, number: u32) -> bool
 /// The same of gates.
 #[tactic(auto, unfolding(def_reach::specs::Roots::gate_for))]
 fn is_off(gates: &[Gate], number: u32) -> bool
-    ensures { result ≡ is_disabled (gate_for gates.now number).posture }
+    ensures { result ≡ turns_interrupts_off (gate_for gates.now number).posture }
 {
     for gate in gates {
         if gate.entry == number {

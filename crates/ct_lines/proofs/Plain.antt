@@ -11,14 +11,14 @@ use Rattle.serde_json.specs.Written.{has_float, items_have_float}
 use Rattle.def_image.specs.Parts.{CodeRow, CompartmentRow, ThreadRow, PartsRow}
 use Rattle.def_lines.specs.Edges.{edges}
 use Rattle.def_lines.specs.Labels.{Label, labels_of}
-use Rattle.def_lines.specs.Lines.{Line, data_of, export_of, line_data, numbered}
+use Rattle.def_lines.specs.Lines.{Line, data_of, export_line_data, line_data, numbered}
 use Rattle.def_lines.specs.Report.{compartment_data, device_data, edge_data, library_data, thread_data, data_over}
 
 or_false : (a b : Bool) → a ≡ false → b ≡ false → (a || b) ≡ false
 or_false true b here there = here
 or_false false b here there = there
 
-export_plain : (o : Owner) (l : Line) → has_float (export_of o l) ≡ false
+export_plain : (o : Owner) (l : Line) → has_float (export_line_data o l) ≡ false
 export_plain owner.Trusted l = refl
 export_plain (owner.Compartment n) l = refl
 export_plain (owner.Library n) l = refl

@@ -35,7 +35,7 @@ pub(crate) enum Of<'a> {
 
 /// The label of an entry that has no more than an owner.
 fn owned<'a>(owner: &'a str) -> Label<'a>
-    ensures { label_of result ≡ spec.owned owner.now }
+    ensures { label_of result ≡ spec.owner_label owner.now }
 {
     Label {
         owner,
@@ -288,7 +288,7 @@ fn add_libraries<'a>(
 fn add_threads<'a>(labels: &mut Vec<Label<'a>>, threads: &'a [Thread]) -> Result<(), AllocError>
     ensures { OnOk result
         (shown labels.new.items ≡ shown labels.old.items
-        ++ map (λ (t : ThreadRow). spec.owned t.name) threads.now) }
+        ++ map (λ (t : ThreadRow). spec.owner_label t.name) threads.now) }
 {
     for thread in threads {
         labels.push(owned(thread.name.as_str()))?;

@@ -13,7 +13,7 @@ use Rattle.def_link.specs.Linked.{compartment_sizes, library_code_size, area_siz
 use Rattle.law_link_regions.proofs.Lying.{threads_most, shared_sizes, sealed_sizes, stack_sizes, trusted_size}
 use Rattle.law_link_regions.proofs.Placings.{few_areas}
 use Rattle.ct_asm.specs.Labels.{Assembled}
-use Rattle.ct_objects.specs.Objects.{Refuses}
+use Rattle.ct_objects.specs.Objects.{RefusesLink}
 use Rattle.ct_layout.specs.Rows.{SizesRow, PlacesRow, IsPlaceable, HasRoom}
 use Rattle.ct_link_slots.specs.Exporters.{IsExporter, IsLibraryExporter, AreCounted}
 use Rattle.ct_link.specs.Laid.{sizes_with, laid_of, IsPlaced, AreObjects}
@@ -189,7 +189,7 @@ are_placed d own lent s p is h =
     }
 
 pub room_wanted : (d : DescRow) (own lent : List Assembled) (s : SizesRow) (n has : ℕ) → s ≡ record { base = d.ram.base; size = d.ram.size; regions = sizes_with d own lent }
-    → (n ≡ needed s.base s.regions) × (has ≡ s.size) × (s.size < needed s.base s.regions) → Refuses (laid_of d own lent) (fault.NoRoom n has)
+    → (n ≡ needed s.base s.regions) × (has ≡ s.size) × (s.size < needed s.base s.regions) → RefusesLink (laid_of d own lent) (fault.NoRoom n has)
 room_wanted d own lent s n has is h =
     let here = subst (λ (z : SizesRow). (n ≡ needed z.base z.regions) × (has ≡ z.size) × (z.size < needed z.base z.regions)) is h in
     no_room d own lent n has here.0 here.1 here.2

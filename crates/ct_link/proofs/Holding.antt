@@ -12,11 +12,11 @@ use Rattle.def_link.specs.Owners.{Unit as OwnerUnit, Built, units_of, compartmen
 use Rattle.law_link_regions.proofs.Texts.{IsText}
 use Rattle.law_link_regions.proofs.Builts.{unit_sound}
 use Rattle.ct_asm.specs.Labels.{Assembled, label_named}
-use Rattle.ct_objects.specs.Objects.{built_of, Holds, AllHold}
+use Rattle.ct_objects.specs.Objects.{built_of, HoldsBuilt, AllHold}
 use Rattle.ct_link.specs.Rows.{IsSized}
 
 -- what an object holds is what was built
-same_built : (b : Built) (o : Assembled) → Holds b o → built_of o ≡ b
+same_built : (b : Built) (o : Assembled) → HoldsBuilt b o → built_of o ≡ b
 same_built b o h =
     let labels : (λ (name : List ℕ). label_named name o.labels) ≡ b.labels = fun_ext (λ name. h.labels name) in
     λ i. record { text = h.text i; initial = h.initial i; labels = labels i }

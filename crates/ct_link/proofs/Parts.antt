@@ -4,7 +4,7 @@ use Rattle.def_layout.specs.declared.Region.{Region}
 use Rattle.def_image.specs.Parts.{SharedRow as SharedPart, SealedRow as SealedPart, CodeRow as CodePart, CompartmentRow as CompartmentPart, ThreadRow as ThreadPart}
 use Rattle.def_image.specs.Sizes.{sum_of}
 use Rattle.def_description.specs.Rows.{SharedRow, SealedRow, ThreadRow, CompartmentRow, LibraryRow, DescRow}
-use Rattle.def_link.specs.Slots.{called}
+use Rattle.def_link.specs.Slots.{compartment_export_named}
 use Rattle.def_link.specs.Owners.{numbered}
 use Rattle.def_link.specs.Linked.{BuiltCompartment, BuiltLibrary, compartment_code_size, library_code_size, compartment_sizes, base_at, length_at, compartment_part, compartment_parts, compartment_entries, library_part, library_parts, library_entries, shared_parts, sealed_parts, thread_part, thread_parts}
 use Rattle.ct_asm.specs.Labels.{Assembled}
@@ -32,7 +32,7 @@ sealed_in regions at s = record {
 }
 
 abbrev pub thread_in : DescRow → List Region → ℕ → ThreadRow → ThreadPart
-thread_in d regions at t = thread_part (drop at regions) (called d t.entry) t
+thread_in d regions at t = thread_part (drop at regions) (compartment_export_named d t.entry) t
 
 pub shared_all : (regions : List Region) (at : ℕ) (ss : List SharedRow) → numbered (shared_in regions) at ss ≡ shared_parts (drop at regions) ss
 unfolding shared_parts

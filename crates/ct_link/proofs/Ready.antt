@@ -11,12 +11,12 @@ use Rattle.def_description.specs.Rows.{DescRow}
 use Rattle.def_link.specs.declared.LinkFault.{LinkFault}
 use Rattle.def_link.specs.declared.LinkFault.TheVariants as fault
 use Rattle.def_link.specs.Owners.{Built, units_of, compartment_unit, library_unit, numbered, all_built}
-use Rattle.def_link.specs.Linked.{compartments_with, libraries_with, laid_with, linked_with, linked}
+use Rattle.def_link.specs.Linked.{compartments_with, libraries_with, built_parts, linked_with, linked}
 use Rattle.law_link.specs.Links.{Links}
 use Rattle.law_link.proofs.Indexed.{numbered_length}
 use Rattle.law_link_limits.proofs.Whole as whole
 use Rattle.ct_asm.specs.Labels.{Assembled}
-use Rattle.ct_objects.specs.Objects.{built_of, IsLinkable, AreBuilt, Refuses}
+use Rattle.ct_objects.specs.Objects.{built_of, IsLinkable, AreBuilt, RefusesLink}
 use Rattle.ct_link.specs.Laid.{sizes_with, laid_of, parts_with, IsPlaced, AreObjects, AreReady}
 use Rattle.ct_layout.specs.Rows.{PlacesRow}
 use Rattle.ct_link.proofs.Holding.{same_builts, built_each, objects_sized, all_taken, all_dropped}
@@ -28,7 +28,7 @@ linked_is d sources os h =
     let n = length d.compartments in
     let all : all_built (units_of d) sources ≡ Ok (map built_of os) = h.is ∙ ap (λ (bs : List Built). Ok bs) (sym (same_builts h.built os h.held)) in
     ap (linked_with d) all
-    ∙ ap₂ (λ (own lent : List Built). laid_with d (compartments_with d.compartments own) (libraries_with d.libraries lent))
+    ∙ ap₂ (λ (own lent : List Built). built_parts d (compartments_with d.compartments own) (libraries_with d.libraries lent))
     (take-map built_of n os) (drop-map built_of n os)
 
 unit_count : (d : DescRow) → length (units_of d) ≡ length d.compartments + length d.libraries
@@ -79,16 +79,16 @@ pub linked_ok : (d : DescRow) (sources : List (List ℕ)) (os own lent : List As
 linked_ok d sources os own lent p built first rest is = linked_so d sources os own lent built first rest ∙ is
 
 pub linked_err : (d : DescRow) (sources : List (List ℕ)) (os own lent : List Assembled) (e : LinkFault) → AreBuilt (all_built (units_of d) sources) os
-    → own ≡ take (length d.compartments) os → lent ≡ drop (length d.compartments) os → Refuses (laid_of d own lent) e → Refuses (linked d sources) e
+    → own ≡ take (length d.compartments) os → lent ≡ drop (length d.compartments) os → RefusesLink (laid_of d own lent) e → RefusesLink (linked d sources) e
 linked_err d sources os own lent e built first rest h =
-    subst (λ (r : Result PartsRow LinkFault). Refuses r e) (sym (linked_so d sources os own lent built first rest)) h
+    subst (λ (r : Result PartsRow LinkFault). RefusesLink r e) (sym (linked_so d sources os own lent built first rest)) h
 
 fails : (d : DescRow) (sources : List (List ℕ)) (e : LinkFault) → all_built (units_of d) sources ≡ Err e → linked d sources ≡ Err e
 unfolding linked
 fails d sources e is = ap (linked_with d) is
 
 -- a fault of an owner is that of the whole
-pub owner_fault : (d : DescRow) (sources : List (List ℕ)) (e : LinkFault) → Refuses (all_built (units_of d) sources) e → Refuses (linked d sources) e
+pub owner_fault : (d : DescRow) (sources : List (List ℕ)) (e : LinkFault) → RefusesLink (all_built (units_of d) sources) e → RefusesLink (linked d sources) e
 owner_fault d sources fault.NoMemory h = tt
 owner_fault d sources (fault.Asm owner number line) h = fails d sources (fault.Asm owner number line) h
 owner_fault d sources (fault.Export owner item) h = fails d sources (fault.Export owner item) h

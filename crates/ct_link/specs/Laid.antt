@@ -7,7 +7,7 @@ use Rattle.def_image.specs.Parts.{PartsRow}
 use Rattle.def_description.specs.Lawful.{IsLawful}
 use Rattle.def_description.specs.Rows.{DescRow}
 use Rattle.def_link.specs.declared.LinkFault.{LinkFault}
-use Rattle.def_link.specs.Linked.{sizes_of, parts_of, laid_with, linked}
+use Rattle.def_link.specs.Linked.{sizes_of, parts_of, built_parts, linked}
 use Rattle.ct_layout.specs.Rows.{PlacesRow}
 use Rattle.ct_asm.specs.Labels.{Assembled}
 use Rattle.ct_link.specs.Rows.{IsSized, own_built, lent_built}
@@ -17,7 +17,7 @@ sizes_with d own lent = sizes_of d (own_built d.compartments own) (lent_built d.
 
 -- the objects of compartments, and those of libraries
 abbrev pub laid_of : DescRow → List Assembled → List Assembled → Result PartsRow LinkFault
-laid_of d own lent = laid_with d (own_built d.compartments own) (lent_built d.libraries lent)
+laid_of d own lent = built_parts d (own_built d.compartments own) (lent_built d.libraries lent)
 
 abbrev pub parts_with : DescRow → List Assembled → List Assembled → List Region → ℕ → PartsRow
 parts_with d own lent regions heap =

@@ -1,7 +1,7 @@
 //! From the objects of all owners to the image.
 
 ghost use Rattle.std.specs.Prelude.{◌≡◌, Ok, IfOk, IfErr};
-ghost use Rattle.ct_objects.specs.Objects.{Refuses};
+ghost use Rattle.ct_objects.specs.Objects.{RefusesLink};
 ghost use Rattle.ct_link.specs.Rows.{AreOwn, AreLent};
 ghost use Rattle.ct_link.specs.Starting.{AreSmallRows, AreStarts, AreFewStarts, parts_at as spec_parts_at};
 ghost use Rattle.ct_link_slots.specs.Exporters.{AreCounted};
@@ -145,7 +145,7 @@ fn places_of(
 ) -> Result<Places, LinkFault>
     requires { AreObjects desc.now own.now lent.now }
     ensures ok { IfOk result (λ places. IsPlaced desc.now own.now lent.now places) }
-    ensures err { IfErr result (λ e. Refuses (laid_of desc.now own.now lent.now) e) }
+    ensures err { IfErr result (λ e. RefusesLink (laid_of desc.now own.now lent.now) e) }
 {
     let Ok(regions) = sizes_of(alloc, desc, own, lent) else {
         return Err(LinkFault::NoMemory);
@@ -172,7 +172,7 @@ pub(crate) fn image_of(
 ) -> Result<Image, LinkFault>
     requires { AreReady desc.now own.now lent.now }
     ensures ok { IfOk result (λ i. laid_of desc.now own.now lent.now ≡ Ok i) }
-    ensures err { IfErr result (λ e. Refuses (laid_of desc.now own.now lent.now) e) }
+    ensures err { IfErr result (λ e. RefusesLink (laid_of desc.now own.now lent.now) e) }
 {
     let places = places_of(alloc, desc, own, lent)?;
     let regions = places.regions.as_slice();

@@ -15,7 +15,7 @@ mod sizes;
 
 ghost use Rattle.std.specs.Prelude.{◌≡◌, Ok, IfOk, IfErr};
 ghost use Rattle.def_link.specs.Linked.{linked};
-ghost use Rattle.ct_objects.specs.Objects.{IsLinkable, Refuses};
+ghost use Rattle.ct_objects.specs.Objects.{IsLinkable, RefusesLink};
 
 use ct_image::Image;
 use ct_objects::objects;
@@ -38,7 +38,7 @@ use std::alloc::Global;
 pub fn link(alloc: Global, desc: &Desc, sources: &Sources) -> Result<Image, LinkFault>
     requires { IsLinkable desc.now sources.now }
     ensures linked { IfOk result (λ i. linked desc.now sources.now ≡ Ok i) }
-    ensures refused { IfErr result (λ e. Refuses (linked desc.now sources.now) e) }
+    ensures refused { IfErr result (λ e. RefusesLink (linked desc.now sources.now) e) }
 {
     let objects = objects(alloc, desc, sources)?;
     let (own, lent) = objects.as_slice().split_at(desc.compartments.len());

@@ -2,7 +2,7 @@
 
 ghost use Rattle.std.specs.Prelude.{◌≡◌, ◌+◌, ◌<◌, ◌^◌, drop, length, IfOk};
 ghost use Rattle.def_link.specs.Linked as spec;
-ghost use Rattle.def_link.specs.Slots.{called as spec_called};
+ghost use Rattle.def_link.specs.Slots.{compartment_export_named as spec_called};
 ghost use Rattle.ct_link_slots.specs.Exporters.{AreCounted};
 
 use crate::regions::region_at;

@@ -14,7 +14,7 @@ use Rattle.def_machine.specs.State.{State, Thread, DeviceState, Counts, thread, 
 use Rattle.def_machine.specs.Threads as threads
 use Rattle.def_machine.specs.Threads.{with_statuses}
 use Rattle.def_machine.specs.Frames as frames
-use Rattle.def_machine.specs.Frames.{given, entered}
+use Rattle.def_machine.specs.Frames.{callee_start, entered}
 use Rattle.def_step.specs.Devices.{Bank}
 use Rattle.def_step.specs.Switch.{Switched, Trapped, TooDeep, NoStack, Enters, switch_of, frame_top}
 use Rattle.def_step.specs.Routines.{switched_to, switch, code}
@@ -23,7 +23,7 @@ use Rattle.def_machine.specs.Board.{MachineRow}
 use Rattle.ct_areas.specs.Threads as areas
 use Rattle.ct_sched.specs.Sched.{SchedRow}
 use Rattle.ct_switch.specs.declared.calls.Called.{Called}
-use Rattle.ct_switch.specs.Calls.{told}
+use Rattle.ct_switch.specs.Calls.{call_outcome}
 use Rattle.ct_engine.specs.Seen as engine
 use Rattle.ct_engine.specs.Seen.{area_at, Seen}
 use Rattle.ct_engine.specs.Calls.{HeadStands, switch_at, after_call}
@@ -72,23 +72,23 @@ module _ (i : Image) (e : Seen) (r : SchedRow) (k : Bank) (pending : Bool) (time
 
   -- the callee's thread has its caller's status
   entered_alike : (export high : ℕ) → threads.with_status (callee_thread i twin t export high) (get_or r.statuses t Ended)
-      ≡ entered i (thread here t) (callee export) export high (given i (thread here t) t (callee export) export high)
+      ≡ entered i (thread here t) (callee export) export high (callee_start i (thread here t) t (callee export) export high)
   entered_alike export high =
-      ap (λ (u : Thread). entered i u (callee export) export high (given i u t (callee export) export high)) (sym (thread_with e.threads r.statuses t kept.statuses))
+      ap (λ (u : Thread). entered i u (callee export) export high (callee_start i u t (callee export) export high)) (sym (thread_with e.threads r.statuses t kept.statuses))
 
   enters_so : (export high : ℕ) → HeadStands i e t export
       → state_by ((after_call e i.entries t (Enters export high))) r pending k.states time c
-      ≡ frames.switched i here t high (entered i (thread here t) (callee export) export high (given i (thread here t) t (callee export) export high)) e.running
+      ≡ frames.switched i here t high (entered i (thread here t) (callee export) export high (callee_start i (thread here t) t (callee export) export high)) e.running
   enters_so export high heads =
       let there : with_statuses (set e.threads t (callee_thread i twin t export high)) r.statuses
-      ≡ set (with_statuses e.threads r.statuses) t (entered i (thread here t) (callee export) export high (given i (thread here t) t (callee export) export high)) =
+      ≡ set (with_statuses e.threads r.statuses) t (entered i (thread here t) (callee export) export high (callee_start i (thread here t) t (callee export) export high)) =
       set_with e.threads r.statuses t (callee_thread i twin t export high) kept.statuses
       ∙ ap (λ (u : Thread). set (with_statuses e.threads r.statuses) t u) (entered_alike export high) in
       ap (λ (x : Seen). state_by (x) r pending k.states time c) (enters_is i twin e t export high shows heads) ∙ rw there refl
 
   -- ---- what a call came to
 
-  came_so : (w : Switched) (e' : Seen) (x : Called) → ((export high : ℕ) → w ≡ Enters export high → HeadStands i e t export) → x ≡ told (register (engine.thread e t) 6) w → e' ≡ switched_in e i.entries t w
+  came_so : (w : Switched) (e' : Seen) (x : Called) → ((export high : ℕ) → w ≡ Enters export high → HeadStands i e t export) → x ≡ call_outcome (register (engine.thread e t) 6) w → e' ≡ switched_in e i.entries t w
       → CameTo (machine e) (machine e') t (ran_by_call x) (ran (machine e).board here t (switched_to i here t w))
   came_so (Trapped why) e' x heads told_is now = rw (told_is, now) (record { is = refl; board = refl; counts = refl; unfinished = refl })
   came_so TooDeep e' x heads told_is now = rw (told_is, now, ← answers_are i e r k pending time c t kept (code 12)) (record { is = refl; board = refl; counts = refl; unfinished = tt })
@@ -98,18 +98,18 @@ module _ (i : Image) (e : Seen) (r : SchedRow) (k : Bank) (pending : Bool) (time
       let six : (register (engine.thread e t) 6).shadow.root ≡ (register (thread here t) 6).shadow.root = ap (λ (z : Cap). z.shadow.root) (register_alike i e r k pending time c t kept 6) in
       rw (told_is, now) (record {
         is = ap (λ (s : State). (s, Some (deed here t (register (engine.thread e t) 6).shadow.root (Call export)))) left
-            ∙ ap (λ n. (frames.switched i here t high (entered i (thread here t) (callee export) export high (given i (thread here t) t (callee export) export high)) e.running, Some (deed here t n (Call export)))) six;
+            ∙ ap (λ n. (frames.switched i here t high (entered i (thread here t) (callee export) export high (callee_start i (thread here t) t (callee export) export high)) e.running, Some (deed here t n (Call export)))) six;
         board = refl;
         counts = refl;
         unfinished = tt;
       })
 
   pub came_call : (entries : Listed) (e' : Seen) (x : Called) → entries ≡ i.entries → ((export high : ℕ) → switch_at e i.entries t ≡ Enters export high → HeadStands i e t export)
-      → x ≡ told (register (engine.thread e t) 6) (switch_at e entries t) → e' ≡ switched_in e entries t (switch_at e entries t)
+      → x ≡ call_outcome (register (engine.thread e t) 6) (switch_at e entries t) → e' ≡ switched_in e entries t (switch_at e entries t)
       → CameTo (machine e) (machine e') t (ran_by_call x) (ran (machine e).board here t (switch i here t))
   came_call entries e' x same heads told_is now =
       let is = comes_is entries same in
-      came_so comes e' x (λ export high enters. heads export high (comes_is i.entries refl ∙ enters)) (told_is ∙ ap (told (register (engine.thread e t) 6)) is)
+      came_so comes e' x (λ export high enters. heads export high (comes_is i.entries refl ∙ enters)) (told_is ∙ ap (call_outcome (register (engine.thread e t) 6)) is)
       (now ∙ ap (λ (w : Switched). (switched_in e entries t w)) is ∙ ap (λ (es : Listed). (switched_in e es t comes)) same)
 
   -- ---- what it asks, and what is kept

@@ -1,9 +1,10 @@
 -- What the code leaves of an instruction, of a frame's end and of an error handler's entry is what the written step
 -- leaves.
-use Rattle.std.proofs.Common.{ℕ, ◌≡◌, ◌<◌, Bool, true, false, cond, nat_lt, List, [], ◌∷◌, length, Option, None, option_map, refl, sym, ap, ◌∙◌, slice_set, arith, subst}
+use Rattle.std.proofs.Common.{ℕ, ◌≡◌, ◌<◌, Bool, true, false, cond, nat_lt, List, [], ◌∷◌, length, Option, Some, None, option_map, refl, sym, ap, ◌∙◌, slice_set, arith, subst}
 use Rattle.std.proofs.Math.ListN.{get_or, set}
 use Rattle.def_profile.specs.declared.answers.TheConstants.{UNWOUND}
 use Rattle.ct_entry.specs.Listed.{Listed}
+use Rattle.ct_entry.specs.declared.acts.Act.{Act}
 use Rattle.ct_entry.specs.declared.acts.Deed.{Deed}
 use Rattle.def_words.specs.declared.Cap.{Cap}
 use Rattle.def_words.specs.declared.Posture.{Posture}
@@ -26,7 +27,7 @@ use Rattle.def_step.specs.Events.{noted, with_deed}
 use Rattle.ct_sched.specs.Sched as sched
 use Rattle.ct_sched.specs.Sched.{SchedRow}
 use Rattle.ct_engine.specs.Seen as engine
-use Rattle.ct_engine.specs.Seen.{went, with_granules, area_at, Seen}
+use Rattle.ct_engine.specs.Seen.{after_jump, with_granules, area_at, Seen}
 use Rattle.ct_engine.specs.Steps.{space_in}
 use Rattle.ct_exports.specs.Exports.{callee_of}
 use Rattle.law_handlers.proofs.Entered.{says}
@@ -36,7 +37,7 @@ use Rattle.ct_engine.specs.Handling.{is_marked, is_handled_of, handed_at, record
 use Rattle.ct_engine.proofs.AsWritten.{handed_made}
 use Rattle.ct_execute.specs.declared.ran.Ran.{Ran}
 use Rattle.ct_execute.specs.declared.ran.Ran.TheVariants.{Went, Returned, Native, Trapped}
-use Rattle.ct_execute.specs.Deciding.{Decision, Goes, Returns, Serves, Traps, decide, decision, settle, Decided, IfUnfinished}
+use Rattle.ct_execute.specs.Deciding.{act_by, Decision, Goes, Returns, Serves, Traps, decide, decision, settle, Decided, IfUnfinished}
 use Rattle.ct_execute.proofs.Executed.{executed_is}
 use Rattle.ct_machine.specs.Parts.{state_by, IsKept}
 use Rattle.ct_machine.specs.Going.{return_at, trap_at, goes_trapped, left_after, goes_after, status_after, deed_by, finished, IsDone, CameTo}
@@ -60,7 +61,7 @@ pub record Ends (i : Image) (e : Seen) (s : State) (t actor handler : ℕ) : Typ
 module _ (i : Image) (e : Seen) (r : SchedRow) (pending : Bool) (devices : List DeviceState) (time : ℕ) (c : Counts) (t : ℕ) (kept : IsKept i e r) where
   -- a thread goes on, and RAM and the devices change
   pub went_is : (pcc : Cap) (posture : Posture) (to : ℕ) (value : Cap) (gs : List Granule) (states : List DeviceState)
-      → state_by ((with_granules (went e t pcc posture to value) gs)) r pending states time c
+      → state_by ((with_granules (after_jump e t pcc posture to value) gs)) r pending states time c
       ≡ record (state_by e r pending devices time c) {
         granules = gs;
         threads = set (with_statuses e.threads r.statuses) t (jumped (get_or (with_statuses e.threads r.statuses) t nobody) pcc posture to value);
@@ -203,11 +204,18 @@ module _ (i : Image) (entries : Listed) (e : Seen) (r : SchedRow) (k : Bank) (pe
       ∙ ap (λ (p : Space). decide i.entries (get_or e.threads t nobody) p) space_alike
       ∙ sym (decided_alike (space_of board here))
 
+  acted_is : (entry : ℕ) (act : Option Act) → deed_by t (actor_of (thread here t).frames) (Went (option_map (act_by entry) act)) ≡ option_map (deed here t entry) act
+  acted_is entry None = refl
+  acted_is entry (Some act) = refl
+
   settled : (D : Decision) (e' : Seen) (k' : Bank) (ran : Ran) → Decided D t e k e' k' ran
       → finished board t (actor_of (thread here t).frames) (state_by (e') r pending k'.states time c) ran ≡ settle board here t D
   settled (Goes d entry) e' k' ran h =
       let there = went_is i e r pending k.states time c t kept d.pcc d.posture d.to d.value d.granules d.bank.states in
-      rw (h.0, h.1, h.2) (ap (λ (x : State). (x, option_map (deed here t entry) d.act)) there)
+      let base : State = state_by (with_granules (after_jump e t d.pcc d.posture d.to d.value) d.granules) r pending d.bank.states time c in
+      let acts : ◌≡◌ {A = State × Option Deed} (base, deed_by t (actor_of (thread here t).frames) (Went (option_map (act_by entry) d.act))) (base, option_map (deed here t entry) d.act) =
+      ap (λ (o : Option Deed). (base, o)) (acted_is entry d.act) in
+      rw (h.0, h.1, h.2) (acts ∙ ap (λ (x : State). (x, option_map (deed here t entry) d.act)) there)
   settled Returns e' k' ran h = rw (h.0, h.1, h.2) refl
   settled (Serves number) e' k' ran h = rw (h.0, h.1, h.2) refl
   settled (Traps why) e' k' ran h = rw (h.0, h.1, h.2) refl
@@ -256,7 +264,7 @@ module _ (i : Image) (entries : Listed) (e : Seen) (r : SchedRow) (k : Bank) (pe
   )
 
   finishes : (actor handler : ℕ) (ran : Ran) → IsDone ran → IfUnfinished ran (Ends i e here t actor handler) → after actor handler ran ≡ noted (finished board t actor here ran)
-  finishes actor handler (Went act entry) done h = refl
+  finishes actor handler (Went acted) done h = refl
   finishes actor handler Returned done h = ap (λ (x : State). noted (x, None)) (returns_as h.base h.some)
   finishes actor handler (Native number) done h = absurd done
   finishes actor handler (Trapped why) done h =

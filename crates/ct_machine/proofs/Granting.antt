@@ -42,8 +42,10 @@ use Rattle.law_jumps.proofs.Moves.{in_rooted}
 use Rattle.ct_sched.specs.Sched.{SchedRow}
 use Rattle.ct_engine.specs.Seen as engine
 use Rattle.ct_execute.specs.declared.ran.Ran.{Ran}
+use Rattle.ct_execute.specs.declared.ran.ActBy.{ActBy}
 use Rattle.ct_execute.specs.declared.ran.Ran.TheVariants.{Went}
-use Rattle.ct_engine.specs.Seen.{Seen, limit_at, sifted}
+use Rattle.ct_execute.specs.Deciding.{act_by}
+use Rattle.ct_engine.specs.Seen.{Seen, limit_at, after_filter}
 use Rattle.ct_engine.specs.Grants.{with_object, with_sealed, allocation_in, quarantined, let_go, freed}
 use Rattle.ct_engine.proofs.Granted.{allocation_same}
 use Rattle.ct_services.specs.Granted as granted
@@ -60,7 +62,7 @@ use Rattle.ct_machine.proofs.Resting.{by_trap, checked_once, answers_are, regist
 
 -- what passed the load filter of the memory that the machine has
 sifted_is : (i : Image) (x : Seen) (r : SchedRow) (k : Bank) (pending : Bool) (time : ℕ) (c : Counts) (t : ℕ) → IsKept i x r
-    → state_by (sifted x t) r pending k.states time c
+    → state_by (after_filter x t) r pending k.states time c
     ≡ record (state_by x r pending k.states time c) {
       threads = set (with_statuses x.threads r.statuses) t (record (get_or (with_statuses x.threads r.statuses) t nobody) {
         registers = map (filtered_in i.ram x.granules) (get_or (with_statuses x.threads r.statuses) t nobody).registers;
@@ -101,8 +103,8 @@ module _ (i : Image) (e : Seen) (r : SchedRow) (k : Bank) (pending : Bool) (time
   serves_if most false p q x y h other = other
 
   abbrev went : Option (ℕ × Act) → Ran
-  went None = Went None 0
-  went (Some told) = Went (Some told.1) told.0
+  went None = Went None
+  went (Some told) = Went (Some (act_by told.0 told.1))
 
   answered_kept : (x : Seen) (v : Cap) → IsKept i x r → IsKept i (answered_in x t v) r
   answered_kept x v held =
@@ -110,9 +112,9 @@ module _ (i : Image) (e : Seen) (r : SchedRow) (k : Bank) (pending : Bool) (time
       (record { region = refl; areas = refl; size = refl; threads = length-set x.threads t _; heap_base = refl; heap_end = refl; limits = refl }) refl held.ready
 
   -- an answer of an engine that has become this, of a machine that has become that, where the thread went on and told as much
-  serves_went : (most : ℕ) (x : Seen) (s : State) (act : Option Act) (entry : ℕ) (told : Option (ℕ × Act)) (v : Cap) → deed_by t (actor_of (thread here t).frames) (Went act entry) ≡ option_map (deed_told here t) told
-      → IsKept i x r → x.next ≤ most → state_by x r pending k.states time c ≡ s → Serves most (answered_in x t v, Went act entry) (Leaves (routine.answers s t v) told)
-  serves_went most x s act entry told v tells held few is = record {
+  serves_went : (most : ℕ) (x : Seen) (s : State) (acted : Option ActBy) (told : Option (ℕ × Act)) (v : Cap) → deed_by t (actor_of (thread here t).frames) (Went acted) ≡ option_map (deed_told here t) told
+      → IsKept i x r → x.next ≤ most → state_by x r pending k.states time c ≡ s → Serves most (answered_in x t v, Went acted) (Leaves (routine.answers s t v) told)
+  serves_went most x s acted told v tells held few is = record {
     came = record {
       is = ap (λ (d : Option Deed). (state_by (answered_in x t v) r pending k.states time c, d)) tells
           ∙ ap (λ (z : State). (z, option_map (deed_told here t) told)) (answers_are i x r k pending time c t held v ∙ ap (λ (z : State). routine.answers z t v) is);
@@ -127,8 +129,8 @@ module _ (i : Image) (e : Seen) (r : SchedRow) (k : Bank) (pending : Bool) (time
 
   serves_as : (most : ℕ) (x : Seen) (s : State) (told : Option (ℕ × Act)) (v : Cap) → IsKept i x r → x.next ≤ most → state_by x r pending k.states time c ≡ s
       → Serves most (answered_in x t v, went told) (Leaves (routine.answers s t v) told)
-  serves_as most x s None v held few is = serves_went most x s None 0 None v refl held few is
-  serves_as most x s (Some told) v held few is = serves_went most x s (Some told.1) told.0 (Some told) v refl held few is
+  serves_as most x s None v held few is = serves_went most x s None None v refl held few is
+  serves_as most x s (Some told) v held few is = serves_went most x s (Some (act_by told.0 told.1)) (Some told) v refl held few is
 
   serves_told : (most : ℕ) (v : Cap) → e.next ≤ most → Serves most (granted.tells e t v) (routine.tells here t v)
   serves_told most v few = serves_as most e here None v kept few refl

@@ -147,7 +147,7 @@ either_next : (e x y : Seen) (b : Bool) → x.next ≡ e.next → y.next ≡ e.n
 either_next e x y b one two = chosen (λ (z : Seen). z.next ≡ e.next) b x y (λ is. one) (λ not_. two)
 
 pub left_next : (ran : Ran) (e : Seen) (entries : Listed) (t handler : ℕ) → (left_after ran e entries t handler).next ≡ e.next
-left_next (Went act entry) e entries t handler = refl
+left_next (Went acted) e entries t handler = refl
 left_next Returned e entries t handler =
     either_next e (ended_with e t (handler_value (engine.thread e t))) (returned e entries t) (is_marked (engine.thread e t).frames)
     (ended_next e t _ _ (engine.thread e t).frames) (ended_next e t _ _ (engine.thread e t).frames)
@@ -204,7 +204,7 @@ trap_kept i r t x y false more one two = two
 
 pub left_kept : (i : Image) (e : Seen) (r : SchedRow) (entries : Listed) (t handler : ℕ) (ran : Ran) → IsKept i e r → IfUnfinished ran (0 < length (engine.thread e t).frames)
     → IsKept i (left_after ran e entries t handler) (status_after (goes_after ran e t handler) r t)
-left_kept i e r entries t handler (Went act entry) kept some = kept
+left_kept i e r entries t handler (Went acted) kept some = kept
 left_kept i e r entries t handler Returned kept some =
     chosen (λ (x : Seen). IsKept i x (status_after (nat_lt 1 (length (engine.thread e t).frames)) r t)) (is_marked (engine.thread e t).frames)
     (ended_with e t (handler_value (engine.thread e t))) (returned e entries t)
@@ -217,14 +217,14 @@ left_kept i e r entries t handler (Trapped why) kept some =
 -- ---- of what is to be done, where something is
 
 pub unfinished_map : (ran : Ran) (P Q : Type 0) → (P → Q) → IfUnfinished ran P → IfUnfinished ran Q
-unfinished_map (Went act entry) P Q f h = tt
+unfinished_map (Went acted) P Q f h = tt
 unfinished_map Returned P Q f h = f h
 unfinished_map (Native number) P Q f h = f h
 unfinished_map (Trapped why) P Q f h = f h
 
 -- where the thread has no frame left it has one to end
 pub over_unfinished : (ran : Ran) (e : Seen) (t handler : ℕ) (P : Type 0) → goes_after ran e t handler ≡ false → IfUnfinished ran P → P
-over_unfinished (Went act entry) e t handler P over h = absurd cc
+over_unfinished (Went acted) e t handler P over h = absurd cc
 over_unfinished Returned e t handler P over h = h
 over_unfinished (Native number) e t handler P over h = absurd cc
 over_unfinished (Trapped why) e t handler P over h = h

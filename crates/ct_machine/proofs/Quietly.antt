@@ -1,7 +1,8 @@
 -- A step that tells nothing: what the code leaves of it is what the written step leaves.
-use Rattle.std.proofs.Common.{ℕ, zero, suc, ◌+◌, ◌≡◌, ◌&&◌, nat_eq, is_none, Bool, true, false, inl, inr, if◌then◌else◌, List, [], ◌∷◌, Option, Some, None, refl, sym, ap, ◌∙◌}
+use Rattle.std.proofs.Common.{ℕ, zero, suc, ◌+◌, ◌≡◌, ◌&&◌, nat_eq, is_none, Bool, true, false, inl, inr, if◌then◌else◌, List, [], ◌∷◌, Option, Some, None, option_map, refl, sym, ap, ◌∙◌}
 use Rattle.std.proofs.Math.ListN.{get_or, set}
 use Rattle.law_lists.proofs.Tests.{eq_tells}
+use Rattle.ct_entry.specs.declared.acts.Act.{Act}
 use Rattle.ct_entry.specs.declared.acts.Owned.{Owned}
 use Rattle.def_words.specs.declared.Posture.{Posture}
 use Rattle.def_sched.specs.declared.Status.{Status}
@@ -25,7 +26,7 @@ use Rattle.ct_engine.specs.Seen as engine
 use Rattle.ct_engine.specs.Seen.{Seen}
 use Rattle.ct_execute.specs.declared.ran.Ran.{Ran}
 use Rattle.ct_execute.specs.declared.ran.Ran.TheVariants.{Went}
-use Rattle.ct_execute.specs.Deciding.{Decision, Goes, Returns, Serves, Traps, decision, Decided, Stays, WentQuietly}
+use Rattle.ct_execute.specs.Deciding.{act_by, Decision, Goes, Returns, Serves, Traps, decision, Decided, Stays, WentQuietly}
 use Rattle.ct_machine.specs.Parts.{state_by, IsKept, IsCounted}
 use Rattle.def_words.specs.Authority.{cap_address}
 use Rattle.def_step.specs.Checks.{first_failed}
@@ -43,14 +44,8 @@ use Rattle.ct_machine.proofs.Taking.{ram_is, posture_with, not_pending, runs_sch
 
 -- ---- what was decided
 
-abbrev entry_of : Decision → ℕ
-entry_of (Goes d entry) = entry
-entry_of Returns = 0
-entry_of (Serves number) = 0
-entry_of (Traps why) = 0
-
-quietly_decided : (D : Decision) (t : ℕ) (s : Seen) (k : Bank) (new : Seen) → WentQuietly D t s k new → Decided D t s k new k (Went None (entry_of D))
-quietly_decided (Goes d entry) t s k new h = (h.0, h.1, ap (λ a. Went a entry) (sym h.2))
+quietly_decided : (D : Decision) (t : ℕ) (s : Seen) (k : Bank) (new : Seen) → WentQuietly D t s k new → Decided D t s k new k (Went None)
+quietly_decided (Goes d entry) t s k new h = (h.0, h.1, ap (λ (o : Option Act). Went (option_map (act_by entry) o)) (sym h.2))
 quietly_decided Returns t s k new h = absurd h
 quietly_decided (Serves number) t s k new h = absurd h
 quietly_decided (Traps why) t s k new h = absurd h
@@ -160,14 +155,14 @@ module _ (i : Image) (e new : Seen) (r : SchedRow) (k : Bank) (pending : Bool) (
 
   pub quietly_kept : IsCounted c time e.next → IsKept i new r × IsCounted c time new.next
   quietly_kept counted = (
-    ran_kept i (decision i.entries e t k time) t e new r k k (Went None (entry_of (decision i.entries e t k time))) kept
+    ran_kept i (decision i.entries e t k time) t e new r k k (Went None) kept
         (quietly_decided (decision i.entries e t k time) t e k new quiet) stays,
     counted_so c time e new _ stays.beside refl counted,
   )
 
   quietly_run : (state_by new r pending k.states time one_more, None) ≡ run_on board (state_by e r pending k.states time one_more)
   quietly_run =
-      let ran : Ran = Went None (entry_of (decision i.entries e t k time)) in
+      let ran : Ran = Went None in
       let m : MachineRow = record { board = board; state = state_by e r pending k.states time one_more } in
       let n : MachineRow = record { board = board; state = state_by new r pending k.states time one_more } in
       carried_so m n t (actor_of (thread (state_by e r pending k.states time one_more) t).frames) ran (state_by new r pending k.states time one_more) None (sym runs) refl

@@ -118,7 +118,7 @@ quota_listed e (suc n) is =
     let count = length-map e.rows (λ (r : Entry). r.limit) in
     omega (arith, within, count)
 
-rows_are : (p : PartsRow) → (entries_of p).rows ≡ listed.rows_of p
+rows_are : (p : PartsRow) → (entries_of p).rows ≡ listed.entry_rows p
 unfolding entries_of
 rows_are p = refl
 

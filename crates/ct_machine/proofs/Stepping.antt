@@ -32,8 +32,8 @@ ends_by m n t actor ran whole may runs acts came =
     unfinished_map ran (n ≡ m) (MayEnd n t actor) (λ same. subst (λ (x : MachineRow). MayEnd x t actor) (sym same) (record { may = may; runs = runs; acts = acts })) came.unfinished
 
 quiet_finished : (b : Board) (t actor : ℕ) (s : State) (ran : Ran) → is_quiet ran ≡ true → finished b t actor s ran ≡ (s, None)
-quiet_finished b t actor s (Went None entry) quiet = refl
-quiet_finished b t actor s (Went (Some act) entry) quiet = absurd (let clash : false ≡ true = quiet in cc)
+quiet_finished b t actor s (Went None) quiet = refl
+quiet_finished b t actor s (Went (Some acted)) quiet = absurd (let clash : false ≡ true = quiet in cc)
 quiet_finished b t actor s Returned quiet = absurd (let clash : false ≡ true = quiet in cc)
 quiet_finished b t actor s (Native number) quiet = absurd (let clash : false ≡ true = quiet in cc)
 quiet_finished b t actor s (Trapped why) quiet = absurd (let clash : false ≡ true = quiet in cc)

@@ -25,7 +25,7 @@ use Rattle.law_turns.proofs.Moves.{clock_confined}
 use Rattle.law_sweeps.proofs.Moves.{clock_beside}
 use Rattle.law_sweeps.specs.Clean.{SavedClean, StoppedClean, IsClean}
 use Rattle.law_sweeps.proofs.Ending.{ends_clean}
-use Rattle.law_heaped.proofs.Slices.{kept_length}
+use Rattle.law_hidden.proofs.Slices.{kept_length}
 use Rattle.ct_sched.specs.Sched.{SchedRow}
 use Rattle.ct_engine.specs.Seen as engine
 use Rattle.ct_engine.specs.Written.{HasAreas}

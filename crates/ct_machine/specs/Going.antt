@@ -29,9 +29,10 @@ use Rattle.ct_switch.specs.declared.calls.Called.TheVariants as called
 use Rattle.ct_engine.specs.Seen.{Seen, thread}
 use Rattle.ct_engine.specs.Calls.{returned, ended_with}
 use Rattle.ct_engine.specs.Handling.{is_marked, is_handled_at, handler_begun}
+use Rattle.ct_execute.specs.declared.ran.ActBy.{ActBy}
 use Rattle.ct_execute.specs.declared.ran.Ran.{Ran}
 use Rattle.ct_execute.specs.declared.ran.Ran.TheVariants.{Went, Returned, Native, Trapped}
-use Rattle.ct_execute.specs.Deciding.{IfUnfinished}
+use Rattle.ct_execute.specs.Deciding.{act_by, IfUnfinished}
 use Rattle.ct_execute.specs.Quiet.{goes_quietly}
 
 -- No entry reaches what is hidden, capabilities of boot are what their entries say, the state is confined, with what
@@ -101,12 +102,12 @@ rests_for s t ticks =
 -- of a service: a check that failed, or nothing that is told
 abbrev pub ran_by_service : Option words.Trap → Ran
 ran_by_service (Some why) = Trapped why
-ran_by_service None = Went None 0
+ran_by_service None = Went None
 
 abbrev pub ran_by_call : Called → Ran
-ran_by_call (called.Entered entry export) = Went (Some (Call export)) entry
-ran_by_call called.TooDeep = Went None 0
-ran_by_call called.NoStack = Went None 0
+ran_by_call (called.Entered entry export) = Went (Some (act_by entry (Call export)))
+ran_by_call called.TooDeep = Went None
+ran_by_call called.NoStack = Went None
 ran_by_call (called.Trapped why) = Trapped why
 
 -- ---- where its innermost frame ends
@@ -128,14 +129,14 @@ goes_trapped s t handler =
     cond (is_handled_at s t handler) true (nat_lt 1 (length (thread s t).frames))
 
 abbrev pub left_after : Ran → Seen → Listed → ℕ → ℕ → Seen
-left_after (Went act entry) s e t handler = s
+left_after (Went acted) s e t handler = s
 left_after Returned s e t handler = return_at s e t
 left_after (Native number) s e t handler = s
 left_after (Trapped why) s e t handler = trap_at s e t handler why
 
 -- whether the thread has a frame left
 abbrev pub goes_after : Ran → Seen → ℕ → ℕ → Bool
-goes_after (Went act entry) s t handler = true
+goes_after (Went acted) s t handler = true
 goes_after Returned s t handler = nat_lt 1 (length (thread s t).frames)
 goes_after (Native number) s t handler = true
 goes_after (Trapped why) s t handler = goes_trapped s t handler
@@ -148,8 +149,10 @@ status_after goes r t =
 -- ---- the deed of what one instruction came to
 
 abbrev pub deed_by : ℕ → ℕ → Ran → Option Deed
-deed_by t actor (Went act entry) =
-    option_map (λ a. record { thread = t; actor = actor; entry = entry; act = a }) act
+deed_by t actor (Went acted) =
+    option_map
+    (λ (d : ActBy). record { thread = t; actor = actor; entry = d.entry; act = d.act })
+    acted
 deed_by t actor Returned = None
 deed_by t actor (Native number) = None
 deed_by t actor (Trapped why) =
@@ -165,14 +168,14 @@ deed_by t actor (Trapped why) =
 -- What is left to do in this state, where `actor` was the innermost frame's compartment before the instruction: a frame
 -- ends, or its error handler is entered, or a native routine runs; and the deed is told.
 abbrev pub finished : Board → ℕ → ℕ → State → Ran → State × Option Deed
-finished b t actor s (Went act entry) = (s, deed_by t actor (Went act entry))
+finished b t actor s (Went acted) = (s, deed_by t actor (Went acted))
 finished b t actor s Returned = (return_taken b.image s t (state.thread s t).frames, None)
 finished b t actor s (Native number) = served b s t (native b.image s t number)
 finished b t actor s (Trapped why) = trapped b s t why
 
 -- the thread went on, and did nothing that is told
 abbrev pub is_quiet : Ran → Bool
-is_quiet (Went None entry) = true
+is_quiet (Went None) = true
 is_quiet _ = false
 
 -- of a step after its instruction and its native routine

@@ -23,7 +23,7 @@ use def_words::Trap;
 
 /// The running thread returned: its innermost frame ends, by its error handler where that was entered. `false` exactly
 /// where it has none left.
-fn hand_back<M: Memory + Drop>(threads: &mut Threads<M>, t: u32, entries: &Entries) -> bool
+fn take_return<M: Memory + Drop>(threads: &mut Threads<M>, t: u32, entries: &Entries) -> bool
     requires runs { threads.old.running ≡ Some t }
     requires top { TopLies threads.old t }
     requires sorted { AreSorted entries.now.gates }
@@ -33,7 +33,7 @@ fn hand_back<M: Memory + Drop>(threads: &mut Threads<M>, t: u32, entries: &Entri
     if threads.is_handling(t) {
         return threads.end_handler(t, entries);
     }
-    threads.give_back(t, entries)
+    threads.return_to_caller(t, entries)
 }
 
 /// The running thread trapped: it enters its compartment's error handler, this export, or its innermost frame is
@@ -73,13 +73,13 @@ fn leave<M: Memory + Drop>(
 {
     match ran {
         Ran::Went { .. } | Ran::Native { .. } => true,
-        Ran::Returned => hand_back(threads, t, entries),
+        Ran::Returned => take_return(threads, t, entries),
         Ran::Trapped { trap } => take_trap(threads, t, entries, handler, trap),
     }
 }
 
 /// A thread that goes on no more has ended.
-fn note_end(sched: &mut Sched, t: u32, goes: bool)
+fn end_unless(sched: &mut Sched, t: u32, goes: bool)
     requires { goes ≡ false → t < length sched.old.statuses }
     ensures { sched.new ≡ status_after goes sched.old t }
 {
@@ -93,15 +93,13 @@ fn deed_of(thread: u32, actor: u32, ran: Ran) -> Option<Deed>
     ensures { result ≡ deed_by thread actor ran }
 {
     match ran {
-        Ran::Went { act, entry } => match act {
-            Some(act) => Some(Deed {
-                thread,
-                actor,
-                entry,
-                act,
-            }),
-            None => None,
-        },
+        Ran::Went { done: Some(done) } => Some(Deed {
+            thread,
+            actor,
+            entry: done.entry,
+            act: done.act,
+        }),
+        Ran::Went { done: None } => None,
         Ran::Returned | Ran::Native { .. } => None,
         Ran::Trapped { trap } => Some(Deed {
             thread,
@@ -120,7 +118,7 @@ fn deed_of(thread: u32, actor: u32, ran: Ran) -> Option<Deed>
 fn is_quiet(ran: Ran) -> bool
     ensures { result ≡ is_quiet ran }
 {
-    matches!(ran, Ran::Went { act: None, .. })
+    matches!(ran, Ran::Went { done: None })
 }
 
 impl<M: Memory + Drop> Engine<M> {
@@ -170,9 +168,9 @@ impl<M: Memory + Drop> Engine<M> {
     {
         let handler = self.plan.handler(actor);
         let goes = leave(&mut self.threads, t, self.plan.entries(), handler, ran);
-        note_end(&mut self.sched, t, goes);
+        end_unless(&mut self.sched, t, goes);
         let deed = deed_of(t, actor, ran);
-        self.counts.note(deed);
+        self.counts.count_deed(deed);
         deed
     }
 

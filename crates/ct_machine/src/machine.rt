@@ -10,8 +10,8 @@ ghost use Rattle.def_step.specs.declared.Event as events;
 ghost use Rattle.def_step.specs.declared.Event.TheVariants.{Step, Sweep};
 ghost use Rattle.def_events.specs.Upheld.{Upholds};
 ghost use Rattle.def_safety.specs.Each.{EachEvent};
-ghost use Rattle.def_step.specs.Events.{told, happens, run, is_lawful, end_of, totals_of};
-ghost use Rattle.law_boot_words.specs.Booting.{empty_granules};
+ghost use Rattle.def_step.specs.Events.{happenings_of, happens, run, is_lawful, end_of, totals_of};
+ghost use Rattle.def_boot_words.specs.Booting.{empty_granules};
 ghost use Rattle.def_safety.specs.Chunks.{SweptBeforeReuse, UnusedAfterFree};
 ghost use Rattle.ct_machine.specs.Going.{silence, steps_quietly};
 
@@ -142,7 +142,7 @@ impl<M: Memory + Drop> Machine<M> {
         ensures safe { (es : List events.Event)
             → EachEvent (Upholds self.now.board) self.now.board self.now.state es }
         ensures licensed { (es : List events.Event) → AllLicensed self.now.board.image.entries
-            (told self.now.board self.now.state es) }
+            (happenings_of self.now.board self.now.state es) }
         ensures unused { UnusedAfterFree self.now.board self.now.state }
         ensures swept { SweptBeforeReuse self.now.board self.now.state }
         ensures quotas { (es : List events.Event) (q : ℕ)

@@ -12,7 +12,7 @@ ghost use Rattle.ct_machine.specs.Going.{MayGoOn, Runs, CameTo, IsDone, ran_by_s
 
 use crate::engine::Engine;
 use ct_entry::Act;
-use ct_execute::Ran;
+use ct_execute::{ActBy, Ran};
 use ct_mem::Memory;
 use ct_services::{
     Called, allocate, free, remaining, rest, switch, token_free, token_key, token_new, token_open,
@@ -30,10 +30,7 @@ fn ran_by_service(trap: Option<Trap>) -> Ran
 {
     match trap {
         Some(trap) => Ran::Trapped { trap },
-        None => Ran::Went {
-            act: None,
-            entry: 0,
-        },
+        None => Ran::Went { done: None },
     }
 }
 
@@ -44,13 +41,12 @@ fn ran_by_call(called: Called) -> Ran
 {
     match called {
         Called::Entered { entry, export } => Ran::Went {
-            act: Some(Act::Call { export }),
-            entry,
+            done: Some(ActBy {
+                act: Act::Call { export },
+                entry,
+            }),
         },
-        Called::TooDeep | Called::NoStack => Ran::Went {
-            act: None,
-            entry: 0,
-        },
+        Called::TooDeep | Called::NoStack => Ran::Went { done: None },
         Called::Trapped { trap } => Ran::Trapped { trap },
     }
 }

@@ -7,7 +7,7 @@ ghost use Rattle.def_boot.specs.Boot.{booted_machine, image_of};
 ghost use Rattle.def_boot.specs.Gates.{entries_of};
 ghost use Rattle.def_image.specs.Parts.{ThreadRow};
 ghost use Rattle.def_image.specs.Sound.{Sound};
-ghost use Rattle.law_boot_words.specs.Booting.{empty_granules};
+ghost use Rattle.def_boot_words.specs.Booting.{empty_granules};
 ghost use Rattle.ct_boot.specs.Launching.{launched};
 ghost use Rattle.ct_boot.specs.Placed.{ArePlaced};
 ghost use Rattle.ct_machine.specs.Starting.{bank_of, limits_of, priorities_of, rows_of};

@@ -41,18 +41,18 @@ impl Model for Tally {
 
 impl Tally {
     /// A deed counts, where there was one.
-    pub(crate) fn note(&mut self, deed: Option<Deed>)
+    pub(crate) fn count_deed(&mut self, deed: Option<Deed>)
         requires { deeds_of self.old < 4294967295 }
         ensures { self.new ≡ with_deed self.old deed }
     {
         match deed {
-            Some(done) => self.note_act(done.act),
+            Some(done) => self.count_act(done.act),
             None => {}
         }
     }
 
     /// What was done counts.
-    fn note_act(&mut self, act: Act)
+    fn count_act(&mut self, act: Act)
         requires { deeds_of self.old < 4294967295 }
         ensures { self.new ≡ with_act self.old act }
     {

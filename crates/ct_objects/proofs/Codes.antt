@@ -8,11 +8,11 @@ use Rattle.def_source.specs.Source.{Statements, program_of}
 use Rattle.def_object.specs.Object.{undeclared_in, fault_in, label_in, text_of, initial_of, word_bytes}
 use Rattle.def_link.specs.declared.LinkFault.TheVariants as fault
 use Rattle.def_link.specs.Owners.{words_built, assembled_or, read_or}
-use Rattle.ct_asm.specs.Labels.{Assembled, Stands}
-use Rattle.ct_objects.specs.Objects.{Holds, IsBuilt}
+use Rattle.ct_asm.specs.Labels.{Assembled, IsAssembled}
+use Rattle.ct_objects.specs.Objects.{HoldsBuilt, IsBuilt}
 
 -- the object of no statements, whose text is that of words
-pub words_hold : (words text : List ℕ) (o : Assembled) → Stands [] [] o → text ≡ flat_map word_bytes words
+pub words_hold : (words text : List ℕ) (o : Assembled) → IsAssembled [] [] o → text ≡ flat_map word_bytes words
     → IsBuilt (Ok (words_built words)) (record { text = text; init = o.init; labels = o.labels })
 unfolding initial_of label_in
 words_hold words text o s is = record {
@@ -35,7 +35,7 @@ pub source_faulty : (owner : Owner) (slots : List (List ℕ)) (source : List ℕ
 source_faulty owner slots source ss number line is none found = ap (read_or owner slots) is ∙ ap₂ (assembled_or owner slots ss) none found
 
 pub source_holds : (owner : Owner) (slots : List (List ℕ)) (source : List ℕ) (ss : Statements) (o : Assembled) → program_of source ≡ Ok ss
-    → undeclared_in slots ss ≡ None → Stands ss slots o → IsBuilt (read_or owner slots (program_of source)) o
+    → undeclared_in slots ss ≡ None → IsAssembled ss slots o → IsBuilt (read_or owner slots (program_of source)) o
 source_holds owner slots source ss o is none s = record {
   built = record { text = text_of ss slots; initial = initial_of ss slots; labels = label_in ss };
   is = ap (read_or owner slots) is ∙ ap₂ (assembled_or owner slots ss) none s.faultless;

@@ -9,7 +9,7 @@ use Rattle.def_link.specs.declared.LinkFault.{LinkFault}
 use Rattle.def_link.specs.declared.LinkFault.TheVariants as fault
 use Rattle.def_link.specs.Owners.{Unit as OwnerUnit, numbered, compartment_unit, library_unit, units_of, all_built}
 use Rattle.ct_asm.specs.Labels.{Assembled}
-use Rattle.ct_objects.specs.Objects.{file_of, files_of, AreSourced, IsLinkable, IsOwn, IsShared, AreBuilt, Adds, Refuses}
+use Rattle.ct_objects.specs.Objects.{file_of, files_of, AreSourced, IsLinkable, IsOwn, IsShared, AreBuilt, Adds, RefusesLink}
 use Rattle.ct_objects.proofs.Counts.{one_file}
 use Rattle.ct_objects.proofs.Walks.{files_joined, fails_joined}
 use Rattle.ct_objects.proofs.Progress.{both_built, second_fault}
@@ -77,7 +77,7 @@ objects_done d sources used first last count a b =
 fails_first : (d : DescRow) (sources : List (List ℕ)) (e : LinkFault) → all_built (numbered compartment_unit 0 d.compartments) sources ≡ Err e → all_built (units_of d) sources ≡ Err e
 fails_first d sources e h = fails_joined (numbered compartment_unit 0 d.compartments) (numbered library_unit 0 d.libraries) sources e h
 
-pub owners_refused : (d : DescRow) (sources : List (List ℕ)) (e : LinkFault) → Refuses (all_built (numbered compartment_unit 0 d.compartments) sources) e → Refuses (all_built (units_of d) sources) e
+pub owners_refused : (d : DescRow) (sources : List (List ℕ)) (e : LinkFault) → RefusesLink (all_built (numbered compartment_unit 0 d.compartments) sources) e → RefusesLink (all_built (units_of d) sources) e
 owners_refused d sources fault.NoMemory h = tt
 owners_refused d sources (fault.Asm owner number line) h = fails_first d sources (fault.Asm owner number line) h
 owners_refused d sources (fault.Export owner item) h = fails_first d sources (fault.Export owner item) h
@@ -92,8 +92,8 @@ fails_second d sources used first e count a h =
     second_fault (numbered compartment_unit 0 d.compartments) (numbered library_unit 0 d.libraries) sources used [] first e count a h
 
 pub libraries_refused : (d : DescRow) (sources : List (List ℕ)) (used : ℕ) (first : List Assembled) (e : LinkFault) → used ≡ files_of (numbered compartment_unit 0 d.compartments)
-    → Adds (all_built (numbered compartment_unit 0 d.compartments) sources) [] first → Refuses (all_built (numbered library_unit 0 d.libraries) (drop used sources)) e
-    → Refuses (all_built (units_of d) sources) e
+    → Adds (all_built (numbered compartment_unit 0 d.compartments) sources) [] first → RefusesLink (all_built (numbered library_unit 0 d.libraries) (drop used sources)) e
+    → RefusesLink (all_built (units_of d) sources) e
 libraries_refused d sources used first fault.NoMemory count a h = tt
 libraries_refused d sources used first (fault.Asm owner number line) count a h = fails_second d sources used first (fault.Asm owner number line) count a h
 libraries_refused d sources used first (fault.Export owner item) count a h = fails_second d sources used first (fault.Export owner item) count a h

@@ -8,7 +8,7 @@ use Rattle.def_link.specs.declared.LinkFault.{LinkFault}
 use Rattle.def_link.specs.declared.LinkFault.TheVariants as fault
 use Rattle.def_link.specs.Owners.{Unit as OwnerUnit, numbered, unit_built, source_for, head_or_none, all_built}
 use Rattle.ct_asm.specs.Labels.{Assembled}
-use Rattle.ct_objects.specs.Objects.{file_of, files_of, IsBuilt, Adds, Refuses}
+use Rattle.ct_objects.specs.Objects.{file_of, files_of, IsBuilt, Adds, RefusesLink}
 use Rattle.ct_objects.proofs.Progress.{Done, one_done, fault_done, text_there}
 
 pub at_each : {A : Type 0} (P : A → Type 0) (xs : List A) (k : ℕ) (d : A) → AllByRecursion P xs → k < length xs → P (get_or xs k d)
@@ -25,7 +25,7 @@ one_step f xs texts used old new k index next d source o h low same one =
     one_done f xs texts used old new k index next x o h (slice_get-get_or xs k d low) (subst (λ (s : List ℕ). IsBuilt (unit_built (f index x) s) o) same one)
 
 known : {A : Type 0} (f : ℕ → A → OwnerUnit) (xs : List A) (texts : List (List ℕ)) (used : ℕ) (u : OwnerUnit) (source : List ℕ) (e : LinkFault)
-    → ((unit_built u source ≡ Err e) → all_built (numbered f 0 xs) (drop used texts) ≡ Err e) → Refuses (unit_built u source) e → Refuses (all_built (numbered f 0 xs) (drop used texts)) e
+    → ((unit_built u source ≡ Err e) → all_built (numbered f 0 xs) (drop used texts) ≡ Err e) → RefusesLink (unit_built u source) e → RefusesLink (all_built (numbered f 0 xs) (drop used texts)) e
 known f xs texts used u source fault.NoMemory so h = tt
 known f xs texts used u source (fault.Asm owner number line) so h = so h
 known f xs texts used u source (fault.Export owner item) so h = so h
@@ -35,7 +35,7 @@ known f xs texts used u source (fault.Initial owner) so h = so h
 
 pub fault_step : {A : Type 0} (f : ℕ → A → OwnerUnit) (xs : List A) (texts : List (List ℕ)) (used : ℕ) (old new : List Assembled) (k index next : ℕ) (d : A) (source : List ℕ) (e : LinkFault)
     → Done f xs texts used old new k index next → k < length xs → source ≡ source_for (f index (get_or xs k d)).code.file (drop next texts)
-    → Refuses (unit_built (f index (get_or xs k d)) source) e → Refuses (all_built (numbered f 0 xs) (drop used texts)) e
+    → RefusesLink (unit_built (f index (get_or xs k d)) source) e → RefusesLink (all_built (numbered f 0 xs) (drop used texts)) e
 fault_step f xs texts used old new k index next d source e h low same fails =
     let x = get_or xs k d in
     known f xs texts used (f index x) source e
@@ -44,10 +44,10 @@ fault_step f xs texts used old new k index next d source e h low same fails =
 -- the fault of the element that a loop reads is that of all
 pub fault_more : {A : Type 0} (f : ℕ → A → OwnerUnit) (xs : List A) (texts : List (List ℕ)) (used : ℕ) (old new : List Assembled) (k index next : ℕ) (d x : A) (source : List ℕ) (e : LinkFault)
     → Done f xs texts used old new k index next → x ≡ get_or xs k d → k < length xs → source ≡ source_for (f index x).code.file (drop next texts)
-    → Refuses (unit_built (f index x) source) e → Refuses (all_built (numbered f 0 xs) (drop used texts)) e
+    → RefusesLink (unit_built (f index x) source) e → RefusesLink (all_built (numbered f 0 xs) (drop used texts)) e
 fault_more f xs texts used old new k index next d x source e h is low same fails =
     fault_step f xs texts used old new k index next d source e h low (subst (λ z. source ≡ source_for (f index z).code.file (drop next texts)) is same)
-    (subst (λ z. Refuses (unit_built (f index z) source) e) is fails)
+    (subst (λ z. RefusesLink (unit_built (f index z) source) e) is fails)
 
 pub room_step : {A : Type 0} (f : ℕ → A → OwnerUnit) (xs : List A) (texts : List (List ℕ)) (used : ℕ) (old new : List Assembled) (k index next n : ℕ) (d : A)
     → Done f xs texts used old new k index next → k < length xs → used + files_of (numbered f 0 xs) ≤ n → next + file_of (f index (get_or xs k d)).code.file ≤ n

@@ -10,11 +10,11 @@ use Rattle.def_link.specs.Owners.{Unit as OwnerUnit, Built, built, label_or, is_
 use Rattle.def_object.specs.declared.Label.{Label}
 use Rattle.def_object.specs.Object.{text_offset}
 use Rattle.ct_asm.specs.Labels.{Assembled}
-use Rattle.ct_objects.specs.Objects.{built_of, Holds, IsBuilt, Refuses}
+use Rattle.ct_objects.specs.Objects.{built_of, HoldsBuilt, IsBuilt, RefusesLink}
 
 -- ---- an object that holds what was built says the same of exports
 
-label_same : (b : Built) (o : Assembled) → Holds b o → (label : Option (List ℕ)) (offset : ℕ) → label_or (built_of o) label offset ≡ label_or b label offset
+label_same : (b : Built) (o : Assembled) → HoldsBuilt b o → (label : Option (List ℕ)) (offset : ℕ) → label_or (built_of o) label offset ≡ label_or b label offset
 label_same b o h None offset = refl
 label_same b o h (Some name) offset = ap text_offset (h.labels name)
 
@@ -22,20 +22,20 @@ label_same b o h (Some name) offset = ap text_offset (h.labels name)
 pub begin_at : Built → ℕ → Option ℕ
 begin_at b offset = cond (is_begin b offset) (Some offset) None
 
-at_same : (b : Built) (o : Assembled) → Holds b o → (r : Option ℕ) → option_and_then (begin_at (built_of o)) r ≡ option_and_then (begin_at b) r
+at_same : (b : Built) (o : Assembled) → HoldsBuilt b o → (r : Option ℕ) → option_and_then (begin_at (built_of o)) r ≡ option_and_then (begin_at b) r
 unfolding begin_at
 at_same b o h None = refl
 at_same b o h (Some offset) = rw h.text refl
 
-begin_same : (b : Built) (o : Assembled) → Holds b o → (at : AtRow) → begin_of (built_of o) at ≡ begin_of b at
+begin_same : (b : Built) (o : Assembled) → HoldsBuilt b o → (at : AtRow) → begin_of (built_of o) at ≡ begin_of b at
 unfolding begin_at
 begin_same b o h at = at_same b o h (label_or (built_of o) at.label at.offset) ∙ ap (λ r. option_and_then (begin_at b) r) (label_same b o h at.label at.offset)
 
-lost_same : (b : Built) (o : Assembled) → Holds b o → (n : ℕ) (ats : List AtRow) → first_lost (built_of o) n ats ≡ first_lost b n ats
+lost_same : (b : Built) (o : Assembled) → HoldsBuilt b o → (n : ℕ) (ats : List AtRow) → first_lost (built_of o) n ats ≡ first_lost b n ats
 lost_same b o h n [] = refl
 lost_same b o h n (at ∷ ats) = ap₂ (λ r rest. cond (is_none r) (Some n) rest) (begin_same b o h at) (lost_same b o h (n + 1) ats)
 
-stray_same : (u : OwnerUnit) (b : Built) (o : Assembled) → Holds b o → has_stray_bytes u.owner (built_of o) ≡ has_stray_bytes u.owner b
+stray_same : (u : OwnerUnit) (b : Built) (o : Assembled) → HoldsBuilt b o → has_stray_bytes u.owner (built_of o) ≡ has_stray_bytes u.owner b
 stray_same u b o h = rw h.initial refl
 
 -- ---- what comes of an owner
@@ -67,7 +67,7 @@ unit_placed u source o h is stray = record {
 -- ---- by compartment and by library
 
 -- a fault of the code is that of the owner
-pub unit_refused : (u : OwnerUnit) (source : List ℕ) (e : LinkFault) → Refuses (built u.owner u.slots u.code source) e → Refuses (unit_built u source) e
+pub unit_refused : (u : OwnerUnit) (source : List ℕ) (e : LinkFault) → RefusesLink (built u.owner u.slots u.code source) e → RefusesLink (unit_built u source) e
 unit_refused u source fault.NoMemory h = tt
 unit_refused u source (fault.Asm owner number line) h = unit_fault u source (fault.Asm owner number line) h
 unit_refused u source (fault.Export owner item) h = unit_fault u source (fault.Export owner item) h
@@ -75,8 +75,8 @@ unit_refused u source (fault.NoRoom needed has) h = unit_fault u source (fault.N
 unit_refused u source (fault.Import owner line) h = unit_fault u source (fault.Import owner line) h
 unit_refused u source (fault.Initial owner) h = unit_fault u source (fault.Initial owner) h
 
-pub compartment_refused : (i : ℕ) (c : CompartmentRow) (source : List ℕ) (e : LinkFault) → Refuses (built (Compartment i) (slot_names c) c.code source) e
-    → Refuses (unit_built (compartment_unit i c) source) e
+pub compartment_refused : (i : ℕ) (c : CompartmentRow) (source : List ℕ) (e : LinkFault) → RefusesLink (built (Compartment i) (slot_names c) c.code source) e
+    → RefusesLink (unit_built (compartment_unit i c) source) e
 compartment_refused i c source e h = unit_refused (compartment_unit i c) source e h
 
 pub compartment_lost : (i : ℕ) (c : CompartmentRow) (source : List ℕ) (o : Assembled) (n : ℕ) → IsBuilt (built (Compartment i) (slot_names c) c.code source) o
@@ -87,8 +87,8 @@ pub compartment_placed : (i : ℕ) (c : CompartmentRow) (source : List ℕ) (o :
     → first_lost (built_of o) 0 (map (λ (x : ExportRow). x.at) c.exports) ≡ None → IsBuilt (unit_built (compartment_unit i c) source) o
 compartment_placed i c source o h is = unit_placed (compartment_unit i c) source o h is refl
 
-pub library_refused : (i : ℕ) (l : LibraryRow) (source : List ℕ) (e : LinkFault) → Refuses (built (Library i) (library_slot_names l) l.code source) e
-    → Refuses (unit_built (library_unit i l) source) e
+pub library_refused : (i : ℕ) (l : LibraryRow) (source : List ℕ) (e : LinkFault) → RefusesLink (built (Library i) (library_slot_names l) l.code source) e
+    → RefusesLink (unit_built (library_unit i l) source) e
 library_refused i l source e h = unit_refused (library_unit i l) source e h
 
 pub library_lost : (i : ℕ) (l : LibraryRow) (source : List ℕ) (o : Assembled) (n : ℕ) → IsBuilt (built (Library i) (library_slot_names l) l.code source) o

@@ -49,14 +49,14 @@ built_of o = record {
 }
 
 -- the object holds what was built: its text, initial bytes and labels
-pub record Holds (b : Built) (o : Assembled) : Type 0 where
+pub record HoldsBuilt (b : Built) (o : Assembled) : Type 0 where
   pub text : o.text ≡ b.text
   pub initial : o.init ≡ b.initial
   pub labels : (name : List ℕ) → label_named name o.labels ≡ b.labels name
 
 abbrev pub AllHold : List Built → List Assembled → Type 0
 AllHold [] [] = ⊤
-AllHold (b ∷ bs) (o ∷ os) = Holds b o × AllHold bs os
+AllHold (b ∷ bs) (o ∷ os) = HoldsBuilt b o × AllHold bs os
 AllHold _ _ = ⊥
 
 -- ---- answers
@@ -65,7 +65,7 @@ AllHold _ _ = ⊥
 pub record IsBuilt (wanted : Result Built LinkFault) (o : Assembled) : Type 0 where
   pub built : Built
   pub is : wanted ≡ Ok built
-  pub held : Holds built o
+  pub held : HoldsBuilt built o
 
 pub record AreBuilt (wanted : Result (List Built) LinkFault) (os : List Assembled) : Type 0 where
   pub built : List Built
@@ -79,6 +79,6 @@ pub record Adds (wanted : Result (List Built) LinkFault) (old new : List Assembl
   pub is : new ≡ old ++ more
 
 -- want of memory comes of nothing; another fault is the one that the definition gives
-abbrev pub Refuses : {A : Type 0} → Result A LinkFault → LinkFault → Type 0
-Refuses wanted fault.NoMemory = ⊤
-Refuses wanted e = wanted ≡ Err e
+abbrev pub RefusesLink : {A : Type 0} → Result A LinkFault → LinkFault → Type 0
+RefusesLink wanted fault.NoMemory = ⊤
+RefusesLink wanted e = wanted ≡ Err e

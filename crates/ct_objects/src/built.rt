@@ -3,7 +3,7 @@
 ghost use Rattle.std.specs.Prelude.{◌≡◌, ◌≤◌, ◌<◌, ◌+◌, ◌^◌, ℕ, List, length, map, drop, nat_lt, MatchResult, IfOk, IfErr, OnOk};
 ghost use Rattle.std.specs.List.{AllByRecursion};
 ghost use Rattle.def_link.specs.Owners as owner;
-ghost use Rattle.ct_objects.specs.Objects.{IsLinkable, file_of, files_of, IsBuilt, AreBuilt, Adds, Refuses, IsOwn, IsShared};
+ghost use Rattle.ct_objects.specs.Objects.{IsLinkable, file_of, files_of, IsBuilt, AreBuilt, Adds, RefusesLink, IsOwn, IsShared};
 
 use crate::code::code_object;
 use crate::exports::first_lost;
@@ -28,7 +28,7 @@ fn compartment_object(
     requires short { length source.now < 2 ^ 32 }
     ensures ok { IfOk result (λ o. IsBuilt
         (owner.unit_built (owner.compartment_unit index compartment.now) source.now) o) }
-    ensures err { IfErr result (λ e. Refuses
+    ensures err { IfErr result (λ e. RefusesLink
         (owner.unit_built (owner.compartment_unit index compartment.now) source.now) e) }
 {
     let owner = Owner::Compartment(index);
@@ -67,7 +67,7 @@ fn library_object(
     requires short { length source.now < 2 ^ 32 }
     ensures ok { IfOk result (λ o. IsBuilt
         (owner.unit_built (owner.library_unit index library.now) source.now) o) }
-    ensures err { IfErr result (λ e. Refuses
+    ensures err { IfErr result (λ e. RefusesLink
         (owner.unit_built (owner.library_unit index library.now) source.now) e) }
 {
     let owner = Owner::Library(index);
@@ -134,7 +134,7 @@ fn add_compartments(
     ensures ok { IfOk result (λ used. Adds
         (owner.all_built (owner.numbered owner.compartment_unit 0 compartments.now)
         sources.now) all.old.items all.new.items) }
-    ensures err { IfErr result (λ e. Refuses
+    ensures err { IfErr result (λ e. RefusesLink
         (owner.all_built (owner.numbered owner.compartment_unit 0 compartments.now)
         sources.now) e) }
 {
@@ -170,7 +170,7 @@ fn add_libraries(
     ensures ok { OnOk result (Adds
         (owner.all_built (owner.numbered owner.library_unit 0 libraries.now)
         (drop used sources.now)) all.old.items all.new.items) }
-    ensures err { IfErr result (λ e. Refuses
+    ensures err { IfErr result (λ e. RefusesLink
         (owner.all_built (owner.numbered owner.library_unit 0 libraries.now)
         (drop used sources.now)) e) }
 {
@@ -201,7 +201,7 @@ pub fn objects(alloc: Global, desc: &Desc, sources: &Sources) -> Result<Vec<Obje
     requires { IsLinkable desc.now sources.now }
     ensures { MatchResult result
         (λ all. AreBuilt (owner.all_built (owner.units_of desc.now) sources.now) all.items)
-        (λ e. Refuses (owner.all_built (owner.units_of desc.now) sources.now) e) }
+        (λ e. RefusesLink (owner.all_built (owner.units_of desc.now) sources.now) e) }
 {
     let mut all = Vec::new(alloc);
     let used = add_compartments(&mut all, alloc, desc.compartments.as_slice(), sources)?;

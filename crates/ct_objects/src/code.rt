@@ -5,8 +5,8 @@ ghost use Rattle.std.specs.List.{flat_map};
 ghost use Rattle.def_source.specs.Source.{program_of};
 ghost use Rattle.def_object.specs.Object.{word_bytes};
 ghost use Rattle.def_link.specs.Owners as owners;
-ghost use Rattle.ct_asm.specs.Labels.{Stands};
-ghost use Rattle.ct_objects.specs.Objects.{IsBuilt, Refuses};
+ghost use Rattle.ct_asm.specs.Labels.{IsAssembled};
+ghost use Rattle.ct_objects.specs.Objects.{IsBuilt, RefusesLink};
 
 use ct_asm::{Names, Object, assemble, undeclared};
 use ct_entry::Owner;
@@ -29,7 +29,7 @@ fn words_text(alloc: Global, words: &[u32]) -> Result<Vec<u8>, AllocError>
 
 /// The object of no statements.
 fn no_object(alloc: Global) -> Result<Object, AsmFault>
-    ensures { IfOk result (λ o. Stands [] [] o) }
+    ensures { IfOk result (λ o. IsAssembled [] [] o) }
 {
     let nothing = Program {
         statements: Vec::new(alloc),
@@ -41,7 +41,7 @@ fn no_object(alloc: Global) -> Result<Object, AsmFault>
 #[tactic(auto, using(crate::proofs::Codes::words_hold))]
 fn words_object(alloc: Global, words: &[u32]) -> Result<Object, LinkFault>
     ensures ok { IfOk result (λ o. IsBuilt (Ok (owners.words_built words.now)) o) }
-    ensures err { IfErr result (λ e. Refuses (Ok (owners.words_built words.now)) e) }
+    ensures err { IfErr result (λ e. RefusesLink (Ok (owners.words_built words.now)) e) }
 {
     let Ok(text) = words_text(alloc, words) else {
         return Err(LinkFault::NoMemory);
@@ -68,7 +68,7 @@ fn source_object(
     ensures ok { IfOk result
         (λ o. IsBuilt (owners.read_or owner slots.now (program_of source.now)) o) }
     ensures err { IfErr result
-        (λ e. Refuses (owners.read_or owner slots.now (program_of source.now)) e) }
+        (λ e. RefusesLink (owners.read_or owner slots.now (program_of source.now)) e) }
 {
     let program = match statements(alloc, source) {
         Ok(program) => program,
@@ -107,7 +107,7 @@ pub(crate) fn code_object(
     ensures ok { IfOk result
         (λ o. IsBuilt (owners.built owner slots.now code.now source.now) o) }
     ensures err { IfErr result
-        (λ e. Refuses (owners.built owner slots.now code.now source.now) e) }
+        (λ e. RefusesLink (owners.built owner slots.now code.now source.now) e) }
 {
     match &code.file {
         None => words_object(alloc, code.words.as_slice()),

@@ -18,7 +18,7 @@ use Rattle.def_memory.specs.Accesses.{byte_of, part_of, with_part}
 use Rattle.law_granules.proofs.Words.{pair_of, four_of}
 use Rattle.law_granules.proofs.Bytes.{put_byte_below, put_byte_above, put_byte_inside}
 use Rattle.ct_mem.proofs.Parts.{replaced_fits, replaced_is}
-use Rattle.ct_planes.specs.Bytes.{word_in, words_in, Holds, KeptBytes}
+use Rattle.ct_planes.specs.Bytes.{word_in, words_in, HoldsWords, KeptBytes}
 use Rattle.ct_planes.specs.Fills.{filled}
 use Rattle.ct_planes.proofs.Fillings.{length_filled, filled_inside, filled_rest}
 use Rattle.ct_planes.proofs.Runs.{run_tells}
@@ -43,13 +43,13 @@ number_small (x ∷ xs) small =
     omega (arith, small 0, number_small xs (λ k. small (suc k)), more)
 
 -- byte i of word k
-pub held_byte : (ws bs : List ℕ) (k i : ℕ) → Holds ws bs → i < 8 → get_or bs (8 * k + i) 0 ≡ byte_of (get_or ws k 0) i
+pub held_byte : (ws bs : List ℕ) (k i : ℕ) → HoldsWords ws bs → i < 8 → get_or bs (8 * k + i) 0 ≡ byte_of (get_or ws k 0) i
 held_byte ws bs k i h small =
     let word : (8 * k + i) / 8 ≡ k = omega arith in
     let place : (8 * k + i) % 8 ≡ i = omega arith in
     h.bytes_are (8 * k + i) ∙ ap (λ n. byte_of (get_or ws n 0) ((8 * k + i) % 8)) word ∙ ap (λ n. byte_of (get_or ws k 0) n) place
 
-small_bytes : (ws bs : List ℕ) (j : ℕ) → Holds ws bs → get_or bs j 0 < 256
+small_bytes : (ws bs : List ℕ) (j : ℕ) → HoldsWords ws bs → get_or bs j 0 < 256
 small_bytes ws bs j h = rw (h.bytes_are j) (byte_small (get_or ws (j / 8) 0) (j % 8))
 
 taken_small : (xs : List ℕ) (n k : ℕ) → ((j : ℕ) → get_or xs j 0 < 256) → get_or (take n xs) k 0 < 256
@@ -62,7 +62,7 @@ dropped_small : (xs : List ℕ) (n k : ℕ) → ((j : ℕ) → get_or xs j 0 < 2
 dropped_small xs n k small = rw (get_or-drop n xs k 0) (small (n + k))
 
 -- a word read from its bytes
-pub word_back : (ws bs : List ℕ) (k : ℕ) → Holds ws bs → k < length ws → word_in bs k ≡ get_or ws k 0
+pub word_back : (ws bs : List ℕ) (k : ℕ) → HoldsWords ws bs → k < length ws → word_in bs k ≡ get_or ws k 0
 word_back ws bs k h lt =
     let xs = take 8 (drop (8 * k) bs) in
     let small : (j : ℕ) → get_or xs j 0 < 256 = λ j. taken_small (drop (8 * k) bs) 8 j (λ i. dropped_small bs (8 * k) i (λ n. small_bytes ws bs n h)) in
@@ -70,12 +70,12 @@ word_back ws bs k h lt =
     let fits : word_in bs k < 256 ^ 8 = subst (λ n. word_in bs k < 256 ^ n) eight (number_small xs small) in
     same_from_bytes 8 (word_in bs k) (get_or ws k 0) fits (h.small k) (λ i few. number_byte xs i small ∙ get_or-take 8 (drop (8 * k) bs) i 0 few ∙ get_or-drop (8 * k) bs i 0 ∙ held_byte ws bs k i h few)
 
-pub words_back : (ws bs : List ℕ) → Holds ws bs → words_in bs ≡ ws
+pub words_back : (ws bs : List ℕ) → HoldsWords ws bs → words_in bs ≡ ws
 words_back ws bs h =
     let count : length bs / 8 ≡ length ws = omega (arith, h.size) in
     sym (fill_by_all (word_in bs) ws (length bs / 8) 0 (sym count) (λ k lt. sym (word_back ws bs k h (omega (arith, lt, count)))))
 
-pub holds_new : (n : ℕ) → Holds (replicate n 0) (replicate (8 * n) 0)
+pub holds_new : (n : ℕ) → HoldsWords (replicate n 0) (replicate (8 * n) 0)
 holds_new n = record {
   size = length-replicate {A = ℕ} (8 * n) 0 ∙ ap (λ k. 8 * k) (sym (length-replicate {A = ℕ} n 0));
   small = λ k. rw (same_everywhere {A = ℕ} n k 0) (lit< tt);
@@ -83,7 +83,7 @@ holds_new n = record {
 }
 
 -- a word written anew, where no byte of another word changes
-pub holds_word : (ws bs cs : List ℕ) (k w : ℕ) → Holds ws bs → length cs ≡ length bs → k < length ws → w < 2 ^ 64 → ((i : ℕ) → i < 8 → get_or cs (8 * k + i) 0 ≡ byte_of w i) → ((j : ℕ) → (j / 8 ≡ k → ⊥) → get_or cs j 0 ≡ get_or bs j 0) → Holds (set ws k w) cs
+pub holds_word : (ws bs cs : List ℕ) (k w : ℕ) → HoldsWords ws bs → length cs ≡ length bs → k < length ws → w < 2 ^ 64 → ((i : ℕ) → i < 8 → get_or cs (8 * k + i) 0 ≡ byte_of w i) → ((j : ℕ) → (j / 8 ≡ k → ⊥) → get_or cs j 0 ≡ get_or bs j 0) → HoldsWords (set ws k w) cs
 holds_word ws bs cs k w h same within fits here rest = record {
   size = same ∙ h.size ∙ ap (λ n. 8 * n) (sym (length-set ws k w));
   small = λ n. elim (eq_tells n k) [
@@ -97,17 +97,17 @@ holds_word ws bs cs k w h same within fits here rest = record {
   ];
 }
 
-pub kept_bytes : (ws bs : List ℕ) → length bs < 2 ^ 32 → Holds ws bs → KeptBytes bs
+pub kept_bytes : (ws bs : List ℕ) → length bs < 2 ^ 32 → HoldsWords ws bs → KeptBytes bs
 kept_bytes ws bs small h = (small, rw (words_back ws bs h) h)
 
 -- a byte at or after an offset, in the same word
-pub held_at : (ws bs : List ℕ) (at i : ℕ) → Holds ws bs → at % 8 + i < 8 → get_or bs (at + i) 0 ≡ byte_of (get_or ws (at / 8) 0) (at % 8 + i)
+pub held_at : (ws bs : List ℕ) (at i : ℕ) → HoldsWords ws bs → at % 8 + i < 8 → get_or bs (at + i) 0 ≡ byte_of (get_or ws (at / 8) 0) (at % 8 + i)
 held_at ws bs at i h small =
     let there : 8 * (at / 8) + (at % 8 + i) ≡ at + i = omega arith in
     ap (λ n. get_or bs n 0) (sym there) ∙ held_byte ws bs (at / 8) (at % 8 + i) h small
 
 -- a whole word, read byte by byte
-pub word_read : (ws bs : List ℕ) (at : ℕ) → Holds ws bs → at % 8 ≡ 0
+pub word_read : (ws bs : List ℕ) (at : ℕ) → HoldsWords ws bs → at % 8 ≡ 0
     → from_le_bytes w64 (get_or bs at 0 ∷ get_or bs (at + 1) 0 ∷ get_or bs (at + 2) 0 ∷ get_or bs (at + 3) 0 ∷ get_or bs (at + 4) 0 ∷ get_or bs (at + 5) 0 ∷ get_or bs (at + 6) 0 ∷ get_or bs (at + 7) 0 ∷ []) ≡ get_or ws (at / 8) 0
 word_read ws bs at h aligned =
     let w = get_or ws (at / 8) 0 in
@@ -122,7 +122,7 @@ part_fits w p n v small inside =
     omega (arith, replaced_fits w p n (v % 2 ^ (8 * n)) small inside below, replaced_is w p n (v % 2 ^ (8 * n)))
 
 -- the low bytes of a value written into a word
-pub holds_put : (ws bs xs : List ℕ) (at n v : ℕ) → Holds ws bs → length xs ≡ n → at % 8 + n ≤ 8 → 0 < n → at + n ≤ length bs → ((j : ℕ) → j < n → get_or xs j 0 ≡ byte_of v j) → Holds (set ws (at / 8) (with_part (get_or ws (at / 8) 0) (at % 8) n v)) (put_chunk at bs xs)
+pub holds_put : (ws bs xs : List ℕ) (at n v : ℕ) → HoldsWords ws bs → length xs ≡ n → at % 8 + n ≤ 8 → 0 < n → at + n ≤ length bs → ((j : ℕ) → j < n → get_or xs j 0 ≡ byte_of v j) → HoldsWords (set ws (at / 8) (with_part (get_or ws (at / 8) 0) (at % 8) n v)) (put_chunk at bs xs)
 holds_put ws bs xs at n v h many inside some within bytes =
     let k = at / 8 in
     let p = at % 8 in
@@ -155,7 +155,7 @@ word_bytes w (suc (suc (suc (suc (suc (suc (suc zero))))))) small = refl
 word_bytes w (suc (suc (suc (suc (suc (suc (suc (suc i)))))))) small = absurd (omega (arith, small))
 
 -- a whole word written
-pub holds_put_word : (ws bs : List ℕ) (at w : ℕ) → Holds ws bs → at % 8 ≡ 0 → at + 8 ≤ length bs → w < 2 ^ 64 → Holds (set ws (at / 8) w) (put_chunk at bs (to_le_bytes w64 w))
+pub holds_put_word : (ws bs : List ℕ) (at w : ℕ) → HoldsWords ws bs → at % 8 ≡ 0 → at + 8 ≤ length bs → w < 2 ^ 64 → HoldsWords (set ws (at / 8) w) (put_chunk at bs (to_le_bytes w64 w))
 holds_put_word ws bs at w h aligned within fits =
     let xs = to_le_bytes w64 w in
     let k = at / 8 in
@@ -167,12 +167,12 @@ holds_put_word ws bs at w h aligned within fits =
       | inr q ↦ get_or-put_chunk_above at bs xs j 0 (elim (lt_tells j (at + 8)) [ inl r ↦ let near : j / 8 ≡ k = omega (arith, q.1, r.1, aligned) in absurd (far near) | inr r ↦ r.1 ])
     ])
 
-pub pair_read : (ws bs : List ℕ) (at : ℕ) → Holds ws bs → at % 2 ≡ 0 → get_or bs at 0 + get_or bs (at + 1) 0 * 256 ≡ part_of (get_or ws (at / 8) 0) (at % 8) 2
+pub pair_read : (ws bs : List ℕ) (at : ℕ) → HoldsWords ws bs → at % 2 ≡ 0 → get_or bs at 0 + get_or bs (at + 1) 0 * 256 ≡ part_of (get_or ws (at / 8) 0) (at % 8) 2
 pair_read ws bs at h aligned =
     let w = get_or ws (at / 8) 0 in
     omega (arith, pair_of w (at % 8), h.bytes_are at, held_at ws bs at 1 h (omega (arith, aligned)))
 
-pub four_read : (ws bs : List ℕ) (at : ℕ) → Holds ws bs → at % 4 ≡ 0 → get_or bs at 0 + get_or bs (at + 1) 0 * 256 + get_or bs (at + 2) 0 * 65536 + get_or bs (at + 3) 0 * 16777216 ≡ part_of (get_or ws (at / 8) 0) (at % 8) 4
+pub four_read : (ws bs : List ℕ) (at : ℕ) → HoldsWords ws bs → at % 4 ≡ 0 → get_or bs at 0 + get_or bs (at + 1) 0 * 256 + get_or bs (at + 2) 0 * 65536 + get_or bs (at + 3) 0 * 16777216 ≡ part_of (get_or ws (at / 8) 0) (at % 8) 4
 four_read ws bs at h aligned =
     let w = get_or ws (at / 8) 0 in
     omega (arith, four_of w (at % 8), h.bytes_are at, held_at ws bs at 1 h (omega (arith, aligned)), held_at ws bs at 2 h (omega (arith, aligned)), held_at ws bs at 3 h (omega (arith, aligned)))
@@ -190,13 +190,13 @@ low_bytes v (suc (suc zero)) small = refl
 low_bytes v (suc (suc (suc zero))) small = refl
 low_bytes v (suc (suc (suc (suc j)))) small = absurd (omega (arith, small))
 
-pub holds_low : (ws bs l : List ℕ) (at n v : ℕ) → Holds ws bs → l ≡ to_le_bytes w32 v → n ≤ 4 → at % 8 + n ≤ 8 → 0 < n → at + n ≤ length bs → Holds (set ws (at / 8) (with_part (get_or ws (at / 8) 0) (at % 8) n v)) (put_chunk at bs (take n l))
+pub holds_low : (ws bs l : List ℕ) (at n v : ℕ) → HoldsWords ws bs → l ≡ to_le_bytes w32 v → n ≤ 4 → at % 8 + n ≤ 8 → 0 < n → at + n ≤ length bs → HoldsWords (set ws (at / 8) (with_part (get_or ws (at / 8) 0) (at % 8) n v)) (put_chunk at bs (take n l))
 holds_low ws bs l at n v h low few inside some within =
     let four : length l ≡ 4 = ap length low in
     holds_put ws bs (take n l) at n v h (omega (arith, length-take n l, four)) inside some within (λ j lt. get_or-take n l j 0 lt ∙ ap (λ m. get_or m j 0) low ∙ low_bytes v j (omega (arith, lt, few)))
 
 -- words cleared
-pub holds_zero : (ws bs : List ℕ) (from to : ℕ) → Holds ws bs → from ≤ to → to ≤ length ws → Holds (filled from to 0 ws) (put_chunk (8 * from) bs (replicate (8 * to - 8 * from) 0))
+pub holds_zero : (ws bs : List ℕ) (from to : ℕ) → HoldsWords ws bs → from ≤ to → to ≤ length ws → HoldsWords (filled from to 0 ws) (put_chunk (8 * from) bs (replicate (8 * to - 8 * from) 0))
 holds_zero ws bs from to h order inside =
     let zs : List ℕ = replicate (8 * to - 8 * from) 0 in
     let many : length zs ≡ 8 * to - 8 * from = length-replicate {A = ℕ} (8 * to - 8 * from) 0 in
@@ -218,22 +218,22 @@ holds_zero ws bs from to h order inside =
     }
 
 -- a plane of bytes closed over new bytes
-pub closed : (v : Vec ℕ Global) (ws bs : List ℕ) → length bs ≡ v.len → v.len < 2 ^ 32 → Holds ws bs → KeptBytes (with_items v bs).items
+pub closed : (v : Vec ℕ Global) (ws bs : List ℕ) → length bs ≡ v.len → v.len < 2 ^ 32 → HoldsWords ws bs → KeptBytes (with_items v bs).items
 closed v ws bs size small h = subst (λ l. KeptBytes l) (sym (with_items_is v bs size)) (kept_bytes ws bs (omega (arith, size, small)) h)
 
-pub closed_words : (v : Vec ℕ Global) (ws bs : List ℕ) → length bs ≡ v.len → Holds ws bs → words_in (with_items v bs).items ≡ ws
+pub closed_words : (v : Vec ℕ Global) (ws bs : List ℕ) → length bs ≡ v.len → HoldsWords ws bs → words_in (with_items v bs).items ≡ ws
 closed_words v ws bs size h = ap words_in (with_items_is v bs size) ∙ words_back ws bs h
 
-pub holds_four : (ws bs l : List ℕ) (at v : ℕ) → Holds ws bs → l ≡ to_le_bytes w32 v → at % 4 ≡ 0 → at + 4 ≤ length bs → Holds (set ws (at / 8) (with_part (get_or ws (at / 8) 0) (at % 8) 4 v)) (put_chunk at bs l)
+pub holds_four : (ws bs l : List ℕ) (at v : ℕ) → HoldsWords ws bs → l ≡ to_le_bytes w32 v → at % 4 ≡ 0 → at + 4 ≤ length bs → HoldsWords (set ws (at / 8) (with_part (get_or ws (at / 8) 0) (at % 8) 4 v)) (put_chunk at bs l)
 holds_four ws bs l at v h low aligned within =
     let all : take 4 l ≡ l = take_all 4 l (omega (arith, ap length low)) in
     let new = set ws (at / 8) (with_part (get_or ws (at / 8) 0) (at % 8) 4 v) in
-    subst (λ m. Holds new (put_chunk at bs m)) all (holds_low ws bs l at 4 v h low (omega arith) (omega (arith, aligned)) (lit< tt) within)
+    subst (λ m. HoldsWords new (put_chunk at bs m)) all (holds_low ws bs l at 4 v h low (omega arith) (omega (arith, aligned)) (lit< tt) within)
 
 -- the same where the cleared bytes stand between what was before and after them
-pub holds_zeros : (ws bs ys : List ℕ) (from to : ℕ) → Holds ws bs → from ≤ to → to ≤ length ws → ys ≡ replicate (8 * to - 8 * from) 0 → Holds (filled from to 0 ws) (take (8 * from) bs ++ (ys ++ drop (8 * to - 8 * from) (drop (8 * from) bs)))
+pub holds_zeros : (ws bs ys : List ℕ) (from to : ℕ) → HoldsWords ws bs → from ≤ to → to ≤ length ws → ys ≡ replicate (8 * to - 8 * from) 0 → HoldsWords (filled from to 0 ws) (take (8 * from) bs ++ (ys ++ drop (8 * to - 8 * from) (drop (8 * from) bs)))
 holds_zeros ws bs ys from to h order inside zeros =
     let wide : length ys ≡ 8 * to - 8 * from = ap length zeros ∙ length-replicate {A = ℕ} (8 * to - 8 * from) 0 in
     let put : put_chunk (8 * from) bs ys ≡ take (8 * from) bs ++ (ys ++ drop (length ys) (drop (8 * from) bs)) = put_chunk_is (8 * from) bs ys (omega (arith, wide, h.size)) in
     let same : put_chunk (8 * from) bs ys ≡ take (8 * from) bs ++ (ys ++ drop (8 * to - 8 * from) (drop (8 * from) bs)) = put ∙ ap (λ n. take (8 * from) bs ++ (ys ++ drop n (drop (8 * from) bs))) wide in
-    subst (λ l. Holds (filled from to 0 ws) l) same (subst (λ l. Holds (filled from to 0 ws) (put_chunk (8 * from) bs l)) (sym zeros) (holds_zero ws bs from to h order inside))
+    subst (λ l. HoldsWords (filled from to 0 ws) l) same (subst (λ l. HoldsWords (filled from to 0 ws) (put_chunk (8 * from) bs l)) (sym zeros) (holds_zero ws bs from to h order inside))

@@ -12,7 +12,7 @@ abbrev pub words_in : List ℕ → List ℕ
 words_in bytes = map (word_in bytes) (range_with_len 0 (length bytes / 8))
 
 -- bytes hold words: eight for each, little-endian
-pub record Holds (words bytes : List ℕ) : Type 0 where
+pub record HoldsWords (words bytes : List ℕ) : Type 0 where
   pub size : length bytes ≡ 8 * length words
   pub small : (k : ℕ) → slice_index_or words k 0 < 2 ^ 64
   pub bytes_are : (at : ℕ)
@@ -20,7 +20,7 @@ pub record Holds (words bytes : List ℕ) : Type 0 where
 
 -- what a plane of bytes keeps of them
 abbrev pub KeptBytes : List ℕ → Type 0
-KeptBytes bytes = (length bytes < 2 ^ 32) × Holds (words_in bytes) bytes
+KeptBytes bytes = (length bytes < 2 ^ 32) × HoldsWords (words_in bytes) bytes
 
 -- some bytes of the word that an offset lies in, as a number
 abbrev pub part_at : List ℕ → ℕ → ℕ → ℕ

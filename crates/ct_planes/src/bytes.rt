@@ -4,7 +4,7 @@ ghost use Rattle.std.specs.Prelude.{◌≡◌, ◌+◌, ◌/◌, ◌%◌, ◌*�
 ghost use Rattle.std.specs.List.{range_with_len};
 ghost use Rattle.std.specs.Simd.Lanes.{put_chunk};
 ghost use Rattle.def_memory.specs.Accesses.{IsAccess, byte_of, part_of, with_part};
-ghost use Rattle.ct_planes.specs.Bytes.{Holds, held_bytes, part_at, part_written};
+ghost use Rattle.ct_planes.specs.Bytes.{HoldsWords, held_bytes, part_at, part_written};
 ghost use Rattle.ct_planes.specs.Fills.{filled};
 
 use def_refusals::NoMemory;
@@ -31,7 +31,7 @@ impl Model for Bytes {
 /// One, two or four bytes as a number.
 fn load_in(bytes: &[u8], at: usize, width: u32) -> u32
     requires { IsAccess (length bytes.now) at width }
-    ensures { (words : List ℕ) → Holds words bytes.now → result ≡ part_at words at width }
+    ensures { (words : List ℕ) → HoldsWords words bytes.now → result ≡ part_at words at width }
 {
     if width == 1 {
         return bytes[at] as u32;
@@ -56,7 +56,7 @@ fn store_in(bytes: &mut [u8], at: usize, width: u32, value: u32)
     requires { IsAccess (length bytes.old) at width }
     ensures size { length bytes.new ≡ length bytes.old }
     ensures holds { (words : List ℕ)
-        → Holds words bytes.old → Holds (part_written words at width value) bytes.new }
+        → HoldsWords words bytes.old → HoldsWords (part_written words at width value) bytes.new }
 {
     let low = value.to_le_bytes();
     if width == 1 {
@@ -72,7 +72,7 @@ fn store_in(bytes: &mut [u8], at: usize, width: u32, value: u32)
 fn word_in(bytes: &[u8], at: usize) -> u64
     requires { at + 8 ≤ length bytes.now }
     ensures { (words : List ℕ)
-        → Holds words bytes.now → at % 8 ≡ 0 → result ≡ slice_index_or words (at / 8) 0 }
+        → HoldsWords words bytes.now → at % 8 ≡ 0 → result ≡ slice_index_or words (at / 8) 0 }
 {
     u64::from_le_bytes([
         bytes[at],
@@ -91,7 +91,7 @@ fn put_word_in(bytes: &mut [u8], at: usize, word: u64)
     requires { at + 8 ≤ length bytes.old }
     ensures size { length bytes.new ≡ length bytes.old }
     ensures holds { (words : List ℕ)
-        → Holds words bytes.old → at % 8 ≡ 0 → Holds (slice_set words (at / 8) word) bytes.new }
+        → HoldsWords words bytes.old → at % 8 ≡ 0 → HoldsWords (slice_set words (at / 8) word) bytes.new }
 {
     put_bytes(bytes, at, &word.to_le_bytes());
 }
@@ -102,7 +102,7 @@ fn zero_in(bytes: &mut [u8], from: usize, to: usize)
     requires inside { 8 * to ≤ length bytes.old }
     ensures size { length bytes.new ≡ length bytes.old }
     ensures holds { (words : List ℕ)
-        → Holds words bytes.old → Holds (filled from to 0 words) bytes.new }
+        → HoldsWords words bytes.old → HoldsWords (filled from to 0 words) bytes.new }
 {
     bytes[8 * from..8 * to].fill(0);
 }

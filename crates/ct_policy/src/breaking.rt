@@ -14,7 +14,7 @@ use std::alloc::{AllocError, Global};
 
 /// Whether an export runs with interrupts disabled.
 fn is_disabled(posture: Mode) -> bool
-    ensures { result ≡ roots.is_disabled posture }
+    ensures { result ≡ roots.turns_interrupts_off posture }
 {
     match posture {
         Mode::Disabled => true,

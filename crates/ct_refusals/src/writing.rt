@@ -26,7 +26,8 @@ fn write_named<S: Sink>(
     rest: &[u8],
     sink: &mut S,
 ) -> Result<(), WriteFailed>
-    ensures { WriteAnswers (S.shows sink.old) (S.shows sink.new) (text.now ++ (name.now ++ rest.now)) result }
+    ensures { WriteAnswers (S.shows sink.old) (S.shows sink.new)
+        (text.now ++ (name.now ++ rest.now)) result }
 {
     match sink.write(text) {
         Ok(()) => write_both(name.as_bytes(), rest, sink),

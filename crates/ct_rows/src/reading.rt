@@ -46,7 +46,7 @@ fn all_of<R: Row>(alloc: Global, values: &[Value]) -> Result<Vec<R>, AllocError>
 
 fn words_of(alloc: Global, values: &[Value]) -> Result<Vec<u32>, AllocError>
     ensures { IfOk result
-        (λ v. v.items ≡ map (λ w. spec.word_of (member.text_of w)) (map view values.now)) }
+        (λ v. v.items ≡ map (λ w. spec.hexadecimal_word (member.text_of w)) (map view values.now)) }
 {
     let mut all = Vec::new(alloc);
     for value in values {
@@ -275,7 +275,7 @@ impl Row for Thread {
 /// empty text or the empty list; a number that 32 bits don't hold reads as 0, but keys and the
 /// offsets of exports keep their numbers. An error is want of memory.
 pub fn rows_of(alloc: Global, value: &Value) -> Result<Desc, AllocError>
-    ensures { IfOk result (λ x. x ≡ spec.rows_of (view value.now)) }
+    ensures { IfOk result (λ x. x ≡ spec.description_of (view value.now)) }
 {
     Ok(Desc {
         firmware: text_owned(alloc, value, "firmware")?,

@@ -10,9 +10,9 @@ use Rattle.def_machine.specs.State.{State}
 use Rattle.def_step.specs.declared.Event.{Event}
 use Rattle.def_step.specs.declared.Event.TheVariants.{Step, Tick, Sweep}
 use Rattle.def_machine.specs.Board.{Board, MachineRow}
-use Rattle.def_step.specs.Events.{happens, run, told}
+use Rattle.def_step.specs.Events.{happens, run, happenings_of}
 use Rattle.def_trace.specs.Trace.{trace_line}
-use Rattle.law_counts.specs.Kinds.{Kinds, kinds, all_more}
+use Rattle.def_counts.specs.Kinds.{Kinds, kinds, all_more}
 use Rattle.law_counts.proofs.Appended.{run_append, told_append}
 use Rattle.law_counts.proofs.Counted.{run_kinds}
 use Rattle.law_counts.proofs.Devices.{run_keeps}
@@ -27,12 +27,12 @@ use Rattle.ct_port.proofs.Pieces as pieces
 lines_append : (m n : MachineRow) (k : ℕ) (es fs : List Event) → n.board ≡ m.board → n.state ≡ run m.board m.state es → lines_of m k (es ++ fs) ≡ lines_of m k es ++ lines_of n k fs
 lines_append m n k es fs board state =
     ap (flat_map (trace_line k)) (told_append m.board m.state es fs)
-    ∙ flat_map-append (trace_line k) (told m.board m.state es) (told m.board (run m.board m.state es) fs)
-    ∙ ap (λ b. lines_of m k es ++ flat_map (trace_line k) (told b (run m.board m.state es) fs)) (sym board)
-    ∙ ap (λ s. lines_of m k es ++ flat_map (trace_line k) (told n.board s fs)) (sym state)
+    ∙ flat_map-append (trace_line k) (happenings_of m.board m.state es) (happenings_of m.board (run m.board m.state es) fs)
+    ∙ ap (λ b. lines_of m k es ++ flat_map (trace_line k) (happenings_of b (run m.board m.state es) fs)) (sym board)
+    ∙ ap (λ s. lines_of m k es ++ flat_map (trace_line k) (happenings_of n.board s fs)) (sym state)
 
 pub one_line : (m : MachineRow) (k : ℕ) (e : Event) → lines_of m k (e ∷ []) ≡ trace_line k (happens m.board m.state e).1
-unfolding told
+unfolding happenings_of
 one_line m k e = append-nil (trace_line k (happens m.board m.state e).1)
 
 one_event : (b : Board) (s : State) (e : Event) → run b s (e ∷ []) ≡ (happens b s e).0
@@ -42,22 +42,22 @@ one_event b s e = refl
 -- ---- coming
 
 pub none_came : (m : MachineRow) (k : ℕ) (before : SinkView) → Came m m k [] before before
-unfolding run told
+unfolding run happenings_of
 none_came m k before = record { board = refl; state = refl; written = pieces.nothing before }
 
 pub one_came : (m n : MachineRow) (k : ℕ) (e : Event) (h : Happened) (before after : SinkView)
     → n.state ≡ (happens m.board m.state e).0 → h ≡ (happens m.board m.state e).1 → n.board ≡ m.board
     → Writes before after (trace_line k h) → Came m n k (e ∷ []) before after
-one_came m n k e h before after state told board w = record {
+one_came m n k e h before after state happenings_of board w = record {
   board = board;
   state = state ∙ sym (one_event m.board m.state e);
-  written = subst (λ t. Writes before after t) (ap (λ x. trace_line k x) told ∙ sym (one_line m k e)) w;
+  written = subst (λ t. Writes before after t) (ap (λ x. trace_line k x) happenings_of ∙ sym (one_line m k e)) w;
 }
 
 pub one_fails : (m : MachineRow) (k : ℕ) (e : Event) (h : Happened) (before after : SinkView)
     → h ≡ (happens m.board m.state e).1
     → WriteFails before after (trace_line k h) → WriteFails before after (lines_of m k (e ∷ []))
-one_fails m k e h before after told w = subst (λ t. WriteFails before after t) (ap (λ x. trace_line k x) told ∙ sym (one_line m k e)) w
+one_fails m k e h before after happenings_of w = subst (λ t. WriteFails before after t) (ap (λ x. trace_line k x) happenings_of ∙ sym (one_line m k e)) w
 
 -- an event that tells nothing, of which nothing is written
 pub silent_came : (m n : MachineRow) (k : ℕ) (e : Event) (before : SinkView) → Passed m n (e ∷ []) → (happens m.board m.state e).1 ≡ silence → Came m n k (e ∷ []) before before

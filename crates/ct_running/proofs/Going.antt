@@ -17,7 +17,7 @@ use Rattle.law_script.proofs.Coming.{come_once, no_more, all_given}
 use Rattle.def_program.specs.Scripts.{IsPlayable}
 use Rattle.def_program.specs.Runs.{round, inputs_before, or_last, last_line, lines_from, run_lines}
 use Rattle.ct_port.proofs.Added as added
-use Rattle.law_counts.specs.Kinds.{IsUncounted}
+use Rattle.def_counts.specs.Kinds.{IsUncounted}
 use Rattle.ct_running.specs.Rounds.{HasInputs, HasRoom, lines_of, round_of, Came, IsLeft, IsOver}
 use Rattle.ct_running.proofs.Coming.{came_devices, round_inputs, round_steps, round_sweeps, round_ticks}
 use Rattle.ct_running.proofs.Ticking as ticking

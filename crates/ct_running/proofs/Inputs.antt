@@ -13,7 +13,7 @@ use Rattle.def_step.specs.Events.{is_lawful}
 use Rattle.def_machine.specs.Board.{MachineRow}
 use Rattle.def_script.specs.declared.Given.{Given}
 use Rattle.def_program.specs.Runs.{input_of}
-use Rattle.law_counts.specs.Kinds.{Kinds}
+use Rattle.def_counts.specs.Kinds.{Kinds}
 use Rattle.ct_running.specs.Rounds.{Came, HasInputs, lines_of}
 use Rattle.ct_running.proofs.Coming.{none_came, both_came, first_failed, second_failed, inputs_kinds, came_devices}
 

@@ -9,7 +9,7 @@ use Rattle.def_step.specs.declared.Event.TheVariants.{Step, Tick, Sweep}
 use Rattle.def_machine.specs.Board.{Board, MachineRow}
 use Rattle.def_step.specs.Events.{happens, run, end_of, is_lawful}
 use Rattle.def_program.specs.Runs.{round, unless_ended, events_from, events_until, last_line, summary_after}
-use Rattle.law_counts.specs.Kinds.{Kinds, kinds, all_more, IsUncounted}
+use Rattle.def_counts.specs.Kinds.{Kinds, kinds, all_more, IsUncounted}
 use Rattle.law_counts.proofs.Counted.{run_kinds}
 use Rattle.ct_running.specs.Rounds.{HasRoom, IsLeft, Passed, ticks_if}
 use Rattle.law_counts.proofs.Appended.{run_append}

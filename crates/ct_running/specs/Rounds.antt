@@ -7,13 +7,13 @@ use Rattle.def_port.specs.Bytes.{AppendsBefore, SinkView}
 use Rattle.def_machine.specs.State.{State, Counts}
 use Rattle.def_step.specs.declared.Event.{Event}
 use Rattle.def_step.specs.declared.Event.TheVariants.{Tick, Sweep, Step}
-use Rattle.def_step.specs.Events.{run, told}
+use Rattle.def_step.specs.Events.{run, happenings_of}
 use Rattle.def_machine.specs.Board.{MachineRow}
 use Rattle.def_trace.specs.Trace.{trace_line}
 use Rattle.def_script.specs.declared.Given.{Given}
 use Rattle.def_script.specs.Script.{Due}
 use Rattle.def_program.specs.Runs.{input_of, last_line, run_lines}
-use Rattle.law_counts.specs.Kinds.{IsUncounted}
+use Rattle.def_counts.specs.Kinds.{IsUncounted}
 
 -- no event has come yet, a quantum is a step at least, and no more steps are asked for than may be made
 pub record MayRun (m : MachineRow) (each most : ℕ) : Type 0 where
@@ -42,7 +42,7 @@ round_of givens due = map input_of givens ++ (ticks_if due ++ Sweep ∷ Step ∷
 
 -- the lines of what events before step k and that step did
 abbrev pub lines_of : MachineRow → ℕ → List Event → List ℕ
-lines_of m k events = flat_map (trace_line k) (told m.board m.state events)
+lines_of m k events = flat_map (trace_line k) (happenings_of m.board m.state events)
 
 -- these events came, and their lines were written
 pub record Came (old new : MachineRow) (k : ℕ) (events : List Event) (before after : SinkView)

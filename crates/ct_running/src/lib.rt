@@ -36,7 +36,8 @@ pub fn write_run<M: Memory + Drop, S: Sink>(
 ) -> Result<(), WriteFailed>
     requires may { MayRun machine.old quantum limit }
     requires script { IsPlayable script.now machine.old.state }
-    ensures { WriteAnswers (S.shows sink.old) (S.shows sink.new) (report.now ++ run_lines machine.old script.now quantum limit) result }
+    ensures { WriteAnswers (S.shows sink.old) (S.shows sink.new)
+        (report.now ++ run_lines machine.old script.now quantum limit) result }
 {
     match sink.write(report) {
         Ok(()) => match rounds::write_rounds(machine, script, quantum, limit, sink) {
@@ -59,7 +60,8 @@ pub fn write_summary<M: Memory + Drop, S: Sink>(
     sink: &mut S,
 ) -> Result<(), WriteFailed>
     requires { MayRun machine.old quantum limit }
-    ensures { WriteAnswers (S.shows sink.old) (S.shows sink.new) (summary_after machine.old quantum limit) result }
+    ensures { WriteAnswers (S.shows sink.old) (S.shows sink.new)
+        (summary_after machine.old quantum limit) result }
 {
     rounds::make_rounds(machine, quantum, limit);
     lines::write_last(machine, sink)

@@ -27,7 +27,8 @@ fn write_line<S: Sink>(line: &Line, sink: &mut S) -> Result<(), WriteFailed>
 /// Writes the lines of something that happened.
 #[inline(never)]
 fn write_all<S: Sink>(happened: &Happened, number: u32, sink: &mut S) -> Result<(), WriteFailed>
-    ensures { WriteAnswers (S.shows sink.old) (S.shows sink.new) (trace_line number happened.now) result }
+    ensures { WriteAnswers (S.shows sink.old) (S.shows sink.new)
+        (trace_line number happened.now) result }
 {
     write_line(&line_of(happened, number), sink)
 }
@@ -40,7 +41,8 @@ pub(crate) fn write_happened<S: Sink>(
     number: u32,
     sink: &mut S,
 ) -> Result<(), WriteFailed>
-    ensures { WriteAnswers (S.shows sink.old) (S.shows sink.new) (trace_line number happened.now) result }
+    ensures { WriteAnswers (S.shows sink.old) (S.shows sink.new)
+        (trace_line number happened.now) result }
 {
     match happened.deed {
         Some(_) => write_all(happened, number, sink),
@@ -66,7 +68,8 @@ pub(crate) fn write_last<M: Memory + Drop, S: Sink>(
     machine: &Machine<M>,
     sink: &mut S,
 ) -> Result<(), WriteFailed>
-    ensures { WriteAnswers (S.shows sink.old) (S.shows sink.new) (last_line machine.now.state) result }
+    ensures { WriteAnswers (S.shows sink.old) (S.shows sink.new)
+        (last_line machine.now.state) result }
 {
     let totals = machine.totals(end_here(machine));
     let line = summary_of(&totals);

@@ -8,7 +8,7 @@ use Rattle.def_words.specs.Seals.{cap_seal, posture_through}
 use Rattle.def_memory.specs.Granules.{plain}
 use Rattle.def_machine.specs.State.{Thread, nobody, register}
 use Rattle.def_machine.specs.Threads.{jumped}
-use Rattle.ct_engine.specs.Seen.{Seen, thread, went}
+use Rattle.ct_engine.specs.Seen.{Seen, thread, after_jump}
 use Rattle.ct_services.specs.Served.{answered_in}
 
 -- an element is written twice, each time by what stands there
@@ -21,11 +21,11 @@ twice f g (x ∷ ts) (suc t) = ap (λ (us : List Thread). x ∷ us) (twice f g t
 pub answers : (s u r : Seen) (t : ℕ) (pcc after value : Cap) (p : Posture)
     → pcc ≡ opened (register (thread s t) 1)
     → p ≡ posture_through (thread s t).posture (cap_seal (register (thread s t) 1)) 0 (register (thread s t) 1).shadow.source
-    → u ≡ went s t pcc p 10 value → after ≡ (thread u t).pcc → r ≡ went u t after p 11 (plain 0)
+    → u ≡ after_jump s t pcc p 10 value → after ≡ (thread u t).pcc → r ≡ after_jump u t after p 11 (plain 0)
     → r ≡ answered_in s t value
 answers s u r t pcc after value p pcc_is p_is u_is after_is r_is = r_is ∙ rest
   where
-    rest : went u t after p 11 (plain 0) ≡ answered_in s t value
+    rest : after_jump u t after p 11 (plain 0) ≡ answered_in s t value
     rest = rw (after_is, u_is, pcc_is, p_is) (ap (λ (ts : List Thread). record s { threads = ts })
         (twice
         (λ (w : Thread). jumped w (opened (register (thread s t) 1)) (posture_through (thread s t).posture (cap_seal (register (thread s t) 1)) 0 (register (thread s t) 1).shadow.source) 10 value)

@@ -13,6 +13,7 @@ use Rattle.ct_heap.specs.declared.rows.Object as heap
 use Rattle.ct_heap.specs.Lookups.{spans_of}
 use Rattle.ct_execute.specs.declared.ran.Ran.{Ran}
 use Rattle.ct_execute.specs.declared.ran.Ran.TheVariants.{Went}
+use Rattle.ct_execute.specs.Deciding.{act_by}
 use Rattle.ct_engine.specs.Seen.{thread, Seen}
 use Rattle.ct_engine.specs.Grants.{IsTold, WasWhole, whole_in, freed, freed_by}
 use Rattle.ct_engine.proofs.Freeing.{whole_says}
@@ -42,22 +43,22 @@ by_bounds os quota base top c tag seal base_is top_is =
 pair_is : (a b : Seen) (x y : Ran) → a ≡ b → x ≡ y → ◌≡◌ {A = Seen × Ran} (a, x) (b, y)
 pair_is a b x y left came = ap (λ (s : Seen). (s, x)) left ∙ ap (λ (r : Ran). (b, r)) came
 
-told_made : (n m b d l k v w q p : ℕ) → n ≡ m → b ≡ d → l ≡ k → v ≡ w → q ≡ p → Went (Some (Allocate n b l v)) q ≡ Went (Some (Allocate m d k w)) p
-told_made n m b d l k v w q p number base length live charged = cc
+told_made : (n m b d l k v w q p : ℕ) → n ≡ m → b ≡ d → l ≡ k → v ≡ w → q ≡ p → Went (Some (act_by q (Allocate n b l v))) ≡ Went (Some (act_by p (Allocate m d k w)))
+told_made n m b d l k v w q p number base length live charged = rw (number, base, length, live, charged) refl
 
 -- of an engine that an allocation left, with the capability of its object
 pub handed : (u new : Seen) (t quota : ℕ) (o : heap.Object) (r : Object) (c value : Cap) (ran : Ran) → IsTold u o r → quota ≡ r.quota → value ≡ c
     → (new, ran) ≡ handed_out u t quota o value
-    → ◌≡◌ {A = Seen × Ran} (new, ran) (answered_in u t c, Went (Some (Allocate r.number r.base r.length (charges r.quota u.objects))) r.quota)
+    → ◌≡◌ {A = Seen × Ran} (new, ran) (answered_in u t c, Went (Some (act_by r.quota (Allocate r.number r.base r.length (charges r.quota u.objects)))))
 handed u new t quota o r c value ran told charged sealed is =
-    is ∙ pair_is (answered_in u t value) (answered_in u t c) (Went (Some (Allocate o.number o.base o.length o.live)) quota) (Went (Some (Allocate r.number r.base r.length (charges r.quota u.objects))) r.quota)
+    is ∙ pair_is (answered_in u t value) (answered_in u t c) (Went (Some (act_by quota (Allocate o.number o.base o.length o.live)))) (Went (Some (act_by r.quota (Allocate r.number r.base r.length (charges r.quota u.objects)))))
     (ap (λ (v : Cap). answered_in u t v) sealed)
     (told_made o.number r.number o.base r.base o.length r.length o.live (charges r.quota u.objects) quota r.quota told.number told.base told.length told.live charged)
 
 -- ---- a free
 
-told_alike : (n m b d l k v w q p : ℕ) → n ≡ m → b ≡ d → l ≡ k → v ≡ w → q ≡ p → Went (Some (Free n b l v)) q ≡ Went (Some (Free m d k w)) p
-told_alike n m b d l k v w q p number base length live charged = cc
+told_alike : (n m b d l k v w q p : ℕ) → n ≡ m → b ≡ d → l ≡ k → v ≡ w → q ≡ p → Went (Some (act_by q (Free n b l v))) ≡ Went (Some (act_by p (Free m d k w)))
+told_alike n m b d l k v w q p number base length live charged = rw (number, base, length, live, charged) refl
 
 module _ (s u new : Seen) (t quota base top : ℕ) (o : heap.Object) (w : WasWhole s u quota base top o) where
   freed_is : u ≡ freed_by s t (whole_in s quota base top) → u ≡ freed s t w.object
@@ -67,17 +68,17 @@ module _ (s u new : Seen) (t quota base top : ℕ) (o : heap.Object) (w : WasWho
   charged = (whole_says quota base top s.objects w.object w.is).quota_is
 
   came : u ≡ freed s t w.object
-      → Went (Some (Free o.number o.base o.length o.live)) quota
-      ≡ Went (Some (Free w.object.number w.object.base w.object.length (charges w.object.quota (freed s t w.object).objects))) w.object.quota
+      → Went (Some (act_by quota (Free o.number o.base o.length o.live)))
+      ≡ Went (Some (act_by w.object.quota (Free w.object.number w.object.base w.object.length (charges w.object.quota (freed s t w.object).objects))))
   came left =
       told_alike o.number w.object.number o.base w.object.base o.length w.object.length o.live (charges w.object.quota (freed s t w.object).objects) quota w.object.quota
       w.told.number w.told.base w.told.length (w.told.live ∙ ap (λ (x : Seen). charges w.object.quota x.objects) left) (sym charged)
 
   pub gives : (value : Cap) → u ≡ freed_by s t (whole_in s quota base top) → value ≡ integer 0 → new ≡ answered_in u t value
-      → ◌≡◌ {A = Seen × Ran} (new, Went (Some (Free o.number o.base o.length o.live)) quota) (freed_as s t (whole_in s quota base top))
+      → ◌≡◌ {A = Seen × Ran} (new, Went (Some (act_by quota (Free o.number o.base o.length o.live)))) (freed_as s t (whole_in s quota base top))
   gives value left value_is now =
-      pair_is new (answered_in (freed s t w.object) t (integer 0)) (Went (Some (Free o.number o.base o.length o.live)) quota)
-      (Went (Some (Free w.object.number w.object.base w.object.length (charges w.object.quota (freed s t w.object).objects))) w.object.quota)
+      pair_is new (answered_in (freed s t w.object) t (integer 0)) (Went (Some (act_by quota (Free o.number o.base o.length o.live))))
+      (Went (Some (act_by w.object.quota (Free w.object.number w.object.base w.object.length (charges w.object.quota (freed s t w.object).objects)))))
       (now ∙ ap (λ (v : Cap). answered_in u t v) value_is ∙ ap (λ (x : Seen). answered_in x t (integer 0)) (freed_is left))
       (came (freed_is left))
       ∙ ap (λ (f : Option Object). freed_as s t f) (sym w.is)

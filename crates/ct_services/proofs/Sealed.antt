@@ -19,13 +19,14 @@ use Rattle.def_step.specs.Tokens.{is_key_row, is_row_of, is_all_of, sealed_objec
 use Rattle.ct_entry.specs.declared.acts.Act.TheVariants.{Allocate}
 use Rattle.ct_heap.specs.declared.rows.Object as heap
 use Rattle.ct_heap.specs.declared.rows.Found.{Found}
-use Rattle.ct_heap.specs.Told.{told, found}
+use Rattle.ct_heap.specs.Told.{object_row, found}
 use Rattle.ct_heap.specs.Lookups.{spans, spans_of, whole_at, whole_of, found_as}
 use Rattle.ct_engine.specs.Seen.{Seen}
 use Rattle.ct_engine.specs.Grants.{new_object, with_sealed, IsTold, whole_in}
 use Rattle.ct_engine.proofs.Freeing.{found_first, found_later, found_passes}
 use Rattle.ct_execute.specs.declared.ran.Ran.{Ran}
 use Rattle.ct_execute.specs.declared.ran.Ran.TheVariants.{Went}
+use Rattle.ct_execute.specs.Deciding.{act_by}
 use Rattle.ct_services.specs.Granted.{tells, gives_back, freed_as}
 use Rattle.ct_services.specs.Sealed.{number_of, made_token, by_key, opens, frees_token}
 use Rattle.ct_services.specs.Served.{answered_in}
@@ -43,19 +44,19 @@ sealed_by_bounds os base top c tag seal base_is top_is =
 pub record IsFound (os : List Object) (o : Option Object) (f : Found) : Type 0 where
   pub object : Object
   pub is : o ≡ Some object
-  pub same : f ≡ found (told object.number object.base object.length (charges object.quota os)) object.quota
+  pub same : f ≡ found (object_row object.number object.base object.length (charges object.quota os)) object.quota
 
 pub found_says : (os : List Object) (o : Option Object) (f : Found) → Some f ≡ found_as os o → IsFound os o f
 found_says os None f e = absurd (let clash : Some f ≡ None = e in cc)
 found_says os (Some r) f e = record {
   object = r;
   is = refl;
-  same = (let one : Some f ≡ Some (found (told r.number r.base r.length (charges r.quota os)) r.quota) = e in cc);
+  same = (let one : Some f ≡ Some (found (object_row r.number r.base r.length (charges r.quota os)) r.quota) = e in cc);
 }
 
 pub none_says : (os : List Object) (o : Option Object) → None ≡ found_as os o → o ≡ None
 none_says os None e = refl
-none_says os (Some r) e = absurd (let clash : None ≡ Some (found (told r.number r.base r.length (charges r.quota os)) r.quota) = e in cc)
+none_says os (Some r) e = absurd (let clash : None ≡ Some (found (object_row r.number r.base r.length (charges r.quota os)) r.quota) = e in cc)
 
 -- ---- a key
 
@@ -139,11 +140,11 @@ value_is quota number base long r quota_is number_is base_is long_is = rw (quota
 pub sealed_out : (s u new : Seen) (t quota size : ℕ) (key : Option ℕ) (o : heap.Object) (value : Cap) (ran : Ran) (a : Allocation)
     → u ≡ with_sealed s (new_object s quota size o.base) key → IsTold u o (new_object s quota size o.base) → a ≡ Made (new_object s quota size o.base)
     → value ≡ derive memory_root o.base o.length HEAP_RIGHTS o.base TOKEN_TYPE (record { root = quota; source = o.number })
-    → ◌≡◌ {A = Seen × Ran} (new, ran) (answered_in u t value, Went (Some (Allocate o.number o.base o.length o.live)) quota)
+    → ◌≡◌ {A = Seen × Ran} (new, ran) (answered_in u t value, Went (Some (act_by quota (Allocate o.number o.base o.length o.live))))
     → ◌≡◌ {A = Seen × Ran} (new, ran) (made_token s t key a)
 sealed_out s u new t quota size key o value ran a left is_told made derived is =
     let r : Object = new_object s quota size o.base in
-    let out : Seen → Seen × Ran = λ x. (answered_in x t (sealed_token r), Went (Some (Allocate r.number r.base r.length (charges r.quota x.objects))) r.quota) in
+    let out : Seen → Seen × Ran = λ x. (answered_in x t (sealed_token r), Went (Some (act_by r.quota (Allocate r.number r.base r.length (charges r.quota x.objects))))) in
     handed u new t quota o r (sealed_token r) value ran is_told refl (derived ∙ value_is quota o.number o.base o.length r refl is_told.number is_told.base is_told.length) is
     ∙ ap out left
     ∙ ap (made_token s t key) (sym made)

@@ -18,6 +18,7 @@ use Rattle.ct_heap.specs.declared.rows.HeapRefusal.TheVariants.{Size, Quota, NoG
 use Rattle.ct_engine.specs.Seen.{thread, Seen, limit_at}
 use Rattle.ct_execute.specs.declared.ran.Ran.{Ran}
 use Rattle.ct_execute.specs.declared.ran.Ran.TheVariants.{Went, Trapped}
+use Rattle.ct_execute.specs.Deciding.{act_by}
 use Rattle.ct_engine.specs.Grants.{with_object, freed}
 use Rattle.ct_services.specs.Served.{answered_in}
 
@@ -41,7 +42,7 @@ named_by None is quota = Ok (if is then Some quota else None)
 
 -- nothing else happened
 abbrev pub tells : Seen → ℕ → Cap → Seen × Ran
-tells s t value = (answered_in s t value, Went None 0)
+tells s t value = (answered_in s t value, Went None)
 
 -- where a check fails nothing changes
 abbrev pub checked : Option Trap → Seen → Seen × Ran → Seen × Ran
@@ -57,7 +58,7 @@ by_quota s t ran =
 -- the thread goes on with an answer, and an object's allocation is told, as the heap tells it
 abbrev pub handed_out : Seen → ℕ → ℕ → heap.Object → Cap → Seen × Ran
 handed_out s t quota o value =
-    (answered_in s t value, Went (Some (Allocate o.number o.base o.length o.live)) quota)
+    (answered_in s t value, Went (Some (act_by quota (Allocate o.number o.base o.length o.live))))
 
 -- ---- allocate
 
@@ -71,8 +72,8 @@ refusal_code NoGap waits = if waits then 5 else 3
 abbrev pub hands_out : Seen → ℕ → Object → Cap → Seen × Ran
 hands_out s t r c = (
   answered_in (with_object s r) t c,
-  Went (Some (Allocate r.number r.base r.length (charges r.quota (with_object s r).objects)))
-      r.quota,
+  Went (Some (act_by r.quota
+      (Allocate r.number r.base r.length (charges r.quota (with_object s r).objects)))),
 )
 
 abbrev pub allocated : Seen → ℕ → Allocation → Seen × Ran
@@ -84,7 +85,8 @@ allocated s t (Made r) = hands_out s t r (object_cap r)
 abbrev pub gives_back : Seen → ℕ → Object → Seen × Ran
 gives_back s t r = (
   answered_in (freed s t r) t (integer 0),
-  Went (Some (Free r.number r.base r.length (charges r.quota (freed s t r).objects))) r.quota,
+  Went (Some (act_by r.quota
+      (Free r.number r.base r.length (charges r.quota (freed s t r).objects)))),
 )
 
 abbrev pub freed_as : Seen → ℕ → Option Object → Seen × Ran

@@ -18,9 +18,9 @@ pub fn answer<M: Memory + Drop>(engine: &mut Engine<M>, t: u32, value: Live)
 {
     let link = engine.register(t, 1);
     let posture = posture_through(engine.posture(t), link.seal, 0, link.cap.shadow.source);
-    engine.go(t, open(link), posture, 10, value);
+    engine.jump_to(t, open(link), posture, 10, value);
     let pcc = engine.pcc(t);
-    engine.go(t, pcc, posture, 11, Live::integer(0));
+    engine.jump_to(t, pcc, posture, 11, Live::integer(0));
 }
 
 /// A negative answer as a word.

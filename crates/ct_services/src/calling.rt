@@ -4,7 +4,7 @@ ghost use Rattle.std.specs.Prelude.{◌≡◌, Some};
 ghost use Rattle.def_machine.specs.State.{register};
 ghost use Rattle.ct_engine.specs.Calls.{switch_at};
 ghost use Rattle.ct_engine.specs.Seen.{thread};
-ghost use Rattle.ct_switch.specs.Calls.{told};
+ghost use Rattle.ct_switch.specs.Calls.{call_outcome};
 ghost use Rattle.ct_engine.specs.Calls.{MayCall};
 ghost use Rattle.ct_services.specs.Served.{switched_in};
 
@@ -22,7 +22,7 @@ pub fn switch<M: Memory + Drop>(engine: &mut Engine<M>, t: u32, e: &Entries) -> 
     requires runs { engine.old.running ≡ Some t }
     requires may { MayCall engine.old t e.now }
     ensures result { result
-        ≡ told (register (thread engine.old t) 6) (switch_at engine.old e.now t) }
+        ≡ call_outcome (register (thread engine.old t) 6) (switch_at engine.old e.now t) }
     ensures engine { engine.new
         ≡ switched_in engine.old e.now t (switch_at engine.old e.now t) }
 {

@@ -20,7 +20,7 @@ use crate::answering::{answer, code};
 use ct_cap::{Live, Shadow, Trap, derive};
 use ct_engine::{Engine, HeapRefusal, NotWhole, Object};
 use ct_entry::Act;
-use ct_execute::Ran;
+use ct_execute::{ActBy, Ran};
 use ct_exports::return_trap;
 use ct_mem::Memory;
 use def_profile::answers::{NO_OBJECT, NO_PLACE, NO_PLACE_YET, NO_QUOTA, NO_SIZE, PAST_LIMIT};
@@ -78,10 +78,7 @@ pub(crate) fn tell<M: Memory + Drop>(engine: &mut Engine<M>, t: u32, value: Live
     ensures { (engine.new, result) ≡ tells engine.old t value }
 {
     answer(engine, t, value);
-    Ran::Went {
-        act: None,
-        entry: 0,
-    }
+    Ran::Went { done: None }
 }
 
 /// What an allocation's refusal answers, negated; `waits` tells whether something is quarantined.
@@ -119,13 +116,15 @@ pub(crate) fn hand_out<M: Memory + Drop>(
 {
     answer(engine, t, value);
     Ran::Went {
-        act: Some(Act::Allocate {
-            number: object.number,
-            base: object.base,
-            length: object.length,
-            live: object.live,
+        done: Some(ActBy {
+            act: Act::Allocate {
+                number: object.number,
+                base: object.base,
+                length: object.length,
+                live: object.live,
+            },
+            entry: quota,
         }),
-        entry: quota,
     }
 }
 
@@ -193,13 +192,15 @@ pub(crate) fn free_whole<M: Memory + Drop>(
         Ok(object) => {
             answer(engine, t, Live::integer(0));
             Ran::Went {
-                act: Some(Act::Free {
-                    number: object.number,
-                    base: object.base,
-                    length: object.length,
-                    live: object.live,
+                done: Some(ActBy {
+                    act: Act::Free {
+                        number: object.number,
+                        base: object.base,
+                        length: object.length,
+                        live: object.live,
+                    },
+                    entry: quota,
                 }),
-                entry: quota,
             }
         }
         Err(NotWhole) => tell(engine, t, code(NO_OBJECT)),
@@ -220,7 +221,7 @@ fn free_named<M: Memory + Drop>(engine: &mut Engine<M>, t: u32, quota: u32, c: L
 }
 
 /// The object that c11 names is freed.
-fn take_back<M: Memory + Drop>(engine: &mut Engine<M>, t: u32, quota: u32) -> Ran
+fn free_object<M: Memory + Drop>(engine: &mut Engine<M>, t: u32, quota: u32) -> Ran
     requires runs { engine.old.running ≡ Some t }
     requires quota { quota < length engine.old.limits }
     requires named { quota ≡ quota_in engine.old t }
@@ -243,7 +244,7 @@ pub fn free<M: Memory + Drop>(engine: &mut Engine<M>, t: u32) -> Ran
 {
     match quota_named(engine, t) {
         Err(trap) => Ran::Trapped { trap },
-        Ok(Some(quota)) => take_back(engine, t, quota),
+        Ok(Some(quota)) => free_object(engine, t, quota),
         Ok(None) => tell(engine, t, code(NO_QUOTA)),
     }
 }

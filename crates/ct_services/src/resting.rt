@@ -75,7 +75,7 @@ fn first_trap<M: Memory + Drop>(engine: &Engine<M>, t: u32, ram: u32) -> Option<
 
 /// What the word holds that c10 names.
 #[tactic(auto, using(crate::proofs::Held::word_low, crate::proofs::Held::word_accessed, crate::proofs::Held::word_seen))]
-fn held<M: Memory + Drop>(engine: &Engine<M>, t: u32, ram: u32) -> u32
+fn word_waited_for<M: Memory + Drop>(engine: &Engine<M>, t: u32, ram: u32) -> u32
     requires runs { engine.now.running ≡ Some t }
     requires opens { IsOpen engine.now t }
     requires ram { ram ≡ engine.now.region.ram }
@@ -143,7 +143,7 @@ pub fn wait<M: Memory + Drop>(
     }
     let address = engine.register(t, 10).address();
     let wanted = engine.register(t, 11).address();
-    let held = held(engine, t, ram);
+    let held = word_waited_for(engine, t, ram);
     wait_for(engine, sched, t, address, held, wanted);
     None
 }

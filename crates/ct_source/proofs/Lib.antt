@@ -1,5 +1,6 @@
 pub mod DigitValues
 pub mod LineEnds
+pub mod LongRows
 pub mod NamedRows
 pub mod PiecesOf
 pub mod ProgramsOf

@@ -4,7 +4,7 @@ ghost use Rattle.std.specs.Prelude.{◌≡◌, ◌<◌, ◌≤◌, ◌∷◌, le
 ghost use Rattle.def_source.specs.Source as source;
 ghost use Rattle.def_source.specs.Source.{result_map, Gives};
 ghost use Rattle.ct_source.specs.Views.{row_view, part_view, line_view, at_line};
-ghost use Rattle.ct_source.specs.Runs.{len_before};
+ghost use Rattle.ct_source.specs.Runs.{len_before, shortened};
 
 use crate::characters::are_ascii;
 use crate::forms::{directive_form, form};
@@ -119,14 +119,14 @@ fn before_comment(line: &[u8]) -> &[u8]
     &line[..length_before(b'#', line)]
 }
 
-/// The tokens of a line, if it is ASCII and a row of tokens before its comment.
+/// The first tokens of a line, if it is ASCII and a row of tokens before its comment.
 #[tactic(auto, unfolding(def_source::specs::Source::line_tokens))]
 fn line_tokens<'a>(
     alloc: Global,
     line: &'a [u8],
 ) -> Result<Option<Vec<Token<&'a [u8]>>>, AllocError>
     ensures { IfOk result
-        (λ o. option_map (λ v. row_view v.items) o ≡ source.line_tokens line.now) }
+        (λ o. option_map (λ v. row_view v.items) o ≡ shortened (source.line_tokens line.now)) }
 {
     if !are_ascii(line) {
         return Ok(None);
@@ -135,7 +135,7 @@ fn line_tokens<'a>(
 }
 
 /// What stands on the line of that number.
-#[tactic(auto, unfolding(def_source::specs::Source::line_of))]
+#[tactic(auto, unfolding(def_source::specs::Source::line_of), using(crate::proofs::LongRows::short_line))]
 pub(crate) fn line<'a>(
     alloc: Global,
     section: Section,

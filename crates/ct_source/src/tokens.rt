@@ -1,7 +1,7 @@
 //! A line's tokens.
 
-ghost use Rattle.std.specs.Prelude.{◌≡◌, ◌<◌, ◌≤◌, ◌∷◌, false, length, option_map, IfOk};
-ghost use Rattle.ct_source.specs.Runs.{run, begins_blank};
+ghost use Rattle.std.specs.Prelude.{◌≡◌, ◌<◌, ◌≤◌, ◌∷◌, ◌++◌, [], false, length, take, option_map, IfOk, OnOk};
+ghost use Rattle.ct_source.specs.Runs.{run, begins_blank, shortened};
 ghost use Rattle.def_source.specs.Source as source;
 ghost use Rattle.ct_source.specs.Views.{token_view, row_view};
 
@@ -71,20 +71,37 @@ fn first_piece(text: &[u8]) -> (&[u8], &[u8])
     text.split_at(len)
 }
 
-/// The row of tokens that a text is, if each of its pieces is a token.
+/// How many tokens of a line are kept: one more than the longest line has.
+const MOST_TOKENS: usize = 10;
+
+/// Adds a token, unless there are enough.
+#[tactic(auto, using(crate::proofs::RowsOf::room, crate::proofs::RowsOf::full))]
+fn add_token<'a>(all: &mut Vec<Token<&'a [u8]>>, token: Token<&'a [u8]>) -> Result<(), AllocError>
+    requires { length all.old.items ≤ 10 }
+    ensures items { OnOk result (all.new.items ≡ take 10 (all.old.items ++ token.entry ∷ [])) }
+    ensures few { OnOk result (length all.new.items ≤ 10) }
+{
+    if all.len() < MOST_TOKENS {
+        all.push(token)?;
+    }
+    Ok(())
+}
+
+/// The first tokens of the row that a text is, if each of its pieces is a token.
 pub(crate) fn row<'a>(
     alloc: Global,
     text: &'a [u8],
 ) -> Result<Option<Vec<Token<&'a [u8]>>>, AllocError>
     ensures { IfOk result
-        (λ o. option_map (λ v. row_view v.items) o ≡ source.row_of (source.pieces text.now)) }
+        (λ o. option_map (λ v. row_view v.items) o
+        ≡ shortened (source.row_of (source.pieces text.now))) }
 {
     let mut all = Vec::new(alloc);
     let mut rest = skip_blanks(text);
     while !rest.is_empty() {
         let (piece, after) = first_piece(rest);
         match token(piece) {
-            Some(t) => all.push(t)?,
+            Some(t) => add_token(&mut all, t)?,
             None => return Ok(None),
         }
         rest = skip_blanks(after);

@@ -14,7 +14,7 @@ use Rattle.ct_exports.specs.Exports.{AreTogether, HeadLies, IsCallable, row_at, 
 use Rattle.ct_switch.specs.declared.calls.Called.TheVariants as called
 use Rattle.ct_switch.specs.declared.deciding.Decision.{Decision}
 use Rattle.ct_switch.specs.declared.deciding.Decision.TheVariants as decision
-use Rattle.ct_switch.specs.Calls.{TopFits, Enterable, MayEnter, told, head_of, switch_in, memory_after, thread_after, row_after, given_by, given_in, entered_row, entered_thread}
+use Rattle.ct_switch.specs.Calls.{TopFits, Enterable, MayEnter, call_outcome, head_of, switch_in, memory_after, thread_after, row_after, given_by, given_in, entered_row, entered_thread}
 use Rattle.ct_switch.proofs.Threads.{entered_same}
 
 -- ---- the room
@@ -61,8 +61,8 @@ given_same gs e t x head high g is place made =
     ∙ ap (λ (y : Export). given_by gs t (head_of e t.area y.callee) y.code high) is
 
 pub call_told : (gs : List Granule) (e : Listed) (t : row.Thread) (export high : ℕ) → Enters export high ≡ switch_in gs e t
-    → called.Entered (register_in t 6).shadow.root export ≡ told (register_in t 6) (switch_in gs e t)
-call_told gs e t export high is = ap (λ s. told (register_in t 6) s) is
+    → called.Entered (register_in t 6).shadow.root export ≡ call_outcome (register_in t 6) (switch_in gs e t)
+call_told gs e t export high is = ap (λ s. call_outcome (register_in t 6) s) is
 
 pub call_thread : (gs : List Granule) (e : Listed) (t : row.Thread) (x : Export) (high : ℕ) (g : Given) (new : Thread)
     → Enters x.number high ≡ switch_in gs e t → x ≡ export_of e x.number → g ≡ given_in gs e t x.number high
@@ -103,7 +103,7 @@ kept_at gs e t (Enters export high) r = absurd r
 
 -- a switch that comes to this refusal answers it, and all stays
 pub record Refused (gs : List Granule) (e : Listed) (t : row.Thread) (s : Switched) : Type 0 where
-  pub result : told (register_in t 6) s ≡ told (register_in t 6) (switch_in gs e t)
+  pub result : call_outcome (register_in t 6) s ≡ call_outcome (register_in t 6) (switch_in gs e t)
   pub thread : thread_of gs true t ≡ thread_after gs e t (switch_in gs e t)
   pub memory : gs ≡ memory_after gs t (switch_in gs e t)
   pub row : t ≡ row_after gs e t (switch_in gs e t)
@@ -111,4 +111,4 @@ pub record Refused (gs : List Granule) (e : Listed) (t : row.Thread) (s : Switch
 pub refused_so : (gs : List Granule) (e : Listed) (t : row.Thread) (s : Switched) → Refuses s → s ≡ switch_in gs e t → Refused gs e t s
 refused_so gs e t s r is =
     let kept = subst (λ k. Kept gs e t k) is (kept_at gs e t s r) in
-    record { result = ap (λ k. told (register_in t 6) k) is; thread = kept.thread; memory = kept.memory; row = kept.row }
+    record { result = ap (λ k. call_outcome (register_in t 6) k) is; thread = kept.thread; memory = kept.memory; row = kept.row }

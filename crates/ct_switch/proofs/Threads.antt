@@ -23,7 +23,7 @@ use Rattle.ct_areas.proofs.Rows.{frames_are, pushed_touches, popped_touches}
 use Rattle.ct_exports.specs.declared.exports.Export.{Export}
 use Rattle.ct_exports.specs.Exports.{callee_of, export_of}
 use Rattle.ct_switch.specs.Ready.{IsReady, IsOther, stack_begin, stack_end}
-use Rattle.ct_switch.specs.Calls.{registers_in, posture_in, entered_thread, left, load_filter, thread_left, memory_left, filtered_frame, caller_registers, restored_row}
+use Rattle.ct_switch.specs.Calls.{registers_in, posture_in, entered_thread, after_frame_end, load_filter, thread_left, memory_left, filtered_frame, caller_registers, restored_row}
 
 -- ---- the stack's range
 
@@ -100,7 +100,7 @@ entered_same e old x n high g is = rw is refl
 -- ---- a frame's end
 
 pub left_more : (keep : Cap → Cap) (old : Thread) (f : Frame) (fs : List Frame) (first second : Frame → Cap) → 0 < length fs
-    → left keep old (f ∷ fs) first second ≡ left_with keep old f fs (first f) (second f)
+    → after_frame_end keep old (f ∷ fs) first second ≡ left_with keep old f fs (first f) (second f)
 left_more keep old f [] first second some = absurd (omega (arith, some))
 left_more keep old f (g ∷ gs) first second some = refl
 
@@ -112,12 +112,12 @@ left_at gs t first second one two some same also =
     let frames = frames_are gs true t some in
     let keep = load_filter gs t in
     let old = thread_of gs true t in
-    ap (λ fs. left keep old fs first second) frames
+    ap (λ fs. after_frame_end keep old fs first second) frames
     ∙ by_frames (outer_frames gs t)
-    ∙ sym (ap (λ fs. left keep old fs one two) frames)
+    ∙ sym (ap (λ fs. after_frame_end keep old fs one two) frames)
   where
-    by_frames : (fs : List Frame) → left (load_filter gs t) (thread_of gs true t) (inner_frame gs t ∷ fs) first second
-        ≡ left (load_filter gs t) (thread_of gs true t) (inner_frame gs t ∷ fs) one two
+    by_frames : (fs : List Frame) → after_frame_end (load_filter gs t) (thread_of gs true t) (inner_frame gs t ∷ fs) first second
+        ≡ after_frame_end (load_filter gs t) (thread_of gs true t) (inner_frame gs t ∷ fs) one two
     by_frames [] = refl
     by_frames (h ∷ hs) = rw (same, also) refl
 
@@ -128,7 +128,7 @@ left_last gs t first second one =
     let none : outer_frames gs t ≡ [] =
     ap (λ n. frames_in gs (area_begin t.area) (caller_actor gs (inner_place t)) (caller_top gs (inner_place t)) (caller_handling gs (inner_place t)) (n - 1)) one
     ∙ frames_none gs (area_begin t.area) (caller_actor gs (inner_place t)) (caller_top gs (inner_place t)) (caller_handling gs (inner_place t)) in
-    ap (λ fs. left (load_filter gs t) (thread_of gs true t) fs first second) (frames ∙ ap (λ fs. inner_frame gs t ∷ fs) none)
+    ap (λ fs. after_frame_end (load_filter gs t) (thread_of gs true t) fs first second) (frames ∙ ap (λ fs. inner_frame gs t ∷ fs) none)
 
 -- the stack is zeroed after the frame went: the thread stays
 pub popped_same : (gs ms : List Granule) (t q : row.Thread) → IsReady gs t → length ms ≡ length gs → q ≡ shallower gs t
@@ -158,7 +158,7 @@ left_is gs ms hs t q first second ready size frames row_is cleared some =
     last (some_depth q.depth some) (some_depth t.depth ready.alive) posture (rw (some_depth q.depth some) at frames) in
     let more : 0 < length (outer_frames gs t) =
     omega (arith, depth, some, frames_count gs (area_begin t.area) (caller_actor gs (inner_place t)) (caller_top gs (inner_place t)) (caller_handling gs (inner_place t)) (t.depth - 1)) in
-    made ∙ whole ∙ sym (ap (λ fs. left (load_filter gs t) (thread_of gs true t) fs (λ f. first) (λ f. second)) (frames_are gs true t ready.alive)
+    made ∙ whole ∙ sym (ap (λ fs. after_frame_end (load_filter gs t) (thread_of gs true t) fs (λ f. first) (λ f. second)) (frames_are gs true t ready.alive)
     ∙ left_more (load_filter gs t) (thread_of gs true t) f (outer_frames gs t) (λ f. first) (λ f. second) more)
   where
     last : (q.depth == 0) ≡ false → (t.depth == 0) ≡ false → q.posture ≡ t.posture → (living ms true q).frames ≡ outer_frames gs t

@@ -12,12 +12,12 @@ use Rattle.def_words.specs.Derive.{derive, memory_root}
 use Rattle.def_words.specs.Jumped.{opened}
 use Rattle.def_words.specs.Seals.{cap_seal, posture_through}
 use Rattle.def_memory.specs.declared.Granule.{Granule}
-use Rattle.def_memory.specs.Granules.{plain, held}
+use Rattle.def_memory.specs.Granules.{plain, cap_in}
 use Rattle.def_memory.specs.Ranges.{zeroed_from}
 use Rattle.def_boot.specs.Made.{return_sentry}
 use Rattle.def_machine.specs.Image.{Image, made_cap, code_entry, globals_entry, stack_base}
 use Rattle.def_machine.specs.State.{Thread, Frame, nobody, interrupts_on}
-use Rattle.def_machine.specs.Frames.{Given, pushed_frame, entered_by, left_with, passed_by}
+use Rattle.def_machine.specs.Frames.{Given, pushed_frame, entered_by, left_with, cap_passed_by}
 use Rattle.def_machine.specs.Memory.{filtered_in}
 use Rattle.def_step.specs.Checks.{first_failed}
 use Rattle.def_step.specs.Switch.{Switched, Trapped, TooDeep, NoStack, Enters, return_checks, gate_checks, stack_checks, switch_of, new_top}
@@ -47,10 +47,10 @@ stack_cap base high from = derive memory_root base (high - base) STACK_RIGHTS hi
 -- What the callee is given: its code and its globals stand in the head of its export table.
 abbrev pub given_by : List Granule → row.Thread → ℕ → ℕ → ℕ → Given
 given_by gs t head code high = record {
-  pcc = with_address (held gs head) code;
+  pcc = with_address (cap_in gs head) code;
   back = return_sentry;
   stack = stack_cap t.area.stack high (register_in t 2).shadow;
-  globals = held gs (head + 1);
+  globals = cap_in gs (head + 1);
 }
 
 abbrev pub given_in : List Granule → Listed → row.Thread → ℕ → ℕ → Given
@@ -62,9 +62,9 @@ given_in gs e t export high =
 pub record HoldsHeads (i : Image) (gs : List Granule) (e : Listed) (t : row.Thread)
     (n export : ℕ) : Type 0 where
   pub entries : i.entries ≡ e
-  pub code : held gs (head_of e t.area (callee_of e export))
+  pub code : cap_in gs (head_of e t.area (callee_of e export))
       ≡ made_cap i (code_entry i (callee_of e export))
-  pub globals : held gs (head_of e t.area (callee_of e export) + 1)
+  pub globals : cap_in gs (head_of e t.area (callee_of e export) + 1)
       ≡ made_cap i (globals_entry i (callee_of e export))
   pub back : made_cap i 0 ≡ return_sentry
   pub stack : stack_base i n ≡ t.area.stack
@@ -114,11 +114,11 @@ abbrev pub MayEnter : Listed → ℕ → row.Thread → Decision → Type 0
 MayEnter e size t (decision.Enters x high) = Enterable e size t x high
 MayEnter e size t _ = Unit {0}
 
-abbrev pub told : Cap → Switched → Called
-told import (Trapped why) = called.Trapped why
-told import TooDeep = called.TooDeep
-told import NoStack = called.NoStack
-told import (Enters export high) = called.Entered import.shadow.root export
+abbrev pub call_outcome : Cap → Switched → Called
+call_outcome import (Trapped why) = called.Trapped why
+call_outcome import TooDeep = called.TooDeep
+call_outcome import NoStack = called.NoStack
+call_outcome import (Enters export high) = called.Entered import.shadow.root export
 
 -- where it enters the callee the stack is zeroed up to the new top, and a frame is written; else
 -- nothing changes
@@ -182,10 +182,10 @@ row_after gs e t _ = t
 
 -- The innermost frame ends with results that may go by the frame; without one below it the
 -- thread ends.
-abbrev pub left : (Cap → Cap) → Thread → List Frame → (Frame → Cap) → (Frame → Cap) → Thread
-left keep old [] first second = old
-left keep old (f ∷ []) first second = nobody
-left keep old (f ∷ g ∷ gs) first second = left_with keep old f (g ∷ gs) (first f) (second f)
+abbrev pub after_frame_end : (Cap → Cap) → Thread → List Frame → (Frame → Cap) → (Frame → Cap) → Thread
+after_frame_end keep old [] first second = old
+after_frame_end keep old (f ∷ []) first second = nobody
+after_frame_end keep old (f ∷ g ∷ gs) first second = left_with keep old f (g ∷ gs) (first f) (second f)
 
 abbrev pub load_filter : List Granule → row.Thread → Cap → Cap
 load_filter gs t = filtered_in t.area.ram gs
@@ -193,11 +193,11 @@ load_filter gs t = filtered_in t.area.ram gs
 -- what a return hands back, by the frame: a register, untagged where the frame's export passes
 -- plain values
 abbrev pub returned_by : Listed → row.Thread → ℕ → Frame → Cap
-returned_by e t n f = passed_by e f.export (register_in t n)
+returned_by e t n f = cap_passed_by e f.export (register_in t n)
 
 abbrev pub thread_left : List Granule → row.Thread → (Frame → Cap) → (Frame → Cap) → Thread
 thread_left gs t first second =
-    left (load_filter gs t) (thread_of gs true t) (thread_of gs true t).frames first second
+    after_frame_end (load_filter gs t) (thread_of gs true t) (thread_of gs true t).frames first second
 
 -- the frame's granules are zeroed, and the stack up to its top
 abbrev pub memory_left : List Granule → row.Thread → List Granule

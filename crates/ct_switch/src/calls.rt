@@ -7,7 +7,7 @@ ghost use Rattle.ct_areas.specs.Threads.{frames_most, thread_of};
 ghost use Rattle.ct_areas.specs.Parts.{register_in, with_frame};
 ghost use Rattle.ct_exports.specs.Exports.{IsCallable, callee_of};
 ghost use Rattle.ct_switch.specs.Ready.{IsReady, IsOther, MayCall};
-ghost use Rattle.ct_switch.specs.Calls.{head_of, switch_in, told, memory_after, thread_after, row_after, registers_in, posture_in, entered_row, entered_thread};
+ghost use Rattle.ct_switch.specs.Calls.{head_of, switch_in, call_outcome, memory_after, thread_after, row_after, registers_in, posture_in, entered_row, entered_thread};
 
 use crate::deciding::{Decision, decide, entry_of, register};
 use crate::given::{Start, given, posture, registers};
@@ -84,7 +84,7 @@ fn enter<M: Memory>(t: &mut Thread, mem: &mut M, x: &Export, start: &Start, high
 pub fn call<M: Memory>(t: &mut Thread, mem: &mut M, e: &Entries) -> Called
     requires { MayCall (M.granules mem.old) t.old e.now }
     ensures result { result
-        ≡ told (register_in t.old 6) (switch_in (M.granules mem.old) e.now t.old) }
+        ≡ call_outcome (register_in t.old 6) (switch_in (M.granules mem.old) e.now t.old) }
     ensures thread { thread_of (M.granules mem.new) true t.new
         ≡ thread_after (M.granules mem.old) e.now t.old
         (switch_in (M.granules mem.old) e.now t.old) }

@@ -8,7 +8,7 @@ ghost use Rattle.def_machine.specs.State.{Frame};
 ghost use Rattle.def_reach.specs.Roots.{root_of};
 ghost use Rattle.ct_areas.specs.declared.thread.Thread as row;
 ghost use Rattle.ct_areas.specs.Threads.{thread_of};
-ghost use Rattle.ct_areas.specs.Parts.{saved_in};
+ghost use Rattle.ct_areas.specs.Parts.{inner_frame, saved_in};
 ghost use Rattle.ct_exports.specs.Exports.{AreSorted};
 ghost use Rattle.ct_switch.specs.Ready.{IsReady, IsOther};
 ghost use Rattle.ct_switch.specs.Calls.{returned_by, thread_left, memory_left, row_left, no_registers, ended_row, restored_row, filtered_frame, caller_registers};
@@ -84,17 +84,17 @@ fn end(t: &mut Thread)
     t.handling = false;
 }
 
-/// The innermost frame ends with two results. `false` exactly where it was the thread's last.
-fn leave<M: Memory>(t: &mut Thread, mem: &mut M, first: Live, second: Live) -> bool
-    requires { IsReady (M.granules mem.old) t.old }
+/// The innermost frame, which keeps this, ends with two results. `false` exactly where it was the thread's last.
+fn leave<M: Memory>(t: &mut Thread, mem: &mut M, saved: &Saved, first: Live, second: Live) -> bool
+    requires ready { IsReady (M.granules mem.old) t.old }
+    requires saved { saved.now ≡ saved_in (inner_frame (M.granules mem.old) t.old) }
     ensures result { result ≡ nat_lt 1 t.old.depth }
     ensures thread { thread_of (M.granules mem.new) true t.new
         ≡ thread_left (M.granules mem.old) t.old (λ f. first) (λ f. second) }
     ensures memory { M.granules mem.new ≡ memory_left (M.granules mem.old) t.old }
     ensures row { t.new ≡ row_left (M.granules mem.old) t.old (λ f. first) (λ f. second) }
 {
-    let saved = innermost(t, mem);
-    let kept = through(mem, t.area.ram, &saved);
+    let kept = through(mem, t.area.ram, saved);
     let bytes = t.top - t.area.stack;
     pop(t, mem);
     clear(mem, t.area.ram, t.area.stack, bytes);
@@ -103,13 +103,13 @@ fn leave<M: Memory>(t: &mut Thread, mem: &mut M, first: Live, second: Live) -> b
         end(t);
         return false;
     }
-    restore(t, &saved, &kept, first, second);
+    restore(t, saved, &kept, first, second);
     true
 }
 
 /// The return: c10 and c11 are handed back, untagged where the frame's export passes plain values. `false` exactly
 /// where the frame was the thread's last, which has ended then. No memory is taken.
-pub fn give_back<M: Memory>(t: &mut Thread, mem: &mut M, e: &Entries) -> bool
+pub fn return_to_caller<M: Memory>(t: &mut Thread, mem: &mut M, e: &Entries) -> bool
     requires ready { IsReady (M.granules mem.old) t.old }
     requires entries { AreSorted e.now.gates }
     ensures result { result ≡ nat_lt 1 t.old.depth }
@@ -124,12 +124,13 @@ pub fn give_back<M: Memory>(t: &mut Thread, mem: &mut M, e: &Entries) -> bool
         → IsOther t.old u (8 * length (M.granules mem.old))
         → thread_of (M.granules mem.new) runs u ≡ thread_of (M.granules mem.old) runs u }
 {
-    let passes = export_of(e, innermost(t, mem).export).passes;
+    let saved = innermost(t, mem);
+    let passes = export_of(e, saved.export).passes;
     let ten = register(&t.regs, 10);
     let eleven = register(&t.regs, 11);
     let first = handed(passes, ten);
     let second = handed(passes, eleven);
-    leave(t, mem, first, second)
+    leave(t, mem, &saved, first, second)
 }
 
 /// The unwind: the return with c10 = -1 and c11 = 0. `false` exactly where the frame was the thread's last.
@@ -161,5 +162,6 @@ pub fn end_with<M: Memory>(t: &mut Thread, mem: &mut M, _e: &Entries, value: u32
         → IsOther t.old u (8 * length (M.granules mem.old))
         → thread_of (M.granules mem.new) runs u ≡ thread_of (M.granules mem.old) runs u }
 {
-    leave(t, mem, Live::integer(value), Live::integer(0))
+    let saved = innermost(t, mem);
+    leave(t, mem, &saved, Live::integer(value), Live::integer(0))
 }

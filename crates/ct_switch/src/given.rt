@@ -5,7 +5,7 @@ ghost use Rattle.ct_entry.specs.Listed.{Listed};
 ghost use Rattle.def_memory.specs.declared.Granule.{Granule};
 ghost use Rattle.def_boot.specs.Made.{return_sentry};
 ghost use Rattle.def_machine.specs.Image.{Image};
-ghost use Rattle.def_machine.specs.Frames.{given};
+ghost use Rattle.def_machine.specs.Frames.{callee_start};
 ghost use Rattle.ct_areas.specs.declared.thread.Thread as row;
 ghost use Rattle.ct_areas.specs.Threads.{thread_of};
 ghost use Rattle.ct_exports.specs.Exports.{callee_of};
@@ -150,5 +150,5 @@ pub fn heads_give()
     ensures { (i : Image) (gs : List Granule) (e : Listed) (t : row.Thread) (n export high : ℕ)
         → HoldsHeads i gs e t n export
         → given_in gs e t export high
-        ≡ given i (thread_of gs true t) n (callee_of e export) export high }
+        ≡ callee_start i (thread_of gs true t) n (callee_of e export) export high }
 {}

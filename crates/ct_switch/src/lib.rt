@@ -12,5 +12,5 @@ mod given;
 
 pub use calls::{Called, call, head_of};
 pub use ct_areas::{Area, Thread, resume, save};
-pub use ends::{end_with, give_back, unwind};
+pub use ends::{end_with, return_to_caller, unwind};
 pub use given::{heads_give, return_sentry};

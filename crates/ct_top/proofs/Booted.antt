@@ -18,8 +18,8 @@ use Rattle.def_program.specs.declared.TheConstants.{DEMO_STEPS}
 use Rattle.def_program.specs.Scripts.{IsPlayable}
 use Rattle.law_script.proofs.Fits.{few, named}
 use Rattle.law_image.proofs.Sounds.{sound}
-use Rattle.law_boot_words.specs.Booting.{empty_granules}
-use Rattle.law_counts.specs.Kinds.{IsUncounted}
+use Rattle.def_boot_words.specs.Booting.{empty_granules}
+use Rattle.def_counts.specs.Kinds.{IsUncounted}
 
 pub whole_granules : (p : PartsRow) → IsFaultless p → p.size % 16 ≡ 0
 whole_granules p f = (sound p f).ram.size

@@ -30,7 +30,7 @@ use Rattle.ct_description.specs.declared.DescFault.TheVariants as description
 use Rattle.ct_description.specs.Answers.{Refused}
 use Rattle.ct_image.specs.declared.fault.ImageFault.{ImageFault}
 use Rattle.ct_image.specs.declared.fault.ImageFault.TheVariants as image
-use Rattle.ct_image.specs.Answers.{Refuses}
+use Rattle.ct_image.specs.Answers.{RefusesBytes}
 use Rattle.ct_objects.specs.Objects as object
 use Rattle.ct_refusals.specs.Closing.{Closes}
 use Rattle.ct_refusals.specs.Settled.{IsLast, Settles}
@@ -76,7 +76,7 @@ pub description_fault : (c : Command) (bytes : List ℕ) (sources : List (List �
 description_fault c bytes sources (description.At number part index item) t refused due = inl (record { fault = fault number (place part index item); is = refused; due = due })
 description_fault c bytes sources description.NoMemory t refused due = elim due [ ]
 
-pub image_fault : (c : Command) (bytes : List ℕ) (more : List (List ℕ)) (e : ImageFault) (t : Turn) → Refuses bytes e → IsRefusal (image_turn e) t → OfImage c bytes more t
+pub image_fault : (c : Command) (bytes : List ℕ) (more : List (List ℕ)) (e : ImageFault) (t : Turn) → RefusesBytes bytes e → IsRefusal (image_turn e) t → OfImage c bytes more t
 image_fault c bytes more (image.At number place) t refused due = inl (record { fault = record { number = number; place = place }; is = refused; due = due })
 image_fault c bytes more image.NoMemory t refused due = elim due [ ]
 
@@ -90,7 +90,7 @@ refused_link : (c : Command) (d : DescRow) (r : Result PartsRow LinkFault) (e : 
     → t ≡ Ends (link_status e) (link_text d e) → OfLinked c d r more t
 refused_link c d r e more t is due = subst (λ (x : Result PartsRow LinkFault). OfLinked c d x more t) (sym is) due
 
-pub link_fault : (c : Command) (d : DescRow) (r : Result PartsRow LinkFault) (e : LinkFault) (more : List (List ℕ)) (t : Turn) → object.Refuses r e → IsRefusal (link_turn d e) t → OfLinked c d r more t
+pub link_fault : (c : Command) (d : DescRow) (r : Result PartsRow LinkFault) (e : LinkFault) (more : List (List ℕ)) (t : Turn) → object.RefusesLink r e → IsRefusal (link_turn d e) t → OfLinked c d r more t
 link_fault c d r (link.Asm owner number line) more t refused due = refused_link c d r (link.Asm owner number line) more t refused due
 link_fault c d r (link.Export owner item) more t refused due = refused_link c d r (link.Export owner item) more t refused due
 link_fault c d r (link.NoRoom needed has) more t refused due = refused_link c d r (link.NoRoom needed has) more t refused due

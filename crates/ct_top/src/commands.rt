@@ -55,7 +55,8 @@ fn write_image<S: Sink>(alloc: Global, image: &Image, sink: &mut S) -> Status
 
 /// Writes the bytes of an image in the last version of the format, with its sweep rate.
 fn upgrade<S: Sink>(alloc: Global, image: &Image, sink: &mut S) -> Status
-    ensures { IsDone (S.shows sink.old) (S.shows sink.new) (image_bytes (upgraded image.now)) result }
+    ensures { IsDone (S.shows sink.old) (S.shows sink.new)
+        (image_bytes (upgraded image.now)) result }
 {
     match image.copy(alloc) {
         Ok(copy) => write_image(alloc, &copy.upgraded(), sink),

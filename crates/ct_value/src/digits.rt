@@ -53,7 +53,7 @@ fn digit_of(b: u8) -> u32
 
 /// The word that eight digits spell, or 0 for any other text.
 pub fn word_of(text: &[u8]) -> u32
-    ensures { result ≡ reading.word_of text.now }
+    ensures { result ≡ reading.hexadecimal_word text.now }
 {
     match text {
         [a, b, c, d, e, f, g, h] => {

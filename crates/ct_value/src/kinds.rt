@@ -6,7 +6,7 @@ ghost use Rattle.serde_json.specs.View.{view};
 ghost use Rattle.def_description.specs.Kinds as spec;
 ghost use Rattle.def_description.specs.Members as members;
 ghost use Rattle.def_description.specs.Tables as table;
-ghost use Rattle.ct_value.specs.Seen.{seen};
+ghost use Rattle.ct_value.specs.Seen.{spot_view};
 
 use crate::digits::{are_pairs, is_word};
 use crate::members::{has, has_text, list_at, text_of};
@@ -142,7 +142,7 @@ fn has_labels(owner: &Value) -> bool
 }
 
 fn has_its_place(spot: &Spot) -> bool
-    ensures { result ≡ spec.has_its_place (seen spot.now) }
+    ensures { result ≡ spec.has_its_place (spot_view spot.now) }
 {
     has_labels(spot.owner) || !has_text(spot.value, "at")
 }
@@ -154,7 +154,7 @@ fn has_its_rights(value: &Value) -> bool
 }
 
 fn has_more(part: PartWord, spot: &Spot) -> bool
-    ensures { result ≡ spec.has_more part (seen spot.now) }
+    ensures { result ≡ spec.has_more part (spot_view spot.now) }
 {
     match part {
         PartWord::Import => has_one_form(spot.value) && has_its_rights(spot.value),
@@ -167,7 +167,7 @@ fn has_more(part: PartWord, spot: &Spot) -> bool
 
 /// F2 doesn't hold at a place: each member that must be there is, and each is of its kind.
 pub fn has_kinds(spot: &Spot) -> bool
-    ensures { result ≡ spec.has_kinds (seen spot.now) }
+    ensures { result ≡ spec.has_kinds (spot_view spot.now) }
 {
     has_each(spot.value, members_of(spot.place.part)) && has_more(spot.place.part, spot)
 }

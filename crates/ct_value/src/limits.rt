@@ -7,7 +7,7 @@ ghost use Rattle.std.specs.Int.{is_in_range};
 ghost use Rattle.serde_json.specs.View.{view};
 ghost use Rattle.def_description.specs.Limits as spec;
 ghost use Rattle.def_description.specs.Tables as table;
-ghost use Rattle.ct_value.specs.Seen.{seen};
+ghost use Rattle.ct_value.specs.Seen.{spot_view};
 
 use crate::members::{list_at, list_in, number_in, number_or, text_at, text_of};
 use crate::tables::{Member, members_of};
@@ -119,7 +119,7 @@ fn version_in(value: &Value) -> u64
 }
 
 fn keeps_more(part: PartWord, spot: &Spot) -> bool
-    ensures { result ≡ spec.keeps_more part (seen spot.now) }
+    ensures { result ≡ spec.keeps_more part (spot_view spot.now) }
 {
     match part {
         PartWord::Firmware => keeps_version(version_in(spot.value), spot.value),
@@ -131,7 +131,7 @@ fn keeps_more(part: PartWord, spot: &Spot) -> bool
 
 /// F6 doesn't hold at a place: its numbers and lengths keep their limits.
 pub fn keeps_limits(spot: &Spot) -> bool
-    ensures { result ≡ spec.keeps_limits (seen spot.now) }
+    ensures { result ≡ spec.keeps_limits (spot_view spot.now) }
 {
     keeps_each(spot.value, members_of(spot.place.part)) && keeps_more(spot.place.part, spot)
 }

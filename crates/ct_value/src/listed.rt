@@ -8,7 +8,7 @@ ghost use Rattle.def_description.specs.Kinds as spec;
 ghost use Rattle.def_description.specs.Members.{keys_of, member_at, names_in};
 ghost use Rattle.def_description.specs.Tables as table;
 ghost use Rattle.def_description.specs.Tables.{code_names};
-ghost use Rattle.ct_value.specs.Seen.{seen};
+ghost use Rattle.ct_value.specs.Seen.{spot_view};
 
 use crate::kinds::takes_rights;
 use crate::tables::{Member, members_of};
@@ -115,7 +115,7 @@ fn code_is_listed(part: PartWord, value: &Value) -> bool
 
 /// F3 doesn't hold at a place: it has no member that isn't listed.
 pub fn has_only(spot: &Spot) -> bool
-    ensures { result ≡ spec.has_only (seen spot.now) }
+    ensures { result ≡ spec.has_only (spot_view spot.now) }
 {
     members_are_listed(spot.place.part, spot.value) && code_is_listed(spot.place.part, spot.value)
 }

@@ -5,7 +5,7 @@ ghost use Rattle.serde_json.specs.Find.{get};
 ghost use Rattle.serde_json.specs.View.{view};
 ghost use Rattle.def_description.specs.Tables as table;
 ghost use Rattle.def_description.specs.Walk as spec;
-ghost use Rattle.ct_value.specs.Seen.{seen};
+ghost use Rattle.ct_value.specs.Seen.{spot_view};
 
 use crate::members::list_at;
 use crate::tables::inner_lists;
@@ -40,8 +40,8 @@ fn add_items<'a>(
     index: u32,
     values: &'a [Value],
 ) -> Result<(), AllocError>
-    ensures { OnOk result (map seen spots.new.items
-        ≡ map seen spots.old.items
+    ensures { OnOk result (map spot_view spots.new.items
+        ≡ map spot_view spots.old.items
         ++ spec.items_from part (view owner.now) index 0 (map view values.now)) }
 {
     for (n, value) in values.iter().enumerate() {
@@ -62,8 +62,8 @@ fn add_inside<'a>(
     index: u32,
     lists: &[(PartWord, &'static str)],
 ) -> Result<(), AllocError>
-    ensures { OnOk result (map seen spots.new.items
-        ≡ map seen spots.old.items
+    ensures { OnOk result (map spot_view spots.new.items
+        ≡ map spot_view spots.old.items
         ++ spec.inside (view owner.now) index (map (λ r. table.inner r.0 r.1.now) lists.now)) }
 {
     for (part, key) in lists {
@@ -78,8 +78,8 @@ fn add_each<'a>(
     owner: &'a Value,
     values: &'a [Value],
 ) -> Result<(), AllocError>
-    ensures { OnOk result (map seen spots.new.items
-        ≡ map seen spots.old.items
+    ensures { OnOk result (map spot_view spots.new.items
+        ≡ map spot_view spots.old.items
         ++ spec.each_from part (view owner.now) 0 (map view values.now)) }
 {
     for (n, value) in values.iter().enumerate() {
@@ -104,8 +104,8 @@ fn add_lists<'a>(
     owner: &'a Value,
     lists: &[(PartWord, &'static str)],
 ) -> Result<(), AllocError>
-    ensures { OnOk result (map seen spots.new.items
-        ≡ map seen spots.old.items
+    ensures { OnOk result (map spot_view spots.new.items
+        ≡ map spot_view spots.old.items
         ++ spec.each (view owner.now) (map (λ r. table.inner r.0 r.1.now) lists.now)) }
 {
     for (part, key) in lists {
@@ -115,7 +115,7 @@ fn add_lists<'a>(
 }
 
 fn first_spot(value: &Value) -> Spot<'_>
-    ensures { seen result
+    ensures { spot_view result
         ≡ spec.spot (spec.place PartWord.Firmware 0 0) (view value.now) (view value.now) }
 {
     let place = Place {
@@ -131,8 +131,8 @@ fn first_spot(value: &Value) -> Spot<'_>
 }
 
 fn add_ram<'a>(spots: &mut Vec<Spot<'a>>, value: &'a Value) -> Result<(), AllocError>
-    ensures { OnOk result (map seen spots.new.items
-        ≡ map seen spots.old.items
+    ensures { OnOk result (map spot_view spots.new.items
+        ≡ map spot_view spots.old.items
         ++ spec.ram_spots (view value.now) (get (codes "ram") (view value.now))) }
 {
     if let Some(ram) = value.get("ram") {
@@ -153,7 +153,7 @@ fn add_ram<'a>(spots: &mut Vec<Spot<'a>>, value: &'a Value) -> Result<(), AllocE
 /// The places of any value.
 #[tactic(auto, unfolding(def_description::specs::Walk::spots_of, def_description::specs::Tables::outer_lists))]
 pub fn spots_of(alloc: Global, value: &Value) -> Result<Vec<Spot<'_>>, AllocError>
-    ensures { IfOk result (λ v. map seen v.items ≡ spec.spots_of (view value.now)) }
+    ensures { IfOk result (λ v. map spot_view v.items ≡ spec.spots_of (view value.now)) }
 {
     let mut spots = Vec::new(alloc);
     spots.push(first_spot(value))?;

@@ -5,7 +5,7 @@ use Rattle.std.specs.Prelude.{ℕ, zero, suc, ◌+◌, ◌*◌, ◌/◌, ◌%◌
 use Rattle.def_profile.specs.declared.layout.TheConstants.{GRANULE, AREA_HEAD, FRAME_SIZE}
 use Rattle.def_words.specs.declared.Cap.{Cap}
 use Rattle.def_memory.specs.declared.Granule.{Granule}
-use Rattle.def_memory.specs.Granules.{plain, held}
+use Rattle.def_memory.specs.Granules.{plain, cap_in}
 use Rattle.def_machine.specs.State.{Frame}
 
 -- the two words of a granule
@@ -24,16 +24,16 @@ frame_place area j = area + AREA_HEAD / GRANULE + FRAME_SIZE / GRANULE * j
 -- The frame that begins at granule k keeps the caller's registers, the number of its own export, and the caller's
 -- compartment, top and mark. Its own compartment, top and mark are its thread's, or stand in the frame above it.
 abbrev pub frame_export : List Granule → ℕ → ℕ
-frame_export gs k = low_word (held gs (k + 5))
+frame_export gs k = low_word (cap_in gs (k + 5))
 
 abbrev pub caller_actor : List Granule → ℕ → ℕ
-caller_actor gs k = high_word (held gs (k + 5))
+caller_actor gs k = high_word (cap_in gs (k + 5))
 
 abbrev pub caller_top : List Granule → ℕ → ℕ
-caller_top gs k = low_word (held gs (k + 6))
+caller_top gs k = low_word (cap_in gs (k + 6))
 
 abbrev pub caller_handling : List Granule → ℕ → Bool
-caller_handling gs k = low_word (held gs (k + 7)) == 1
+caller_handling gs k = low_word (cap_in gs (k + 7)) == 1
 
 abbrev pub frame_at : List Granule → ℕ → ℕ → ℕ → Bool → Frame
 frame_at gs k actor top handling = record {
@@ -41,11 +41,11 @@ frame_at gs k actor top handling = record {
   export = frame_export gs k;
   top = top;
   handling = handling;
-  c1 = held gs k;
-  c2 = held gs (k + 1);
-  c3 = held gs (k + 2);
-  c8 = held gs (k + 3);
-  c9 = held gs (k + 4);
+  c1 = cap_in gs k;
+  c2 = cap_in gs (k + 1);
+  c3 = cap_in gs (k + 2);
+  c8 = cap_in gs (k + 3);
+  c9 = cap_in gs (k + 4);
 }
 
 -- So many frames of an area, innermost first, where the innermost has this compartment, top and mark.

@@ -5,7 +5,7 @@ use Rattle.def_words.specs.declared.Cap.{Cap}
 use Rattle.def_words.specs.declared.Posture.{Posture}
 use Rattle.def_words.specs.Capability.{with_address}
 use Rattle.def_memory.specs.Granules.{plain}
-use Rattle.def_reach.specs.Roots.{is_disabled}
+use Rattle.def_reach.specs.Roots.{turns_interrupts_off}
 use Rattle.def_machine.specs.Image.{Image}
 use Rattle.def_machine.specs.State as st
 use Rattle.def_machine.specs.State.{State, Frame, interrupts_on, outermost, at_rest, fresh_device}
@@ -16,7 +16,7 @@ use Rattle.def_machine.specs.Board.{Board, MachineRow}
 use Rattle.def_image.specs.Parts.{GateRow, ThreadRow, PartsRow}
 use Rattle.def_image.specs.Members.{compartment, text_base, code_number, globals_number, stack_number, gate_number, handler_number}
 use Rattle.def_boot.specs.Gates.{entries_of}
-use Rattle.def_boot.specs.Made.{made_caps, made_for, return_sentry}
+use Rattle.def_boot.specs.Made.{caps_at_boot, boot_cap_of, return_sentry}
 use Rattle.def_boot.specs.Contents.{granules_in, boot_granules, parts_from}
 
 -- ---- the image
@@ -29,7 +29,7 @@ numbered_from number i (suc n) = number i ∷ numbered_from number (i + 1) n
 unfoldable pub image_of : PartsRow → Image
 image_of p = record {
   entries = entries_of p;
-  made = made_caps p;
+  made = caps_at_boot p;
   ram = p.ram;
   regions = parts_from p p.ram (granules_in p);
   boot = boot_granules p;
@@ -66,13 +66,13 @@ offset_of x = unwrap_or (option_map (λ (x : GateRow). x.row.offset) x) 0
 abbrev pub entry_address : PartsRow → ThreadRow → ℕ
 entry_address p t = text_base (compartment p t.compartment).code + offset_of (entered p t)
 
-abbrev pub disables : Option GateRow → Bool
-disables None = false
-disables (Some x) = is_disabled x.row.posture
+abbrev pub gate_is_disabled : Option GateRow → Bool
+gate_is_disabled None = false
+gate_is_disabled (Some x) = turns_interrupts_off x.row.posture
 
 abbrev pub first_posture : PartsRow → ThreadRow → Posture
 first_posture p t =
-    if disables (entered p t) then record { off = true; source = entry_number p t }
+    if gate_is_disabled (entered p t) then record { off = true; source = entry_number p t }
     else interrupts_on
 
 -- one frame, whose caller is nobody
@@ -80,13 +80,13 @@ abbrev pub first_frame : PartsRow → ThreadRow → Frame
 first_frame p t = outermost t.compartment (entry_number p t) (t.stack + t.stack_length)
 
 abbrev pub first_pcc : PartsRow → ThreadRow → Cap
-first_pcc p t = with_address (made_for p (code_number p t.compartment)) (entry_address p t)
+first_pcc p t = with_address (boot_cap_of p (code_number p t.compartment)) (entry_address p t)
 
 -- the return sentry in c1, the stack at its top in c2, the globals in c3
 abbrev pub first_registers : PartsRow → ℕ → ThreadRow → List Cap
 first_registers p n t =
-    plain 0 ∷ return_sentry ∷ made_for p (stack_number p n)
-    ∷ made_for p (globals_number p t.compartment)
+    plain 0 ∷ return_sentry ∷ boot_cap_of p (stack_number p n)
+    ∷ boot_cap_of p (globals_number p t.compartment)
     ∷ plain 0 ∷ plain 0 ∷ plain 0 ∷ plain 0 ∷ plain 0 ∷ plain 0
     ∷ plain 0 ∷ plain 0 ∷ plain 0 ∷ plain 0 ∷ plain 0 ∷ plain 0 ∷ []
 

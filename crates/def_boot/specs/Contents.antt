@@ -11,7 +11,7 @@ use Rattle.def_image.specs.Parts.{GateRow, CodeRow, PartsRow}
 use Rattle.def_image.specs.Spelling.{export_field}
 use Rattle.def_image.specs.Regions.{Holder, CodeOf, TableOf, GlobalsOf, SharedOf, SealedOf, StackOf, TrustedPart, RegionRow, regions_of}
 use Rattle.def_image.specs.Members.{compartment, library, sealed, code_number, globals_number, library_number}
-use Rattle.def_boot.specs.Made.{made_for, return_sentry}
+use Rattle.def_boot.specs.Made.{boot_cap_of, return_sentry}
 
 -- ---- at an offset of a region, a multiple of 8
 
@@ -19,8 +19,8 @@ use Rattle.def_boot.specs.Made.{made_for, return_sentry}
 abbrev pub byte_of : List ℕ → ℕ → ℕ
 byte_of bytes at = get_or bytes at 0
 
-abbrev pub word_of : List ℕ → ℕ → ℕ
-word_of bytes at =
+abbrev pub word_from_bytes : List ℕ → ℕ → ℕ
+word_from_bytes bytes at =
     byte_of bytes at + byte_of bytes (at + 1) * 2 ^ 8 + byte_of bytes (at + 2) * 2 ^ 16
     + byte_of bytes (at + 3) * 2 ^ 24
     + byte_of bytes (at + 4) * 2 ^ 32 + byte_of bytes (at + 5) * 2 ^ 40
@@ -30,18 +30,18 @@ word_of bytes at =
 abbrev pub code_content : PartsRow → ℕ → CodeRow → ℕ → Cap
 code_content p first c k =
     if nat_lt k (SLOT_SIZE * length c.slots)
-    then made_for p (first + k / SLOT_SIZE)
-    else plain (word_of c.text (k - SLOT_SIZE * length c.slots))
+    then boot_cap_of p (first + k / SLOT_SIZE)
+    else plain (word_from_bytes c.text (k - SLOT_SIZE * length c.slots))
 
 abbrev pub gate_word : Option GateRow → ℕ → ℕ
 gate_word None k = 0
-gate_word (Some x) k = word_of (export_field x.row) k
+gate_word (Some x) k = word_from_bytes (export_field x.row) k
 
 -- the head, with the capabilities of code and globals; then the rows of the exports
 abbrev pub table_content : PartsRow → ℕ → ℕ → Cap
 table_content p b k =
-    if k == 0 then made_for p (code_number p b)
-    else if k == GRANULE then made_for p (globals_number p b)
+    if k == 0 then boot_cap_of p (code_number p b)
+    else if k == GRANULE then boot_cap_of p (globals_number p b)
     else plain
     (gate_word (slice_get (compartment p b).code.exports ((k - TABLE_HEAD) / TABLE_ROW))
     ((k - TABLE_HEAD) % TABLE_ROW))
@@ -55,9 +55,9 @@ owned_content p _ k = plain 0
 abbrev pub content : PartsRow → Holder → ℕ → Cap
 content p (CodeOf o) k = owned_content p o k
 content p (TableOf b) k = table_content p b k
-content p (GlobalsOf b) k = plain (word_of (compartment p b).initial k)
+content p (GlobalsOf b) k = plain (word_from_bytes (compartment p b).initial k)
 content p (SharedOf n) k = plain 0
-content p (SealedOf n) k = plain (word_of (sealed p n).bytes k)
+content p (SealedOf n) k = plain (word_from_bytes (sealed p n).bytes k)
 content p (StackOf t) k = plain 0
 content p TrustedPart k = if k == 0 then return_sentry else plain 0
 

@@ -87,8 +87,8 @@ abbrev pub rows_from : {A : Type 0} → (ℕ → A → List Entry) → ℕ → L
 rows_from rows i [] = []
 rows_from rows i (x ∷ xs) = rows i x ++ rows_from rows (i + 1) xs
 
-unfoldable pub rows_of : PartsRow → List Entry
-rows_of p =
+unfoldable pub entry_rows : PartsRow → List Entry
+entry_rows p =
     rows_from (compartment_rows p) 0 p.compartments
     ++ rows_from (library_rows p) 0 p.libraries
     ++ rows_from (λ t x. stack_row t x ∷ []) 0 p.threads

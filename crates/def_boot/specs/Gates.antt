@@ -6,7 +6,7 @@ use Rattle.ct_entry.specs.declared.rows.Gate.{Gate}
 use Rattle.def_image.specs.declared.ExportRow.{ExportRow}
 use Rattle.def_image.specs.Parts.{GateRow, CodeRow, CompartmentRow, PartsRow}
 use Rattle.def_image.specs.Members.{text_base, compartment_entries, library_entries, first_library}
-use Rattle.def_boot.specs.Entries.{rows_of}
+use Rattle.def_boot.specs.Entries.{entry_rows}
 
 abbrev pub gate : ℕ → CodeRow → ExportRow → Gate
 gate n c x = record {
@@ -39,4 +39,4 @@ unfoldable pub gates_of : PartsRow → List Gate
 gates_of p = compartment_gates 1 p.compartments ++ library_gates (first_library p) p.libraries
 
 unfoldable pub entries_of : PartsRow → Listed
-entries_of p = record { rows = rows_of p; gates = gates_of p }
+entries_of p = record { rows = entry_rows p; gates = gates_of p }

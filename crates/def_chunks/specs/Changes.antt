@@ -7,7 +7,7 @@ use Rattle.def_memory.specs.Accesses.{stored_cap}
 use Rattle.def_memory.specs.Ranges.{is_tagged}
 use Rattle.def_chunks.specs.declared.heads.TheConstants.{FREE, LIVE, QUARANTINED, PAINTED, NO_CHUNK}
 use Rattle.def_chunks.specs.declared.rows.Range.{Range}
-use Rattle.def_chunks.specs.Chunks.{Chunk, is_free}
+use Rattle.def_chunks.specs.Chunks.{Chunk, is_free, Starts}
 
 -- the chunk at an address becomes these
 abbrev pub replaced : ℕ → (Chunk → List Chunk) → ℕ → List Chunk → List Chunk
@@ -84,3 +84,11 @@ pub record Keeps (r : Range) (cs : List Chunk) (old new : List Granule) : Type 0
   pub marks : (k : ℕ) → (granule_at new k).mark ≡ (granule_at old k).mark
   pub tags : NoTagComes old new
   pub rest : (k : ℕ) → Spared r cs (r.ram + 8 * k) → granule_at new k ≡ granule_at old k
+
+-- a granule of RAM, by its index, at which none of these chunks begins
+abbrev pub NoHead : Range → List Chunk → ℕ → Type 0
+NoHead r cs k = Starts (r.ram + 8 * k) r.base cs → ⊥
+
+-- nothing but the heads of these chunks was written
+abbrev pub OnlyHeads : Range → List Chunk → List Granule → List Granule → Type 0
+OnlyHeads r cs old new = (k : ℕ) → NoHead r cs k → granule_at new k ≡ granule_at old k

@@ -10,11 +10,11 @@ use Rattle.def_chunks.specs.Tiles.{chunks}
 use Rattle.def_chunks.specs.Changes.{gap}
 
 -- one of these chunks is free and has room for an object of this length at this base, and for its head
-abbrev pub Holds : ℕ → ℕ → ℕ → List Chunk → Type 0
-Holds base length at [] = ⊥
-Holds base length at (c ∷ cs) =
+abbrev pub HasRoomAt : ℕ → ℕ → ℕ → List Chunk → Type 0
+HasRoomAt base length at [] = ⊥
+HasRoomAt base length at (c ∷ cs) =
     ((is_free c ≡ true) × (at + CHUNK_HEAD ≤ base) × (base + length ≤ at + c.size))
-    ⊎ Holds base length (at + c.size) cs
+    ⊎ HasRoomAt base length (at + c.size) cs
 
 -- none of them is free
 abbrev pub NoFree : List Chunk → Type 0
@@ -37,7 +37,7 @@ abbrev pub LastFree : List Chunk → ℕ → ℕ → Type 0
 LastFree xs before size = ((before ≡ NO_CHUNK) × NoFree xs) ⊎ IsLastFree xs before size
 
 -- a chunk stands at an address
-pub record Stands (r : Range) (gs : List Granule) (at : ℕ) : Type 0 where
+pub record ChunkStands (r : Range) (gs : List Granule) (at : ℕ) : Type 0 where
   pub above : List Chunk
   pub chunk : Chunk
   pub below : List Chunk
@@ -46,14 +46,14 @@ pub record Stands (r : Range) (gs : List Granule) (at : ℕ) : Type 0 where
 
 -- a free one of this size does, and this is the next one
 pub record FreeStands (r : Range) (gs : List Granule) (at size next : ℕ) : Type 0 where
-  pub stands : Stands r gs at
+  pub stands : ChunkStands r gs at
   pub is : is_free stands.chunk ≡ true
   pub size_is : stands.chunk.size ≡ size
   pub link : next ≡ first_free r.base (at + size) stands.below NO_CHUNK
 
 -- a used one of this size and number does
 pub record UsedStands (r : Range) (gs : List Granule) (at size number : ℕ) : Type 0 where
-  pub stands : Stands r gs at
+  pub stands : ChunkStands r gs at
   pub is : is_free stands.chunk ≡ false
   pub size_is : stands.chunk.size ≡ size
   pub number_is : stands.chunk.number ≡ number
@@ -70,11 +70,11 @@ pub record IsGap (r : Range) (gs : List Granule) (unit length : ℕ) (g : Gap) :
   pub aligned : g.base % unit ≡ 0
   pub low : g.at + CHUNK_HEAD ≤ g.base
   pub high : g.base + length ≤ g.at + g.size
-  pub least : (b : ℕ) → b < g.base → b % unit ≡ 0 → Holds b length r.base (chunks r gs) → ⊥
+  pub least : (b : ℕ) → b < g.base → b % unit ≡ 0 → HasRoomAt b length r.base (chunks r gs) → ⊥
 
 -- no free chunk has room
 abbrev pub NoGap : Range → List Granule → ℕ → ℕ → Type 0
-NoGap r gs unit length = (b : ℕ) → b % unit ≡ 0 → Holds b length r.base (chunks r gs) → ⊥
+NoGap r gs unit length = (b : ℕ) → b % unit ≡ 0 → HasRoomAt b length r.base (chunks r gs) → ⊥
 
 -- a free chunk becomes that of an object of this length and number, so many free bytes before it, and the free bytes
 -- behind it

@@ -38,11 +38,11 @@ digit_of b =
     if nat_le 97 b && nat_le b 102 then b - 87
     else (if nat_le 48 b && nat_le b 57 then b - 48 else 0)
 
-abbrev pub word_of : List ℕ → ℕ
-word_of (a ∷ b ∷ c ∷ d ∷ e ∷ f ∷ g ∷ h ∷ []) =
+abbrev pub hexadecimal_word : List ℕ → ℕ
+hexadecimal_word (a ∷ b ∷ c ∷ d ∷ e ∷ f ∷ g ∷ h ∷ []) =
     digit_of a * 2 ^ 28 + digit_of b * 2 ^ 24 + digit_of c * 2 ^ 20 + digit_of d * 2 ^ 16
     + digit_of e * 2 ^ 12 + digit_of f * 2 ^ 8 + digit_of g * 2 ^ 4 + digit_of h
-word_of _ = 0
+hexadecimal_word _ = 0
 
 abbrev pub byte_of : ℕ → ℕ → ℕ
 byte_of a b = digit_of a * 16 + digit_of b
@@ -55,7 +55,7 @@ bytes_of _ = []
 
 abbrev pub code_of : Data → CodeRow
 code_of d = record {
-  words = map (λ w. word_of (text_of w)) (list_at (codes "words") d);
+  words = map (λ w. hexadecimal_word (text_of w)) (list_at (codes "words") d);
   file = text_at (codes "file") d;
 }
 
@@ -133,8 +133,8 @@ thread_of d = record {
   frames = word_at (codes "frames") d;
 }
 
-abbrev pub rows_of : Data → DescRow
-rows_of d = record {
+abbrev pub description_of : Data → DescRow
+description_of d = record {
   firmware = text_or (codes "firmware") d;
   version = word_or 1 (codes "version") d;
   sweep = word_or SWEEP_RATE (codes "sweep") d;

@@ -6,7 +6,7 @@ use Rattle.def_description.specs.declared.faults.Place.{Place}
 use Rattle.def_description.specs.declared.faults.Fault.{Fault}
 use Rattle.def_description.specs.declared.faults.PartWord.TheVariants as part
 use Rattle.def_description.specs.Rows.{DescRow}
-use Rattle.def_description.specs.Reading.{rows_of}
+use Rattle.def_description.specs.Reading.{description_of}
 use Rattle.def_description.specs.Walk.{Spot, place, spots_of}
 use Rattle.def_description.specs.Kinds.{has_kinds, has_only}
 use Rattle.def_description.specs.Names.{is_well_named, no_names, first_twice}
@@ -42,7 +42,7 @@ first_fault d rows ss =
     (fault_or 10 (address_fault rows) None))))))))
 
 abbrev pub fault_of : Data → Option Fault
-fault_of d = first_fault d (rows_of d) (spots_of d)
+fault_of d = first_fault d (description_of d) (spots_of d)
 
 -- the bytes are the JSON text of this value
 abbrev pub IsText : List ℕ → Data → Type 0
@@ -50,7 +50,7 @@ IsText bytes d = IsUtf8 bytes × (read bytes ≡ Some d)
 
 -- the bytes are a well-formed description, which stands for these rows
 abbrev pub WellFormed : List ℕ → DescRow → Type 0
-WellFormed bytes rows = (d : Data) × (IsText bytes d × (fault_of d ≡ None) × (rows ≡ rows_of d))
+WellFormed bytes rows = (d : Data) × (IsText bytes d × (fault_of d ≡ None) × (rows ≡ description_of d))
 
 -- F1: the bytes are no JSON text
 abbrev pub text_fault : Fault

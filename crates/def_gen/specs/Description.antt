@@ -117,8 +117,8 @@ ram = object
     (member (codes "size") (num RAM_SIZE) no_members))
 
 -- a thread enters the first compartment, and has a frame for each and one more
-abbrev pub thread : ℕ → List ℕ → Data
-thread count name = object
+abbrev pub thread_json : ℕ → List ℕ → Data
+thread_json count name = object
     (member (codes "entry") (string (entry_name 0))
     (member (codes "frames") (num (count + 1))
     (member (codes "name") (string name)
@@ -126,7 +126,7 @@ thread count name = object
     (member (codes "stack") (num THREAD_STACK) no_members)))))
 
 abbrev pub threads : ℕ → List Data
-threads count = thread count (codes "a") ∷ thread count (codes "b") ∷ []
+threads count = thread_json count (codes "a") ∷ thread_json count (codes "b") ∷ []
 
 -- of so many compartments, over their list
 abbrev pub firmware_over : ℕ → Data → Data

@@ -15,9 +15,9 @@ abbrev pub Step : Listed → Owner → Owner → Type 0
 Step e a b = Brings e b a ⊎ Neighbours e a b
 
 -- from a to b by steps: these are the members after a, and the last of them is b
-abbrev pub Leads : Listed → Owner → List Owner → Owner → Type 0
-Leads e a [] b = a ≡ b
-Leads e a (x ∷ xs) b = Step e a x × Leads e x xs b
+abbrev pub IsWay : Listed → Owner → List Owner → Owner → Type 0
+IsWay e a [] b = a ≡ b
+IsWay e a (x ∷ xs) b = Step e a x × IsWay e x xs b
 
 -- the order in which the least path is least: compartments by number, and after them libraries by number
 abbrev pub precedes : Owner → Owner → Bool
@@ -39,5 +39,5 @@ Before xs ys = (length xs < length ys) ⊎ ((length xs ≡ length ys) × IsLeft 
 pub record IsPath (e : Listed) (o : Owner) (b : ℕ) (owners : List Owner) : Type 0 where
   pub members : List Owner
   pub starts : owners ≡ o ∷ members
-  pub leads : Leads e o members (Compartment b)
-  pub first : (ys : List Owner) → Leads e o ys (Compartment b) → Before members ys
+  pub leads : IsWay e o members (Compartment b)
+  pub first : (ys : List Owner) → IsWay e o ys (Compartment b) → Before members ys

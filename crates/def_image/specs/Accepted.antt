@@ -48,25 +48,25 @@ abbrev pub BreaksLimit : List ℕ → ℕ → Type 0
 BreaksLimit bytes place = (r : RawImage) × Spells r bytes × (first (limit_checks r) ≡ Some place)
 
 -- the bytes are the fields of these parts, and their limits and forms hold
-abbrev pub Stands : List ℕ → PartsRow → Type 0
-Stands bytes p =
+abbrev pub SpellsParts : List ℕ → PartsRow → Type 0
+SpellsParts bytes p =
     IsSpellable p × (bytes ≡ image_bytes p)
     × (first (limit_checks (raw_of p)) ≡ None)
 
 abbrev pub BreaksRegion : List ℕ → ℕ → Type 0
 BreaksRegion bytes place =
-    (p : PartsRow) × Stands bytes p
+    (p : PartsRow) × SpellsParts bytes p
     × (first (region_checks p) ≡ Some place)
 
 abbrev pub BreaksIndex : List ℕ → ℕ → Type 0
 BreaksIndex bytes place =
-    (p : PartsRow) × Stands bytes p
+    (p : PartsRow) × SpellsParts bytes p
     × (first (region_checks p) ≡ None)
     × (first (index_checks p) ≡ Some place)
 
 abbrev pub BreaksRight : List ℕ → ℕ → Type 0
 BreaksRight bytes place =
-    (p : PartsRow) × Stands bytes p
+    (p : PartsRow) × SpellsParts bytes p
     × (first (region_checks p) ≡ None)
     × (first (index_checks p) ≡ None)
     × (first (right_checks p) ≡ Some place)

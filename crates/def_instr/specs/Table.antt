@@ -242,10 +242,10 @@ shape_word shape.Break = 0x00100073
 shape_word (shape.Status function rd source number) = format_i 0x73 function rd source number
 shape_word (shape.Special rd rs1 number) = format_r 0x5B 0 0x01 rd rs1 number
 
-abbrev pub word_of : Instr → ℕ
-word_of i = shape_word (shape_of i)
+abbrev pub encoded : Instr → ℕ
+encoded i = shape_word (shape_of i)
 
 -- the instruction's fields are in range, and the word is its row's
 pub record EncodesTo (instruction : Instr) (word : ℕ) : Type 0 where
   pub ranged : InRange instruction
-  pub row : word ≡ word_of instruction
+  pub row : word ≡ encoded instruction

@@ -32,8 +32,8 @@ no_export = record {
   entry = 0;
 }
 
-abbrev pub owned : List ℕ → Label
-owned owner = record { owner = owner; name = []; of = []; seal = 0; export = no_export }
+abbrev pub owner_label : List ℕ → Label
+owner_label owner = record { owner = owner; name = []; of = []; seal = 0; export = no_export }
 
 -- ---- names
 
@@ -75,27 +75,27 @@ seal_of p r _ = 0
 
 abbrev pub slot_label : PartsRow → List ℕ → SlotRow → Label
 slot_label p owner s =
-    record (owned owner) {
+    record (owner_label owner) {
       name = s.name;
       of = of_name p s.row s.row.kind;
       seal = seal_of p s.row s.row.kind;
     }
 
 abbrev pub export_label : List ℕ → GateRow → Label
-export_label owner x = record (owned owner) { name = x.name; export = x.row }
+export_label owner x = record (owner_label owner) { name = x.name; export = x.row }
 
 abbrev pub slots_and_exports : PartsRow → CodeRow → List Label
 slots_and_exports p c = map (slot_label p c.name) c.slots ++ map (export_label c.name) c.exports
 
 -- code, globals, slots and exports
 abbrev pub compartment_labels : PartsRow → CompartmentRow → List Label
-compartment_labels p c = owned c.code.name ∷ owned c.code.name ∷ slots_and_exports p c.code
+compartment_labels p c = owner_label c.code.name ∷ owner_label c.code.name ∷ slots_and_exports p c.code
 
 abbrev pub library_labels : PartsRow → CodeRow → List Label
-library_labels p c = owned c.name ∷ slots_and_exports p c
+library_labels p c = owner_label c.name ∷ slots_and_exports p c
 
 unfoldable pub labels_of : PartsRow → List Label
 labels_of p =
     flat_map (compartment_labels p) p.compartments
     ++ flat_map (library_labels p) p.libraries
-    ++ map (λ (t : ThreadRow). owned t.name) p.threads
+    ++ map (λ (t : ThreadRow). owner_label t.name) p.threads

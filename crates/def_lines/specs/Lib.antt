@@ -3,3 +3,4 @@ pub mod Labels
 pub mod Edges
 pub mod Lines
 pub mod Report
+pub mod Listing

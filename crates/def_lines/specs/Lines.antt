@@ -107,9 +107,9 @@ library_export_data l = object
     (member (codes "posture") (string (posture_text l.label.export.posture))
     (with_rights l no_members))))))))
 
-abbrev pub export_of : Owner → Line → Data
-export_of (owner.Library n) l = library_export_data l
-export_of _ l = export_data l
+abbrev pub export_line_data : Owner → Line → Data
+export_line_data (owner.Library n) l = library_export_data l
+export_line_data _ l = export_data l
 
 -- by its kind
 abbrev pub data_of : Kind → Line → Data
@@ -124,7 +124,7 @@ data_of Library l = slot_data (codes "library") l
 data_of Service l = slot_data (codes "service") l
 data_of Quota l = quota_data l
 data_of Key l = key_data l
-data_of Export l = export_of l.entry.owner l
+data_of Export l = export_line_data l.entry.owner l
 
 abbrev pub line_data : Line → Data
 line_data l = data_of l.entry.kind l

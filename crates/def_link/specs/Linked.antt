@@ -11,7 +11,7 @@ use Rattle.def_description.specs.Rows.{CompartmentRow, LibraryRow, SharedRow, Se
 use Rattle.def_link.specs.declared.LinkFault.{LinkFault}
 use Rattle.def_link.specs.declared.LinkFault.TheVariants as fault
 use Rattle.def_link.specs.Owners.{Built, units_of, all_built}
-use Rattle.def_link.specs.Slots.{Exported, called, compartment_slots, library_slots, compartment_gates, library_gates}
+use Rattle.def_link.specs.Slots.{Exported, compartment_export_named, compartment_slots, library_slots, compartment_gates, library_gates}
 
 -- a compartment or library with what stands for its code
 pub record BuiltCompartment : Type 0 where
@@ -151,7 +151,7 @@ thread_part regions x t = record {
 unfoldable pub thread_parts : DescRow → List Region → List ThreadRow → List ThreadPart
 thread_parts d regions [] = []
 thread_parts d regions (t ∷ ts) =
-    thread_part regions (called d t.entry) t ∷ thread_parts d (drop 1 regions) ts
+    thread_part regions (compartment_export_named d t.entry) t ∷ thread_parts d (drop 1 regions) ts
 
 -- the parts over all regions: those of compartments stand first, then of libraries, shared and
 -- sealed objects, stacks, and the trusted region
@@ -182,21 +182,21 @@ parts_of d cs ls regions heap =
 
 -- ---- the answer
 
-abbrev pub laid : DescRow → List BuiltCompartment → List BuiltLibrary → List ℕ
+abbrev pub parts_by_sizes : DescRow → List BuiltCompartment → List BuiltLibrary → List ℕ
     → Result PartsRow LinkFault
-laid d cs ls sizes =
+parts_by_sizes d cs ls sizes =
     if nat_lt d.ram.size (needed d.ram.base sizes)
     then Err (fault.NoRoom (needed d.ram.base sizes) d.ram.size)
     else Ok (parts_of d cs ls (placed d.ram.base sizes) (last_end d.ram.base sizes))
 
-abbrev pub laid_with : DescRow → List BuiltCompartment → List BuiltLibrary
+abbrev pub built_parts : DescRow → List BuiltCompartment → List BuiltLibrary
     → Result PartsRow LinkFault
-laid_with d cs ls = laid d cs ls (sizes_of d cs ls)
+built_parts d cs ls = parts_by_sizes d cs ls (sizes_of d cs ls)
 
 abbrev pub linked_with : DescRow → Result (List Built) LinkFault → Result PartsRow LinkFault
 linked_with d (Err e) = Err e
 linked_with d (Ok bs) =
-    laid_with d (compartments_with d.compartments (take (length d.compartments) bs))
+    built_parts d (compartments_with d.compartments (take (length d.compartments) bs))
     (libraries_with d.libraries (drop (length d.compartments) bs))
 
 -- of a well-formed description, with one text for each of its codes that is a file, in owner order

@@ -60,11 +60,11 @@ abbrev pub library_exporters : DescRow → List Exporter
 library_exporters d =
     map (λ (l : LibraryRow). record { name = l.name; exports = library_export_names l }) d.libraries
 
-abbrev pub called : DescRow → List ℕ → Exported
-called d name = export_from name 0 (compartment_exporters d)
+abbrev pub compartment_export_named : DescRow → List ℕ → Exported
+compartment_export_named d name = export_from name 0 (compartment_exporters d)
 
-abbrev pub lent : DescRow → List ℕ → Exported
-lent d name = export_from name 0 (library_exporters d)
+abbrev pub library_export_named : DescRow → List ℕ → Exported
+library_export_named d name = export_from name 0 (library_exporters d)
 
 -- ---- rights
 
@@ -98,10 +98,10 @@ form_row d rights form.Device name = slot_row kind.Device rights (index_of name 
 form_row d rights form.Shared name = slot_row kind.Shared rights (index_of name (shared_names d)) 0
 form_row d rights form.Sealed name =
     slot_row kind.Sealed (packed SEALED_RIGHTS) (index_of name (sealed_names d)) 0
-form_row d rights form.Call name = exported_row kind.Call (packed EXPORT_RIGHTS) (called d name)
+form_row d rights form.Call name = exported_row kind.Call (packed EXPORT_RIGHTS) (compartment_export_named d name)
 form_row d rights form.Service name =
     slot_row kind.Service (packed SERVICE_RIGHTS) (unwrap_or (service_of name) 0) 0
-form_row d rights form.Library name = exported_row kind.Library (packed CODE_RIGHTS) (lent d name)
+form_row d rights form.Library name = exported_row kind.Library (packed CODE_RIGHTS) (library_export_named d name)
 
 abbrev pub switch_row : SlotImport
 switch_row = slot_row kind.Service (packed SERVICE_RIGHTS) SWITCH 0

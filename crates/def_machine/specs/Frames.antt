@@ -35,8 +35,8 @@ pub record Given : Type 0 where
 
 -- The callee's code at the export's address, the return sentry, the stack from its base to the new top at
 -- that top with the shadow of the caller's c2, and the callee's globals.
-abbrev pub given : Image → Thread → ℕ → ℕ → ℕ → ℕ → Given
-given i old t callee export high = record {
+abbrev pub callee_start : Image → Thread → ℕ → ℕ → ℕ → ℕ → Given
+callee_start i old t callee export high = record {
   pcc = with_address (made_cap i (code_entry i callee)) (gate_for i.entries.gates export).code;
   back = made_cap i 0;
   stack =
@@ -60,16 +60,16 @@ pushed_frame old callee export high = record {
 }
 
 -- what passes between compartments by an export: as it is where that passes capabilities, else untagged
-abbrev pub passed_by : Listed → ℕ → Cap → Cap
-passed_by e export c = cond (root_of e export).passes c (untagged c)
+abbrev pub cap_passed_by : Listed → ℕ → Cap → Cap
+cap_passed_by e export c = cond (root_of e export).passes c (untagged c)
 
-abbrev pub passed : Image → ℕ → Cap → Cap
-passed i export c = passed_by i.entries export c
+abbrev pub cap_passed : Image → ℕ → Cap → Cap
+cap_passed i export c = cap_passed_by i.entries export c
 
 -- an argument register that the export declares is the caller's; the others are zero
 abbrev pub argument_by : Listed → Thread → ℕ → ℕ → Cap
 argument_by e old export n =
-    cond (nat_lt n (gate_for e.gates export).args) (passed_by e export (register old (10 + n)))
+    cond (nat_lt n (gate_for e.gates export).args) (cap_passed_by e export (register old (10 + n)))
     (plain 0)
 
 abbrev pub argument : Image → Thread → ℕ → ℕ → Cap
@@ -103,7 +103,7 @@ entered i old callee export high g = entered_by i.entries old callee export high
 
 -- what an ending frame hands back in a register
 abbrev pub answer_by : Listed → Thread → Frame → ℕ → Cap
-answer_by e old f n = passed_by e f.export (register old n)
+answer_by e old f n = cap_passed_by e f.export (register old n)
 
 abbrev pub answer : Image → Thread → Frame → ℕ → Cap
 answer i old f n = answer_by i.entries old f n

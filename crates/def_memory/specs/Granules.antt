@@ -22,13 +22,13 @@ blank g = record g { cap = plain 0 }
 -- ---- granules one by one
 
 -- what a granule holds
-abbrev pub held : List Granule → ℕ → Cap
-held gs k = (granule_at gs k).cap
+abbrev pub cap_in : List Granule → ℕ → Cap
+cap_in gs k = (granule_at gs k).cap
 
 -- so many granules from k on
-abbrev pub held_from : List Granule → ℕ → ℕ → List Cap
-held_from gs k zero = []
-held_from gs k (suc n) = held gs k ∷ held_from gs (k + 1) n
+abbrev pub caps_from : List Granule → ℕ → ℕ → List Cap
+caps_from gs k zero = []
+caps_from gs k (suc n) = cap_in gs k ∷ caps_from gs (k + 1) n
 
 -- the granule holds this; its mark stays
 abbrev pub holding : List Granule → ℕ → Cap → List Granule

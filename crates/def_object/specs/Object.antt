@@ -5,7 +5,7 @@ use Rattle.std.specs.Prelude.{ℕ, ◌+◌, ◌*◌, ◌-◌, ◌/◌, ◌%◌, 
 use Rattle.std.specs.List.{flat_map}
 use Rattle.std.specs.Int.{w32, to_le_bytes}
 use Rattle.std.specs.Str.{bytes_eq}
-use Rattle.def_instr.specs.Table.{word_of}
+use Rattle.def_instr.specs.Table.{encoded}
 use Rattle.def_bits.specs.Bits.{extended}
 use Rattle.def_instr.specs.declared.Instr.{Instr}
 use Rattle.def_instr.specs.declared.Instr.TheVariants as instr
@@ -304,7 +304,7 @@ abbrev pub word_bytes : ℕ → List ℕ
 word_bytes word = to_le_bytes w32 word
 
 abbrev pub instruction_bytes : List Instr → List ℕ
-instruction_bytes is = flat_map (λ i. word_bytes (word_of i)) is
+instruction_bytes is = flat_map (λ i. word_bytes (encoded i)) is
 
 -- the bytes of a statement at a place of its section
 abbrev pub bytes_at : Labels → List Name → ℕ → Part Name → List ℕ

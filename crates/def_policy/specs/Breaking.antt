@@ -6,7 +6,7 @@ use Rattle.ct_entry.specs.declared.rows.Gate.{Gate}
 use Rattle.ct_entry.specs.declared.rows.Owner.{Owner}
 use Rattle.ct_entry.specs.Kinds.{is_device, is_shared, is_call, is_service, is_quota, is_export}
 use Rattle.ct_entry.specs.Listed.{Listed}
-use Rattle.def_reach.specs.Roots.{gate_for, is_disabled}
+use Rattle.def_reach.specs.Roots.{gate_for, turns_interrupts_off}
 use Rattle.def_graph.specs.Reach.{Reached, same_owner}
 use Rattle.def_policy.specs.declared.Subject.{Subject}
 use Rattle.def_policy.specs.declared.Subject.TheVariants.{Device, Shared, Service, Call, Disabled, Data, Total, Quota, Apart}
@@ -30,7 +30,7 @@ is_held (Device n) x g = is_device x.kind && (x.of == n)
 is_held (Shared n) x g = is_shared x.kind && (x.of == n)
 is_held (Service n) x g = is_service x.kind && (x.of == n)
 is_held (Call n) x g = is_call x.kind && (x.of == n)
-is_held Disabled x g = is_export x.kind && is_disabled g.posture
+is_held Disabled x g = is_export x.kind && turns_interrupts_off g.posture
 is_held _ x g = false
 
 abbrev pub breaks_by : Subject → List Owner → ℕ → ℕ → Entry → Gate → Bool
@@ -74,5 +74,5 @@ pub record Keeps (e : Listed) (r : Ruling) : Type 0 where
   pub apart : IsApart e r.subject
 
 -- a policy holds
-abbrev pub Holds : Listed → List Ruling → Type 0
-Holds e rulings = All (Keeps e) rulings
+abbrev pub PolicyHolds : Listed → List Ruling → Type 0
+PolicyHolds e rulings = All (Keeps e) rulings

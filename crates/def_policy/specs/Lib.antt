@@ -4,3 +4,4 @@ pub mod Rulings
 pub mod Texts
 pub mod Breaking
 pub mod Denials
+pub mod Denied

@@ -114,8 +114,8 @@ abbrev pub fits : SinkRow → List ℕ → Bool
 fits s piece = nat_le (length s.bytes + length piece) s.room
 
 -- A write that is told to fail takes nothing; one past the room takes what fits; both are faults.
-abbrev pub taken : SinkRow → List ℕ → SinkRow
-taken s piece = if fits s piece
+abbrev pub sink_taking : SinkRow → List ℕ → SinkRow
+sink_taking s piece = if fits s piece
     then record s { bytes = s.bytes ++ piece; calls = raised s.calls }
     else record s {
       bytes = s.bytes ++ take (s.room - length s.bytes) piece;
@@ -126,7 +126,7 @@ taken s piece = if fits s piece
 abbrev pub written : SinkRow → List ℕ → SinkRow
 written s piece =
     if is_told_to_fail s then record s { calls = raised s.calls; faults = raised s.faults }
-    else taken s piece
+    else sink_taking s piece
 
 -- no other write fails
 abbrev pub succeeds : SinkRow → List ℕ → Bool

@@ -23,7 +23,7 @@ pub record IsDoneWith (e : CallRecord) (text : List ℕ) : Type 0 where
   pub tells : e.sink.bytes ≡ Some before
   pub written : e.sink_after.bytes ≡ Some (before ++ text)
 
--- a call is done and wrote this text, or memory was wanted
-abbrev pub WritesUnlessWanting : CallRecord → Status → List ℕ → Type 0
-WritesUnlessWanting e s text =
-    ((s ≡ status.Done) × Appends e.sink.bytes e.sink_after.bytes text) ⊎ (s ≡ status.NoMemory)
+-- a call ends with this status and wrote this text, or memory was wanted
+abbrev pub EndsUnlessWanting : CallRecord → Status → Status → List ℕ → Type 0
+EndsUnlessWanting e s due text =
+    ((s ≡ due) × Appends e.sink.bytes e.sink_after.bytes text) ⊎ (s ≡ status.NoMemory)

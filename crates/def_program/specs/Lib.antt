@@ -14,3 +14,4 @@ pub mod Written
 pub mod Completing
 pub mod Deciding
 pub mod Beside
+pub mod Following

@@ -2,7 +2,7 @@
 -- parts the files of a command stand for.
 use Rattle.std.specs.Prelude.{ℕ, ◌≡◌, List, [], ◌∷◌, length, Bool, true, false, Option, Some, None, Ok}
 use Rattle.def_confined.specs.Telling.{AllLicensed}
-use Rattle.def_step.specs.Events.{told}
+use Rattle.def_step.specs.Events.{happenings_of}
 use Rattle.def_machine.specs.Board.{MachineRow}
 use Rattle.def_image.specs.Parts.{PartsRow}
 use Rattle.def_image.specs.Accepted.{IsImage}
@@ -10,7 +10,7 @@ use Rattle.def_boot.specs.Boot.{booted_machine}
 use Rattle.def_boot.specs.Gates.{entries_of}
 use Rattle.def_description.specs.Rows.{DescRow}
 use Rattle.def_description.specs.WellFormed.{WellFormed}
-use Rattle.def_description.specs.Reading.{rows_of}
+use Rattle.def_description.specs.Reading.{description_of}
 use Rattle.def_gen.specs.Description.{firmware}
 use Rattle.def_gen.specs.Sources as generated
 use Rattle.def_program.specs.declared.TheConstants.{DEMO_STEPS}
@@ -24,7 +24,7 @@ use Rattle.def_program.specs.Turns.{source_names}
 abbrev pub TellsLicensed : PartsRow → MachineRow → ℕ → Type 0
 TellsLicensed p m limit =
     (script : List Due)
-    → AllLicensed (entries_of p) (told m.board m.state (events_until m script p.quantum limit))
+    → AllLicensed (entries_of p) (happenings_of m.board m.state (events_until m script p.quantum limit))
 
 -- each deed and each span with interrupts off of the run that a command asks for is licensed
 abbrev pub IsLicensedCommand : Command → PartsRow → Type 0
@@ -53,7 +53,7 @@ FilesStandFor image (bytes ∷ sources) p = FirstStandsFor image bytes sources p
 
 -- a generated firmware links to these parts
 abbrev pub NumberStandsFor : ℕ → PartsRow → Type 0
-NumberStandsFor number p = linked (rows_of (firmware number)) (generated.sources number) ≡ Ok p
+NumberStandsFor number p = linked (description_of (firmware number)) (generated.sources number) ≡ Ok p
 
 abbrev pub StandBy : Option ℕ → Bool → List (List ℕ) → PartsRow → Type 0
 StandBy None image files p = FilesStandFor image files p

@@ -8,7 +8,7 @@ use Rattle.def_machine.specs.State.{State}
 use Rattle.def_step.specs.declared.Event.{Event}
 use Rattle.def_step.specs.declared.Event.TheVariants.{Step, Tick, Sweep, Input}
 use Rattle.def_machine.specs.Board.{Board, MachineRow}
-use Rattle.def_step.specs.Events.{run, told, end_of, totals_of}
+use Rattle.def_step.specs.Events.{run, happenings_of, end_of, totals_of}
 use Rattle.def_trace.specs.Trace.{trace_line, summary_line}
 use Rattle.def_image.specs.Parts.{PartsRow}
 use Rattle.def_boot.specs.Boot.{booted_machine}
@@ -67,7 +67,7 @@ unfoldable pub lines_from : Board → State → List Due → ℕ → ℕ → ℕ
 lines_from b s script quantum k zero = last_line s
 lines_from b s script quantum k (suc n) =
     or_last (end_of s) s
-    (flat_map (trace_line k) (told b s (round script quantum k))
+    (flat_map (trace_line k) (happenings_of b s (round script quantum k))
     ++ lines_from b (run b s (round script quantum k)) script quantum (k + 1) n)
 
 abbrev pub run_lines : MachineRow → List Due → ℕ → ℕ → List ℕ

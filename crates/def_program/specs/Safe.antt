@@ -23,32 +23,35 @@ use Rattle.def_program.specs.Within.{state_after}
 
 -- after so many of the events the live charges on each quota are at most its limit
 abbrev pub WithinLimits : PartsRow → List Event → Type 0
-WithinLimits p es =
-    (n q : ℕ) → charges q (state_after p (take n es)).objects ≤ (root (image_of p) q).limit
+WithinLimits p events =
+    (count quota : ℕ)
+    → charges quota (state_after p (take count events)).objects ≤ (root (image_of p) quota).limit
 
 -- where one step tells a free, and a later one an allocation whose chunk meets the chunk of the freed object, a whole
 -- sweep that began after the free lies between
 abbrev pub SweptBeforeReuseIn : PartsRow → List Event → Type 0
 SweptBeforeReuseIn p events =
-    (es fs rest : List Event) (freed made : Deed)
-    (n base long live number from size left : ℕ)
-    → events ≡ es ++ Step ∷ (fs ++ Step ∷ rest)
-    → (happens (board_of p) (state_after p es) Step).1.deed ≡ Some freed
-    → freed.act ≡ Free n base long live
-    → (happens (board_of p) (run (board_of p) (happens (board_of p) (state_after p es) Step).0 fs)
+    (before between rest : List Event) (freed made : Deed)
+    (number base bytes charged other from size total : ℕ)
+    → events ≡ before ++ Step ∷ (between ++ Step ∷ rest)
+    → (happens (board_of p) (state_after p before) Step).1.deed ≡ Some freed
+    → freed.act ≡ Free number base bytes charged
+    → (happens (board_of p)
+    (run (board_of p) (happens (board_of p) (state_after p before) Step).0 between)
     Step).1.deed ≡ Some made
-    → made.act ≡ Allocate number from size left → ChunksMeet from size base long
-    → SweepsWhole (board_of p) (happens (board_of p) (state_after p es) Step).0 fs
+    → made.act ≡ Allocate other from size total → ChunksMeet from size base bytes
+    → SweepsWhole (board_of p) (happens (board_of p) (state_after p before) Step).0 between
 
 -- where one step tells a free, no event after it loads, stores, waits or wakes through a capability of the freed object
 abbrev pub UnusedAfterFreeIn : PartsRow → List Event → Type 0
 UnusedAfterFreeIn p events =
-    (es fs rest : List Event) (freed : Deed) (n base long live : ℕ)
-    → events ≡ es ++ Step ∷ (fs ++ rest)
-    → (happens (board_of p) (state_after p es) Step).1.deed ≡ Some freed
-    → freed.act ≡ Free n base long live
-    → UsesOnly (board_of p) (run (board_of p) (happens (board_of p) (state_after p es) Step).0 fs)
-    (IsNotOf (board_of p).image n)
+    (before between rest : List Event) (freed : Deed) (number base bytes charged : ℕ)
+    → events ≡ before ++ Step ∷ (between ++ rest)
+    → (happens (board_of p) (state_after p before) Step).1.deed ≡ Some freed
+    → freed.act ≡ Free number base bytes charged
+    → UsesOnly (board_of p)
+    (run (board_of p) (happens (board_of p) (state_after p before) Step).0 between)
+    (IsNotOf (board_of p).image number)
 
 pub record IsSafeRun (p : PartsRow) (es : List Event) : Type 0 where
   pub events : EachEvent (Upholds (board_of p)) (board_of p) (boot_state p) es

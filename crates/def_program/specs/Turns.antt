@@ -6,7 +6,7 @@ use Rattle.def_image.specs.Accepted.{IsImage, FaultAt}
 use Rattle.def_image.specs.Spelling.{image_bytes}
 use Rattle.def_description.specs.Rows.{CodeRow, CompartmentRow, LibraryRow, DescRow}
 use Rattle.def_description.specs.WellFormed.{WellFormed, IsFaulty}
-use Rattle.def_description.specs.Reading.{rows_of}
+use Rattle.def_description.specs.Reading.{description_of}
 use Rattle.def_gen.specs.Description.{firmware}
 use Rattle.def_gen.specs.Sources as generated
 use Rattle.def_link.specs.declared.LinkFault.{LinkFault}
@@ -177,8 +177,8 @@ OfFirst false c bytes files turn = OfDescription c bytes files turn
 -- of a generated firmware: what its description and sources are linked to tells
 abbrev pub OfNumber : Command → ℕ → List (List ℕ) → Turn → Type 0
 OfNumber c number files turn =
-    OfLinked c (rows_of (firmware number))
-    (linked (rows_of (firmware number)) (generated.sources number)) files turn
+    OfLinked c (description_of (firmware number))
+    (linked (description_of (firmware number)) (generated.sources number)) files turn
 
 -- of files: first the command's own is due
 abbrev pub OfFiles : Command → List (List ℕ) → Turn → Type 0

@@ -9,7 +9,7 @@ use Rattle.def_image.specs.Parts.{PartsRow}
 use Rattle.def_lines.specs.Report.{report_line}
 use Rattle.def_port.specs.Bytes.{Appends}
 use Rattle.def_script.specs.Script.{Due, Reads}
-use Rattle.def_step.specs.Events.{told}
+use Rattle.def_step.specs.Events.{happenings_of}
 use Rattle.def_step.specs.declared.Event.{Event}
 use Rattle.def_step.specs.declared.Event.TheVariants.{Step}
 use Rattle.def_trace.specs.Trace.{trace_line}
@@ -45,7 +45,7 @@ event_lines k (e ∷ es) (h ∷ hs) = trace_line k h ++ event_lines (number_afte
 pub record IsRun (p : PartsRow) (script : List Due) (limit : ℕ) (events : List Event)
     (happenings : List Happened) : Type 0 where
   pub events_are : events ≡ events_until (booted_machine p) script p.quantum limit
-  pub happenings_are : happenings ≡ told (board_of p) (boot_state p) events
+  pub happenings_are : happenings ≡ happenings_of (board_of p) (boot_state p) events
   pub licensed : AllLicensed (entries_of p) happenings
   pub safe : IsSafeRun p events
 

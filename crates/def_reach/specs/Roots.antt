@@ -75,10 +75,10 @@ unfoldable pub gate_for : List Gate → ℕ → Gate
 gate_for [] n = no_gate
 gate_for (g ∷ gs) n = if g.entry == n then g else gate_for gs n
 
-abbrev pub is_disabled : Mode → Bool
-is_disabled Inherit = false
-is_disabled Disabled = true
-is_disabled Enabled = false
+abbrev pub turns_interrupts_off : Mode → Bool
+turns_interrupts_off Inherit = false
+turns_interrupts_off Disabled = true
+turns_interrupts_off Enabled = false
 
 abbrev pub listed_root : Option Entry → Gate → Root
 listed_root None g = no_root
@@ -91,7 +91,7 @@ listed_root (Some r) g = record {
   of = r.of;
   limit = r.limit;
   passes = g.capabilities;
-  disabled = is_disabled g.posture;
+  disabled = turns_interrupts_off g.posture;
 }
 
 -- what a number stands for: entries are numbered from 1

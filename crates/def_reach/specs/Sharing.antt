@@ -30,14 +30,14 @@ abbrev pub Edge : Listed → ℕ → ℕ → Type 0
 Edge e a b = Calls e a b ⊎ Calls e b a ⊎ ((object : ℕ) × SharesC e object a × SharesC e object b)
 
 -- the members after a are a list of edges from a to b
-abbrev pub Leads : Listed → ℕ → List ℕ → ℕ → Type 0
-Leads e a [] b = a ≡ b
-Leads e a (x ∷ xs) b = Edge e a x × Leads e x xs b
+abbrev pub IsEdgeList : Listed → ℕ → List ℕ → ℕ → Type 0
+IsEdgeList e a [] b = a ≡ b
+IsEdgeList e a (x ∷ xs) b = Edge e a x × IsEdgeList e x xs b
 
 -- compartment a reaches compartment b
 pub record Joined (e : Listed) (a b : ℕ) : Type 0 where
   pub members : List ℕ
-  pub leads : Leads e a members b
+  pub leads : IsEdgeList e a members b
 
 abbrev pub IsLibrary : Owner → Type 0
 IsLibrary (Library l) = Unit {0}

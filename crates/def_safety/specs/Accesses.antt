@@ -63,7 +63,8 @@ pub record IsUseAt (i : Image) (objects : List Object) (t actor : ℕ) (c : Cap)
 abbrev pub RunsFor : Image → ℕ → ℕ → Type 0
 RunsFor i n actor =
     (((root i n).origin ≡ Listing Code) × Reaches i.entries (root i n).owner actor)
-    ⊎ (((root i n).origin ≡ Listing Library) × Reaches i.entries (root i (root i n).of).owner actor)
+    ⊎ (((root i n).origin ≡ Listing Library)
+    × Reaches i.entries (root i (root i n).of).owner actor)
     ⊎ (is_native (root i n).origin ≡ true)
 
 -- Of the thread that carries on, whose top frame is f. Each tagged register, and its program counter, is authority of a

@@ -10,18 +10,18 @@ use Rattle.def_step.specs.Events.{happens}
 use Rattle.def_machine.specs.Board.{Board}
 
 -- the live charges on a quota are more, by an object of this length with its head; on others they are as they were
-pub record ChargesMore (less more : List Object) (quota long : ℕ) : Type 0 where
-  pub more_by : charges quota more ≡ charges quota less + (long + CHUNK_HEAD)
+pub record ChargesMore (less more : List Object) (quota bytes : ℕ) : Type 0 where
+  pub more_by : charges quota more ≡ charges quota less + (bytes + CHUNK_HEAD)
   pub others : (q : ℕ) → q ≢ quota → charges q more ≡ charges q less
 
 -- A free or an allocation that is told changes the live charges on its quota by the object's charge, and those on no
 -- other; what it tells of them is what they come to.
 pub record ChargesFollow (b : Board) (s : State) (e : Event) : Type 0 where
-  pub frees : (d : Deed) (number base long live : ℕ)
-      → (happens b s e).1.deed ≡ Some d → d.act ≡ Free number base long live
-      → ChargesMore (happens b s e).0.objects s.objects d.entry long
-      × (live ≡ charges d.entry (happens b s e).0.objects)
-  pub allocates : (d : Deed) (number base long live : ℕ)
-      → (happens b s e).1.deed ≡ Some d → d.act ≡ Allocate number base long live
-      → ChargesMore s.objects (happens b s e).0.objects d.entry long
-      × (live ≡ charges d.entry (happens b s e).0.objects)
+  pub frees : (d : Deed) (number base bytes charged : ℕ)
+      → (happens b s e).1.deed ≡ Some d → d.act ≡ Free number base bytes charged
+      → ChargesMore (happens b s e).0.objects s.objects d.entry bytes
+      × (charged ≡ charges d.entry (happens b s e).0.objects)
+  pub allocates : (d : Deed) (number base bytes charged : ℕ)
+      → (happens b s e).1.deed ≡ Some d → d.act ≡ Allocate number base bytes charged
+      → ChargesMore s.objects (happens b s e).0.objects d.entry bytes
+      × (charged ≡ charges d.entry (happens b s e).0.objects)

@@ -17,16 +17,16 @@ use Rattle.def_safety.specs.Temporal.{UsesOnly}
 
 -- objects of these lengths at these bases, with their heads, meet
 abbrev pub ChunksMeet : ℕ → ℕ → ℕ → ℕ → Type 0
-ChunksMeet from size base long =
-    ((from + size + CHUNK_HEAD ≤ base) ⊎ (base + long + CHUNK_HEAD ≤ from)) → ⊥
+ChunksMeet from size base bytes =
+    ((from + size + CHUNK_HEAD ≤ base) ⊎ (base + bytes + CHUNK_HEAD ≤ from)) → ⊥
 
 -- the object of a number at a base, of which nothing else is asked
 abbrev pub chunk_at : ℕ → ℕ → ℕ → Object
-chunk_at number base long = record {
+chunk_at number base bytes = record {
   number = number;
   quota = 0;
   base = base;
-  length = long;
+  length = bytes;
   charge = 0;
   live = false;
   painted = false;
@@ -44,16 +44,17 @@ IsNotOf i n c = heap_cap i c ≡ true → c.shadow.source ≢ n
 -- goes through a capability of the freed object.
 abbrev pub UnusedAfterFree : Board → State → Type 0
 UnusedAfterFree b s =
-    (es fs : List Event) (d : Deed) (n base long live : ℕ)
-    → (happens b (run b s es) Step).1.deed ≡ Some d → d.act ≡ Free n base long live
+    (es fs : List Event) (d : Deed) (n base bytes charged : ℕ)
+    → (happens b (run b s es) Step).1.deed ≡ Some d → d.act ≡ Free n base bytes charged
     → UsesOnly b (run b (stepped_after b s es) fs) (IsNotOf b.image n)
 
 -- Where a free is told after some events, and after more an allocation whose chunk meets the chunk of the freed object,
 -- there was a whole sweep among these, which began after the free.
 abbrev pub SweptBeforeReuse : Board → State → Type 0
 SweptBeforeReuse b s =
-    (es fs : List Event) (d : Deed) (n base long live : ℕ) (c : Deed) (number from size left : ℕ)
-    → (happens b (run b s es) Step).1.deed ≡ Some d → d.act ≡ Free n base long live
+    (es fs : List Event) (d : Deed) (n base bytes charged : ℕ)
+    (c : Deed) (number from size total : ℕ)
+    → (happens b (run b s es) Step).1.deed ≡ Some d → d.act ≡ Free n base bytes charged
     → (happens b (run b (stepped_after b s es) fs) Step).1.deed ≡ Some c
-    → c.act ≡ Allocate number from size left → ChunksMeet from size base long
+    → c.act ≡ Allocate number from size total → ChunksMeet from size base bytes
     → SweepsWhole b (stepped_after b s es) fs

@@ -9,7 +9,7 @@ use Rattle.def_reach.specs.Roots.{compartment_of}
 use Rattle.def_machine.specs.Image.{Image, root, address_of, stack_base}
 use Rattle.def_machine.specs.State.{State, Frame, register, granule, thread}
 use Rattle.def_machine.specs.Memory.{filtered}
-use Rattle.def_machine.specs.Frames.{Given, given, posture_of_call}
+use Rattle.def_machine.specs.Frames.{Given, callee_start, posture_of_call}
 use Rattle.def_step.specs.Switch.{new_top}
 
 -- register n is c1, c2 or c3, and holds what the switcher gives there
@@ -28,7 +28,7 @@ high_of i s t = new_top (stack_base i t) (cap_address (register (thread s t) 2))
 
 abbrev pub given_to : Image → State → ℕ → ℕ → Given
 given_to i s t export =
-    given i (thread s t) t (compartment_of (root i export).owner) export (high_of i s t)
+    callee_start i (thread s t) t (compartment_of (root i export).owner) export (high_of i s t)
 
 -- the stack of a thread is zero and untagged, from its base up to an address
 abbrev pub StackZero : Image → State → State → ℕ → ℕ → Type 0
@@ -39,7 +39,8 @@ StackZero i s after t high =
 -- The callee begins: tagged are the program counter, c1, c2 and c3, which are the callee's code at the export, the return
 -- sentry, the stack and the callee's globals, and no other register; the posture is the export's.
 pub record CleanEntry (i : Image) (s : State) (t export : ℕ) (after : State) : Type 0 where
-  pub pcc : ((thread after t).pcc.tag ≡ true) × ((thread after t).pcc ≡ (given_to i s t export).pcc)
+  pub pcc : ((thread after t).pcc.tag ≡ true)
+      × ((thread after t).pcc ≡ (given_to i s t export).pcc)
   pub tagged : ((register (thread after t) 1).tag ≡ true)
       × ((register (thread after t) 2).tag ≡ true) × ((register (thread after t) 3).tag ≡ true)
   pub registers : (n : ℕ) → (register (thread after t) n).tag ≡ true

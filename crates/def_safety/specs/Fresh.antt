@@ -1,16 +1,18 @@
 -- *Fresh objects*: what an allocation hands out.
 use Rattle.std.specs.Prelude.{ℕ, ◌≡◌, ◌+◌, ◌≤◌, ◌<◌, ◌⊎◌, true, Some, None}
-use Rattle.std.specs.List.{list_any}
+use Rattle.def_profile.specs.declared.native.TheConstants.{ALLOCATE, TOKEN_KEY, TOKEN_NEW}
 use Rattle.def_words.specs.declared.Cap.{Cap}
 use Rattle.def_words.specs.Authority.{cap_base, cap_top}
 use Rattle.def_memory.specs.Granules.{plain}
+use Rattle.def_machine.specs.Board.{Board}
 use Rattle.def_machine.specs.Heap.{IsPlaceFor, object_cap, with_object}
 use Rattle.def_machine.specs.Image.{Image, address_of}
 use Rattle.def_machine.specs.Objects.{Each}
 use Rattle.def_machine.specs.State.{State, Frame, Object, granule, register, thread}
 use Rattle.def_confined.specs.Changes.{NewObject}
 use Rattle.def_step.specs.Routines.{answers}
-use Rattle.def_step.specs.Tokens.{is_key_row, with_row, sealed_token}
+use Rattle.def_step.specs.Tokens.{key_of, with_row, sealed_token}
+use Rattle.def_safety.specs.Routine.{RunsRoutine}
 
 -- a tagged capability whose authority isn't empty has none of an object's addresses
 abbrev pub Misses : Object → Cap → Type 0
@@ -37,7 +39,7 @@ pub record IsFresh (i : Image) (s : State) (r : Object) : Type 0 where
   pub frames : (t : ℕ) → Each (SavedMiss r) (thread s t).frames
 
 -- How thread t's routine hands an object out, and what it leaves: as it is; as a key, sealed, with a row that names none;
--- as a token, sealed, with a row that names a key.
+-- as a token, sealed, with a row that names the key that c12 is.
 abbrev pub AsMade : State → ℕ → State → Object → Type 0
 AsMade s t after r = after ≡ answers (with_object s r) t (object_cap r)
 
@@ -46,15 +48,20 @@ AsKey s t after r = after ≡ answers (with_object (with_row s r None) r) t (sea
 
 abbrev pub AsToken : State → ℕ → State → Object → Type 0
 AsToken s t after r =
-    (key : ℕ) × ((list_any (is_key_row key) s.tokens ≡ true)
-    × (after ≡ answers (with_object (with_row s r (Some key)) r) t (sealed_token r)))
+    (key : Object) × ((key_of s (register (thread s t) 12) ≡ Some key)
+    × (after ≡ answers (with_object (with_row s r (Some key.number)) r) t (sealed_token r)))
 
-abbrev pub AsHanded : State → ℕ → State → Object → Type 0
-AsHanded s t after r = AsMade s t after r ⊎ (AsKey s t after r ⊎ AsToken s t after r)
+-- allocate hands it out as it is, token_key as a key, and token_new as a token
+abbrev pub AsHanded : Board → State → ℕ → State → Object → Type 0
+AsHanded b s t after r =
+    (RunsRoutine b s t ALLOCATE × AsMade s t after r)
+    ⊎ (RunsRoutine b s t TOKEN_KEY × AsKey s t after r)
+    ⊎ (RunsRoutine b s t TOKEN_NEW × AsToken s t after r)
 
 -- the allocation that told this number, base and length: the object that it made, fresh, is handed out, by How it is
-pub record HandsOut (i : Image) (s : State) (number base long : ℕ) (How : Object → Type 0) : Type 0 where
+pub record HandsOut (i : Image) (s : State) (number base bytes : ℕ)
+    (How : Object → Type 0) : Type 0 where
   pub object : Object
-  pub told : (object.number ≡ number) × (object.base ≡ base) × (object.length ≡ long)
+  pub told : (object.number ≡ number) × (object.base ≡ base) × (object.length ≡ bytes)
   pub fresh : IsFresh i s object
   pub after_is : How object

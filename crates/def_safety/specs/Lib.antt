@@ -1,5 +1,6 @@
 pub mod Each
 pub mod Used
+pub mod Routine
 pub mod Clean
 pub mod Handlers
 pub mod Calls

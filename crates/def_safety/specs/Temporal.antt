@@ -12,7 +12,6 @@ use Rattle.def_confined.specs.Places.{LiveCovers}
 use Rattle.def_step.specs.declared.Event.{Event}
 use Rattle.def_step.specs.Checks.{first_failed}
 use Rattle.def_step.specs.Events.{happens}
-use Rattle.def_step.specs.Instructions.{executed}
 use Rattle.def_machine.specs.Board.{Board}
 use Rattle.def_step.specs.Routines.{word_checks}
 use Rattle.def_safety.specs.Fresh.{HandsOut, AsHanded}
@@ -35,11 +34,11 @@ pub record UsesOnly (b : Board) (s : State) (P : Cap → Type 0) : Type 0 where
 abbrev pub UsesLive : Board → State → Type 0
 UsesLive b s = UsesOnly b s (OfLive b.image (ready b s).objects)
 
--- an allocation that is told hands out a fresh object with what is told of it, as it is, as a key or as a token; counts
--- come after
+-- an allocation that is told hands out a fresh object with what is told of it, as it is, as a key or as a token: what the
+-- event leaves is the answer of the routine that does so
 abbrev pub AllocatesFresh : Board → State → Event → Type 0
 AllocatesFresh b s e =
-    (d : Deed) (number base long live : ℕ)
-    → (happens b s e).1.deed ≡ Some d → d.act ≡ Allocate number base long live
-    → HandsOut b.image (ready b s) number base long
-    (AsHanded (ready b s) d.thread (executed b (ready b s) d.thread).0)
+    (d : Deed) (number base bytes charged : ℕ)
+    → (happens b s e).1.deed ≡ Some d → d.act ≡ Allocate number base bytes charged
+    → HandsOut b.image (ready b s) number base bytes
+    (AsHanded b (ready b s) d.thread (happens b s e).0)

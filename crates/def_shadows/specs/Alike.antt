@@ -6,7 +6,7 @@ use Rattle.def_words.specs.declared.Posture.{Posture}
 use Rattle.def_words.specs.declared.Trap.{Trap}
 use Rattle.def_memory.specs.declared.Granule.{Granule}
 use Rattle.def_step.specs.Accesses.{Space}
-use Rattle.def_step.specs.Instructions.{Around, Done}
+use Rattle.def_step.specs.Instructions.{Context, Effect}
 
 -- the same tag and the same word
 pub record Alike (c d : Cap) : Type 0 where
@@ -36,13 +36,13 @@ pub record SpacesAlike (p q : Space) : Type 0 where
   pub time_is : p.time ≡ q.time
 
 -- what an instruction works on beside its operands
-pub record AroundsAlike (a b : Around) : Type 0 where
+pub record AroundsAlike (a b : Context) : Type 0 where
   pub pcc : Alike a.pcc b.pcc
   pub posture : PosturesAlike a.posture b.posture
   pub space : SpacesAlike a.space b.space
 
 -- what an instruction leaves: the same register gets a value, RAM and devices change, a device is reached
-pub record DonesAlike (d e : Done) : Type 0 where
+pub record DonesAlike (d e : Effect) : Type 0 where
   pub to_is : d.to ≡ e.to
   pub value : Alike d.value e.value
   pub pcc : Alike d.pcc e.pcc
@@ -52,7 +52,7 @@ pub record DonesAlike (d e : Done) : Type 0 where
   pub act_is : d.act ≡ e.act
 
 -- the same trap, or what is alike
-abbrev pub ResultsAlike : Result Done Trap → Result Done Trap → Type 0
+abbrev pub ResultsAlike : Result Effect Trap → Result Effect Trap → Type 0
 ResultsAlike (Ok d) (Ok e) = DonesAlike d e
 ResultsAlike (Err why) (Err other) = why ≡ other
 ResultsAlike (Ok d) (Err other) = ⊥

@@ -155,9 +155,9 @@ unfoldable pub run : Board → State → List Event → State
 run b s [] = s
 run b s (e ∷ es) = run b (happens b s e).0 es
 
-unfoldable pub told : Board → State → List Event → List Happened
-told b s [] = []
-told b s (e ∷ es) = (happens b s e).1 ∷ told b (happens b s e).0 es
+unfoldable pub happenings_of : Board → State → List Event → List Happened
+happenings_of b s [] = []
+happenings_of b s (e ∷ es) = (happens b s e).1 ∷ happenings_of b (happens b s e).0 es
 
 -- whether an event may come now
 abbrev pub is_lawful : State → Event → Bool

@@ -42,7 +42,7 @@ use Rattle.def_step.specs.Handlers.{return_taken, trap_taken}
 
 -- a register gets a value (register 0 drops it), pcc and posture change, RAM and devices too; where it
 -- reached a device, that is a deed
-pub record Done : Type 0 where
+pub record Effect : Type 0 where
   pub to : ℕ
   pub value : Cap
   pub pcc : Cap
@@ -52,13 +52,13 @@ pub record Done : Type 0 where
   pub act : Option Act
 
 -- what an instruction works on beside its operands: pcc and posture, RAM, devices and time
-pub record Around : Type 0 where
+pub record Context : Type 0 where
   pub pcc : Cap
   pub posture : Posture
   pub space : Space
 
 -- a register gets a value, and execution goes on after the instruction
-abbrev pub gives : Around → ℕ → Cap → Done
+abbrev pub gives : Context → ℕ → Cap → Effect
 gives a to value = record {
   to = to;
   value = value;
@@ -69,7 +69,7 @@ gives a to value = record {
   act = None;
 }
 
-abbrev pub flows : Around → ℕ → Result Flowed trap_words.Trap → Result Done trap_words.Trap
+abbrev pub flows : Context → ℕ → Result Flowed trap_words.Trap → Result Effect trap_words.Trap
 flows a to (Err t) = Err t
 flows a to (Ok f) =
     Ok (record {
@@ -82,7 +82,7 @@ flows a to (Ok f) =
       act = None;
     })
 
-abbrev pub accesses : Around → ℕ → Result Accessed trap_words.Trap → Result Done trap_words.Trap
+abbrev pub accesses : Context → ℕ → Result Accessed trap_words.Trap → Result Effect trap_words.Trap
 accesses a to (Err t) = Err t
 accesses a to (Ok m) =
     Ok (record {
@@ -97,7 +97,7 @@ accesses a to (Ok m) =
 
 -- x and y are the values of the first and second source, and `named` is the export that the root of x
 -- names, or 0
-abbrev pub carried_out : Class → Instr → ℕ → Cap → Cap → ℕ → Around → Result Done trap_words.Trap
+abbrev pub carried_out : Class → Instr → ℕ → Cap → Cap → ℕ → Context → Result Effect trap_words.Trap
 carried_out class.Integer i to x y named a =
     Ok (gives a to (integer (integer_result i (cap_address x) (cap_address y))))
 carried_out class.Capability i to x y named a = Ok (gives a to (capability_result i x y a.pcc))
@@ -167,7 +167,7 @@ space_of b s = record {
   time = s.time;
 }
 
-abbrev pub around : Board → State → ℕ → Around
+abbrev pub around : Board → State → ℕ → Context
 around b s t = record {
   pcc = (thread s t).pcc;
   posture = (thread s t).posture;
@@ -195,7 +195,7 @@ trapped b s t why = (
       (deed s t 0 (Trap why.cause why.code why.register)),
 )
 
-abbrev pub put_done : State → ℕ → Done → State
+abbrev pub put_done : State → ℕ → Effect → State
 put_done s t d = record s {
   granules = d.granules;
   threads = slice_set s.threads t (jumped (thread s t) d.pcc d.posture d.to d.value);
@@ -203,9 +203,9 @@ put_done s t d = record s {
 }
 
 -- `x` is the capability that was used: a deed's entry is its root
-abbrev pub ends : Board → State → ℕ → Cap → Result Done trap_words.Trap → State × Option Deed
-ends b s t x (Err why) = trapped b s t why
-ends b s t x (Ok d) = (put_done s t d, option_map (deed s t x.shadow.root) d.act)
+abbrev pub instruction_end : Board → State → ℕ → Cap → Result Effect trap_words.Trap → State × Option Deed
+instruction_end b s t x (Err why) = trapped b s t why
+instruction_end b s t x (Ok d) = (put_done s t d, option_map (deed s t x.shadow.root) d.act)
 
 abbrev pub operand : State → ℕ → ℕ → Cap
 operand s t n = register (thread s t) n
@@ -216,7 +216,7 @@ named_by i x = (root i x.shadow.root).of
 
 abbrev pub instructed : Board → State → ℕ → Instr → State × Option Deed
 instructed b s t i =
-    ends b s t (operand s t (operands_of i).first)
+    instruction_end b s t (operand s t (operands_of i).first)
     (carried_out (class_of i) i (operands_of i).to (operand s t (operands_of i).first)
     (operand s t (operands_of i).second) (named_by b.image (operand s t (operands_of i).first))
     (around b s t))

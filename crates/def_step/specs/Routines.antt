@@ -20,7 +20,7 @@ use Rattle.def_machine.specs.State.{State, Thread, thread, register}
 use Rattle.def_machine.specs.Memory.{lies_in}
 use Rattle.def_machine.specs.Registers.{written, with_thread}
 use Rattle.def_machine.specs.Threads.{resumed, with_status, statuses_of, with_statuses}
-use Rattle.def_machine.specs.Frames.{switched, given, entered}
+use Rattle.def_machine.specs.Frames.{switched, callee_start, entered}
 use Rattle.def_step.specs.Checks.{Check, first_failed}
 use Rattle.def_words.specs.Traps.{capability_trap, plain_trap}
 use Rattle.def_profile.specs.declared.traps.TheConstants.{TAG_CODE, SEAL_CODE, LOAD_CODE, BOUNDS_CODE, MISALIGNED_LOAD}
@@ -63,7 +63,7 @@ checked cs ran = by_failed (first_failed cs) ran
 abbrev pub enters : Image → State → ℕ → ℕ → ℕ → ℕ → Ran
 enters i s t callee export high = Leaves
     (switched i s t high
-    (entered i (thread s t) callee export high (given i (thread s t) t callee export high))
+    (entered i (thread s t) callee export high (callee_start i (thread s t) t callee export high))
     s.running)
     (Some ((register (thread s t) 6).shadow.root, Call export))
 

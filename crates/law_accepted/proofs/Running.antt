@@ -8,7 +8,7 @@ use Rattle.def_confined.specs.Telling.{AllLicensed}
 use Rattle.def_image.specs.Accepted.{IsFaultless}
 use Rattle.def_image.specs.Parts.{PartsRow}
 use Rattle.def_image.specs.Sound.{Sound}
-use Rattle.def_step.specs.Events.{happens, run, told}
+use Rattle.def_step.specs.Events.{happens, run, happenings_of}
 use Rattle.def_step.specs.declared.Event.{Event}
 use Rattle.ct_entry.specs.declared.acts.Act.TheVariants as acts
 use Rattle.ct_entry.specs.declared.acts.Deed.{Deed}
@@ -40,7 +40,7 @@ partitioned p f = booted.partitioned p (sound p f)
 pub kept : (p : PartsRow) (es : List Event) → Sound p → Keeps (image_of p) (run (board_of p) (boot_state p) es)
 kept p es s = run_keeps (board_of p) (boot_state p) es (booted.partitioned p s) (holds p s) (wired p s) (keeps p s)
 
-pub all_licensed : (p : PartsRow) (es : List Event) → Sound p → AllLicensed (image_of p).entries (told (board_of p) (boot_state p) es)
+pub all_licensed : (p : PartsRow) (es : List Event) → Sound p → AllLicensed (image_of p).entries (happenings_of (board_of p) (boot_state p) es)
 all_licensed p es s = told_licensed (board_of p) (boot_state p) es (booted.partitioned p s) (holds p s) (wired p s) (keeps p s)
 
 -- ---- of faultless parts
@@ -48,7 +48,7 @@ all_licensed p es s = told_licensed (board_of p) (boot_state p) es (booted.parti
 pub confined : (p : PartsRow) (es : List Event) → IsFaultless p → Confined (image_of p) (run (board_of p) (boot_state p) es)
 confined p es f = (kept p es (sound p f)).confined
 
-pub licensed : (p : PartsRow) (es : List Event) → IsFaultless p → AllLicensed (image_of p).entries (told (board_of p) (boot_state p) es)
+pub licensed : (p : PartsRow) (es : List Event) → IsFaultless p → AllLicensed (image_of p).entries (happenings_of (board_of p) (boot_state p) es)
 licensed p es f = all_licensed p es (sound p f)
 
 -- ---- what runs do

@@ -14,7 +14,7 @@ ghost use Rattle.def_image.specs.Parts.{PartsRow};
 ghost use Rattle.def_image.specs.Sound.{Sound};
 ghost use Rattle.def_machine.specs.Image.{root};
 ghost use Rattle.def_machine.specs.Objects.{charges};
-ghost use Rattle.def_step.specs.Events.{run, told};
+ghost use Rattle.def_step.specs.Events.{run, happenings_of};
 ghost use Rattle.def_step.specs.declared.Event.{Event};
 ghost use Rattle.def_events.specs.Upheld.{Upholds};
 ghost use Rattle.def_safety.specs.Chunks.{SweptBeforeReuse, UnusedAfterFree};
@@ -31,7 +31,7 @@ pub fn lawful_runs()
     ensures keeps { (p : PartsRow) (es : List Event) → Sound p
         → Keeps (image_of p) (run (board_of p) (boot_state p) es) }
     ensures licensed { (p : PartsRow) (es : List Event) → Sound p
-        → AllLicensed (image_of p).entries (told (board_of p) (boot_state p) es) }
+        → AllLicensed (image_of p).entries (happenings_of (board_of p) (boot_state p) es) }
 {}
 
 /// Of any bytes that are an image: the machine's image of its parts is partitioned; the machine is confined
@@ -43,7 +43,7 @@ pub fn accepted_images_run()
     ensures confined { (bytes : List ℕ) (p : PartsRow) (es : List Event) → IsImage bytes p
         → Confined (image_of p) (run (board_of p) (boot_state p) es) }
     ensures licensed { (bytes : List ℕ) (p : PartsRow) (es : List Event) → IsImage bytes p
-        → AllLicensed (image_of p).entries (told (board_of p) (boot_state p) es) }
+        → AllLicensed (image_of p).entries (happenings_of (board_of p) (boot_state p) es) }
 {}
 
 /// Whatever events come from its boot: calls are clean; each access is licensed; nothing is loaded, stored,
@@ -71,7 +71,7 @@ pub fn linked_images_run()
         → Confined (image_of p) (run (board_of p) (boot_state p) es) }
     ensures licensed { (d : DescRow) (sources : List (List ℕ)) (p : PartsRow) (es : List Event)
         → Links d sources p
-        → AllLicensed (image_of p).entries (told (board_of p) (boot_state p) es) }
+        → AllLicensed (image_of p).entries (happenings_of (board_of p) (boot_state p) es) }
 {}
 
 /// The premises are met, by what the rows and sources of two samples are linked to: the smallest

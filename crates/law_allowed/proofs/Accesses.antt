@@ -15,19 +15,19 @@ use Rattle.def_confined.specs.Telling.{AllLicensed}
 use Rattle.def_image.specs.Accepted.{IsFaultless}
 use Rattle.def_image.specs.Parts.{PartsRow}
 use Rattle.def_image.specs.Sound.{Sound}
-use Rattle.def_policy.specs.Breaking.{Holds, Keeps, is_listed}
+use Rattle.def_policy.specs.Breaking.{PolicyHolds, Keeps, is_listed}
 use Rattle.def_policy.specs.Denials.{AllDenied}
 use Rattle.def_policy.specs.Rulings.{Ruling}
 use Rattle.def_policy.specs.declared.Subject.TheVariants.{Device}
 use Rattle.def_profile.specs.declared.layout.TheConstants.{DEVICE_SIZE}
 use Rattle.def_reach.specs.Roots.{Listing, TrustedPart, Unknown, gate_for, listed_root, root_of}
-use Rattle.def_step.specs.Events.{told}
+use Rattle.def_step.specs.Events.{happenings_of}
 use Rattle.def_step.specs.declared.Event.{Event}
 use Rattle.law_accepted.proofs.Running.{licensed}
 use Rattle.law_allowed.proofs.Imports.{import_of, same_device}
-use Rattle.law_allowed.specs.Accesses.{AllListed, IsListedDeed, Meets, Touches}
+use Rattle.def_allowed.specs.Accesses.{AllListed, IsListedDeed, Meets, Touches}
 use Rattle.law_image.proofs.Sounds.{sound}
-use Rattle.law_policy.specs.Denied.{AreListed}
+use Rattle.def_policy.specs.Denied.{AreListed}
 use Rattle.law_policy.proofs.Denials.{holds_where}
 use Rattle.law_policy.proofs.Kept.{device_held}
 
@@ -85,7 +85,7 @@ module _ (p : PartsRow) (s : Sound p) (r : Ruling) (device : ℕ) (row : DeviceR
 
 -- ---- a rule of those that hold
 
-pub rule_keeps : (e : Listed) (rulings : List Ruling) (k : ℕ) (r : Ruling) → Holds e rulings → slice_get rulings k ≡ Some r → Keeps e r
+pub rule_keeps : (e : Listed) (rulings : List Ruling) (k : ℕ) (r : Ruling) → PolicyHolds e rulings → slice_get rulings k ≡ Some r → Keeps e r
 rule_keeps e [] k r holds is = absurd (let clash : None ≡ Some r = is in cc)
 rule_keeps e (x ∷ xs) zero r holds is =
     let same : x ≡ r = (let here : Some x ≡ Some r = is in cc) in
@@ -94,9 +94,9 @@ rule_keeps e (x ∷ xs) (suc k) r holds is = rule_keeps e xs k r (λ j d inside.
 
 pub allowed : (p : PartsRow) (es : List Event) (rulings : List Ruling) (k : ℕ) (r : Ruling) (device : ℕ) (d : DeviceRow) → IsFaultless p → AllDenied p 1 rulings []
     → slice_get rulings k ≡ Some r → r.subject ≡ Device device → slice_get p.devices device ≡ Some d
-    → AllListed (entries_of p) r device d.base (told (board_of p) (boot_state p) es)
+    → AllListed (entries_of p) r device d.base (happenings_of (board_of p) (boot_state p) es)
 unfolding image_of
 allowed p es rulings k r device d f none there is stands =
     all_listed p (sound p f) r device d stands
     (device_held (entries_of p) r device is (rule_keeps (entries_of p) rulings k r (holds_where p 1 rulings [] none refl) there))
-    (told (board_of p) (boot_state p) es) (licensed p es f)
+    (happenings_of (board_of p) (boot_state p) es) (licensed p es f)

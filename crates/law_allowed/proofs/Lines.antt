@@ -7,7 +7,7 @@ use Rattle.def_policy.specs.Denials.{AllDenied}
 use Rattle.def_policy.specs.Rules.{Device, Rule}
 use Rattle.def_policy.specs.Rulings.{Ruling, meant}
 use Rattle.def_policy.specs.Texts.{Reads}
-use Rattle.def_step.specs.Events.{told}
+use Rattle.def_step.specs.Events.{happenings_of}
 use Rattle.def_step.specs.declared.Event.{Event}
 use Rattle.ct_policy.proofs.Untrusted.{untrusted}
 use Rattle.ct_policy.specs.Kept.{KeepsUntrusted}
@@ -15,7 +15,7 @@ use Rattle.def_boot.specs.Gates.{entries_of}
 use Rattle.law_allowed.proofs.Accesses.{allowed, rule_keeps}
 use Rattle.law_allowed.proofs.Named.{on_device}
 use Rattle.law_allowed.proofs.Runs.{over}
-use Rattle.law_allowed.specs.Lines.{IsHeldDevice, IsKeptLine}
+use Rattle.def_allowed.specs.Lines.{IsHeldDevice, IsKeptLine}
 use Rattle.law_policy.proofs.Denials.{holds_where}
 use Rattle.std.specs.List.{AllByRecursion}
 
@@ -58,7 +58,7 @@ kept_over_runs p es text rulings k rule faultless reads none line =
 
 pub held_over_runs : (p : PartsRow) (es : List Event) (text : List ℕ) (rulings : List Ruling) (k : ℕ) (name : List ℕ) (owners : List (List ℕ)) → IsFaultless p
     → (reads : Reads p text rulings) → AllDenied p 1 rulings [] → slice_get reads.rules k ≡ Some (Device name owners)
-    → IsHeldDevice p name owners (told (board_of p) (boot_state p) es)
+    → IsHeldDevice p name owners (happenings_of (board_of p) (boot_state p) es)
 held_over_runs p es text rulings k name owners faultless reads none line =
     let m = line_means p reads.rules rulings k (Device name owners) reads.meant_are line in
     let on = on_device p name owners m.ruling faultless m.means in

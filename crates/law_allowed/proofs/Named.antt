@@ -15,7 +15,7 @@ use Rattle.def_policy.specs.Rules.{Device}
 use Rattle.def_policy.specs.Rulings.{Ruling, meant, only, ruling}
 use Rattle.def_policy.specs.declared.Subject.TheVariants as subject
 use Rattle.law_allowed.proofs.Once.{named_once}
-use Rattle.law_allowed.specs.Named.{IsOnDevice}
+use Rattle.def_allowed.specs.Named.{IsOnDevice}
 
 no_device : DeviceRow
 no_device = record { name = []; kind = Timer; base = 0 }

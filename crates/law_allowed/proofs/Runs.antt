@@ -32,19 +32,19 @@ use Rattle.def_policy.specs.Breaking.{IsApart, Keeps, counted, is_listed}
 use Rattle.def_policy.specs.Rulings.{Ruling}
 use Rattle.def_policy.specs.declared.Subject.{Subject}
 use Rattle.def_policy.specs.declared.Subject.TheVariants.{Apart, Call, Data, Device, Disabled, Quota, Service, Shared, Total}
-use Rattle.def_reach.specs.Roots.{Listing, Origin, Root, TrustedPart, Unknown, gate_for, is_disabled, is_owned, listed_root, root_of}
-use Rattle.def_reach.specs.Sharing.{Edge, Imports, IsLibrary, Joined, Leads, Reaches}
+use Rattle.def_reach.specs.Roots.{Listing, Origin, Root, TrustedPart, Unknown, gate_for, turns_interrupts_off, is_owned, listed_root, root_of}
+use Rattle.def_reach.specs.Sharing.{Edge, Imports, IsLibrary, Joined, IsEdgeList, Reaches}
 use Rattle.def_safety.specs.Accesses.{UsesReach}
 use Rattle.def_safety.specs.Calls.{CleanEvent}
 use Rattle.def_safety.specs.Each.{EachEvent, ready}
-use Rattle.def_step.specs.Events.{happens, run, told}
+use Rattle.def_step.specs.Events.{happens, run, happenings_of}
 use Rattle.def_step.specs.declared.Event.{Event}
 use Rattle.ct_policy.specs.Kept.{IsUntrusted}
 use Rattle.law_accepted.proofs.Running as running
 use Rattle.law_grants.proofs.Holding.{holds}
 use Rattle.law_image.proofs.Sounds.{sound}
-use Rattle.law_allowed.specs.Runs.{ChargesKeep, EntersClean, HoldsListed, HoldsNone, IsApartEvent, IsListedCall, IsListedFor, IsListedSpan, KeepsOver, RunsApart, RunsHoldListed, charged_from, counts}
-use Rattle.law_policy.specs.Denied.{AreDisabledListed, AreListed, PassesData, limits_counted}
+use Rattle.def_allowed.specs.Runs.{ChargesKeep, EntersClean, HoldsListed, HoldsNone, IsApartEvent, IsListedCall, IsListedFor, IsListedSpan, KeepsOver, RunsApart, RunsHoldListed, charged_from, counts}
+use Rattle.def_policy.specs.Denied.{AreDisabledListed, AreListed, PassesData, limits_counted}
 use Rattle.law_policy.proofs.Kept.{call_held, data_held, disabled_held, quota_held, service_held, shared_held, total_held}
 
 -- what holds of each event holds in other words
@@ -106,8 +106,8 @@ module _ (e : Listed) (n : ℕ) (are : PassesData e n) where
 
 -- ---- what is told of each event
 
-licensed_each : (e : Listed) (b : Board) (s : State) (es : List Event) → AllLicensed e (told b s es) → EachEvent (λ z x. IsLicensedEvent e (happens b z x).1) b s es
-unfolding told
+licensed_each : (e : Listed) (b : Board) (s : State) (es : List Event) → AllLicensed e (happenings_of b s es) → EachEvent (λ z x. IsLicensedEvent e (happens b z x).1) b s es
+unfolding happenings_of
 licensed_each e b s [] all = tt
 licensed_each e b s (x ∷ es) all = (all.0, licensed_each e b (happens b s x).0 es all.1)
 
@@ -146,7 +146,7 @@ row_limit e k x there = ap (λ o. (listed_root o (gate_for e.gates (suc k))).lim
 -- ---- two apart
 
 -- where a list of edges leads to has an entry, if where it begins has one
-leads_listed : (e : Listed) (a : ℕ) (xs : List ℕ) (b : ℕ) → has_entry e.rows (Compartment a) ≡ true → Leads e a xs b → has_entry e.rows (Compartment b) ≡ true
+leads_listed : (e : Listed) (a : ℕ) (xs : List ℕ) (b : ℕ) → has_entry e.rows (Compartment a) ≡ true → IsEdgeList e a xs b → has_entry e.rows (Compartment b) ≡ true
 leads_listed e a [] b there same = subst (λ z. has_entry e.rows (Compartment z) ≡ true) same there
 leads_listed e a (x ∷ xs) b there leads = leads_listed e x xs b (ends_listed e a x leads.0).1 leads.1
 
@@ -179,7 +179,7 @@ module _ (p : PartsRow) (es : List Event) (f : IsFaultless p) where
   abbrev e : Listed
   e = entries_of p
 
-  all_told : AllLicensed e (told (board_of p) (boot_state p) es)
+  all_told : AllLicensed e (happenings_of (board_of p) (boot_state p) es)
   unfolding image_of
   all_told = running.licensed p es f
 
@@ -211,12 +211,12 @@ module _ (p : PartsRow) (es : List Event) (f : IsFaultless p) where
     call_by n are d (act.Free number base length live) l is = absurd (let clash : act.Free number base length live ≡ act.Call n = is in cc)
     call_by n are d (act.Trap cause code at) l is = absurd (let clash : act.Trap cause code at ≡ act.Call n = is in cc)
 
-    calls_over : (n : ℕ) → AreListed e r kind.Call n → AllByRecursion (IsListedCall e r n) (told (board_of p) (boot_state p) es)
-    calls_over n are = licensed_so e (IsListedCall e r n) (λ h l d is call. call_by n are d d.act (l.deed d is) call) (told (board_of p) (boot_state p) es) all_told
+    calls_over : (n : ℕ) → AreListed e r kind.Call n → AllByRecursion (IsListedCall e r n) (happenings_of (board_of p) (boot_state p) es)
+    calls_over n are = licensed_so e (IsListedCall e r n) (λ h l d is call. call_by n are d d.act (l.deed d is) call) (happenings_of (board_of p) (boot_state p) es) all_told
 
-    spans_over : AreDisabledListed e r → AllByRecursion (IsListedSpan e r) (told (board_of p) (boot_state p) es)
+    spans_over : AreDisabledListed e r → AllByRecursion (IsListedSpan e r) (happenings_of (board_of p) (boot_state p) es)
     spans_over are =
-        licensed_so e (IsListedSpan e r) (λ h l o is. (off_listed e r are o.export (l.off o is).0 (l.off o is).1, (l.off o is).2)) (told (board_of p) (boot_state p) es) all_told
+        licensed_so e (IsListedSpan e r) (λ h l o is. (off_listed e r are o.export (l.off o is).0 (l.off o is).1, (l.off o is).2)) (happenings_of (board_of p) (boot_state p) es) all_told
 
   -- what a call import names is an export
   named_export : (n : ℕ) (d : Deed) (a : Act) → IsLicensed e d a → a ≡ act.Call n → (root_of e n).origin ≡ Listing kind.Export
@@ -291,7 +291,7 @@ module _ (p : PartsRow) (es : List Event) (f : IsFaultless p) where
 
     apart_over : RunsApart p o b es
     apart_over = record {
-      happenings = licensed_so e (IsApartEvent e o b) apart_so (told (board_of p) (boot_state p) es) all_told;
+      happenings = licensed_so e (IsApartEvent e o b) apart_so (happenings_of (board_of p) (boot_state p) es) all_told;
       registers = each_so (λ s x. UsesReach (board_of p) s) (λ s x. HoldsNone e o b (board_of p) s) none_held (board_of p) (boot_state p) es reaches;
     }
 

@@ -16,11 +16,11 @@ ghost use Rattle.def_policy.specs.Rules.{Rule};
 ghost use Rattle.def_policy.specs.Rulings.{Ruling, meant};
 ghost use Rattle.def_policy.specs.Texts.{Reads};
 ghost use Rattle.def_policy.specs.declared.Subject.TheVariants.{Device};
-ghost use Rattle.def_step.specs.Events.{told};
+ghost use Rattle.def_step.specs.Events.{happenings_of};
 ghost use Rattle.def_step.specs.declared.Event.{Event};
-ghost use Rattle.law_allowed.specs.Accesses.{AllListed};
-ghost use Rattle.law_allowed.specs.Lines.{IsHeldDevice, IsKeptLine};
-ghost use Rattle.law_allowed.specs.Named.{IsOnDevice};
+ghost use Rattle.def_allowed.specs.Accesses.{AllListed};
+ghost use Rattle.def_allowed.specs.Lines.{IsHeldDevice, IsKeptLine};
+ghost use Rattle.def_allowed.specs.Named.{IsOnDevice};
 
 /// What a rule on a device means in parts without a fault is about the one device that has the rule's
 /// name, and lists what the rule's owners stand for.
@@ -39,7 +39,7 @@ pub fn allowed_devices_are_held()
         → IsFaultless p → AllDenied p 1 rulings []
         → slice_get rulings k ≡ Some r → r.subject ≡ Device device
         → slice_get p.devices device ≡ Some d
-        → AllListed (entries_of p) r device d.base (told (board_of p) (boot_state p) es) }
+        → AllListed (entries_of p) r device d.base (happenings_of (board_of p) (boot_state p) es) }
 {}
 
 /// Of parts without a fault, whatever their code is, and a text of rules that nothing denies. Each line's
@@ -58,13 +58,13 @@ pub fn allowed_devices_are_held()
 ///
 /// And for a line on a device there is one device of the line's name.
 pub fn policies_hold_over_runs()
-    ensures lines { (p : PartsRow) (es : List Event) (text : List ℕ) (rulings : List Ruling) (k : ℕ)
-        (rule : Rule)
+    ensures lines { (p : PartsRow) (es : List Event) (text : List ℕ) (rulings : List Ruling)
+        (k : ℕ) (rule : Rule)
         → IsFaultless p → (reads : Reads p text rulings) → AllDenied p 1 rulings []
         → slice_get reads.rules k ≡ Some rule → IsKeptLine p rule es }
-    ensures device { (p : PartsRow) (es : List Event) (text : List ℕ) (rulings : List Ruling) (k : ℕ)
-        (name : List ℕ) (owners : List (List ℕ))
+    ensures device { (p : PartsRow) (es : List Event) (text : List ℕ) (rulings : List Ruling)
+        (k : ℕ) (name : List ℕ) (owners : List (List ℕ))
         → IsFaultless p → (reads : Reads p text rulings) → AllDenied p 1 rulings []
         → slice_get reads.rules k ≡ Some (rule.Device name owners)
-        → IsHeldDevice p name owners (told (board_of p) (boot_state p) es) }
+        → IsHeldDevice p name owners (happenings_of (board_of p) (boot_state p) es) }
 {}

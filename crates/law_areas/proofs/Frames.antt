@@ -2,24 +2,24 @@
 use Rattle.std.proofs.Common.{ℕ, zero, suc, ◌≡◌, ◌+◌, ◌*◌, ◌/◌, ◌%◌, ◌^◌, ◌==◌, ◌<◌, ◌≤◌, inl, Bool, true, false, List, [], ◌∷◌, length, refl, ap, ◌∙◌, arith}
 use Rattle.def_words.specs.declared.Cap.{Cap}
 use Rattle.def_memory.specs.declared.Granule.{Granule}
-use Rattle.def_memory.specs.Granules.{plain, held, holding_all}
+use Rattle.def_memory.specs.Granules.{plain, cap_in, holding_all}
 use Rattle.def_areas.specs.Areas.{low_word, high_word, frame_place, frame_at, frames_from, frames_in, frame_words, mark_word, caller_actor, caller_top, caller_handling}
 use Rattle.law_areas.proofs.Writes.{all_at, all_other}
 
 from_same : (gs hs : List Granule) (a actor top : ℕ) (handling : Bool) (depth : ℕ)
-    → ((m : ℕ) → frame_place a 0 ≤ m → m < frame_place a depth → held hs m ≡ held gs m)
+    → ((m : ℕ) → frame_place a 0 ≤ m → m < frame_place a depth → cap_in hs m ≡ cap_in gs m)
     → frames_from hs a actor top handling depth ≡ frames_from gs a actor top handling depth
 from_same gs hs a actor top handling zero same = refl
 from_same gs hs a actor top handling (suc j) same =
     let k : ℕ = frame_place a j in
-    let e0 : held hs k ≡ held gs k = same k (omega arith) (omega arith) in
-    let e1 : held hs (k + 1) ≡ held gs (k + 1) = same (k + 1) (omega arith) (omega arith) in
-    let e2 : held hs (k + 2) ≡ held gs (k + 2) = same (k + 2) (omega arith) (omega arith) in
-    let e3 : held hs (k + 3) ≡ held gs (k + 3) = same (k + 3) (omega arith) (omega arith) in
-    let e4 : held hs (k + 4) ≡ held gs (k + 4) = same (k + 4) (omega arith) (omega arith) in
-    let e5 : held hs (k + 5) ≡ held gs (k + 5) = same (k + 5) (omega arith) (omega arith) in
-    let e6 : held hs (k + 6) ≡ held gs (k + 6) = same (k + 6) (omega arith) (omega arith) in
-    let e7 : held hs (k + 7) ≡ held gs (k + 7) = same (k + 7) (omega arith) (omega arith) in
+    let e0 : cap_in hs k ≡ cap_in gs k = same k (omega arith) (omega arith) in
+    let e1 : cap_in hs (k + 1) ≡ cap_in gs (k + 1) = same (k + 1) (omega arith) (omega arith) in
+    let e2 : cap_in hs (k + 2) ≡ cap_in gs (k + 2) = same (k + 2) (omega arith) (omega arith) in
+    let e3 : cap_in hs (k + 3) ≡ cap_in gs (k + 3) = same (k + 3) (omega arith) (omega arith) in
+    let e4 : cap_in hs (k + 4) ≡ cap_in gs (k + 4) = same (k + 4) (omega arith) (omega arith) in
+    let e5 : cap_in hs (k + 5) ≡ cap_in gs (k + 5) = same (k + 5) (omega arith) (omega arith) in
+    let e6 : cap_in hs (k + 6) ≡ cap_in gs (k + 6) = same (k + 6) (omega arith) (omega arith) in
+    let e7 : cap_in hs (k + 7) ≡ cap_in gs (k + 7) = same (k + 7) (omega arith) (omega arith) in
     let rest : frames_from hs a (caller_actor gs k) (caller_top gs k) (caller_handling gs k) j
     ≡ frames_from gs a (caller_actor gs k) (caller_top gs k) (caller_handling gs k) j =
     from_same gs hs a (caller_actor gs k) (caller_top gs k) (caller_handling gs k) j (λ m lo hi. same m lo (omega (arith, hi))) in
@@ -27,7 +27,7 @@ from_same gs hs a actor top handling (suc j) same =
 
 -- frames are a function of the granules in which they stand
 pub frames_same : (gs hs : List Granule) (a actor top : ℕ) (handling : Bool) (depth : ℕ)
-    → ((m : ℕ) → frame_place a 0 ≤ m → m < frame_place a depth → held hs m ≡ held gs m)
+    → ((m : ℕ) → frame_place a 0 ≤ m → m < frame_place a depth → cap_in hs m ≡ cap_in gs m)
     → frames_in hs a actor top handling depth ≡ frames_in gs a actor top handling depth
 unfolding frames_in
 frames_same gs hs a actor top handling depth same = from_same gs hs a actor top handling depth same
@@ -72,18 +72,18 @@ frame_written gs a actor top handling depth own export high c1 c2 c3 c8 c9 small
     let cs : List Cap = frame_words (c1 ∷ c2 ∷ c3 ∷ c8 ∷ c9 ∷ []) export actor top handling in
     let hs : List Granule = holding_all gs k cs in
     let room : k + 8 ≤ length gs = omega (arith, inside) in
-    let e0 : held hs k ≡ c1 = let here : k + 0 ≡ k = omega arith in rw here at (all_at gs k 0 cs (omega arith) room) in
-    let e1 : held hs (k + 1) ≡ c2 = all_at gs k 1 cs (omega arith) room in
-    let e2 : held hs (k + 2) ≡ c3 = all_at gs k 2 cs (omega arith) room in
-    let e3 : held hs (k + 3) ≡ c8 = all_at gs k 3 cs (omega arith) room in
-    let e4 : held hs (k + 4) ≡ c9 = all_at gs k 4 cs (omega arith) room in
-    let e5 : held hs (k + 5) ≡ plain (export + actor * 2 ^ 32) = all_at gs k 5 cs (omega arith) room in
-    let e6 : held hs (k + 6) ≡ plain top = all_at gs k 6 cs (omega arith) room in
-    let e7 : held hs (k + 7) ≡ plain (mark_word handling) = all_at gs k 7 cs (omega arith) room in
-    let w1 : low_word (held hs (k + 5)) ≡ export = ap low_word e5 ∙ halves_low export actor small in
-    let w2 : high_word (held hs (k + 5)) ≡ actor = ap high_word e5 ∙ halves_high export actor small in
-    let w3 : low_word (held hs (k + 6)) ≡ top = ap low_word e6 ∙ (let is : top % 2 ^ 32 ≡ top = omega (arith, low) in is) in
-    let w4 : (low_word (held hs (k + 7)) == 1) ≡ handling = ap (λ c. low_word c == 1) e7 ∙ mark_back handling in
+    let e0 : cap_in hs k ≡ c1 = let here : k + 0 ≡ k = omega arith in rw here at (all_at gs k 0 cs (omega arith) room) in
+    let e1 : cap_in hs (k + 1) ≡ c2 = all_at gs k 1 cs (omega arith) room in
+    let e2 : cap_in hs (k + 2) ≡ c3 = all_at gs k 2 cs (omega arith) room in
+    let e3 : cap_in hs (k + 3) ≡ c8 = all_at gs k 3 cs (omega arith) room in
+    let e4 : cap_in hs (k + 4) ≡ c9 = all_at gs k 4 cs (omega arith) room in
+    let e5 : cap_in hs (k + 5) ≡ plain (export + actor * 2 ^ 32) = all_at gs k 5 cs (omega arith) room in
+    let e6 : cap_in hs (k + 6) ≡ plain top = all_at gs k 6 cs (omega arith) room in
+    let e7 : cap_in hs (k + 7) ≡ plain (mark_word handling) = all_at gs k 7 cs (omega arith) room in
+    let w1 : low_word (cap_in hs (k + 5)) ≡ export = ap low_word e5 ∙ halves_low export actor small in
+    let w2 : high_word (cap_in hs (k + 5)) ≡ actor = ap high_word e5 ∙ halves_high export actor small in
+    let w3 : low_word (cap_in hs (k + 6)) ≡ top = ap low_word e6 ∙ (let is : top % 2 ^ 32 ≡ top = omega (arith, low) in is) in
+    let w4 : (low_word (cap_in hs (k + 7)) == 1) ≡ handling = ap (λ c. low_word c == 1) e7 ∙ mark_back handling in
     let rest : frames_from hs a actor top handling depth ≡ frames_from gs a actor top handling depth =
     from_same gs hs a actor top handling depth (λ m lo hi. ap (λ (g : Granule). g.cap) (all_other gs k m cs (inl hi))) in
     rw (e0, e1, e2, e3, e4, w1, w2, w3, w4, rest) refl

@@ -5,9 +5,9 @@ use Rattle.std.proofs.lemmas.List.{get_or-set_same, get_or-set_other, length-set
 use Rattle.law_lists.proofs.Sets.{after_set_at}
 use Rattle.def_words.specs.declared.Cap.{Cap}
 use Rattle.def_memory.specs.declared.Granule.{Granule}
-use Rattle.def_memory.specs.Granules.{plain, nothing, granule_at, held, held_from, holding, holding_all}
+use Rattle.def_memory.specs.Granules.{plain, nothing, granule_at, cap_in, caps_from, holding, holding_all}
 
-pub put_same : (gs : List Granule) (k : ℕ) (c : Cap) → k < length gs → held (holding gs k c) k ≡ c
+pub put_same : (gs : List Granule) (k : ℕ) (c : Cap) → k < length gs → cap_in (holding gs k c) k ≡ c
 put_same gs k c lt =
     ap (λ (g : Granule). g.cap) (get_or-set_same gs k (record { cap = c; mark = (granule_at gs k).mark }) nothing lt)
 
@@ -41,7 +41,7 @@ all_other gs k m (c ∷ cs) out =
 
 -- and here stands what was written
 pub all_at : (gs : List Granule) (k n : ℕ) (cs : List Cap) → n < length cs → k + length cs ≤ length gs
-    → held (holding_all gs k cs) (k + n) ≡ get_or cs n (plain 0)
+    → cap_in (holding_all gs k cs) (k + n) ≡ get_or cs n (plain 0)
 all_at gs k n [] lt inside = absurd (omega (arith, lt))
 all_at gs k zero (c ∷ cs) lt inside =
     let here : k + zero ≡ k = omega arith in
@@ -54,20 +54,20 @@ all_at gs k (suc n) (c ∷ cs) lt inside =
 
 -- what was written is read
 pub read_back : (gs : List Granule) (k : ℕ) (cs : List Cap) → k + length cs ≤ length gs
-    → held_from (holding_all gs k cs) k (length cs) ≡ cs
+    → caps_from (holding_all gs k cs) k (length cs) ≡ cs
 read_back gs k [] inside = refl
 read_back gs k (c ∷ cs) inside =
     let same : length (holding gs k c) ≡ length gs = put_length gs k c in
-    let first : held (holding_all (holding gs k c) (k + 1) cs) k ≡ c =
+    let first : cap_in (holding_all (holding gs k c) (k + 1) cs) k ≡ c =
     ap (λ (g : Granule). g.cap) (all_other (holding gs k c) (k + 1) k cs (inl (omega arith))) ∙ put_same gs k c (omega (arith, inside)) in
-    let rest : held_from (holding_all (holding gs k c) (k + 1) cs) (k + 1) (length cs) ≡ cs = read_back (holding gs k c) (k + 1) cs (omega (arith, inside, same)) in
-    ap (λ x. x ∷ held_from (holding_all (holding gs k c) (k + 1) cs) (k + 1) (length cs)) first ∙ ap (λ r. c ∷ r) rest
+    let rest : caps_from (holding_all (holding gs k c) (k + 1) cs) (k + 1) (length cs) ≡ cs = read_back (holding gs k c) (k + 1) cs (omega (arith, inside, same)) in
+    ap (λ x. x ∷ caps_from (holding_all (holding gs k c) (k + 1) cs) (k + 1) (length cs)) first ∙ ap (λ r. c ∷ r) rest
 
 -- what is held is a function of the granules
-pub held_same : (gs hs : List Granule) (k n : ℕ) → ((m : ℕ) → k ≤ m → m < k + n → held hs m ≡ held gs m)
-    → held_from hs k n ≡ held_from gs k n
+pub held_same : (gs hs : List Granule) (k n : ℕ) → ((m : ℕ) → k ≤ m → m < k + n → cap_in hs m ≡ cap_in gs m)
+    → caps_from hs k n ≡ caps_from gs k n
 held_same gs hs k zero same = refl
 held_same gs hs k (suc n) same =
-    let first : held hs k ≡ held gs k = same k (omega arith) (omega arith) in
-    let rest : held_from hs (k + 1) n ≡ held_from gs (k + 1) n = held_same gs hs (k + 1) n (λ m lo hi. same m (omega (arith, lo)) (omega (arith, hi))) in
+    let first : cap_in hs k ≡ cap_in gs k = same k (omega arith) (omega arith) in
+    let rest : caps_from hs (k + 1) n ≡ caps_from gs (k + 1) n = held_same gs hs (k + 1) n (λ m lo hi. same m (omega (arith, lo)) (omega (arith, hi))) in
     rw (first, rest) refl

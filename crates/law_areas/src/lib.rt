@@ -9,14 +9,14 @@ ghost use Rattle.def_memory.specs.declared.Granule.{Granule};
 ghost use Rattle.def_memory.specs.Accesses.{stored, stored_cap};
 ghost use Rattle.def_memory.specs.Ranges.{zeroed_from};
 ghost use Rattle.def_areas.specs.Areas.{frame_place, frame_words, frames_in};
-ghost use Rattle.def_memory.specs.Granules.{held, held_from, holding_all};
+ghost use Rattle.def_memory.specs.Granules.{cap_in, caps_from, holding_all};
 ghost use Rattle.def_areas.specs.Touches.{Touches};
 
 /// Frames that stand in the same granules are the same; a frame that is written above others is the innermost, and
 /// they stay.
 pub fn written_frames()
     ensures same { (gs hs : List Granule) (area actor top : ℕ) (handling : Bool) (depth : ℕ)
-        → ((k : ℕ) → frame_place area 0 ≤ k → k < frame_place area depth → held hs k ≡ held gs k)
+        → ((k : ℕ) → frame_place area 0 ≤ k → k < frame_place area depth → cap_in hs k ≡ cap_in gs k)
         → frames_in hs area actor top handling depth ≡ frames_in gs area actor top handling depth }
     ensures written { (gs : List Granule) (area actor top : ℕ) (handling : Bool)
         (depth own export high : ℕ)
@@ -42,10 +42,10 @@ pub fn written_frames()
 /// What was written is held, and what stands in the same granules is the same.
 pub fn written_registers()
     ensures back { (gs : List Granule) (k : ℕ) (cs : List Cap) → k + length cs ≤ length gs
-        → held_from (holding_all gs k cs) k (length cs) ≡ cs }
+        → caps_from (holding_all gs k cs) k (length cs) ≡ cs }
     ensures same { (gs hs : List Granule) (k n : ℕ)
-        → ((m : ℕ) → k ≤ m → m < k + n → held hs m ≡ held gs m)
-        → held_from hs k n ≡ held_from gs k n }
+        → ((m : ℕ) → k ≤ m → m < k + n → cap_in hs m ≡ cap_in gs m)
+        → caps_from hs k n ≡ caps_from gs k n }
 {}
 
 /// Stores and clearings touch the granules that they name, and leave every other granule and every mark.

@@ -10,7 +10,7 @@ use Rattle.def_source.specs.declared.parts.Number.{Number}
 use Rattle.def_source.specs.declared.parts.Target.{Target}
 use Rattle.def_source.specs.declared.parts.Part.{Part}
 use Rattle.def_source.specs.declared.parts.Part.TheVariants as part
-use Rattle.law_assembly.specs.Written.{AreWritten, operands, head_by, directive_by, Writes, WritesDirective}
+use Rattle.def_assembly.specs.Written.{AreWritten, operands, head_by, directive_by, Writes, WritesDirective}
 use Rattle.law_assembly.proofs.Operands.{two_registers_says, three_registers_says, two_registers_number_says, two_registers_target_says, register_number_says, register_target_says, register_name_says, register_address_says, one_register_says, one_number_says, one_target_says, two_registers_reads, three_registers_reads, two_registers_number_reads, two_registers_target_reads, register_number_reads, register_target_reads, register_name_reads, register_address_reads, two_registers_no_address, one_register_reads, one_number_reads, one_target_reads}
 
 -- ---- read, so written

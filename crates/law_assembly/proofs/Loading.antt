@@ -13,7 +13,7 @@ use Rattle.def_machine.specs.State.{Thread, register}
 use Rattle.def_machine.specs.Threads.{jumped}
 use Rattle.def_step.specs.Accesses.{Space}
 use Rattle.def_object.specs.Object.{high_piece, low_piece, way, is_short, upper_part, rest_part, number_instructions, text_instructions, global_instructions}
-use Rattle.law_assembly.specs.Loading.{effect, onward, after, MayWrite, Gives, AreApart, IsWayOn, Leads, LeadsToSlot}
+use Rattle.def_assembly.specs.Loading.{effect, onward, after, MayWrite, Gives, AreApart, IsWayOn, Leads, LeadsToSlot}
 use Rattle.law_assembly.proofs.Pieces.{pieces_back, leads_to}
 
 -- ---- one register is written

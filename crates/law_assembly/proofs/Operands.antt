@@ -6,7 +6,7 @@ use Rattle.def_source.specs.declared.parts.Number.{Number}
 use Rattle.def_source.specs.declared.parts.Token.TheVariants as token
 use Rattle.def_source.specs.declared.parts.Target.{Target}
 use Rattle.def_source.specs.declared.parts.Target.TheVariants as target
-use Rattle.law_assembly.specs.Written.{Register, Numbered, Named, Towards, Address, IsWritten, AreWritten}
+use Rattle.def_assembly.specs.Written.{Register, Numbered, Named, Towards, Address, IsWritten, AreWritten}
 
 -- a reader that gave something, its first step gave something
 bind : {A B : Type 0} (o : Option A) (f : A → Option B) (y : B) → option_and_then f o ≡ Some y → (x : A) × ((o ≡ Some x) × (f x ≡ Some y))

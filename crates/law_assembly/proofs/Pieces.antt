@@ -2,7 +2,7 @@
 use Rattle.std.proofs.Common.{◌≡◌, ℕ, ◌+◌, ◌-◌, ◌*◌, ◌/◌, ◌%◌, ◌^◌, ◌<◌, ◌≤◌, Bool, true, false, cond, nat_lt, zero, suc, ◌⊎◌, inl, inr, refl, ap, arith}
 use Rattle.def_bits.specs.Bits.{extended}
 use Rattle.def_object.specs.Object.{upper_part, rest_part, high_piece, low_piece}
-use Rattle.law_assembly.specs.Loading.{first_address, AreApart, LeadsTo}
+use Rattle.def_assembly.specs.Loading.{first_address, AreApart, LeadsTo}
 
 pub pieces_back : (word : ℕ) → word < 2 ^ 32 → (upper_part word * 2 ^ 12 % 2 ^ 32 + rest_part word) % 2 ^ 32 ≡ word
 pieces_back word h = by_test (nat_lt (word % 2 ^ 12) (2 ^ 11)) refl

@@ -4,7 +4,7 @@ use Rattle.std.proofs.lemmas.Bool.{and_parts}
 use Rattle.def_instr.specs.declared.Instr.{Instr}
 use Rattle.def_instr.specs.declared.Instr.TheVariants as instr
 use Rattle.def_instr.specs.declared.shapes.Shape.TheVariants as shape
-use Rattle.def_instr.specs.Table.{InRange, word_of, IsSigned}
+use Rattle.def_instr.specs.Table.{InRange, encoded, IsSigned}
 use Rattle.ct_isa.proofs.Complete.{complete}
 use Rattle.def_source.specs.Source.{Name, Statements, IsLawful, lawful_from, is_lawful, in_section, numbers_fit, registers_exist, section_after, exists, or_else}
 use Rattle.def_source.specs.declared.parts.Section.{Section}
@@ -14,7 +14,7 @@ use Rattle.def_source.specs.declared.parts.Part.TheVariants as part
 use Rattle.def_object.specs.declared.Place.{Place}
 use Rattle.def_object.specs.declared.Fault.{Fault}
 use Rattle.def_object.specs.Object.{Labels, instructions_at, number_instructions, instruction_bytes, bytes_at, offset, advanced, fault_in, fault_from, label_in, start, lesser, on_line, statement_fault, reference_fault, size_fault, is_short, number_word, upper_part, rest_part, label_offset, slot_number, slot_of}
-use Rattle.law_assembly.specs.Decoding.{Decodes, Says, AllSay, is_instruction}
+use Rattle.def_assembly.specs.Decoding.{Decodes, Says, AllSay, is_instruction}
 use Rattle.law_assembly.proofs.Ranges.{shaped_range, immediate_range, bares_range, high_range, low_range, upper_range, rest_range, word_small, short_range, cut_range, branch_range, jump_range}
 use Rattle.ct_asm.proofs.Reach.{signed_word}
 
@@ -26,7 +26,7 @@ AllInRange (i ∷ is) = InRange i × AllInRange is
 -- what is in range decodes to itself
 decodes : (is : List Instr) → AllInRange is → Decodes is (instruction_bytes is)
 decodes [] h = refl
-decodes (i ∷ is) h = (word_of i, (instruction_bytes is, (refl, complete i (word_of i) (record { ranged = h.0; row = refl }), decodes is h.1)))
+decodes (i ∷ is) h = (encoded i, (instruction_bytes is, (refl, complete i (encoded i) (record { ranged = h.0; row = refl }), decodes is h.1)))
 
 zero_signed : IsSigned 12 0
 zero_signed = (omega arith, omega arith)

@@ -11,9 +11,9 @@ ghost use Rattle.def_object.specs.Object.{fault_in, label_in, start, number_inst
 ghost use Rattle.def_words.specs.Capability.{integer};
 ghost use Rattle.def_machine.specs.State.{Thread, register};
 ghost use Rattle.def_step.specs.Accesses.{Space};
-ghost use Rattle.law_assembly.specs.Decoding.{AllSay};
-ghost use Rattle.law_assembly.specs.Loading.{after, MayWrite, Gives, AreApart, LeadsTo, Leads, LeadsToSlot, to_slot};
-ghost use Rattle.law_assembly.specs.Written.{Writes, WritesDirective};
+ghost use Rattle.def_assembly.specs.Decoding.{AllSay};
+ghost use Rattle.def_assembly.specs.Loading.{after, MayWrite, Gives, AreApart, LeadsTo, Leads, LeadsToSlot, to_slot};
+ghost use Rattle.def_assembly.specs.Written.{Writes, WritesDirective};
 
 /// The tokens after a first word are read as a statement just where the word begins that statement
 /// and the tokens are its operands, each written as its kind, with a comma between each two.

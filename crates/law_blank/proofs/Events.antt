@@ -31,7 +31,7 @@ use Rattle.def_step.specs.declared.Event.TheVariants.{Step, Tick, Sweep, Input}
 use Rattle.def_step.specs.Accesses.{Accessed}
 use Rattle.def_step.specs.Jumps.{Flowed}
 use Rattle.def_step.specs.Operands.{operands_of, class_of}
-use Rattle.def_step.specs.Instructions.{Done, carried_out, named_by, flows, accesses, around, operand, executed}
+use Rattle.def_step.specs.Instructions.{Effect, carried_out, named_by, flows, accesses, around, operand, executed}
 use Rattle.def_machine.specs.Board.{Board}
 use Rattle.def_step.specs.Events.{preempted_from, preempted, picked_as, picked_from, scheduled, continued, one_more_step, stepped, interrupted, happens, run}
 use Rattle.law_places.proofs.Rows.{each_map}
@@ -104,11 +104,11 @@ handler_blank i s t why f fs p shut h frames is blank k hidden =
 
 -- ---- an instruction
 
-abbrev IfLeft : Board → State → Result Done Trap → Type 0
+abbrev IfLeft : Board → State → Result Effect Trap → Type 0
 IfLeft b s (Err w) = Unit {0}
 IfLeft b s (Ok d) = BlankIn b s d.granules
 
-done_blank : (b : Board) (s : State) (t : ℕ) (r : Result Done Trap) → IfLeft b s r → IfDone (Blank b.image) s t r
+done_blank : (b : Board) (s : State) (t : ℕ) (r : Result Effect Trap) → IfLeft b s r → IfDone (Blank b.image) s t r
 done_blank b s t (Err why) done = tt
 done_blank b s t (Ok d) done = done
 

@@ -16,9 +16,9 @@ use Rattle.def_machine.specs.Image.{made_cap}
 use Rattle.def_image.specs.Parts.{ThreadRow, PartsRow}
 use Rattle.def_image.specs.Members.{sealed, code_number}
 use Rattle.def_image.specs.Sound.{Sound}
-use Rattle.def_boot.specs.Entries.{rows_of}
+use Rattle.def_boot.specs.Entries.{entry_rows}
 use Rattle.def_boot.specs.Gates.{gates_of}
-use Rattle.def_boot.specs.Made.{from_entry, made_as, made_by, made_caps, made_code, made_for, made_from, return_sentry, sentry_type}
+use Rattle.def_boot.specs.Made.{from_entry, entry_cap_as, entry_cap, caps_at_boot, code_cap, boot_cap_of, entry_caps, return_sentry, sentry_type}
 use Rattle.def_boot.specs.Boot.{image_of, boot_state, entry_address, first_pcc}
 use Rattle.def_boot_places.specs.Places.{Place, cap_at}
 use Rattle.def_boot_places.specs.Listed.{IsRootWord, IsDerived, ComesFromRoot}
@@ -26,16 +26,16 @@ use Rattle.law_listed.proofs.Standing.{made_there, made_past}
 use Rattle.law_grants.proofs.Sets.{no_way}
 use Rattle.law_boot_places.proofs.Starting.{everywhere, counter_addressed}
 
-as_derived : (root n : ℕ) (r : Entry) (address type : ℕ) → IsRootWord root → IsDerived (made_as root n r address type)
+as_derived : (root n : ℕ) (r : Entry) (address type : ℕ) → IsRootWord root → IsDerived (entry_cap_as root n r address type)
 as_derived root n r address type is = record { high = root; root_word = is; base = r.base; length = r.length; set = r.rights; address = address; kind = type; from = from_entry n; is = refl }
 
-code_derived : (n : ℕ) (r : Entry) (o : Owner) → (made_code n r o).tag ≡ true → IsDerived (made_code n r o)
+code_derived : (n : ℕ) (r : Entry) (o : Owner) → (code_cap n r o).tag ≡ true → IsDerived (code_cap n r o)
 code_derived n r Trusted tagged = no_way tagged
 code_derived n r (Compartment b) tagged = as_derived executable_root n r r.base 0 (inr (inl refl))
 code_derived n r (Library l) tagged = no_way tagged
 code_derived n r (Thread t) tagged = no_way tagged
 
-by_derived : (p : PartsRow) (n : ℕ) (r : Entry) (k : Kind) → (made_by p n r k).tag ≡ true → IsDerived (made_by p n r k)
+by_derived : (p : PartsRow) (n : ℕ) (r : Entry) (k : Kind) → (entry_cap p n r k).tag ≡ true → IsDerived (entry_cap p n r k)
 by_derived p n r kind.Code tagged = code_derived n r r.owner tagged
 by_derived p n r kind.Globals tagged = as_derived memory_root n r r.base 0 (inl refl)
 by_derived p n r kind.Stack tagged = as_derived memory_root n r (r.base + r.length) 0 (inl refl)
@@ -52,16 +52,16 @@ by_derived p n r kind.Export tagged = no_way tagged
 sentry_derived : IsDerived return_sentry
 sentry_derived = record { high = executable_root; root_word = inr (inl refl); base = RETURN_ENTRY; length = NATIVE_LENGTH; set = SERVICE_RIGHTS; address = RETURN_ENTRY; kind = RETURN_ENABLE; from = from_entry 0; is = refl }
 
-row_derived : (p : PartsRow) (m : ℕ) (o : Option Entry) → slice_get (rows_of p) m ≡ o → (slice_index_or (made_from p 1 (rows_of p)) m (plain 0)).tag ≡ true → IsDerived (slice_index_or (made_from p 1 (rows_of p)) m (plain 0))
-row_derived p m None is tagged = no_way (sym (ap (λ (c : Cap). c.tag) (made_past p 1 (rows_of p) m (plain 0) is)) ∙ tagged)
+row_derived : (p : PartsRow) (m : ℕ) (o : Option Entry) → slice_get (entry_rows p) m ≡ o → (slice_index_or (entry_caps p 1 (entry_rows p)) m (plain 0)).tag ≡ true → IsDerived (slice_index_or (entry_caps p 1 (entry_rows p)) m (plain 0))
+row_derived p m None is tagged = no_way (sym (ap (λ (c : Cap). c.tag) (made_past p 1 (entry_rows p) m (plain 0) is)) ∙ tagged)
 row_derived p m (Some r) is tagged =
-    let same = made_there p 1 (rows_of p) m r (plain 0) is in
+    let same = made_there p 1 (entry_rows p) m r (plain 0) is in
     subst IsDerived (sym same) (by_derived p (1 + m) r r.kind (sym (ap (λ (c : Cap). c.tag) same) ∙ tagged))
 
-pub for_derived : (p : PartsRow) (n : ℕ) → (made_for p n).tag ≡ true → IsDerived (made_for p n)
-unfolding made_caps
+pub for_derived : (p : PartsRow) (n : ℕ) → (boot_cap_of p n).tag ≡ true → IsDerived (boot_cap_of p n)
+unfolding caps_at_boot
 for_derived p zero tagged = sentry_derived
-for_derived p (suc m) tagged = row_derived p m (slice_get (rows_of p) m) refl tagged
+for_derived p (suc m) tagged = row_derived p m (slice_get (entry_rows p) m) refl tagged
 
 module _ (p : PartsRow) (s : Sound p) where
   made_comes : (n : ℕ) → (made_cap (image_of p) n).tag ≡ true → ComesFromRoot (made_cap (image_of p) n)
@@ -69,7 +69,7 @@ module _ (p : PartsRow) (s : Sound p) where
   made_comes n tagged = inl (for_derived p n tagged)
 
   counter_comes : (t : ℕ) (x : ThreadRow) → slice_get p.threads t ≡ Some x → (first_pcc p x).tag ≡ true → ComesFromRoot (first_pcc p x)
-  counter_comes t x there tagged = inr (made_for p (code_number p x.compartment), entry_address p x, for_derived p (code_number p x.compartment) (counter_addressed p s t x there tagged).tagged, refl)
+  counter_comes t x there tagged = inr (boot_cap_of p (code_number p x.compartment), entry_address p x, for_derived p (code_number p x.compartment) (counter_addressed p s t x there tagged).tagged, refl)
 
   pub places_derived : (x : Place) → (cap_at (boot_state p) x).tag ≡ true → ComesFromRoot (cap_at (boot_state p) x)
   places_derived = everywhere p s ComesFromRoot (record { made = made_comes; counter = counter_comes })

@@ -13,7 +13,7 @@ use Rattle.def_image.specs.Members.{stack_number}
 use Rattle.def_image.specs.Sound.{Sound}
 use Rattle.def_boot.specs.Contents.{boot_cap}
 use Rattle.def_boot.specs.Gates.{entries_of}
-use Rattle.def_boot.specs.Made.{made_for, return_sentry}
+use Rattle.def_boot.specs.Made.{boot_cap_of, return_sentry}
 use Rattle.def_boot.specs.Boot.{image_of, boot_state}
 use Rattle.def_boot_places.specs.Places.{Place, InRam, InRegister, cap_at}
 use Rattle.def_boot_places.specs.Listed.{StandsAtBoot}
@@ -23,7 +23,7 @@ use Rattle.law_grants.proofs.Sets.{no_way}
 use Rattle.law_grants.proofs.Making.{sentry_made}
 use Rattle.law_grants.proofs.Own.{code_stands, globals_stand, slots_stand, library_slots_stand, stacks_stand}
 use Rattle.law_booted.proofs.Contents.{booted_in}
-use Rattle.law_boot_words.specs.Booting.{Puts}
+use Rattle.def_boot_words.specs.Booting.{Puts}
 use Rattle.law_boot_words.proofs.Putting.{puts_slot, puts_library_slot, puts_code, puts_globals, puts_sentry}
 use Rattle.law_started.proofs.Granules.{same_granule}
 use Rattle.law_boot_places.proofs.Grants.{sentry_is, made_grant}
@@ -57,9 +57,9 @@ module _ (p : PartsRow) (s : Sound p) where
   stands : (n : ℕ) (x : Place) → cap_at (boot_state p) x ≡ made_cap (image_of p) n → (made_cap (image_of p) n).tag ≡ true → StandsAtBoot p n
   stands n x is tagged = record { place = x; is = is; tagged = tagged; grant = made_grant p s n tagged }
 
-  stands_in_ram : (n x : ℕ) → Puts p x (made_for p n) → (made_for p n).tag ≡ true → StandsAtBoot p n
+  stands_in_ram : (n x : ℕ) → Puts p x (boot_cap_of p n) → (boot_cap_of p n).tag ≡ true → StandsAtBoot p n
   unfolding image_of
-  stands_in_ram n x h tagged = stands n (InRam (number_at x)) (granule_holds (number_at x) x (made_for p n) h (number_of x (made_for p n) h)) tagged
+  stands_in_ram n x h tagged = stands n (InRam (number_at x)) (granule_holds (number_at x) x (boot_cap_of p n) h (number_of x (boot_cap_of p n) h)) tagged
 
   at : (n m : ℕ) → n ≡ m → StandsAtBoot p m → StandsAtBoot p n
   at n m same is = subst (StandsAtBoot p) (sym same) is

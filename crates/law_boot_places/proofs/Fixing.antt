@@ -24,8 +24,8 @@ use Rattle.def_image.specs.Regions.{Holder, CodeOf, TableOf, GlobalsOf, SharedOf
 use Rattle.def_image.specs.Sound.{Sound}
 use Rattle.def_boot.specs.Entries.{slot_row, code_row, globals_row}
 use Rattle.def_boot.specs.Gates.{entries_of}
-use Rattle.def_boot.specs.Made.{made_caps, made_for, return_sentry}
-use Rattle.def_boot.specs.Contents.{boot_cap, code_content, content, content_at, gate_word, granules_in, region_at, table_content, word_of}
+use Rattle.def_boot.specs.Made.{caps_at_boot, boot_cap_of, return_sentry}
+use Rattle.def_boot.specs.Contents.{boot_cap, code_content, content, content_at, gate_word, granules_in, region_at, table_content, word_from_bytes}
 use Rattle.def_boot.specs.Boot.{image_of}
 use Rattle.def_boot_places.specs.Fixed.{HolderDomain, RegionDomain, FixedDomain, FixedPlaced}
 use Rattle.law_reach.proofs.Joins.{reaches_own, joined_is}
@@ -57,7 +57,7 @@ pub record MayStand (p : PartsRow) (domain : ℕ → Type 0) (n : ℕ) : Type 0 
 
 -- tagged, it was made for an entry that may
 abbrev Standing : PartsRow → (ℕ → Type 0) → Cap → Type 0
-Standing p domain c = c.tag ≡ true → (n : ℕ) × (c ≡ made_for p n) × MayStand p domain n
+Standing p domain c = c.tag ≡ true → (n : ℕ) × (c ≡ boot_cap_of p n) × MayStand p domain n
 
 either : (p : PartsRow) (domain : ℕ → Type 0) (b : Bool) (c d : Cap) → (b ≡ true → Standing p domain c) → Standing p domain d → Standing p domain (cond b c d)
 either p domain true c d one other = one refl
@@ -82,15 +82,15 @@ slot_stands p domain o n at r k same reaches = may_stand p domain n (listed_root
     (λ d there. subst (λ w. Reaches (image_of p).entries w d) (sym (slot_owner p o at r k)) (reaches d there))
 
 module _ (p : PartsRow) where
-  sentry_made_for : return_sentry ≡ made_for p 0
-  unfolding made_caps
+  sentry_made_for : return_sentry ≡ boot_cap_of p 0
+  unfolding caps_at_boot
   sentry_made_for = refl
 
   in_code : (domain : ℕ → Type 0) (first : ℕ) (c : CodeRow) (k : ℕ) → ((j : ℕ) → j < length c.slots → MayStand p domain (first + j)) → Standing p domain (code_content p first c k)
   in_code domain first c k slots =
-      either p domain (nat_lt k (SLOT_SIZE * length c.slots)) (made_for p (first + k / SLOT_SIZE)) (plain (word_of c.text (k - SLOT_SIZE * length c.slots)))
+      either p domain (nat_lt k (SLOT_SIZE * length c.slots)) (boot_cap_of p (first + k / SLOT_SIZE)) (plain (word_from_bytes c.text (k - SLOT_SIZE * length c.slots)))
       (λ is tagged. let few = ltb-true k (SLOT_SIZE * length c.slots) is in (first + k / SLOT_SIZE, refl, slots (k / SLOT_SIZE) (omega (arith, few))))
-      (bare p domain (plain (word_of c.text (k - SLOT_SIZE * length c.slots))) refl)
+      (bare p domain (plain (word_from_bytes c.text (k - SLOT_SIZE * length c.slots))) refl)
 
   own_slots : (b : ℕ) (o : Option CompartmentRow) → slice_get p.compartments b ≡ o → (j : ℕ) → j < length (unwrap_or o no_compartment).code.slots → MayStand p (λ d. d ≡ b) (code_number p b + 2 + j)
   unfolding image_of
@@ -115,9 +115,9 @@ module _ (p : PartsRow) where
   unfolding image_of
   table_stands b r k is =
       let has = compartment_of p b is.0 is.1 in
-      either p (λ d. d ≡ b) (nat_eq k 0) (made_for p (code_number p b)) _
+      either p (λ d. d ≡ b) (nat_eq k 0) (boot_cap_of p (code_number p b)) _
       (λ first tagged. (code_number p b, refl, head_stands b (code_number p b) (code_row (Compartment b) is.0.code) has.code.root_is refl refl))
-      (either p (λ d. d ≡ b) (nat_eq k GRANULE) (made_for p (globals_number p b)) _
+      (either p (λ d. d ≡ b) (nat_eq k GRANULE) (boot_cap_of p (globals_number p b)) _
       (λ second tagged. (globals_number p b, refl, head_stands b (globals_number p b) (globals_row b is.0) has.globals.root_is refl refl))
       (bare p (λ d. d ≡ b) (plain (gate_word (slice_get (compartment p b).code.exports ((k - TABLE_HEAD) / TABLE_ROW)) ((k - TABLE_HEAD) % TABLE_ROW))) refl))
 

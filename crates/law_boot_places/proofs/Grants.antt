@@ -12,7 +12,7 @@ use Rattle.def_machine.specs.Image.{root, made_cap}
 use Rattle.def_image.specs.Parts.{PartsRow}
 use Rattle.def_image.specs.Sound.{Sound}
 use Rattle.def_boot.specs.Boot.{image_of}
-use Rattle.def_boot.specs.Made.{made_caps, return_sentry}
+use Rattle.def_boot.specs.Made.{caps_at_boot, return_sentry}
 use Rattle.def_boot_places.specs.Listed.{HasGrant, IsListed}
 use Rattle.law_grants.proofs.Sets.{no_way}
 use Rattle.law_grants.proofs.Making.{sentry_made}
@@ -21,7 +21,7 @@ use Rattle.law_grants.proofs.Clauses.{told_at}
 use Rattle.law_booted.proofs.Rooting.{faithful}
 
 pub sentry_is : (p : PartsRow) → made_cap (image_of p) 0 ≡ return_sentry
-unfolding image_of made_caps
+unfolding image_of caps_at_boot
 sentry_is p = refl
 
 listed_entry : (o : Option Entry) (g : Gate) → is_root (listed_root o g).origin ≡ true → (k : Kind) × ((listed_root o g).origin ≡ Listing k)

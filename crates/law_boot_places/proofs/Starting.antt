@@ -10,7 +10,7 @@ use Rattle.def_machine.specs.Objects.{Each}
 use Rattle.def_image.specs.Parts.{CompartmentRow, ThreadRow, PartsRow}
 use Rattle.def_image.specs.Members.{compartment, no_compartment, text_base, code_number, globals_number, stack_number}
 use Rattle.def_image.specs.Sound.{Sound}
-use Rattle.def_boot.specs.Made.{made_for, return_sentry}
+use Rattle.def_boot.specs.Made.{boot_cap_of, return_sentry}
 use Rattle.def_boot.specs.Boot.{image_of, boot_state, entered, entry_address, offset_of, first_pcc, first_registers, first_thread, first_threads}
 use Rattle.def_boot_places.specs.Places.{Place, InRam, InCounter, InRegister, cap_at, IsBareFrame}
 use Rattle.def_boot_places.specs.Listed.{IsListed}
@@ -61,7 +61,7 @@ module _ (p : PartsRow) (s : Sound p) where
   sentry_tagged : (P : Cap → Type 0) → OfMade P → Tagged P return_sentry
   sentry_tagged P h = subst (Tagged P) (sentry_is p) (h.made 0)
 
-  for_tagged : (P : Cap → Type 0) → OfMade P → (n : ℕ) → Tagged P (made_for p n)
+  for_tagged : (P : Cap → Type 0) → OfMade P → (n : ℕ) → Tagged P (boot_cap_of p n)
   unfolding image_of
   for_tagged P h n = h.made n
 
@@ -99,8 +99,8 @@ module _ (p : PartsRow) (s : Sound p) where
     counted : 1 ≤ code_number p x.compartment
     counted = let enters = (s.thread t x there).enters in (compartment_of p x.compartment enters.0 enters.2).code.counted
 
-    pub counter_addressed : (first_pcc p x).tag ≡ true → Addressed (made_for p (code_number p x.compartment)) (entry_address p x)
-    counter_addressed tagged = addressed (made_for p (code_number p x.compartment)) (entry_address p x) address_small tagged
+    pub counter_addressed : (first_pcc p x).tag ≡ true → Addressed (boot_cap_of p (code_number p x.compartment)) (entry_address p x)
+    counter_addressed tagged = addressed (boot_cap_of p (code_number p x.compartment)) (entry_address p x) address_small tagged
 
     pub counter_listed : (first_pcc p x).tag ≡ true → IsListed (image_of p) (first_pcc p x)
     unfolding image_of

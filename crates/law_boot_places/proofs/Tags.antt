@@ -20,8 +20,8 @@ use Rattle.def_image.specs.Parts.{CodeRow, CompartmentRow, ThreadRow, PartsRow}
 use Rattle.def_image.specs.Members.{compartment, library, no_compartment, no_code, code_number, gate_address, globals_number, library_number, text_base}
 use Rattle.def_image.specs.Regions.{Holder, CodeOf, TableOf, GlobalsOf, SharedOf, SealedOf, StackOf, TrustedPart, RegionRow}
 use Rattle.def_image.specs.Sound.{Sound}
-use Rattle.def_boot.specs.Contents.{boot_cap, code_content, content, content_at, gate_word, granules_in, region_at, table_content, word_of}
-use Rattle.def_boot.specs.Made.{made_for, return_sentry}
+use Rattle.def_boot.specs.Contents.{boot_cap, code_content, content, content_at, gate_word, granules_in, region_at, table_content, word_from_bytes}
+use Rattle.def_boot.specs.Made.{boot_cap_of, return_sentry}
 use Rattle.def_boot.specs.Boot.{image_of, boot_state, entered, entry_address, entry_number, first_pcc, first_registers, offset_of}
 use Rattle.def_boot.specs.Entries.{export_row}
 use Rattle.def_boot.specs.Gates.{entries_of, gate}
@@ -38,7 +38,7 @@ use Rattle.law_grants.proofs.Holding.{holds}
 use Rattle.law_grants.proofs.Making.{sentry_made}
 use Rattle.law_grants.proofs.Own.{code_entry_is, code_stands, globals_stand, slots_stand, library_slots_stand, stacks_stand}
 use Rattle.law_booted.proofs.Contents.{booted_in}
-use Rattle.law_boot_words.specs.Booting.{Puts}
+use Rattle.def_boot_words.specs.Booting.{Puts}
 use Rattle.law_boot_words.proofs.Putting.{puts_slot, puts_library_slot, puts_code, puts_globals, puts_sentry}
 use Rattle.law_started.proofs.Granules.{same_granule, past_none}
 use Rattle.law_started.proofs.Threads.{of_thread}
@@ -60,12 +60,12 @@ one_there false b c d e tagged none = inr (first_there b d e tagged none)
 slot_there : (p : PartsRow) (first : ℕ) (c : CodeRow) (x base : ℕ) → base ≡ c.base → base ≤ x → (x - base) % 8 ≡ 0 → (code_content p first c (x - base)).tag ≡ true → IsSlot c x
 slot_there p first c x base starts low unit tagged =
     let few : x - base < SLOT_SIZE * length c.slots = ltb-true (x - base) (SLOT_SIZE * length c.slots)
-    (first_there (nat_lt (x - base) (SLOT_SIZE * length c.slots)) (made_for p (first + (x - base) / SLOT_SIZE)) (plain (word_of c.text (x - base - SLOT_SIZE * length c.slots))) tagged refl) in
+    (first_there (nat_lt (x - base) (SLOT_SIZE * length c.slots)) (boot_cap_of p (first + (x - base) / SLOT_SIZE)) (plain (word_from_bytes c.text (x - base - SLOT_SIZE * length c.slots))) tagged refl) in
     ((x - base) / 8, omega (arith, few), omega (arith, starts, low, unit))
 
 -- of an export table the head's two granules are
 head_there : (p : PartsRow) (b : ℕ) (c : CompartmentRow) (x base : ℕ) → base ≡ c.table → base ≤ x → (table_content p b (x - base)).tag ≡ true → IsHead c x
-head_there p b c x base starts low tagged = elim (one_there (nat_eq (x - base) 0) (nat_eq (x - base) GRANULE) (made_for p (code_number p b)) (made_for p (globals_number p b))
+head_there p b c x base starts low tagged = elim (one_there (nat_eq (x - base) 0) (nat_eq (x - base) GRANULE) (boot_cap_of p (code_number p b)) (boot_cap_of p (globals_number p b))
     (plain (gate_word (slice_get (compartment p b).code.exports ((x - base - TABLE_HEAD) / TABLE_ROW)) ((x - base - TABLE_HEAD) % TABLE_ROW))) tagged refl) [
       | inl first ↦ let none : x - base ≡ 0 = eqb-true (x - base) 0 first in inl (omega (arith, starts, low, none))
       | inr second ↦ let one : x - base ≡ GRANULE = eqb-true (x - base) GRANULE second in inr (omega (arith, starts, low, one))
@@ -210,9 +210,9 @@ module _ (p : PartsRow) (s : Sound p) where
         let code = ap (λ (g : Gate). g.code) row_has.gate_is in
         omega (arith, base, offset, code)
 
-    code_made : made_cap (image_of p) (code_entry (image_of p) x.compartment) ≡ made_for p (code_number p x.compartment)
+    code_made : made_cap (image_of p) (code_entry (image_of p) x.compartment) ≡ boot_cap_of p (code_number p x.compartment)
     unfolding image_of
-    code_made = ap (made_for p) (code_entry_is p x.compartment (slice_get_within p.compartments x.compartment (s.thread t x there).enters.0 (s.thread t x there).enters.2))
+    code_made = ap (boot_cap_of p) (code_entry_is p x.compartment (slice_get_within p.compartments x.compartment (s.thread t x there).enters.0 (s.thread t x there).enters.2))
 
     pub counter_tagged : (first_pcc p x).tag ≡ true
     counter_tagged =

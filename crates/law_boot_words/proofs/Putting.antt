@@ -10,12 +10,12 @@ use Rattle.def_image.specs.Members.{no_compartment, no_code, no_sealed, compartm
 use Rattle.def_image.specs.Regions.{CodeOf, TableOf, GlobalsOf, SealedOf, TrustedPart, table_size, table_length, trusted_size, trusted_length}
 use Rattle.def_image.specs.Spelling.{export_field}
 use Rattle.def_image.specs.Sound.{Sound, CodeFits}
-use Rattle.def_boot.specs.Contents.{code_content, table_content, gate_word, word_of}
-use Rattle.def_boot.specs.Made.{made_for, return_sentry}
+use Rattle.def_boot.specs.Contents.{code_content, table_content, gate_word, word_from_bytes}
+use Rattle.def_boot.specs.Made.{boot_cap_of, return_sentry}
 use Rattle.law_listed.specs.Rows.{slot_number, library_slot_number}
 use Rattle.law_listed.proofs.Regions.{code_there, table_there, globals_there, library_there, sealed_there}
 use Rattle.law_grants.proofs.Making.{length_above}
-use Rattle.law_boot_words.specs.Booting.{Puts, PutsBytes}
+use Rattle.def_boot_words.specs.Booting.{Puts, PutsBytes}
 use Rattle.law_boot_words.proofs.Regions.{trusted_there, at_offset}
 
 -- ---- the same at another name of the address and of what is put there
@@ -34,19 +34,19 @@ sealed_is p n s there = ap (λ o. unwrap_or o no_sealed) there
 
 -- ---- code
 
-slot_content : (p : PartsRow) (first : ℕ) (c : CodeRow) (j : ℕ) → j < length c.slots → code_content p first c (8 * j) ≡ made_for p (first + j)
+slot_content : (p : PartsRow) (first : ℕ) (c : CodeRow) (j : ℕ) → j < length c.slots → code_content p first c (8 * j) ≡ boot_cap_of p (first + j)
 slot_content p first c j lt =
     let within : nat_lt (8 * j) (8 * length c.slots) ≡ true = lt-ltb (8 * j) (8 * length c.slots) (omega (arith, lt)) in
     let index : 8 * j / 8 ≡ j = omega arith in
-    ap (λ t. cond t (made_for p (first + 8 * j / 8)) (plain (word_of c.text (8 * j - 8 * length c.slots)))) within
-    ∙ ap (λ n. made_for p (first + n)) index
+    ap (λ t. cond t (boot_cap_of p (first + 8 * j / 8)) (plain (word_from_bytes c.text (8 * j - 8 * length c.slots)))) within
+    ∙ ap (λ n. boot_cap_of p (first + n)) index
 
-text_content : (p : PartsRow) (first : ℕ) (c : CodeRow) (k : ℕ) → code_content p first c (8 * length c.slots + k) ≡ plain (word_of c.text k)
+text_content : (p : PartsRow) (first : ℕ) (c : CodeRow) (k : ℕ) → code_content p first c (8 * length c.slots + k) ≡ plain (word_from_bytes c.text k)
 text_content p first c k =
     let past : nat_lt (8 * length c.slots + k) (8 * length c.slots) ≡ false = le-ltb (8 * length c.slots + k) (8 * length c.slots) (omega arith) in
     let offset : 8 * length c.slots + k - 8 * length c.slots ≡ k = omega arith in
-    ap (λ t. cond t (made_for p (first + (8 * length c.slots + k) / 8)) (plain (word_of c.text (8 * length c.slots + k - 8 * length c.slots)))) past
-    ∙ ap (λ n. plain (word_of c.text n)) offset
+    ap (λ t. cond t (boot_cap_of p (first + (8 * length c.slots + k) / 8)) (plain (word_from_bytes c.text (8 * length c.slots + k - 8 * length c.slots)))) past
+    ∙ ap (λ n. plain (word_from_bytes c.text n)) offset
 
 slot_inside : (c : CodeRow) (j : ℕ) → CodeFits c → j < length c.slots → 8 * j < c.length
 slot_inside c j h lt = let fits = h.fits in omega (arith, fits, lt)
@@ -55,7 +55,7 @@ text_inside : (c : CodeRow) (w : ℕ) → CodeFits c → 8 * w < length c.text �
 text_inside c w h lt = let fits = h.fits in omega (arith, fits, lt)
 
 pub puts_slot : (p : PartsRow) → Sound p → (b j : ℕ) (c : CompartmentRow) (s : SlotRow) → slice_get p.compartments b ≡ Some c → slice_get c.code.slots j ≡ Some s
-    → Puts p (c.code.base + 8 * j) (made_for p (slot_number p b j))
+    → Puts p (c.code.base + 8 * j) (boot_cap_of p (slot_number p b j))
 puts_slot p sound b j c s there slot =
     let lt = slice_get_within c.code.slots j s slot in
     let fits = (sound.compartment b c there).code in
@@ -71,7 +71,7 @@ puts_text p sound b c there w lt =
     (at_offset p sound (CodeOf (Compartment b)) c.code.base c.code.length (8 * length c.code.slots + 8 * w) (code_there p b c there) (text_inside c.code w fits lt) (omega arith))
 
 pub puts_library_slot : (p : PartsRow) → Sound p → (l j : ℕ) (c : CodeRow) (s : SlotRow) → slice_get p.libraries l ≡ Some c → slice_get c.slots j ≡ Some s
-    → Puts p (c.base + 8 * j) (made_for p (library_slot_number p l j))
+    → Puts p (c.base + 8 * j) (boot_cap_of p (library_slot_number p l j))
 puts_library_slot p sound l j c s there slot =
     let lt = slice_get_within c.slots j s slot in
     let fits = (sound.library l c there).code in
@@ -89,7 +89,7 @@ puts_library_text p sound l c there w lt =
 -- ---- export tables
 
 row_content : (p : PartsRow) (b : ℕ) (c : CompartmentRow) (j : ℕ) (x : GateRow) (m : ℕ) → slice_get p.compartments b ≡ Some c → slice_get c.code.exports j ≡ Some x → m < 16
-    → table_content p b (16 + 16 * j + m) ≡ plain (word_of (export_field x.row) m)
+    → table_content p b (16 + 16 * j + m) ≡ plain (word_from_bytes (export_field x.row) m)
 row_content p b c j x m there export lt =
     let first : nat_eq (16 + 16 * j + m) 0 ≡ false = ne_eqb (16 + 16 * j + m) 0 (λ e. omega (arith, e)) in
     let second : nat_eq (16 + 16 * j + m) 8 ≡ false = ne_eqb (16 + 16 * j + m) 8 (λ e. omega (arith, e)) in
@@ -98,20 +98,20 @@ row_content p b c j x m there export lt =
     let found : slice_get (compartment p b).code.exports ((16 + 16 * j + m - 16) / 16) ≡ Some x =
     ap (λ n. slice_get (compartment p b).code.exports n) index ∙ ap (λ (d : CompartmentRow). slice_get d.code.exports j) (compartment_is p b c there) ∙ export in
     let rows = plain (gate_word (slice_get (compartment p b).code.exports ((16 + 16 * j + m - 16) / 16)) ((16 + 16 * j + m - 16) % 16)) in
-    ap (λ t. cond t (made_for p (code_number p b)) (cond (nat_eq (16 + 16 * j + m) 8) (made_for p (globals_number p b)) rows)) first
-    ∙ ap (λ t. cond t (made_for p (globals_number p b)) rows) second
+    ap (λ t. cond t (boot_cap_of p (code_number p b)) (cond (nat_eq (16 + 16 * j + m) 8) (boot_cap_of p (globals_number p b)) rows)) first
+    ∙ ap (λ t. cond t (boot_cap_of p (globals_number p b)) rows) second
     ∙ ap (λ o. plain (gate_word o ((16 + 16 * j + m - 16) % 16))) found
-    ∙ ap (λ n. plain (word_of (export_field x.row) n)) offset
+    ∙ ap (λ n. plain (word_from_bytes (export_field x.row) n)) offset
 
 table_long : (c : CompartmentRow) → 16 + 16 * length c.code.exports ≤ table_length c
 table_long c = length_above (table_size c.code)
 
-pub puts_code : (p : PartsRow) → Sound p → (b : ℕ) (c : CompartmentRow) → slice_get p.compartments b ≡ Some c → Puts p c.table (made_for p (code_number p b))
+pub puts_code : (p : PartsRow) → Sound p → (b : ℕ) (c : CompartmentRow) → slice_get p.compartments b ≡ Some c → Puts p c.table (boot_cap_of p (code_number p b))
 puts_code p sound b c there =
     let long = table_long c in
     puts_as p _ _ _ _ (omega arith) refl (at_offset p sound (TableOf b) c.table (table_length c) 0 (table_there p b c there) (omega (arith, long)) refl)
 
-pub puts_globals : (p : PartsRow) → Sound p → (b : ℕ) (c : CompartmentRow) → slice_get p.compartments b ≡ Some c → Puts p (c.table + 8) (made_for p (globals_number p b))
+pub puts_globals : (p : PartsRow) → Sound p → (b : ℕ) (c : CompartmentRow) → slice_get p.compartments b ≡ Some c → Puts p (c.table + 8) (boot_cap_of p (globals_number p b))
 puts_globals p sound b c there =
     let long = table_long c in
     at_offset p sound (TableOf b) c.table (table_length c) 8 (table_there p b c there) (omega (arith, long)) refl
@@ -134,13 +134,13 @@ puts_export p sound b j c x there export w lt =
 pub puts_initial : (p : PartsRow) → Sound p → (b : ℕ) (c : CompartmentRow) → slice_get p.compartments b ≡ Some c → PutsBytes p c.globals c.initial
 puts_initial p sound b c there w lt =
     let fits = (sound.compartment b c there).initial in
-    puts_as p _ _ _ _ refl (ap (λ (d : CompartmentRow). plain (word_of d.initial (8 * w))) (compartment_is p b c there))
+    puts_as p _ _ _ _ refl (ap (λ (d : CompartmentRow). plain (word_from_bytes d.initial (8 * w))) (compartment_is p b c there))
     (at_offset p sound (GlobalsOf b) c.globals c.globals_length (8 * w) (globals_there p b c there) (omega (arith, fits, lt)) (omega arith))
 
 pub puts_sealed : (p : PartsRow) → Sound p → (n : ℕ) (s : SealedRow) → slice_get p.sealed n ≡ Some s → PutsBytes p s.base s.bytes
 puts_sealed p sound n s there w lt =
     let fits = (sound.sealed n s there).bytes in
-    puts_as p _ _ _ _ refl (ap (λ (d : SealedRow). plain (word_of d.bytes (8 * w))) (sealed_is p n s there))
+    puts_as p _ _ _ _ refl (ap (λ (d : SealedRow). plain (word_from_bytes d.bytes (8 * w))) (sealed_is p n s there))
     (at_offset p sound (SealedOf n) s.base s.length (8 * w) (sealed_there p n s there) (omega (arith, fits, lt)) (omega arith))
 
 pub puts_sentry : (p : PartsRow) → Sound p → Puts p p.trusted return_sentry

@@ -6,7 +6,7 @@ use Rattle.def_image.specs.Sound.{Sound}
 use Rattle.def_boot.specs.Contents.{content, content_at, boot_cap}
 use Rattle.law_listed.proofs.Regions.{Among}
 use Rattle.law_laid.proofs.Found.{found}
-use Rattle.law_boot_words.specs.Booting.{Puts}
+use Rattle.def_boot_words.specs.Booting.{Puts}
 
 -- ---- the trusted region
 

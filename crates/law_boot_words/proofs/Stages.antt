@@ -10,8 +10,8 @@ use Rattle.def_memory.specs.Granules.{plain, nothing, granule_at}
 use Rattle.def_memory.specs.Accesses.{stored_cap}
 use Rattle.def_image.specs.Parts.{PartsRow}
 use Rattle.def_boot.specs.Contents.{boot_cap, boot_granule, boot_granules, granules_from, granules_in}
-use Rattle.law_boot_words.specs.Booting.{Puts, empty_granules, IsDone, Booting, Stage, IsFrom}
-use Rattle.law_boot_words.specs.Written.{IsWritten, OfFirst}
+use Rattle.def_boot_words.specs.Booting.{Puts, empty_granules, IsDone, Booting, Stage, IsFrom}
+use Rattle.def_boot_words.specs.Written.{IsWritten, OfFirst}
 use Rattle.law_boot_words.proofs.Zeros.{zero_else}
 use Rattle.law_booted.proofs.Contents.{granules_count, granules_there}
 

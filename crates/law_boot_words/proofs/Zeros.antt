@@ -8,12 +8,12 @@ use Rattle.def_memory.specs.Granules.{plain}
 use Rattle.def_image.specs.Parts.{SealedRow, CodeRow, CompartmentRow, PartsRow}
 use Rattle.def_image.specs.Members.{compartment, code_number, globals_number, library_number}
 use Rattle.def_image.specs.Regions.{Holder, CodeOf, TableOf, GlobalsOf, SharedOf, SealedOf, StackOf, TrustedPart, RegionRow}
-use Rattle.def_boot.specs.Contents.{content, content_at, code_content, table_content, gate_word, word_of, boot_cap, region_at}
-use Rattle.def_boot.specs.Made.{made_for, return_sentry}
+use Rattle.def_boot.specs.Contents.{content, content_at, code_content, table_content, gate_word, word_from_bytes, boot_cap, region_at}
+use Rattle.def_boot.specs.Made.{boot_cap_of, return_sentry}
 use Rattle.law_laid.specs.Held.{IsOf}
 use Rattle.law_laid.proofs.Found.{back}
 use Rattle.law_laid.proofs.Lists.{held}
-use Rattle.law_boot_words.specs.Written.{InCode, IsWritten}
+use Rattle.def_boot_words.specs.Written.{InCode, IsWritten}
 use Rattle.law_boot_words.proofs.Past.{word_past}
 use Rattle.law_boot_words.proofs.Putting.{compartment_is, library_is, sealed_is}
 
@@ -22,7 +22,7 @@ use Rattle.law_boot_words.proofs.Putting.{compartment_is, library_is, sealed_is}
 code_past : (p : PartsRow) (first : ℕ) (c : CodeRow) (k : ℕ) → 8 * length c.slots + length c.text ≤ k → code_content p first c k ≡ plain 0
 code_past p first c k past =
     let over : nat_lt k (8 * length c.slots) ≡ false = le-ltb k (8 * length c.slots) (omega (arith, past)) in
-    ap (λ t. cond t (made_for p (first + k / 8)) (plain (word_of c.text (k - 8 * length c.slots)))) over
+    ap (λ t. cond t (boot_cap_of p (first + k / 8)) (plain (word_from_bytes c.text (k - 8 * length c.slots)))) over
     ∙ ap plain (word_past c.text (k - 8 * length c.slots) (omega (arith, past)))
 
 table_past : (p : PartsRow) (b : ℕ) (c : CompartmentRow) (k : ℕ) → slice_get p.compartments b ≡ Some c → 16 + 16 * length c.code.exports ≤ k → table_content p b k ≡ plain 0
@@ -32,8 +32,8 @@ table_past p b c k there past =
     let none : slice_get (compartment p b).code.exports ((k - 16) / 16) ≡ None =
     ap (λ (d : CompartmentRow). slice_get d.code.exports ((k - 16) / 16)) (compartment_is p b c there) ∙ slice_get_past c.code.exports ((k - 16) / 16) (omega (arith, past)) in
     let rows = plain (gate_word (slice_get (compartment p b).code.exports ((k - 16) / 16)) ((k - 16) % 16)) in
-    ap (λ t. cond t (made_for p (code_number p b)) (cond (nat_eq k 8) (made_for p (globals_number p b)) rows)) first
-    ∙ ap (λ t. cond t (made_for p (globals_number p b)) rows) second
+    ap (λ t. cond t (boot_cap_of p (code_number p b)) (cond (nat_eq k 8) (boot_cap_of p (globals_number p b)) rows)) first
+    ∙ ap (λ t. cond t (boot_cap_of p (globals_number p b)) rows) second
     ∙ ap (λ o. plain (gate_word o ((k - 16) % 16))) none
 
 -- ---- by what the region is of
@@ -69,7 +69,7 @@ by_holder p x r (GlobalsOf b) (c, there, spans) low =
       | inl lt ↦ let less = lt.1 in inl (inl (b, c, there, inr (inr (omega (arith, same, low), less))))
       | inr ge ↦
           let past = ge.1 in
-          inr (ap (λ (d : CompartmentRow). plain (word_of d.initial (x - r.base))) (compartment_is p b c there) ∙ ap plain (word_past c.initial (x - r.base) (omega (arith, past, same))))
+          inr (ap (λ (d : CompartmentRow). plain (word_from_bytes d.initial (x - r.base))) (compartment_is p b c there) ∙ ap plain (word_past c.initial (x - r.base) (omega (arith, past, same))))
     ]
 by_holder p x r (SharedOf n) of low = inr refl
 by_holder p x r (SealedOf n) (s, there, spans) low =
@@ -78,7 +78,7 @@ by_holder p x r (SealedOf n) (s, there, spans) low =
       | inl lt ↦ let less = lt.1 in inl (inr (inr (inl (n, s, there, (omega (arith, same, low), less)))))
       | inr ge ↦
           let past = ge.1 in
-          inr (ap (λ (d : SealedRow). plain (word_of d.bytes (x - r.base))) (sealed_is p n s there) ∙ ap plain (word_past s.bytes (x - r.base) (omega (arith, past, same))))
+          inr (ap (λ (d : SealedRow). plain (word_from_bytes d.bytes (x - r.base))) (sealed_is p n s there) ∙ ap plain (word_past s.bytes (x - r.base) (omega (arith, past, same))))
     ]
 by_holder p x r (StackOf t) of low = inr refl
 by_holder p x r TrustedPart spans low =

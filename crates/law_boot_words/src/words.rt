@@ -2,7 +2,7 @@
 
 ghost use Rattle.std.specs.Prelude.{◌+◌, ◌*◌, ◌%◌, ◌≡◌, ◌⊎◌, List, Some, slice_get, ℕ};
 ghost use Rattle.def_boot.specs.Contents.{boot_cap, boot_granules};
-ghost use Rattle.def_boot.specs.Made.{made_for, return_sentry};
+ghost use Rattle.def_boot.specs.Made.{boot_cap_of, return_sentry};
 ghost use Rattle.def_image.specs.Members.{code_number, gate_address, globals_number, text_base};
 ghost use Rattle.def_image.specs.Parts.{CodeRow, CompartmentRow, GateRow, PartsRow, SealedRow, SlotRow};
 ghost use Rattle.def_image.specs.Sound.{Sound};
@@ -11,8 +11,8 @@ ghost use Rattle.def_memory.specs.declared.Granule.{Granule};
 ghost use Rattle.def_memory.specs.Granules.{plain};
 ghost use Rattle.def_profile.specs.declared.layout.TheConstants.{GRANULE, SLOT_SIZE};
 ghost use Rattle.def_words.specs.Permissions.{unpacked};
-ghost use Rattle.law_boot_words.specs.Booting.{Booting, IsDone, Puts, PutsBytes};
-ghost use Rattle.law_boot_words.specs.Written.{IsWritten};
+ghost use Rattle.def_boot_words.specs.Booting.{Booting, IsDone, Puts, PutsBytes};
+ghost use Rattle.def_boot_words.specs.Written.{IsWritten};
 ghost use Rattle.law_listed.specs.Rows.{library_slot_number, slot_number};
 
 /// What a sound image boots: in each slot the capability that was made for it, then the text; in an
@@ -21,16 +21,16 @@ ghost use Rattle.law_listed.specs.Rows.{library_slot_number, slot_number};
 pub fn words_put()
     ensures slot { (p : PartsRow) → Sound p → (b j : ℕ) (c : CompartmentRow) (s : SlotRow)
         → slice_get p.compartments b ≡ Some c → slice_get c.code.slots j ≡ Some s
-        → Puts p (c.code.base + SLOT_SIZE * j) (made_for p (slot_number p b j)) }
+        → Puts p (c.code.base + SLOT_SIZE * j) (boot_cap_of p (slot_number p b j)) }
     ensures text { (p : PartsRow) → Sound p → (b : ℕ) (c : CompartmentRow)
         → slice_get p.compartments b ≡ Some c
         → PutsBytes p (text_base c.code) c.code.text }
     ensures code { (p : PartsRow) → Sound p → (b : ℕ) (c : CompartmentRow)
         → slice_get p.compartments b ≡ Some c
-        → Puts p c.table (made_for p (code_number p b)) }
+        → Puts p c.table (boot_cap_of p (code_number p b)) }
     ensures globals { (p : PartsRow) → Sound p → (b : ℕ) (c : CompartmentRow)
         → slice_get p.compartments b ≡ Some c
-        → Puts p (c.table + GRANULE) (made_for p (globals_number p b)) }
+        → Puts p (c.table + GRANULE) (boot_cap_of p (globals_number p b)) }
     ensures export { (p : PartsRow) → Sound p → (b j : ℕ) (c : CompartmentRow) (x : GateRow)
         → slice_get p.compartments b ≡ Some c → slice_get c.code.exports j ≡ Some x
         → PutsBytes p (gate_address c j) (export_field x.row) }
@@ -38,7 +38,7 @@ pub fn words_put()
         → slice_get p.compartments b ≡ Some c → PutsBytes p c.globals c.initial }
     ensures library_slot { (p : PartsRow) → Sound p → (l j : ℕ) (c : CodeRow) (s : SlotRow)
         → slice_get p.libraries l ≡ Some c → slice_get c.slots j ≡ Some s
-        → Puts p (c.base + SLOT_SIZE * j) (made_for p (library_slot_number p l j)) }
+        → Puts p (c.base + SLOT_SIZE * j) (boot_cap_of p (library_slot_number p l j)) }
     ensures library_text { (p : PartsRow) → Sound p → (l : ℕ) (c : CodeRow)
         → slice_get p.libraries l ≡ Some c → PutsBytes p (text_base c) c.text }
     ensures sealed { (p : PartsRow) → Sound p → (n : ℕ) (s : SealedRow)

@@ -10,14 +10,14 @@ use Rattle.def_machine.specs.Image.{booted, address_of}
 use Rattle.def_image.specs.Parts.{CodeRow, PartsRow}
 use Rattle.def_image.specs.Members.{compartment, library, code_number, globals_number, library_number}
 use Rattle.def_image.specs.Regions.{Holder, CodeOf, TableOf, GlobalsOf, SharedOf, SealedOf, StackOf, TrustedPart, RegionRow}
-use Rattle.def_boot.specs.Made.{made_for, made_caps, return_sentry}
+use Rattle.def_boot.specs.Made.{boot_cap_of, caps_at_boot, return_sentry}
 use Rattle.def_boot.specs.Contents.{content, content_at, code_content, boot_cap, boot_granule, boot_granules, granules_from, granules_in, region_at}
 use Rattle.def_boot.specs.Boot.{image_of}
 use Rattle.law_grants.proofs.Sets.{no_way}
 
 -- a capability is what was made for an entry
 abbrev pub IsMadeCap : PartsRow → Cap → Type 0
-IsMadeCap p c = (n : ℕ) × (c ≡ made_for p n)
+IsMadeCap p c = (n : ℕ) × (c ≡ boot_cap_of p n)
 
 -- either of two
 either : (p : PartsRow) (b : Bool) (c d : Cap) → (c.tag ≡ true → IsMadeCap p c) → (d.tag ≡ true → IsMadeCap p d) → (cond b c d).tag ≡ true → IsMadeCap p (cond b c d)
@@ -25,10 +25,10 @@ either p true c d one other tagged = one tagged
 either p false c d one other tagged = other tagged
 
 in_code : (p : PartsRow) (first : ℕ) (c : CodeRow) (k : ℕ) → (code_content p first c k).tag ≡ true → IsMadeCap p (code_content p first c k)
-in_code p first c k tagged = either p (nat_lt k (SLOT_SIZE * length c.slots)) (made_for p (first + k / SLOT_SIZE)) _ (λ t. (first + k / SLOT_SIZE, refl)) (λ t. no_way t) tagged
+in_code p first c k tagged = either p (nat_lt k (SLOT_SIZE * length c.slots)) (boot_cap_of p (first + k / SLOT_SIZE)) _ (λ t. (first + k / SLOT_SIZE, refl)) (λ t. no_way t) tagged
 
-sentry_made : (p : PartsRow) → return_sentry ≡ made_for p 0
-unfolding made_caps
+sentry_made : (p : PartsRow) → return_sentry ≡ boot_cap_of p 0
+unfolding caps_at_boot
 sentry_made p = refl
 
 made_in : (p : PartsRow) (h : Holder) (k : ℕ) → (content p h k).tag ≡ true → IsMadeCap p (content p h k)
@@ -37,8 +37,8 @@ made_in p (CodeOf (Library l)) k tagged = in_code p (library_number p l + 1) (li
 made_in p (CodeOf Trusted) k tagged = no_way tagged
 made_in p (CodeOf (Thread t)) k tagged = no_way tagged
 made_in p (TableOf b) k tagged =
-    either p (nat_eq k 0) (made_for p (code_number p b)) _ (λ t. (code_number p b, refl))
-    (either p (nat_eq k GRANULE) (made_for p (globals_number p b)) _ (λ t. (globals_number p b, refl)) (λ t. no_way t)) tagged
+    either p (nat_eq k 0) (boot_cap_of p (code_number p b)) _ (λ t. (code_number p b, refl))
+    (either p (nat_eq k GRANULE) (boot_cap_of p (globals_number p b)) _ (λ t. (globals_number p b, refl)) (λ t. no_way t)) tagged
 made_in p (GlobalsOf b) k tagged = no_way tagged
 made_in p (SharedOf n) k tagged = no_way tagged
 made_in p (SealedOf n) k tagged = no_way tagged

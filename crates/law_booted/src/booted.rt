@@ -3,7 +3,7 @@
 ghost use Rattle.std.specs.Prelude.{◌<◌, ◌≡◌, ◌≤◌, false, true, ℕ};
 ghost use Rattle.def_boot.specs.Boot.{image_of};
 ghost use Rattle.def_boot.specs.Contents.{boot_cap};
-ghost use Rattle.def_boot.specs.Made.{made_for};
+ghost use Rattle.def_boot.specs.Made.{boot_cap_of};
 ghost use Rattle.def_confined.specs.Capabilities.{Rooted, heap_cap};
 ghost use Rattle.def_confined.specs.Partitioned.{AwayFromHeap, Loads, Partitioned};
 ghost use Rattle.def_image.specs.Parts.{PartsRow};
@@ -16,7 +16,7 @@ ghost use Rattle.def_words.specs.Permissions.{bit, load_data, memory_capability}
 /// other clauses is that of its name.
 pub fn boot_partition()
     ensures made { (p : PartsRow) (x : ℕ) → (boot_cap p x).tag ≡ true
-        → (n : ℕ) × (boot_cap p x ≡ made_for p n) }
+        → (n : ℕ) × (boot_cap p x ≡ boot_cap_of p n) }
     ensures boot_rooted { (p : PartsRow) → Sound p → (k : ℕ)
         → region (image_of p) k ≡ Fixed → (booted (image_of p) k).cap.tag ≡ true
         → Rooted (image_of p) (booted (image_of p) k).cap }

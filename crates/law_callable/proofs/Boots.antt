@@ -3,7 +3,7 @@ use Rattle.std.proofs.Common.{ℕ, ◌≡◌, ◌+◌, ◌-◌, ◌*◌, ◌/◌
 use Rattle.law_lists.proofs.Tests.{bool_tells}
 use Rattle.def_words.specs.declared.Cap.{Cap}
 use Rattle.def_memory.specs.declared.Granule.{Granule}
-use Rattle.def_memory.specs.Granules.{plain, held}
+use Rattle.def_memory.specs.Granules.{plain, cap_in}
 use Rattle.def_image.specs.Parts.{PartsRow}
 use Rattle.def_image.specs.Sound.{Sound}
 use Rattle.def_boot.specs.Boot.{image_of, boot_state}
@@ -13,7 +13,7 @@ use Rattle.def_machine.specs.Image as image
 use Rattle.def_machine.specs.State.{State, granule}
 use Rattle.def_confined.specs.Confined.{Confined}
 use Rattle.def_confined.specs.Places.{InRegion}
-use Rattle.law_boot_words.specs.Booting.{Puts}
+use Rattle.def_boot_words.specs.Booting.{Puts}
 use Rattle.law_booted.proofs.Contents.{booted_in}
 use Rattle.law_laid.proofs.Granules.{in_ram}
 use Rattle.law_started.proofs.Granules.{same_granule}
@@ -47,14 +47,14 @@ module _ (p : PartsRow) (x : ℕ) (d : Cap) (s : Sound p) (puts : Puts p x d) (t
   open_at = elim (bool_tells (region_hides (region_of (image_of p)) ((x - p.ram) / 8))) [
     | inl hidden ↦
         let k : ℕ = (x - p.ram) / 8 in
-        let zero_it : held (boot_state p).granules k ≡ plain 0 = region_clear p s k hidden in
-        let stands : held (boot_state p).granules k ≡ d = ap (λ (g : Granule). g.cap) (same_granule p s k) ∙ (puts_in p x d s puts).is in
+        let zero_it : cap_in (boot_state p).granules k ≡ plain 0 = region_clear p s k hidden in
+        let stands : cap_in (boot_state p).granules k ≡ d = ap (λ (g : Granule). g.cap) (same_granule p s k) ∙ (puts_in p x d s puts).is in
         absurd (let clash : true ≡ false = sym tagged ∙ ap (λ (c : Cap). c.tag) (sym stands ∙ zero_it) in cc)
     | inr open_ ↦ open_
   ]
 
   -- and no event changes it
-  pub stands_at : (m : State) → Confined (image_of p) m → held m.granules ((x - p.ram) / 8) ≡ d
+  pub stands_at : (m : State) → Confined (image_of p) m → cap_in m.granules ((x - p.ram) / 8) ≡ d
   stands_at m confined =
       let k : ℕ = (x - p.ram) / 8 in
       let at = puts_in p x d s puts in

@@ -5,7 +5,7 @@ use Rattle.law_lists.proofs.Tests.{le_tells}
 use Rattle.ct_entry.specs.Listed.{Listed}
 use Rattle.def_words.specs.declared.Cap.{Cap}
 use Rattle.def_memory.specs.declared.Granule.{Granule}
-use Rattle.def_memory.specs.Granules.{held}
+use Rattle.def_memory.specs.Granules.{cap_in}
 use Rattle.def_reach.specs.Roots.{Root, compartment_of}
 use Rattle.def_image.specs.Parts.{PartsRow}
 use Rattle.def_image.specs.Members.{code_number, globals_number}
@@ -13,7 +13,7 @@ use Rattle.def_image.specs.Regions.{table_size, table_length}
 use Rattle.def_image.specs.Sound.{Sound}
 use Rattle.def_boot.specs.Boot.{image_of}
 use Rattle.def_boot.specs.Gates.{entries_of}
-use Rattle.def_boot.specs.Made.{made_for, made_caps, return_sentry}
+use Rattle.def_boot.specs.Made.{boot_cap_of, caps_at_boot, return_sentry}
 use Rattle.def_machine.specs.Image.{made_cap, code_entry, globals_entry}
 use Rattle.def_machine.specs.State.{State}
 use Rattle.def_confined.specs.Confined.{Confined}
@@ -37,12 +37,12 @@ pub entries_are : (p : PartsRow) → (image_of p).entries ≡ entries_of p
 unfolding image_of
 entries_are p = refl
 
-made_is : (p : PartsRow) (k : ℕ) → made_cap (image_of p) k ≡ made_for p k
+made_is : (p : PartsRow) (k : ℕ) → made_cap (image_of p) k ≡ boot_cap_of p k
 unfolding image_of
 made_is p k = refl
 
 sentry_is : (p : PartsRow) → made_cap (image_of p) 0 ≡ return_sentry
-unfolding image_of made_caps
+unfolding image_of caps_at_boot
 sentry_is p = refl
 
 -- in more RAM as much can be called
@@ -121,32 +121,32 @@ module _ (p : PartsRow) (n : ℕ) (s : Sound p) (x : ExportAt p n) where
 
     abbrev Stand : Listed → Type 0
     Stand e =
-        (held v.granules (head_at v e n) ≡ made_cap (image_of p) (code_entry (image_of p) (callee_of e n)))
-        × (held v.granules (head_at v e n + 1) ≡ made_cap (image_of p) (globals_entry (image_of p) (callee_of e n)))
+        (cap_in v.granules (head_at v e n) ≡ made_cap (image_of p) (code_entry (image_of p) (callee_of e n)))
+        × (cap_in v.granules (head_at v e n + 1) ≡ made_cap (image_of p) (globals_entry (image_of p) (callee_of e n)))
 
-    code_is : made_cap (image_of p) (code_entry (image_of p) (callee_of (entries_of p) n)) ≡ made_for p (code_number p x.index)
+    code_is : made_cap (image_of p) (code_entry (image_of p) (callee_of (entries_of p) n)) ≡ boot_cap_of p (code_number p x.index)
     code_is =
         ap (λ b. made_cap (image_of p) (code_entry (image_of p) b)) callee_is
         ∙ ap (λ k. made_cap (image_of p) k) (code_entry_is p x.index (slice_get_within p.compartments x.index x.compartment x.owner))
         ∙ made_is p (code_number p x.index)
 
-    globals_are : made_cap (image_of p) (globals_entry (image_of p) (callee_of (entries_of p) n)) ≡ made_for p (globals_number p x.index)
+    globals_are : made_cap (image_of p) (globals_entry (image_of p) (callee_of (entries_of p) n)) ≡ boot_cap_of p (globals_number p x.index)
     globals_are =
         ap (λ b. made_cap (image_of p) (globals_entry (image_of p) b)) callee_is
         ∙ ap (λ k. made_cap (image_of p) k) (globals_entry_is p x.index (slice_get_within p.compartments x.index x.compartment x.owner))
         ∙ made_is p (globals_number p x.index)
 
     module _ (m : State) (confined : Confined (image_of p) m) (granules : v.granules ≡ m.granules) where
-      standing_there : (k at : ℕ) (d : Cap) → k ≡ at → held m.granules at ≡ d → held v.granules k ≡ d
-      standing_there k at d same there = ap (λ (gs : List Granule). held gs k) granules ∙ ap (λ j. held m.granules j) same ∙ there
+      standing_there : (k at : ℕ) (d : Cap) → k ≡ at → cap_in m.granules at ≡ d → cap_in v.granules k ≡ d
+      standing_there k at d same there = ap (λ (gs : List Granule). cap_in gs k) granules ∙ ap (λ j. cap_in m.granules j) same ∙ there
 
       both_stand : Stand (entries_of p)
       both_stand =
-          let code = stands_at p x.compartment.table (made_for p (code_number p x.index)) s (puts_code p s x.index x.compartment x.owner) (code_stands p s x.index x.compartment x.owner).made.tagged m confined in
+          let code = stands_at p x.compartment.table (boot_cap_of p (code_number p x.index)) s (puts_code p s x.index x.compartment x.owner) (code_stands p s x.index x.compartment x.owner).made.tagged m confined in
           let globals =
-          stands_at p (x.compartment.table + 8) (made_for p (globals_number p x.index)) s (puts_globals p s x.index x.compartment x.owner) (globals_stand p s x.index x.compartment x.owner).made.tagged m confined in (
-            standing_there (head_at v (entries_of p) n) ((x.compartment.table - p.ram) / 8) (made_for p (code_number p x.index)) head_is code ∙ sym code_is,
-            standing_there (head_at v (entries_of p) n + 1) ((x.compartment.table + 8 - p.ram) / 8) (made_for p (globals_number p x.index)) (ap (λ k. k + 1) head_is ∙ sym second) globals ∙ sym globals_are,
+          stands_at p (x.compartment.table + 8) (boot_cap_of p (globals_number p x.index)) s (puts_globals p s x.index x.compartment x.owner) (globals_stand p s x.index x.compartment x.owner).made.tagged m confined in (
+            standing_there (head_at v (entries_of p) n) ((x.compartment.table - p.ram) / 8) (boot_cap_of p (code_number p x.index)) head_is code ∙ sym code_is,
+            standing_there (head_at v (entries_of p) n + 1) ((x.compartment.table + 8 - p.ram) / 8) (boot_cap_of p (globals_number p x.index)) (ap (λ k. k + 1) head_is ∙ sym second) globals ∙ sym globals_are,
           )
 
       pub export_stands : (size t : ℕ) → IsPlaced (image_of p) size t (area_at v t) → HeadStands (image_of p) v t n

@@ -19,7 +19,7 @@ use Rattle.def_image.specs.Members.{gate_address, gate_number}
 use Rattle.def_image.specs.Regions.{table_size, table_length}
 use Rattle.def_image.specs.Sound.{Sound}
 use Rattle.def_boot.specs.Boot.{image_of}
-use Rattle.def_boot.specs.Entries.{slot_row, export_row, rows_of}
+use Rattle.def_boot.specs.Entries.{slot_row, export_row, entry_rows}
 use Rattle.def_boot.specs.Gates.{gate, gates_of, entries_of}
 use Rattle.def_machine.specs.Image.{root}
 use Rattle.law_listed.specs.Rows.{HasRow, HasCompartment, EntryIs, is_nothing, is_trusted, is_code, is_globals, is_slot, is_export, is_library, is_library_slot, is_library_export, is_stack}
@@ -48,12 +48,12 @@ past_row [] k le = refl
 past_row (r ∷ rs) zero le = absurd (omega (arith, le))
 past_row (r ∷ rs) (suc k) le = past_row rs k (omega (arith, le))
 
-pub row_root : (p : PartsRow) (b k : ℕ) → is_export_of b (row_at (rows_of p) k) ≡ root_exports b (root_of (entries_of p) (suc k))
+pub row_root : (p : PartsRow) (b k : ℕ) → is_export_of b (row_at (entry_rows p) k) ≡ root_exports b (root_of (entries_of p) (suc k))
 unfolding root_of entries_of
-row_root p b k = elim (lt_tells k (length (rows_of p))) [
-  | inl e ↦ sym (ap (λ o. root_exports b (listed_root o (gate_for (gates_of p) (suc k)))) (slice_get-get_or (rows_of p) k no_row e.1))
-  | inr e ↦ ap (λ r. is_export_of b r) (past_row (rows_of p) k e.1)
-      ∙ sym (ap (λ o. root_exports b (listed_root o (gate_for (gates_of p) (suc k)))) (slice_get_past (rows_of p) k e.1))
+row_root p b k = elim (lt_tells k (length (entry_rows p))) [
+  | inl e ↦ sym (ap (λ o. root_exports b (listed_root o (gate_for (gates_of p) (suc k)))) (slice_get-get_or (entry_rows p) k no_row e.1))
+  | inr e ↦ ap (λ r. is_export_of b r) (past_row (entry_rows p) k e.1)
+      ∙ sym (ap (λ o. root_exports b (listed_root o (gate_for (gates_of p) (suc k)))) (slice_get_past (entry_rows p) k e.1))
 ]
 
 -- ---- which numbers they have
@@ -118,15 +118,15 @@ export_passes : (b at : ℕ) (g : Gate) → root_exports b (listed_root (Some (e
 export_passes b at g = elim (eq_tells b b) [ inl e ↦ e.0 | inr e ↦ absurd (e.1 refl) ]
 
 stands : (p : PartsRow) (b : ℕ) (c : CompartmentRow) (j : ℕ) (x : GateRow) (m : ℕ) → HasCompartment p b c → slice_get c.code.exports j ≡ Some x
-    → suc m ≡ gate_number p b j → is_export_of b (row_at (rows_of p) m) ≡ true
+    → suc m ≡ gate_number p b j → is_export_of b (row_at (entry_rows p) m) ≡ true
 stands p b c j x m has there at =
     row_root p b m ∙ ap (λ k. root_exports b (root_of (entries_of p) k)) at ∙ ap (λ r. root_exports b r) (has.export j x there).root_is
     ∙ export_passes b (gate_address c j) (gate (gate_number p b j) c.code x.row)
 
-is_listed : (p : PartsRow) (b m : ℕ) → is_export_of b (row_at (rows_of p) m) ≡ true → ExportIs p b (suc m)
+is_listed : (p : PartsRow) (b m : ℕ) → is_export_of b (row_at (entry_rows p) m) ≡ true → ExportIs p b (suc m)
 is_listed p b m passes = exports_are p b (suc m) (entry_of p (suc m)) (sym (row_root p b m) ∙ passes)
 
-pub together : (p : PartsRow) (b : ℕ) → AreTogether (rows_of p) b
+pub together : (p : PartsRow) (b : ℕ) → AreTogether (entry_rows p) b
 together p b i j k low high first last =
     let a = is_listed p b i first in
     let z = is_listed p b k last in
@@ -148,10 +148,10 @@ any_row [] k d e lt = absurd (omega (arith, lt))
 any_row (r ∷ rs) zero d e lt = refl
 any_row (r ∷ rs) (suc k) d e lt = any_row rs k d e (omega (arith, lt))
 
-row_base : (p : PartsRow) (m n : ℕ) (r : Entry) (g : Gate) → m < length (rows_of p) → suc m ≡ n → HasRow p n r g → (row_at (rows_of p) m).base ≡ r.base
+row_base : (p : PartsRow) (m n : ℕ) (r : Entry) (g : Gate) → m < length (entry_rows p) → suc m ≡ n → HasRow p n r g → (row_at (entry_rows p) m).base ≡ r.base
 unfolding root_of entries_of
 row_base p m n r g lt at has =
-    sym (ap (λ o. (listed_root o (gate_for (gates_of p) (suc m))).base) (slice_get-get_or (rows_of p) m no_row lt))
+    sym (ap (λ o. (listed_root o (gate_for (gates_of p) (suc m))).base) (slice_get-get_or (entry_rows p) m no_row lt))
     ∙ ap (λ (k : ℕ). (root_of (entries_of p) k).base) at ∙ ap (λ (x : Root). x.base) has.root_is
 
 pub table_is : (p : PartsRow) (b : ℕ) (c : CompartmentRow) (x : GateRow) → HasCompartment p b c → slice_get c.code.exports 0 ≡ Some x → table_of (entries_of p) b ≡ c.table
@@ -159,21 +159,21 @@ unfolding entries_of
 table_is p b c x has there =
     let place : ℕ = gate_number p b 0 - 1 in
     let at : suc place ≡ gate_number p b 0 = omega arith in
-    let passes : is_export_of b (row_at (rows_of p) place) ≡ true = stands p b c 0 x place has there at in
-    let lt : place < length (rows_of p) = inside_rows b (rows_of p) place passes in
-    let r : Entry = row_at (rows_of p) place in
-    let found : find (λ z. is_export_of b z) (rows_of p) ≡ Some (row_at (rows_of p) place) = find_is (λ z. is_export_of b z) (rows_of p) (row_at (rows_of p) place) (record {
+    let passes : is_export_of b (row_at (entry_rows p) place) ≡ true = stands p b c 0 x place has there at in
+    let lt : place < length (entry_rows p) = inside_rows b (entry_rows p) place passes in
+    let r : Entry = row_at (entry_rows p) place in
+    let found : find (λ z. is_export_of b z) (entry_rows p) ≡ Some (row_at (entry_rows p) place) = find_is (λ z. is_export_of b z) (entry_rows p) (row_at (entry_rows p) place) (record {
       place = place;
       inside = lt;
-      is = any_row (rows_of p) place r no_row lt;
+      is = any_row (entry_rows p) place r no_row lt;
       passes = passes;
-      before = λ k less. ap (λ z. is_export_of b z) (any_row (rows_of p) k r no_row (omega (arith, less, lt))) ∙ first k less at;
+      before = λ k less. ap (λ z. is_export_of b z) (any_row (entry_rows p) k r no_row (omega (arith, less, lt))) ∙ first k less at;
     }) in
-    let base : (row_at (rows_of p) place).base ≡ gate_address c 0 = row_base p place (gate_number p b 0) _ _ lt at (has.export 0 x there) in
+    let base : (row_at (entry_rows p) place).base ≡ gate_address c 0 = row_base p place (gate_number p b 0) _ _ lt at (has.export 0 x there) in
     ap (λ o. (unwrap_or o no_row).base - 16) found ∙ ap (λ n. n - 16) base ∙ (let back : gate_address c 0 - 16 ≡ c.table = omega arith in back)
   where
-    first : (k : ℕ) → k < gate_number p b 0 - 1 → suc (gate_number p b 0 - 1) ≡ gate_number p b 0 → is_export_of b (row_at (rows_of p) k) ≡ false
-    first k less at = elim (bool_tells (is_export_of b (row_at (rows_of p) k))) [
+    first : (k : ℕ) → k < gate_number p b 0 - 1 → suc (gate_number p b 0 - 1) ≡ gate_number p b 0 → is_export_of b (row_at (entry_rows p) k) ≡ false
+    first k less at = elim (bool_tells (is_export_of b (row_at (entry_rows p) k))) [
       | inl e ↦ absurd (let n = (is_listed p b k e).number in omega (arith, n, less, at))
       | inr e ↦ e
     ]
@@ -190,12 +190,12 @@ head_lies p b c s lies is =
     let long = length_above (table_size c.code) in
     subst (λ t. HeadLies p.ram p.size t) (sym is) (record { low = lies.low; even = omega (arith, even, base); high = omega (arith, high, inside, long) })
 
-by_home : (p : PartsRow) (n b : ℕ) → callee_of (entries_of p) n ≡ b → 1 ≤ n → is_export_of b (row_at (rows_of p) (n - 1)) ≡ true
+by_home : (p : PartsRow) (n b : ℕ) → callee_of (entries_of p) n ≡ b → 1 ≤ n → is_export_of b (row_at (entry_rows p) (n - 1)) ≡ true
     → HeadLies p.ram p.size (table_of (entries_of p) b) → IsCallable (entries_of p) p.ram p.size n
 unfolding entries_of
 by_home p n b home some passes head = record {
   counted = some;
-  export = subst (λ c. IsExport (entries_of p) c (n - 1)) (sym home) (record { inside = inside_rows b (rows_of p) (n - 1) passes; is = passes });
+  export = subst (λ c. IsExport (entries_of p) c (n - 1)) (sym home) (record { inside = inside_rows b (entry_rows p) (n - 1) passes; is = passes });
   together = together p (callee_of (entries_of p) n);
   head = subst (λ c. HeadLies p.ram p.size (table_of (entries_of p) c)) (sym home) head;
 }

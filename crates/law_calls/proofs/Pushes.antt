@@ -12,7 +12,7 @@ use Rattle.def_reach.specs.Roots.{TrustedPart, Listing, is_owned, gate_for}
 use Rattle.def_reach.specs.Sharing.{Calls, Joined, Reaches}
 use Rattle.def_machine.specs.Image.{Image, root}
 use Rattle.def_machine.specs.State.{State, Thread, Frame, Object, thread, register, interrupts_on}
-use Rattle.def_machine.specs.Frames.{switched, Given, pushed_frame, passed, argument, posture_of_call, entered}
+use Rattle.def_machine.specs.Frames.{switched, Given, pushed_frame, cap_passed, argument, posture_of_call, entered}
 use Rattle.def_confined.specs.Capabilities.{Kept}
 use Rattle.def_confined.specs.Places.{Placed, InFrames, OwnStack, HasLive, outer}
 use Rattle.def_confined.specs.Confined.{Confined, FramesHold, PostureFits}
@@ -47,11 +47,11 @@ gate_joins i s t g gs callee export high w p h e passes =
     joined_trans i.entries g.actor a.0 callee (joined_sym i.entries a.0 g.actor near) (joined_edge i.entries a.0 callee (inl edge))
 
 -- what passes is untagged, or joins the two
-pub passed_case : (P : Cap → Type 0) (i : Image) (export : ℕ) (c : Cap) → P (untagged c) → ((root i export).passes ≡ true → P c) → P (passed i export c)
+pub passed_case : (P : Cap → Type 0) (i : Image) (export : ℕ) (c : Cap) → P (untagged c) → ((root i export).passes ≡ true → P c) → P (cap_passed i export c)
 passed_case P i export c gone stays = chosen P (root i export).passes c (untagged c) stays (λ not. gone)
 
 pub argument_case : (P : Cap → Type 0) (i : Image) (old : Thread) (export n : ℕ) → P (plain 0) → P (untagged (register old (10 + n))) → ((root i export).passes ≡ true → P (register old (10 + n))) → P (argument i old export n)
-argument_case P i old export n zeroed gone stays = chosen P (nat_lt n (gate_for i.entries.gates export).args) (passed i export (register old (10 + n))) (plain 0)
+argument_case P i old export n zeroed gone stays = chosen P (nat_lt n (gate_for i.entries.gates export).args) (cap_passed i export (register old (10 + n))) (plain 0)
     (λ there. passed_case P i export (register old (10 + n)) gone stays) (λ past. zeroed)
 
 outer_same : (f : Frame) (fs : List Frame) (high x : ℕ) → f.top ≡ high → high ≤ x → outer (f ∷ fs) x ≡ outer fs x

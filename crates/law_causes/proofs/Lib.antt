@@ -1,3 +1,5 @@
 mod Allocations
 mod Services
+mod Tokens
 mod Statuses
+mod Waking

@@ -1,5 +1,5 @@
 -- What the routines of the heap and of the scheduler answer.
-use Rattle.std.proofs.Common.{ℕ, ◌≡◌, ◌+◌, ◌-◌, ◌==◌, ◌&&◌, inl, inr, true, false, List, [], ◌∷◌, Some, None, refl, sym, ap, ◌∙◌, if◌then◌else◌}
+use Rattle.std.proofs.Common.{ℕ, ◌≡◌, ◌+◌, ◌-◌, ◌==◌, ◌&&◌, inl, inr, true, false, List, [], ◌∷◌, Some, None, refl, sym, ap, ◌∙◌, min, count_by, if◌then◌else◌}
 use Rattle.std.specs.Prelude.{find}
 use Rattle.std.specs.Int.{is_in_range}
 use Rattle.std.proofs.lemmas.Bool.{and_from, and_parts, eq-eqb, eqb-true}
@@ -11,10 +11,12 @@ use Rattle.def_machine.specs.State.{Object, State, register, thread}
 use Rattle.def_memory.specs.Accesses.{loaded}
 use Rattle.def_profile.specs.declared.seals.TheConstants.{QUOTA_TYPE, RETURN_DISABLE, RETURN_ENABLE}
 use Rattle.def_sched.specs.declared.Status.TheVariants.{Waiting, Ready}
-use Rattle.def_sched.specs.Statuses.{asleep, awaiting}
+use Rattle.def_machine.specs.Threads.{statuses_of, with_statuses}
+use Rattle.def_sched.specs.Statuses.{asleep, awaiting, waits_for, woken}
 use Rattle.def_step.specs.Checks.{Check, first_failed}
 use Rattle.def_step.specs.Quotas.{Allocation, allocate, allocated, allocation, by_quota, free, freed_as, gives_back, is_quota_cap, is_whole, quota_in, whole_of}
-use Rattle.def_step.specs.Routines.{Ran, checked, code, sleep, stops, tells, wait, waits, word_checks}
+use Rattle.def_step.specs.Routines.{Ran, Leaves, answers, checked, code, sleep, stops, tells, wait, waits, wake, word_checks, yield}
+use Rattle.def_words.specs.Capability.{integer}
 use Rattle.def_step.specs.Switch.{return_checks}
 use Rattle.def_words.specs.declared.Cap.{Cap}
 use Rattle.def_words.specs.Authority.{cap_address, cap_base, cap_top}
@@ -115,6 +117,9 @@ free_given i s t may has h =
 
 -- ---- sleep and wait
 
+pub yield_stops : (s : State) (t : ℕ) → MayReturn s t → yield s t ≡ stops s t Ready
+yield_stops s t may = may_return s t _ may
+
 pub sleep_stops : (s : State) (t : ℕ) → MayReturn s t → sleep s t ≡ stops s t (asleep (cap_address (register (thread s t) 10)))
 sleep_stops s t may = may_return s t _ may
 
@@ -137,3 +142,14 @@ wait_stops i s t may passes same = wait_on i s t may passes ∙ by (loaded s.gra
     by held wanted is =
         let test : (held == wanted) ≡ true = eq-eqb held wanted is in
         ap (λ b. if b then stops s t (if b then Waiting (cap_address (register (thread s t) 10)) else Ready) else tells s t (code 21)) test
+
+-- ---- wake
+
+pub wake_answers : (i : Image) (s x : State) (t n : ℕ) → MayReturn s t → first_failed (word_checks i s (register (thread s t) 10)) ≡ None
+    → n ≡ min (cap_address (register (thread s t) 11)) (count_by (waits_for (cap_address (register (thread s t) 10))) (statuses_of s.threads))
+    → x ≡ answers s t (integer n)
+    → wake i s t ≡ Leaves (record x { threads = with_statuses x.threads (woken (cap_address (register (thread s t) 10)) (cap_address (register (thread s t) 11)) (statuses_of s.threads)) }) None
+wake_answers i s x t n may passes count is =
+    may_return s t _ may ∙ checks_pass (word_checks i s (register (thread s t) 10)) _ passes
+    ∙ ap (λ (y : State). Leaves (record y { threads = with_statuses y.threads (woken (cap_address (register (thread s t) 10)) (cap_address (register (thread s t) 11)) (statuses_of s.threads)) }) None)
+    (ap (λ m. answers s t (integer m)) (sym count) ∙ sym is)

@@ -11,7 +11,7 @@ use Rattle.def_chunks.specs.declared.rows.Range.{Range}
 use Rattle.def_chunks.specs.declared.rows.Gap.{Gap}
 use Rattle.def_chunks.specs.Chunks.{Chunk, is_free, total, IsChunk, AreChunks, NoneTouch, BeginsUsed}
 use Rattle.def_chunks.specs.Tiles.{chunks, Settled}
-use Rattle.def_chunks.specs.Gaps.{Holds, IsGap, NoGap}
+use Rattle.def_chunks.specs.Gaps.{HasRoomAt, IsGap, NoGap}
 use Rattle.def_chunks.specs.Heaps.{objects_in, object_at, quota_named, IsHeapOf, IsUnit}
 use Rattle.law_chunks.proofs.Lays.{total_both}
 
@@ -28,7 +28,7 @@ meets names low base length at (d ∷ ds) are used over near high away =
     let wide = are.0.used used in
     elim both.0 [ inl a ↦ omega (arith, a, over) | inr b ↦ omega (arith, b, wide, near) ]
 
-pub in_one : (names : List ℕ) (low base length at : ℕ) (cs : List Chunk) → AreChunks cs → NoneTouch cs → at + 8 ≤ base → base + length ≤ at + total cs → Away base length (objects_in names low at cs) → Holds base length at cs
+pub in_one : (names : List ℕ) (low base length at : ℕ) (cs : List Chunk) → AreChunks cs → NoneTouch cs → at + 8 ≤ base → base + length ≤ at + total cs → Away base length (objects_in names low at cs) → HasRoomAt base length at cs
 in_one names low base length at [] are apart_ above high away = absurd (omega (arith, above, high))
 in_one names low base length at (c ∷ cs) are apart_ above high away =
     let some = are.0.some in
@@ -59,22 +59,22 @@ past_away names low base length at (c ∷ cs) past = elim (bool_tells (is_free c
   | inr e ↦ rw e ((inl (omega (arith, past)), past_away names low base length (at + c.size) cs (omega (arith, past))))
 ]
 
-pub holds_low : (base length at : ℕ) (cs : List Chunk) → Holds base length at cs → at + 8 ≤ base
-holds_low base length at [] h = absurd h
-holds_low base length at (c ∷ cs) (inl h) = h.1
-holds_low base length at (c ∷ cs) (inr h) = let rest = holds_low base length (at + c.size) cs h in omega (arith, rest)
+pub room_low : (base length at : ℕ) (cs : List Chunk) → HasRoomAt base length at cs → at + 8 ≤ base
+room_low base length at [] h = absurd h
+room_low base length at (c ∷ cs) (inl h) = h.1
+room_low base length at (c ∷ cs) (inr h) = let rest = room_low base length (at + c.size) cs h in omega (arith, rest)
 
-pub holds_high : (base length at : ℕ) (cs : List Chunk) → Holds base length at cs → base + length ≤ at + total cs
-holds_high base length at [] h = absurd h
-holds_high base length at (c ∷ cs) (inl h) = let here = h.2 in omega (arith, here)
-holds_high base length at (c ∷ cs) (inr h) = let rest = holds_high base length (at + c.size) cs h in omega (arith, rest)
+pub room_high : (base length at : ℕ) (cs : List Chunk) → HasRoomAt base length at cs → base + length ≤ at + total cs
+room_high base length at [] h = absurd h
+room_high base length at (c ∷ cs) (inl h) = let here = h.2 in omega (arith, here)
+room_high base length at (c ∷ cs) (inr h) = let rest = room_high base length (at + c.size) cs h in omega (arith, rest)
 
-pub holds_away : (names : List ℕ) (low base length at : ℕ) (cs : List Chunk) → AreChunks cs → Holds base length at cs → Away base length (objects_in names low at cs)
-holds_away names low base length at [] are h = absurd h
-holds_away names low base length at (c ∷ cs) are (inl h) = let here = h.2 in rw h.0 (past_away names low base length (at + c.size) cs here)
-holds_away names low base length at (c ∷ cs) are (inr h) =
-    let above = holds_low base length (at + c.size) cs h in
-    let rest = holds_away names low base length (at + c.size) cs are.1 h in
+pub room_away : (names : List ℕ) (low base length at : ℕ) (cs : List Chunk) → AreChunks cs → HasRoomAt base length at cs → Away base length (objects_in names low at cs)
+room_away names low base length at [] are h = absurd h
+room_away names low base length at (c ∷ cs) are (inl h) = let here = h.2 in rw h.0 (past_away names low base length (at + c.size) cs here)
+room_away names low base length at (c ∷ cs) are (inr h) =
+    let above = room_low base length (at + c.size) cs h in
+    let rest = room_away names low base length (at + c.size) cs are.1 h in
     elim (bool_tells (is_free c)) [
       | inl e ↦ rw e rest
       | inr e ↦ let wide = are.0.used e in rw e ((inr (omega (arith, above, wide)), rest))
@@ -82,22 +82,22 @@ holds_away names low base length at (c ∷ cs) are (inr h) =
 
 -- ---- places among chunks that stand in a list
 
-pub holds_split : (base length at : ℕ) (xs ys : List Chunk) → Holds base length at (xs ++ ys) → Holds base length at xs ⊎ Holds base length (at + total xs) ys
-holds_split base length at [] ys h = let here : at + 0 ≡ at = omega arith in inr (rw here h)
-holds_split base length at (x ∷ xs) ys (inl h) = inl (inl h)
-holds_split base length at (x ∷ xs) ys (inr h) =
+pub room_split : (base length at : ℕ) (xs ys : List Chunk) → HasRoomAt base length at (xs ++ ys) → HasRoomAt base length at xs ⊎ HasRoomAt base length (at + total xs) ys
+room_split base length at [] ys h = let here : at + 0 ≡ at = omega arith in inr (rw here h)
+room_split base length at (x ∷ xs) ys (inl h) = inl (inl h)
+room_split base length at (x ∷ xs) ys (inr h) =
     let there : at + (x.size + total xs) ≡ at + x.size + total xs = omega arith in
-    elim (holds_split base length (at + x.size) xs ys h) [ inl k ↦ inl (inr k) | inr k ↦ inr (rw there k) ]
+    elim (room_split base length (at + x.size) xs ys h) [ inl k ↦ inl (inr k) | inr k ↦ inr (rw there k) ]
 
-pub holds_second : (base length at : ℕ) (xs ys : List Chunk) → Holds base length (at + total xs) ys → Holds base length at (xs ++ ys)
-holds_second base length at [] ys h = let here : at + 0 ≡ at = omega arith in rw here at h
-holds_second base length at (x ∷ xs) ys h =
+pub room_second : (base length at : ℕ) (xs ys : List Chunk) → HasRoomAt base length (at + total xs) ys → HasRoomAt base length at (xs ++ ys)
+room_second base length at [] ys h = let here : at + 0 ≡ at = omega arith in rw here at h
+room_second base length at (x ∷ xs) ys h =
     let there : at + (x.size + total xs) ≡ at + x.size + total xs = omega arith in
-    inr (holds_second base length (at + x.size) xs ys (rw there at h))
+    inr (room_second base length (at + x.size) xs ys (rw there at h))
 
 -- ---- the place of the machine's definition
 
-held : (i : Image) (r : Range) (gs : List Granule) (names : List ℕ) (length b : ℕ) → IsHeapOf i r → Settled r gs → Fits i (objects_in names r.base r.base (chunks r gs)) length b → Holds b length r.base (chunks r gs)
+held : (i : Image) (r : Range) (gs : List Granule) (names : List ℕ) (length b : ℕ) → IsHeapOf i r → Settled r gs → Fits i (objects_in names r.base r.base (chunks r gs)) length b → HasRoomAt b length r.base (chunks r gs)
 held i r gs names length b of h f =
     let low = f.low in
     let high = f.high in
@@ -118,15 +118,15 @@ gap_place i r gs names unit length g of h u gap =
     let base_is = of.base in
     let end_is = of.end in
     let each = u.each g.base gap.aligned in
-    let here : Holds g.base length (r.base + total s.above) (s.chunk ∷ s.below) = inl (gap.linked.free_stands.is, omega (arith, place, low), omega (arith, place, high, size_is)) in
-    let holds : Holds g.base length r.base (chunks r gs) = subst (Holds g.base length r.base) (sym s.whole) (holds_second g.base length r.base s.above (s.chunk ∷ s.below) here) in
+    let here : HasRoomAt g.base length (r.base + total s.above) (s.chunk ∷ s.below) = inl (gap.linked.free_stands.is, omega (arith, place, low), omega (arith, place, high, size_is)) in
+    let holds : HasRoomAt g.base length r.base (chunks r gs) = subst (HasRoomAt g.base length r.base) (sym s.whole) (room_second g.base length r.base s.above (s.chunk ∷ s.below) here) in
     record {
       fits = record {
         eight = each.0;
         aligned = each.1;
         low = omega (arith, low, place, base_is);
         high = omega (arith, high, place, size_is, both, sum, end_is);
-        apart = holds_away names r.base g.base length r.base (chunks r gs) h.tiled.are holds;
+        apart = room_away names r.base g.base length r.base (chunks r gs) h.tiled.are holds;
       };
       least = λ b lt f. gap.least b lt (u.both b f.eight f.aligned) (held i r gs names length b of h f);
     }

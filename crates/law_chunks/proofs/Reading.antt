@@ -9,7 +9,7 @@ use Rattle.def_chunks.specs.declared.rows.Head.{Head}
 use Rattle.def_chunks.specs.Chunks.{Chunk, is_free, total, first_free, head_of, head_at, head_in, Lays, IsChunk, AreChunks}
 use Rattle.def_chunks.specs.Tiles.{chunk_of, read, chunks, TiledBy, Tiled}
 use Rattle.def_chunks.specs.Changes.{replaced}
-use Rattle.def_chunks.specs.Gaps.{Stands, FreeStands, UsedStands}
+use Rattle.def_chunks.specs.Gaps.{ChunkStands, FreeStands, UsedStands}
 use Rattle.law_chunks.proofs.Lays.{total_both, lays_both, are_split, total_even}
 
 -- ---- a head tells its chunk
@@ -122,5 +122,5 @@ sits_by r gs at above c below h place =
       small = omega (arith, both, size, short, e2);
     }
 
-pub sits : (r : Range) (gs : List Granule) (at : ℕ) → Tiled r gs → (s : Stands r gs at) → Sits r gs at s.above s.chunk s.below
+pub sits : (r : Range) (gs : List Granule) (at : ℕ) → Tiled r gs → (s : ChunkStands r gs at) → Sits r gs at s.above s.chunk s.below
 sits r gs at h s = sits_by r gs at s.above s.chunk s.below (subst (TiledBy r gs) s.whole h) s.place

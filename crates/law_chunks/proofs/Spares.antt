@@ -12,7 +12,7 @@ use Rattle.law_granules.proofs.Lists.{cap_rest, cap_marks}
 use Rattle.def_chunks.specs.declared.rows.Range.{Range}
 use Rattle.def_chunks.specs.Chunks.{Chunk, is_free, total, Starts, IsChunk, AreChunks}
 use Rattle.def_chunks.specs.Tiles.{TiledBy}
-use Rattle.def_chunks.specs.Changes.{InUse, Spared, Keeps, NoTagComes}
+use Rattle.def_chunks.specs.Changes.{InUse, Spared, Keeps, NoTagComes, OnlyHeads}
 use Rattle.law_chunks.proofs.Lays.{are_split, total_both, starts_low, starts_high}
 use Rattle.law_chunks.proofs.Carves.{store_length}
 
@@ -66,6 +66,17 @@ starts_second p at [] ys h = let here : at + 0 ≡ at = omega arith in rw here a
 starts_second p at (x ∷ xs) ys h =
     let there : at + (x.size + total xs) ≡ at + x.size + total xs = omega arith in
     inr (starts_second p (at + x.size) xs ys (rw there at h))
+
+pub starts_split : (p at : ℕ) (xs ys : List Chunk) → Starts p at (xs ++ ys) → Starts p at xs ⊎ Starts p (at + total xs) ys
+starts_split p at [] ys h = let here : at + 0 ≡ at = omega arith in inr (rw here h)
+starts_split p at (x ∷ xs) ys (inl h) = inl (inl h)
+starts_split p at (x ∷ xs) ys (inr h) =
+    let there : at + (x.size + total xs) ≡ at + x.size + total xs = omega arith in
+    elim (starts_split p (at + x.size) xs ys h) [ inl k ↦ inl (inr k) | inr k ↦ inr (rw there k) ]
+
+-- the chunk after these
+pub starts_there : (p at : ℕ) (xs : List Chunk) (c : Chunk) (ys : List Chunk) → p ≡ at + total xs → Starts p at (xs ++ c ∷ ys)
+starts_there p at xs c ys is = starts_second p at xs (c ∷ ys) (inl is)
 
 -- a granule of a free chunk
 pub free_unused : (p at : ℕ) (xs : List Chunk) (c : Chunk) (ys : List Chunk) → is_free c ≡ true → at + total xs ≤ p → p < at + total xs + c.size → InUse p at (xs ++ c ∷ ys) → ⊥
@@ -134,3 +145,17 @@ head_loose r gs cs p h s =
 -- what is spared of these chunks is spared of those
 pub spared_more : (r : Range) (cs ds : List Chunk) → ((p : ℕ) → InUse p r.base cs → InUse p r.base ds) → (p : ℕ) → Spared r cs p → Spared r ds p
 spared_more r cs ds more p s = elim s [ inl a ↦ inl a | inr (inl b) ↦ inr (inl b) | inr (inr k) ↦ inr (inr (more p k)) ]
+
+-- ---- heads alone
+
+pub heads_same : (r : Range) (cs : List Chunk) (gs hs : List Granule) → hs ≡ gs → OnlyHeads r cs gs hs
+heads_same r cs gs hs same = λ k away. ap (λ l. granule_at l k) same
+
+-- the heads of these are heads of those
+pub heads_then : (r : Range) (cs ds : List Chunk) (gs ms hs : List Granule) → ((p : ℕ) → Starts p r.base cs → Starts p r.base ds) → OnlyHeads r cs gs ms → OnlyHeads r ds ms hs → OnlyHeads r ds gs hs
+heads_then r cs ds gs ms hs more a b = λ k away. b k away ∙ a k (λ s. away (more (r.ram + 8 * k) s))
+
+-- a head is written
+pub heads_store : (r : Range) (cs : List Chunk) (gs hs : List Granule) (at : ℕ) (c : Cap) → r.ram ≤ at → (at - r.ram) % 8 ≡ 0 → Starts at r.base cs → hs ≡ stored_cap gs (at - r.ram) c → OnlyHeads r cs gs hs
+heads_store r cs gs hs at c over even starts is = λ k away.
+    ap (λ l. granule_at l k) is ∙ cap_rest gs (at - r.ram) c k (λ e. away (let same : at ≡ r.ram + 8 * k = omega (arith, e, over, even) in subst (λ p. Starts p r.base cs) same starts))

@@ -17,7 +17,7 @@ use Rattle.def_program.specs.Runs.{round, input_of, events_from, events_until}
 use Rattle.def_program.specs.Scripts.{IsPlayable}
 use Rattle.law_script.specs.Coming.{left_from}
 use Rattle.law_script.proofs.Coming.{come_once, no_more, all_given}
-use Rattle.law_counts.specs.Kinds.{Kinds, kinds, all_more, IsUncounted}
+use Rattle.def_counts.specs.Kinds.{Kinds, kinds, all_more, IsUncounted}
 use Rattle.law_counts.proofs.Counted.{event_kinds, run_kinds}
 use Rattle.law_counts.proofs.Devices.{event_keeps, run_keeps}
 use Rattle.law_commands.proofs.Telling.{due_by, round_by, run_input, events_at_end, events_on}

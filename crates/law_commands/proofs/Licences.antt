@@ -9,7 +9,7 @@ use Rattle.def_program.specs.Runs.{events_until}
 use Rattle.law_accepted.proofs.Running.{licensed}
 use Rattle.law_link_limits.proofs.Whole.{faultless}
 use Rattle.law_wellformed.proofs.Lawfuls.{bytes_lawful, value_lawful}
-use Rattle.def_description.specs.Reading.{rows_of}
+use Rattle.def_description.specs.Reading.{description_of}
 use Rattle.def_gen.specs.Description.{firmware}
 use Rattle.def_gen.specs.Sources as texts
 use Rattle.law_gen.proofs.Faultless as generated
@@ -25,7 +25,7 @@ files_faultless image (bytes ∷ more) p s = first_faultless image bytes more p 
 
 number_faultless : (number : ℕ) (p : PartsRow) → NumberStandsFor number p → IsFaultless p
 number_faultless number p s =
-    faultless (rows_of (firmware number)) (texts.sources number) p (record { lawful = value_lawful (firmware number) (generated.faultless number); linked = s })
+    faultless (description_of (firmware number)) (texts.sources number) p (record { lawful = value_lawful (firmware number) (generated.faultless number); linked = s })
 
 by_faultless : (o : Option ℕ) (image : Bool) (files : List (List ℕ)) (p : PartsRow) → StandBy o image files p → IsFaultless p
 by_faultless None image files p s = files_faultless image files p s

@@ -7,7 +7,7 @@ use Rattle.def_machine.specs.State.{State}
 use Rattle.def_step.specs.declared.Event.{Event}
 use Rattle.def_step.specs.declared.Event.TheVariants.{Step, Tick, Sweep}
 use Rattle.def_machine.specs.Board.{Board, MachineRow}
-use Rattle.def_step.specs.Events.{happens, run, told, end_of}
+use Rattle.def_step.specs.Events.{happens, run, happenings_of, end_of}
 use Rattle.def_trace.specs.Trace.{trace_line}
 use Rattle.def_script.specs.declared.Given.{Given}
 use Rattle.def_script.specs.Script.{Due, given_at}
@@ -16,10 +16,10 @@ use Rattle.def_program.specs.Written.{event_lines}
 
 -- what a list of events writes, and the summary after them
 abbrev pub text_of : Board → State → ℕ → List Event → List ℕ
-text_of b s k es = event_lines k es (told b s es) ++ last_line (run b s es)
+text_of b s k es = event_lines k es (happenings_of b s es) ++ last_line (run b s es)
 
 abbrev lines_of : Board → State → ℕ → List Event → List ℕ
-lines_of b s k es = flat_map (trace_line k) (told b s es)
+lines_of b s k es = flat_map (trace_line k) (happenings_of b s es)
 
 abbrev pub due_by : Bool → List Event
 due_by due = (if due then Tick ∷ [] else []) ++ Sweep ∷ Step ∷ []
@@ -36,30 +36,30 @@ without b c more last = simp (append_assoc, append-nil)
 -- one step with what is due before it, and what comes after it
 due_then : (b : Board) (s : State) (k : ℕ) (due : Bool) (es : List Event)
     → text_of b s k (due_by due ++ es) ≡ lines_of b s k (due_by due) ++ text_of b (run b s (due_by due)) (k + 1) es
-unfolding told run
+unfolding happenings_of run
 due_then b s k true es =
     let first : State = (happens b s Tick).0 in
     let second : State = (happens b first Sweep).0 in
     let third : State = (happens b second Step).0 in
     with_tick (trace_line k (happens b s Tick).1) (trace_line k (happens b first Sweep).1) (trace_line k (happens b second Step).1)
-    (event_lines (k + 1) es (told b third es)) (last_line (run b third es))
+    (event_lines (k + 1) es (happenings_of b third es)) (last_line (run b third es))
 due_then b s k false es =
     let second : State = (happens b s Sweep).0 in
     let third : State = (happens b second Step).0 in
     without (trace_line k (happens b s Sweep).1) (trace_line k (happens b second Step).1)
-    (event_lines (k + 1) es (told b third es)) (last_line (run b third es))
+    (event_lines (k + 1) es (happenings_of b third es)) (last_line (run b third es))
 
 -- one byte, and what comes after it
 input_then : (b : Board) (s : State) (k : ℕ) (g : Given) (es : List Event)
     → text_of b s k (input_of g ∷ es) ≡ trace_line k (happens b s (input_of g)).1 ++ text_of b (happens b s (input_of g)).0 k es
-unfolding told run
+unfolding happenings_of run
 input_then b s k g es =
     let next : State = (happens b s (input_of g)).0 in
-    append_assoc (trace_line k (happens b s (input_of g)).1) (event_lines k es (told b next es)) (last_line (run b next es))
+    append_assoc (trace_line k (happens b s (input_of g)).1) (event_lines k es (happenings_of b next es)) (last_line (run b next es))
 
 lines_of_input : (b : Board) (s : State) (k : ℕ) (g : Given) (es : List Event)
     → lines_of b s k (input_of g ∷ es) ≡ trace_line k (happens b s (input_of g)).1 ++ lines_of b (happens b s (input_of g)).0 k es
-unfolding told
+unfolding happenings_of
 lines_of_input b s k g es = refl
 
 pub run_input : (b : Board) (s : State) (g : Given) (es : List Event) → run b s (input_of g ∷ es) ≡ run b (happens b s (input_of g)).0 es
@@ -98,11 +98,11 @@ unfolding lines_from
 lines_on b s script quantum k n on = ap (λ o. or_last o s (lines_of b s k (round script quantum k) ++ lines_from b (run b s (round script quantum k)) script quantum (k + 1) n)) on
 
 none_left : (b : Board) (s : State) (k : ℕ) → text_of b s k [] ≡ last_line s
-unfolding told run
+unfolding happenings_of run
 none_left b s k = refl
 
 at_limit : (b : Board) (s : State) (script : List Due) (quantum k : ℕ) → lines_from b s script quantum k 0 ≡ text_of b s k (events_from b s script quantum k 0)
-unfolding lines_from events_from told run
+unfolding lines_from events_from happenings_of run
 at_limit b s script quantum k = refl
 
 pub are_told : (b : Board) (s : State) (script : List Due) (quantum k n : ℕ) → lines_from b s script quantum k n ≡ text_of b s k (events_from b s script quantum k n)

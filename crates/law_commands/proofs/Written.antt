@@ -16,7 +16,7 @@ use Rattle.def_link.specs.Linked.{linked}
 use Rattle.def_lines.specs.Report.{report_line}
 use Rattle.def_port.specs.Bytes.{Appends}
 use Rattle.def_script.specs.Script.{Due}
-use Rattle.def_step.specs.Events.{told}
+use Rattle.def_step.specs.Events.{happenings_of}
 use Rattle.def_step.specs.declared.Event.{Event}
 use Rattle.def_program.specs.Answers.{AllRead, Answers, Whole, contents}
 use Rattle.def_program.specs.Calls.{CallRecord}
@@ -31,7 +31,7 @@ use Rattle.def_program.specs.Written.{IsRun, IsRunWritten, IsScript, WritesRun, 
 use Rattle.def_program.specs.declared.Status.{Status}
 use Rattle.def_program.specs.declared.Status.TheVariants as status
 use Rattle.def_program.specs.declared.TheConstants.{DEMO_STEPS}
-use Rattle.def_description.specs.Reading.{rows_of}
+use Rattle.def_description.specs.Reading.{description_of}
 use Rattle.def_gen.specs.Description.{firmware}
 use Rattle.def_gen.specs.Sources as generated
 use Rattle.law_accepted.proofs.Running.{licensed}
@@ -145,12 +145,12 @@ of_image name limit script text (bytes ∷ rest) (inr i) =
 
 -- ---- the run
 
-all_licensed : (p : PartsRow) (es : List Event) → IsFaultless p → AllLicensed (entries_of p) (told (board_of p) (boot_state p) es)
+all_licensed : (p : PartsRow) (es : List Event) → IsFaultless p → AllLicensed (entries_of p) (happenings_of (board_of p) (boot_state p) es)
 unfolding image_of
 all_licensed p es f = licensed p es f
 
 is_run : (p : PartsRow) (script : List Due) (limit : ℕ) → IsFaultless p
-    → IsRun p script limit (events_until (booted_machine p) script p.quantum limit) (told (board_of p) (boot_state p) (events_until (booted_machine p) script p.quantum limit))
+    → IsRun p script limit (events_until (booted_machine p) script p.quantum limit) (happenings_of (board_of p) (boot_state p) (events_until (booted_machine p) script p.quantum limit))
 is_run p script limit f = record {
   events_are = refl;
   happenings_are = refl;
@@ -159,7 +159,7 @@ is_run p script limit f = record {
 }
 
 report_is : (p : PartsRow) (script : List Due) (limit : ℕ)
-    → run_text p script limit ≡ run_report p (events_until (booted_machine p) script p.quantum limit) (told (board_of p) (boot_state p) (events_until (booted_machine p) script p.quantum limit))
+    → run_text p script limit ≡ run_report p (events_until (booted_machine p) script p.quantum limit) (happenings_of (board_of p) (boot_state p) (events_until (booted_machine p) script p.quantum limit))
 unfolding run_text
 report_is p script limit = ap (λ t. report_line p ++ t) (run_is_told (booted_machine p) script p.quantum limit)
 
@@ -182,23 +182,23 @@ writes_run e c limit script w same says =
       script = x.script;
       script_is = x.script_is;
       events = events_until (booted_machine x.parts) x.script x.parts.quantum limit;
-      happenings = told (board_of x.parts) (boot_state x.parts) (events_until (booted_machine x.parts) x.script x.parts.quantum limit);
+      happenings = happenings_of (board_of x.parts) (boot_state x.parts) (events_until (booted_machine x.parts) x.script x.parts.quantum limit);
       is_run = is_run x.parts x.script limit (stands_faultless c x.own x.parts x.stand);
       written = subst (λ t. Appends e.sink.bytes e.sink_after.bytes t) (x.text_is ∙ report_is x.parts x.script limit) w.written;
     }
 
 -- the generated firmware links to parts, whose summary was written
-of_number : (e : CallRecord) (number : ℕ) (text : List ℕ) (files : List (List ℕ)) (r : Result PartsRow LinkFault) → linked (rows_of (firmware number)) (generated.sources number) ≡ r
-    → OfLinked (Demo number) (rows_of (firmware number)) r files (done text) → Appends e.sink.bytes e.sink_after.bytes text → WritesSummary e number
+of_number : (e : CallRecord) (number : ℕ) (text : List ℕ) (files : List (List ℕ)) (r : Result PartsRow LinkFault) → linked (description_of (firmware number)) (generated.sources number) ≡ r
+    → OfLinked (Demo number) (description_of (firmware number)) r files (done text) → Appends e.sink.bytes e.sink_after.bytes text → WritesSummary e number
 of_number e number text files (Err f) is due written =
-    let same : done text ≡ Ends (link_status f) (link_text (rows_of (firmware number)) f) = due in
+    let same : done text ≡ Ends (link_status f) (link_text (description_of (firmware number)) f) = due in
     let clash : link_status f ≡ status.Done = cc in
     absurd (no_fault_is_done f clash)
 of_number e number text files (Ok p) is due written = record {
   parts = p;
   stand = is;
   events = events_until (booted_machine p) [] p.quantum DEMO_STEPS;
-  happenings = told (board_of p) (boot_state p) (events_until (booted_machine p) [] p.quantum DEMO_STEPS);
+  happenings = happenings_of (board_of p) (boot_state p) (events_until (booted_machine p) [] p.quantum DEMO_STEPS);
   is_run = is_run p [] DEMO_STEPS (stands_faultless (Demo number) [] p is);
   written = subst (λ t. Appends e.sink.bytes e.sink_after.bytes t) (same_text text (demo_text p) due ∙ summary_is p) written;
 }
@@ -215,7 +215,7 @@ writes_of e (Upgrade name) w same = tt
 writes_of e (Check name policy) w same = tt
 writes_of e (Demo number) w same =
     let due : Follows (Demo number) (contents w.cause.reads) (done w.text) = subst (λ k. Follows k (contents w.cause.reads) (done w.text)) same w.cause.due in
-    of_number e number w.text (contents w.cause.reads) (linked (rows_of (firmware number)) (generated.sources number)) refl due w.written
+    of_number e number w.text (contents w.cause.reads) (linked (description_of (firmware number)) (generated.sources number)) refl due w.written
 
 same_command : (e : CallRecord) (a b : Command) → form_of e.words ≡ Some a → form_of e.words ≡ Some b → a ≡ b
 same_command e a b p q = let same : Some a ≡ Some b = sym p ∙ q in cc

@@ -12,14 +12,14 @@ ghost use Rattle.def_program.specs.Licences.{IsLicensedCommand, StandFor};
 ghost use Rattle.def_program.specs.Runs.{events_until, last_line, run_lines};
 ghost use Rattle.def_program.specs.Scripts.{IsPlayable};
 ghost use Rattle.def_script.specs.Script.{Due};
-ghost use Rattle.def_step.specs.Events.{AreLawful, run, told};
+ghost use Rattle.def_step.specs.Events.{AreLawful, run, happenings_of};
 ghost use Rattle.def_machine.specs.Board.{MachineRow};
 ghost use Rattle.def_program.specs.Safe.{IsSafeCommand};
 ghost use Rattle.def_program.specs.Answers.{Answers};
 ghost use Rattle.def_program.specs.Calls.{CallRecord};
 ghost use Rattle.def_program.specs.Written.{IsRunWritten, event_lines};
 ghost use Rattle.def_program.specs.declared.Status.{Status};
-ghost use Rattle.law_counts.specs.Kinds.{IsUncounted};
+ghost use Rattle.def_counts.specs.Kinds.{IsUncounted};
 
 /// Of the parts that a command's files stand for, whatever bytes these are: each deed, and each span
 /// with interrupts off, of the run that the command asks for is licensed by the image's entries.
@@ -45,7 +45,7 @@ pub fn runs_are_told()
     ensures { (m : MachineRow) (script : List Due) (quantum limit : ℕ)
         → run_lines m script quantum limit
         ≡ event_lines 1 (events_until m script quantum limit)
-        (told m.board m.state (events_until m script quantum limit))
+        (happenings_of m.board m.state (events_until m script quantum limit))
         ++ last_line (run m.board m.state (events_until m script quantum limit)) }
 {}
 

@@ -13,12 +13,12 @@ use Rattle.def_machine.specs.Threads.{statuses_of, timed}
 use Rattle.def_sched.specs.Picks.{pick}
 use Rattle.def_step.specs.declared.Event.{Event}
 use Rattle.def_step.specs.declared.Event.TheVariants.{Step, Tick, Sweep, Input}
-use Rattle.def_step.specs.Instructions.{Done, executed}
+use Rattle.def_step.specs.Instructions.{Effect, executed}
 use Rattle.def_machine.specs.Board.{Board}
 use Rattle.def_step.specs.Events.{happens, stepped, continued, with_deed, with_act, scheduled, picked_as, picked_from, preempted, preempted_from, one_more_step, interrupted, run}
 use Rattle.law_lists.proofs.Tests.{chosen}
 use Rattle.law_routines.proofs.Stepping.{Steps, IfDone, carried, executed_left}
-use Rattle.law_counts.specs.Kinds.{kinds, one_more, all_more}
+use Rattle.def_counts.specs.Kinds.{kinds, one_more, all_more}
 
 -- ---- one instruction counts nothing
 
@@ -32,7 +32,7 @@ returned_counts i s t [] = refl
 returned_counts i s t (f ∷ []) = refl
 returned_counts i s t (f ∷ g ∷ fs) = refl
 
-done_counts : (s : State) (t : ℕ) (r : Result Done trap_words.Trap) → IfDone (λ z. z.counts ≡ s.counts) s t r
+done_counts : (s : State) (t : ℕ) (r : Result Effect trap_words.Trap) → IfDone (λ z. z.counts ≡ s.counts) s t r
 done_counts s t (Err why) = tt
 done_counts s t (Ok d) = refl
 

@@ -22,7 +22,7 @@ use Rattle.def_step.specs.Checks.{first_failed}
 use Rattle.def_step.specs.Devices.{Bank, found, bank_read_at, bank_written_at, left_by_read, left_by_write, device, base_of, after_input}
 use Rattle.def_step.specs.Jumps.{Flowed, flow_result}
 use Rattle.def_step.specs.Operands.{operands_of, class_of}
-use Rattle.def_step.specs.Instructions.{Done, Around, accesses, flows, executed, operand, carried_out, named_by, around}
+use Rattle.def_step.specs.Instructions.{Effect, Context, accesses, flows, executed, operand, carried_out, named_by, around}
 use Rattle.def_machine.specs.Board.{Board}
 use Rattle.def_step.specs.Events.{happens, stepped, continued, scheduled, picked_as, picked_from, preempted, preempted_from, one_more_step, interrupted, run}
 use Rattle.law_lists.proofs.Tests.{chosen}
@@ -52,26 +52,26 @@ access_keeps a x y at p = by_access (Keeps p) a x y at p (record {
 -- ---- an instruction
 
 -- where it is done, there are as many devices
-abbrev KeepsIfDone : ℕ → Result Done trap_words.Trap → Type 0
+abbrev KeepsIfDone : ℕ → Result Effect trap_words.Trap → Type 0
 KeepsIfDone n (Err why) = Unit {0}
 KeepsIfDone n (Ok d) = length d.bank.states ≡ n
 
-unless_keeps : (a : Around) (to : ℕ) (o : Option trap_words.Trap) (m : Accessed) → Keeps a.space m → KeepsIfDone (length a.space.bank.states) (accesses a to (unless o m))
+unless_keeps : (a : Context) (to : ℕ) (o : Option trap_words.Trap) (m : Accessed) → Keeps a.space m → KeepsIfDone (length a.space.bank.states) (accesses a to (unless o m))
 unless_keeps a to (Some why) m k = tt
 unless_keeps a to None m k = k
 
-result_keeps : (a : Around) (to : ℕ) (i : Instr) (x y : Cap) → KeepsIfDone (length a.space.bank.states) (accesses a to (access_result i x y a.space))
+result_keeps : (a : Context) (to : ℕ) (i : Instr) (x y : Cap) → KeepsIfDone (length a.space.bank.states) (accesses a to (access_result i x y a.space))
 unfolding access_result
 result_keeps a to i x y =
     unless_keeps a to (first_failed (access_checks (access_of i) x y (access_address (access_of i) x)))
     (accessed (access_of i) x y (access_address (access_of i) x) a.space)
     (access_keeps (access_of i) x y (access_address (access_of i) x) a.space)
 
-flow_keeps : (a : Around) (to : ℕ) (r : Result Flowed trap_words.Trap) → KeepsIfDone (length a.space.bank.states) (flows a to r)
+flow_keeps : (a : Context) (to : ℕ) (r : Result Flowed trap_words.Trap) → KeepsIfDone (length a.space.bank.states) (flows a to r)
 flow_keeps a to (Err why) = tt
 flow_keeps a to (Ok f) = refl
 
-carried_keeps : (c : Class) (i : Instr) (to : ℕ) (x y : Cap) (named : ℕ) (a : Around) → KeepsIfDone (length a.space.bank.states) (carried_out c i to x y named a)
+carried_keeps : (c : Class) (i : Instr) (to : ℕ) (x y : Cap) (named : ℕ) (a : Context) → KeepsIfDone (length a.space.bank.states) (carried_out c i to x y named a)
 carried_keeps class.Integer i to x y named a = refl
 carried_keeps class.Capability i to x y named a = refl
 carried_keeps class.System i to x y named a = tt
@@ -96,7 +96,7 @@ returned_keeps i s t [] = refl
 returned_keeps i s t (f ∷ []) = refl
 returned_keeps i s t (f ∷ g ∷ fs) = refl
 
-done_keeps : (s : State) (t : ℕ) (r : Result Done trap_words.Trap) → KeepsIfDone (length s.devices) r → IfDone (Same s) s t r
+done_keeps : (s : State) (t : ℕ) (r : Result Effect trap_words.Trap) → KeepsIfDone (length s.devices) r → IfDone (Same s) s t r
 done_keeps s t (Err why) k = tt
 done_keeps s t (Ok d) k = k
 

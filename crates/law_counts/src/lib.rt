@@ -7,7 +7,7 @@ ghost use Rattle.def_machine.specs.State.{State};
 ghost use Rattle.def_step.specs.declared.Event.{Event};
 ghost use Rattle.def_machine.specs.Board.{Board};
 ghost use Rattle.def_step.specs.Events.{happens, run};
-ghost use Rattle.law_counts.specs.Kinds.{all_more, kinds, one_more};
+ghost use Rattle.def_counts.specs.Kinds.{all_more, kinds, one_more};
 
 /// An event counts as one of its kind, whatever it does, and the counts of the other kinds stay. So do
 /// the events of a list, one after another.

@@ -7,13 +7,13 @@ use Rattle.serde_json.specs.Data.{Data}
 use Rattle.serde_json.specs.Read.{read}
 use Rattle.def_description.specs.declared.faults.Fault.{Fault}
 use Rattle.def_description.specs.Rows.{DescRow}
-use Rattle.def_description.specs.Reading.{rows_of}
+use Rattle.def_description.specs.Reading.{description_of}
 use Rattle.def_description.specs.WellFormed.{WellFormed, IsFaulty, IsText, IsNoText, fault_of, text_fault}
 use Rattle.law_description.specs.Described.{IsDescribed, HasFault}
 
 -- a value without a fault is a description
 judged : (bytes : List ℕ) (d : Data) (f : Option Fault) → IsText bytes d → fault_of d ≡ f → IsDescribed bytes ⊎ HasFault bytes
-judged bytes d None text fault = inl (rows_of d, (d, (text, fault, refl)))
+judged bytes d None text fault = inl (description_of d, (d, (text, fault, refl)))
 judged bytes d (Some f) text fault = inr (f, inr (d, (text, fault)))
 
 no_text : (bytes : List ℕ) → IsNoText bytes → HasFault bytes
@@ -49,7 +49,7 @@ not_both bytes rows f good (inr bad) =
 
 pub same_rows : (bytes : List ℕ) (rows others : DescRow) → WellFormed bytes rows → WellFormed bytes others → rows ≡ others
 same_rows bytes rows others one other =
-    one.1.2 ∙ ap rows_of (same_value bytes one.0 other.0 one.1.0 other.1.0) ∙ sym other.1.2
+    one.1.2 ∙ ap description_of (same_value bytes one.0 other.0 one.1.0 other.1.0) ∙ sym other.1.2
 
 pub same_fault : (bytes : List ℕ) (f other : Fault) → IsFaulty bytes f → IsFaulty bytes other → f ≡ other
 same_fault bytes f other (inl none) (inl neither) = none.0 ∙ sym neither.0

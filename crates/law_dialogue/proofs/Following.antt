@@ -17,7 +17,7 @@ use Rattle.def_program.specs.Lines.{description_line, link_status, link_text, im
 use Rattle.def_program.specs.Paths.{IsWhyLine, none_line, path_line, or_library, compartment_named, library_named}
 use Rattle.def_program.specs.Runs.{demo_text, run_text}
 use Rattle.def_program.specs.Turns.{Turn, Asks, Ends, NamesFound, verdict, OfPolicy, OfRun, OfParts, OfLinked, OfSources, OfDescription, OfImage, OfFirst, OfFiles, OfNumber, FollowsBy, source_names}
-use Rattle.def_description.specs.Reading.{rows_of}
+use Rattle.def_description.specs.Reading.{description_of}
 use Rattle.def_gen.specs.Description.{firmware}
 use Rattle.def_gen.specs.Sources as generated
 use Rattle.law_gen.proofs.Faultless as well
@@ -25,13 +25,13 @@ use Rattle.law_gen_links.proofs.Linking as links
 use Rattle.law_description.proofs.Judging.{one}
 use Rattle.law_link_limits.proofs.Whole.{faultless}
 use Rattle.law_wellformed.proofs.Lawfuls.{bytes_lawful, value_lawful}
-use Rattle.law_paths.specs.There.{LeadsOrNot}
+use Rattle.def_paths.specs.There.{LeadsOrNot}
 use Rattle.law_paths.proofs.There.{there}
 use Rattle.ct_policy.proofs.Untrusted.{untrusted}
-use Rattle.law_policy.specs.Denied.{IsTold}
+use Rattle.def_policy.specs.Denied.{IsTold}
 use Rattle.law_policy.proofs.Denials.{denials_there, few}
 use Rattle.law_policy.proofs.There.{policy_or_fault}
-use Rattle.law_dialogue.specs.Following.{IsContent, AreContents, HasTurn}
+use Rattle.def_program.specs.Following.{IsContent, AreContents, HasTurn}
 use Rattle.law_dialogue.proofs.Images.{image_or_flaw}
 use Rattle.law_dialogue.proofs.Scripts as scripts
 use Rattle.law_dialogue.proofs.Scripts.{script_or_fault}
@@ -165,7 +165,7 @@ HasNumber c number files = (turn : Turn) × OfNumber c number files turn
 
 of_number : (c : Command) (number : ℕ) (files : List (List ℕ)) → HasNumber c number files
 of_number c number files =
-    let d : DescRow = rows_of (firmware number) in
+    let d : DescRow = description_of (firmware number) in
     let p : PartsRow = links.parts_of_seed number in
     let f = faultless d (generated.sources number) p (record { lawful = value_lawful (firmware number) (well.faultless number); linked = links.generated_links number }) in
     let next = of_parts c p f files in

@@ -16,7 +16,7 @@ use Rattle.ct_parts.specs.Converted.{parts_of}
 use Rattle.ct_image.specs.declared.fault.ImageFault.TheVariants.{At}
 use Rattle.ct_image.specs.Answers.{Stand}
 use Rattle.ct_image.proofs.Answered.{unbegun, uncut, unlimited, standing, spelled_by, refused, faultless}
-use Rattle.law_dialogue.specs.Following.{IsContent}
+use Rattle.def_program.specs.Following.{IsContent}
 
 pub record Taken (bytes : List ℕ) : Type 0 where
   pub parts : PartsRow

@@ -4,7 +4,7 @@
 
 ghost use Rattle.std.specs.Prelude.{ℕ, List};
 ghost use Rattle.def_program.specs.Commands.{Command};
-ghost use Rattle.law_dialogue.specs.Following.{AreContents, HasTurn};
+ghost use Rattle.def_program.specs.Following.{AreContents, HasTurn};
 
 /// After any files of a size that is taken, whatever their bytes are, a command has a turn. With
 /// `one_turn` of law_program it has exactly one.

@@ -32,7 +32,7 @@ use Rattle.def_step.specs.Checks.{first_failed}
 use Rattle.def_step.specs.Devices.{Bank, found, bank_value, bank_read, bank_written}
 use Rattle.def_machine.specs.Memory.{filtered_in}
 use Rattle.def_step.specs.Accesses.{Accessed, access_of, access_checks, load_checks, store_checks, access_address, access_result, accessed, ram_value, ram_stored, device_value, stored_value, widened, deed_at, unless}
-use Rattle.def_step.specs.Instructions.{Done, Around, accesses, around, space_of, bank_of, deed, put_done, operand, carried_out, named_by, actor_of}
+use Rattle.def_step.specs.Instructions.{Effect, Context, accesses, around, space_of, bank_of, deed, put_done, operand, carried_out, named_by, actor_of}
 use Rattle.def_machine.specs.Board.{Board}
 use Rattle.def_board.specs.Wired.{Wired}
 use Rattle.def_confined.specs.Confined.{Confined}
@@ -102,14 +102,14 @@ width_of k = plain_width (access_of k) (omega arith) refl
 
 -- ---- what an access leaves
 
-abbrev done_of : Around → ℕ → Accessed → Done
+abbrev done_of : Context → ℕ → Accessed → Effect
 done_of a to m = record { to = to; value = unwrap_or m.value (plain 0); pcc = raised a.pcc 4; posture = a.posture; granules = m.granules; bank = m.bank; act = m.act }
 
-pub record CarriedOut (a : Around) (to : ℕ) (o : Option Trap) (m : Accessed) (d : Done) : Type 0 where
+pub record CarriedOut (a : Context) (to : ℕ) (o : Option Trap) (m : Accessed) (d : Effect) : Type 0 where
   pub passed : o ≡ None
   pub is : d ≡ done_of a to m
 
-carried : (a : Around) (to : ℕ) (o : Option Trap) (m : Accessed) (d : Done) → accesses a to (unless o m) ≡ Ok d → CarriedOut a to o m d
+carried : (a : Context) (to : ℕ) (o : Option Trap) (m : Accessed) (d : Effect) → accesses a to (unless o m) ≡ Ok d → CarriedOut a to o m d
 carried a to None m d e = record { passed = refl; is = (let same : done_of a to m ≡ d = cc in sym same) }
 carried a to (Some w) m d e = absurd (let clash : Err w ≡ Ok d = e in cc)
 
@@ -300,9 +300,9 @@ accessed_licensed b s t n m a at w = by_access (λ r. Tells b s t n r.act) a (re
 
 -- of a load or a store that is carried out
 pub record AccessLaws (b : Board) (s : State) (t : ℕ) (k : Instr) : Type 0 where
-  pub confined : (d : Done) → carried_out class.Access k (operands_of k).to (operand s t (operands_of k).first) (operand s t (operands_of k).second) (named_by b.image (operand s t (operands_of k).first)) (around b s t) ≡ Ok d → Confined b.image (put_done s t d)
-  pub ram : (d : Done) → carried_out class.Access k (operands_of k).to (operand s t (operands_of k).first) (operand s t (operands_of k).second) (named_by b.image (operand s t (operands_of k).first)) (around b s t) ≡ Ok d → RamLeft b.image s d.granules
-  pub licensed : (d : Done) (a : Act) → carried_out class.Access k (operands_of k).to (operand s t (operands_of k).first) (operand s t (operands_of k).second) (named_by b.image (operand s t (operands_of k).first)) (around b s t) ≡ Ok d → d.act ≡ Some a
+  pub confined : (d : Effect) → carried_out class.Access k (operands_of k).to (operand s t (operands_of k).first) (operand s t (operands_of k).second) (named_by b.image (operand s t (operands_of k).first)) (around b s t) ≡ Ok d → Confined b.image (put_done s t d)
+  pub ram : (d : Effect) → carried_out class.Access k (operands_of k).to (operand s t (operands_of k).first) (operand s t (operands_of k).second) (named_by b.image (operand s t (operands_of k).first)) (around b s t) ≡ Ok d → RamLeft b.image s d.granules
+  pub licensed : (d : Effect) (a : Act) → carried_out class.Access k (operands_of k).to (operand s t (operands_of k).first) (operand s t (operands_of k).second) (named_by b.image (operand s t (operands_of k).first)) (around b s t) ≡ Ok d → d.act ≡ Some a
       → Licensed b.image.entries (deed s t (operand s t (operands_of k).first).shadow.root a)
 
 pub access_laws : (b : Board) (s : State) (t : ℕ) (k : Instr) → Wired b → Fetching b.image s t → s.running ≡ Some t → AccessLaws b s t k
@@ -312,15 +312,15 @@ access_laws b s t k wired f runs =
     → Accessing b s t (operands_of k).first (operands_of k).second (access_of k) (access_address (access_of k) (operand s t (operands_of k).first)) =
     λ none. record { f = f; wired = wired; runs = runs; wide = width_of k; passed = all_pass _ (sym none) } in
     record {
-      confined = λ d e. let c = done d e in subst (λ (z : Done). Confined b.image (put_done s t z)) (sym c.is)
+      confined = λ d e. let c = done d e in subst (λ (z : Effect). Confined b.image (put_done s t z)) (sym c.is)
           (accessed_confined b s t (operands_of k).first (operands_of k).second (operands_of k).to (access_of k) (access_address (access_of k) (operand s t (operands_of k).first)) (accessing (sym c.passed)));
-      ram = λ d e. let c = done d e in subst (λ (z : Done). RamLeft b.image s z.granules) (sym c.is)
+      ram = λ d e. let c = done d e in subst (λ (z : Effect). RamLeft b.image s z.granules) (sym c.is)
           (accessed_ram b s t (operands_of k).first (operands_of k).second (access_of k) (access_address (access_of k) (operand s t (operands_of k).first)) (accessing (sym c.passed)));
       licensed = λ d act e is. let c = done d e in
-          accessed_licensed b s t (operands_of k).first (operands_of k).second (access_of k) (access_address (access_of k) (operand s t (operands_of k).first)) (accessing (sym c.passed)) act (sym (ap (λ (z : Done). z.act) c.is) ∙ is);
+          accessed_licensed b s t (operands_of k).first (operands_of k).second (access_of k) (access_address (access_of k) (operand s t (operands_of k).first)) (accessing (sym c.passed)) act (sym (ap (λ (z : Effect). z.act) c.is) ∙ is);
     }
   where
-    done : (d : Done) → carried_out class.Access k (operands_of k).to (operand s t (operands_of k).first) (operand s t (operands_of k).second) (named_by b.image (operand s t (operands_of k).first)) (around b s t) ≡ Ok d
+    done : (d : Effect) → carried_out class.Access k (operands_of k).to (operand s t (operands_of k).first) (operand s t (operands_of k).second) (named_by b.image (operand s t (operands_of k).first)) (around b s t) ≡ Ok d
         → CarriedOut (around b s t) (operands_of k).to (first_failed (access_checks (access_of k) (operand s t (operands_of k).first) (operand s t (operands_of k).second) (access_address (access_of k) (operand s t (operands_of k).first))))
         (accessed (access_of k) (operand s t (operands_of k).first) (operand s t (operands_of k).second) (access_address (access_of k) (operand s t (operands_of k).first)) (space_of b s)) d
     done d e = carried (around b s t) (operands_of k).to (first_failed (access_checks (access_of k) (operand s t (operands_of k).first) (operand s t (operands_of k).second) (access_address (access_of k) (operand s t (operands_of k).first))))

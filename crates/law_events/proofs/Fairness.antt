@@ -13,7 +13,7 @@ use Rattle.law_routines.proofs.Stepping.{trap_case, return_case}
 use Rattle.law_handlers.proofs.Entered.{entered_beside}
 use Rattle.law_handlers.proofs.Whole.{handler_confined}
 use Rattle.def_machine.specs.Threads.{jumped}
-use Rattle.def_step.specs.Instructions.{Done, bank_of, deed, trapped, put_done}
+use Rattle.def_step.specs.Instructions.{Effect, bank_of, deed, trapped, put_done}
 use Rattle.def_machine.specs.Board.{Board}
 use Rattle.def_confined.specs.Places.{InFrames}
 use Rattle.def_confined.specs.Confined.{Confined}
@@ -68,12 +68,12 @@ has_frames i objects t [] c h tagged e = let clash : true ≡ false = sym tagged
 has_frames i objects t (f ∷ fs) c h tagged e = let clash : (f ∷ fs) ≡ [] = e in cc
 
 -- a register and the program counter of the running thread change, and RAM
-pub put_beside : (b : Board) (s : State) (t : ℕ) (d : Done) → s.running ≡ Some t → ((thread s t).frames ≡ [] → ⊥) → RamLeft b.image s d.granules → Beside b.image s → Beside b.image (put_done s t d)
+pub put_beside : (b : Board) (s : State) (t : ℕ) (d : Effect) → s.running ≡ Some t → ((thread s t).frames ≡ [] → ⊥) → RamLeft b.image s d.granules → Beside b.image s → Beside b.image (put_done s t d)
 put_beside b s t d runs some ram h = moved_beside b.image s t d.granules (jumped (thread s t) d.pcc d.posture d.to d.value) s.running (record (clock_of s) { devices = d.bank.states }) ram
     (running_left b.image s t (jumped (thread s t) d.pcc d.posture d.to d.value) runs refl (omega (arith, h.bounded.few t, written_length (thread s t).registers d.to d.value)) (λ e. record { over = e.over; none = λ none. absurd (some none) }) h)
     h
 
-abbrev pub moved_on : Board → State → ℕ → Cap → Cap → Posture → Done
+abbrev pub moved_on : Board → State → ℕ → Cap → Cap → Posture → Effect
 moved_on b s to value pcc posture = record { to = to; value = value; pcc = pcc; posture = posture; granules = s.granules; bank = bank_of b s; act = None }
 
 pub jumps_fair : (b : Board) (s : State) (t to : ℕ) (value pcc : Cap) (posture : Posture) → s.running ≡ Some t → (thread s t).pcc.tag ≡ true → Jumps b.image s t pcc posture value → Fair b s (put_done s t (moved_on b s to value pcc posture), None)

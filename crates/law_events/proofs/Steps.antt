@@ -31,7 +31,7 @@ use Rattle.def_step.specs.Quotas.{allocate, free, remaining}
 use Rattle.def_step.specs.Tokens.{token_key, token_new, token_open, token_free}
 use Rattle.def_facts.specs.Facts.{Facts}
 use Rattle.def_confined.specs.Keeps.{Keeps}
-use Rattle.def_step.specs.Instructions.{Done, Around, carried_out, named_by, flows, accesses, around, space_of, deed, put_done, ends, operand, goes_on, after_fetch, executed, fetch_checks, fetched, next_at, is_native_entry, deed_told, ran, served}
+use Rattle.def_step.specs.Instructions.{Effect, Context, carried_out, named_by, flows, accesses, around, space_of, deed, put_done, instruction_end, operand, goes_on, after_fetch, executed, fetch_checks, fetched, next_at, is_native_entry, deed_told, ran, served}
 use Rattle.def_machine.specs.Board.{Board}
 use Rattle.def_board.specs.Wired.{Wired}
 use Rattle.def_confined.specs.Confined.{Confined}
@@ -48,7 +48,7 @@ use Rattle.law_events.proofs.Smalls.{IsSmall, by_small, read_small}
 use Rattle.law_events.proofs.Goings.{FlowFits, Fetching}
 use Rattle.law_events.proofs.Goings as going
 use Rattle.law_routines.proofs.Cases.{by_next, by_routine}
-use Rattle.law_natives.specs.Stands.{Stands, TellsLicensed}
+use Rattle.law_natives.specs.Stands.{RoutineKeeps, TellsLicensed}
 use Rattle.law_natives.proofs.Serving.{switch_stands, rests_stands}
 use Rattle.law_natives.proofs.Waiting.{wait_stands, wake_stands}
 use Rattle.law_natives.proofs.Charging.{allocate_stands, remaining_stands}
@@ -62,7 +62,7 @@ use Rattle.law_events.proofs.Fairness.{Fair, some_same, none_licensed, trapped_f
 gives_fair : (b : Board) (s : State) (t to : ℕ) (value : Cap) → s.running ≡ Some t → Fetching b.image s t → Puts b.image s t value → Fair b s (put_done s t (moved_on b s to value (raised (thread s t).pcc 4) (thread s t).posture), None)
 gives_fair b s t to value runs f puts = jumps_fair b s t to value (raised (thread s t).pcc 4) (thread s t).posture runs f.fetched.tagged (going.goes_on b.image s t value f puts)
 
-flow_fair : (b : Board) (s : State) (t to : ℕ) (x : Cap) (r : Result Flowed Trap) → s.running ≡ Some t → Fetching b.image s t → FlowFits b.image s t r → Fair b s (ends b s t x (flows (around b s t) to r))
+flow_fair : (b : Board) (s : State) (t to : ℕ) (x : Cap) (r : Result Flowed Trap) → s.running ≡ Some t → Fetching b.image s t → FlowFits b.image s t r → Fair b s (instruction_end b s t x (flows (around b s t) to r))
 flow_fair b s t to x (Err w) runs f fits = trapped_fair b s t w runs f.parts f.facts f.held fits
 flow_fair b s t to x (Ok j) runs f fits = jumps_fair b s t to (unwrap_or j.link (plain 0)) j.pcc j.posture runs f.fetched.tagged fits
 
@@ -80,7 +80,7 @@ result_tells k x y p small = by_checks (λ o. ErrTells (unless o (accessed (acce
     (λ w tells. tells)
     (λ passes. tt)
 
-accesses_tell : (a : Around) (to : ℕ) (r : Result Accessed Trap) → ErrTells r → ErrTells (accesses a to r)
+accesses_tell : (a : Context) (to : ℕ) (r : Result Accessed Trap) → ErrTells r → ErrTells (accesses a to r)
 accesses_tell a to (Err w) h = h
 accesses_tell a to (Ok m) h = tt
 
@@ -88,8 +88,8 @@ act_licensed : (b : Board) (s : State) (t entry : ℕ) (o : Option Act) → ((a 
 act_licensed b s t entry None h d e = none_licensed b d e
 act_licensed b s t entry (Some a) h d e = some_same (Licensed b.image.entries) (deed s t entry a) d e (h a refl)
 
-access_fair : (b : Board) (s : State) (t : ℕ) (k : Instr) (r : Result Done Trap) → Fetching b.image s t → Wired b → s.running ≡ Some t
-    → carried_out class.Access k (operands_of k).to (operand s t (operands_of k).first) (operand s t (operands_of k).second) (named_by b.image (operand s t (operands_of k).first)) (around b s t) ≡ r → ErrTells r → Fair b s (ends b s t (operand s t (operands_of k).first) r)
+access_fair : (b : Board) (s : State) (t : ℕ) (k : Instr) (r : Result Effect Trap) → Fetching b.image s t → Wired b → s.running ≡ Some t
+    → carried_out class.Access k (operands_of k).to (operand s t (operands_of k).first) (operand s t (operands_of k).second) (named_by b.image (operand s t (operands_of k).first)) (around b s t) ≡ r → ErrTells r → Fair b s (instruction_end b s t (operand s t (operands_of k).first) r)
 access_fair b s t k (Err w) f wired runs e tells = trapped_fair b s t w runs f.parts f.facts f.held tells
 access_fair b s t k (Ok d) f wired runs e tells =
     let laws = access_laws b s t k wired f runs in
@@ -102,7 +102,7 @@ access_fair b s t k (Ok d) f wired runs e tells =
 -- ---- an instruction
 
 class_fair : (b : Board) (s : State) (t : ℕ) (k : Instr) (c : Class) → class_of k ≡ c → Wired b → s.running ≡ Some t → Fetching b.image s t → (operands_of k).first < 16
-    → Fair b s (ends b s t (operand s t (operands_of k).first) (carried_out c k (operands_of k).to (operand s t (operands_of k).first) (operand s t (operands_of k).second) (named_by b.image (operand s t (operands_of k).first)) (around b s t)))
+    → Fair b s (instruction_end b s t (operand s t (operands_of k).first) (carried_out c k (operands_of k).to (operand s t (operands_of k).first) (operand s t (operands_of k).second) (named_by b.image (operand s t (operands_of k).first)) (around b s t)))
 class_fair b s t k class.Integer e wired runs f small =
     gives_fair b s t (operands_of k).to (integer (integer_result k (cap_address (operand s t (operands_of k).first)) (cap_address (operand s t (operands_of k).second)))) runs f (untagged_puts b.image s t _ refl)
 class_fair b s t k class.Capability e wired runs f small =
@@ -139,7 +139,7 @@ instruction_fair b s t k away read parts facts wired h runs f =
     class_fair b s t k (class_of k) refl wired runs (record { parts = parts; facts = facts; held = h; fetched = f; other = other }) small
 
 -- what a routine comes to that stands
-ran_fair : (b : Board) (s : State) (t : ℕ) (r : Ran) → Partitioned b.image → Facts b.image → Confined b.image s → s.running ≡ Some t → Stands b.image s t r → Fair b s (ran b s t r)
+ran_fair : (b : Board) (s : State) (t : ℕ) (r : Ran) → Partitioned b.image → Facts b.image → Confined b.image s → s.running ≡ Some t → RoutineKeeps b.image s t r → Fair b s (ran b s t r)
 ran_fair b s t (Traps why) parts facts h runs tells = trapped_fair b s t why runs parts facts h tells
 ran_fair b s t (Leaves after told) parts facts h runs stands = record { confined = stands.0.confined; licensed = told_licensed told stands.1; beside = λ e. stands.0.beside }
   where
@@ -163,7 +163,7 @@ routine_fair b s t n few other parts facts k runs = by_routine (λ (o : Option R
   token_free = stands (token_free b.image s t) (token_free_stands b.image s t parts facts k runs);
 })
   where
-    stands : (r : Ran) → Stands b.image s t r → Fair b s (ran b s t r)
+    stands : (r : Ran) → RoutineKeeps b.image s t r → Fair b s (ran b s t r)
     stands r h = ran_fair b s t r parts facts k.confined runs h
 
 next_fair : (b : Board) (s : State) (t : ℕ) → Partitioned b.image → Facts b.image → Wired b → Keeps b.image s → s.running ≡ Some t → Fetched (thread s t).pcc → Fair b s (goes_on b s t (next_at (space_of b s) (cap_address (thread s t).pcc)))

@@ -9,7 +9,7 @@ ghost use Rattle.ct_entry.specs.declared.acts.Owned.{Owned};
 ghost use Rattle.def_machine.specs.State.{State};
 ghost use Rattle.def_step.specs.declared.Event.{Event};
 ghost use Rattle.def_machine.specs.Board.{Board};
-ghost use Rattle.def_step.specs.Events.{happens, one_more_step, preempted, run, scheduled, told};
+ghost use Rattle.def_step.specs.Events.{happens, one_more_step, preempted, run, scheduled, happenings_of};
 ghost use Rattle.def_board.specs.Wired.{Wired};
 ghost use Rattle.def_facts.specs.Facts.{Facts};
 ghost use Rattle.def_confined.specs.Keeps.{Keeps};
@@ -53,5 +53,5 @@ pub fn runs_confined()
 pub fn runs_licensed()
     ensures { (b : Board) (s : State) (es : List Event)
         → Partitioned b.image → Facts b.image → Wired b → Keeps b.image s
-        → AllLicensed b.image.entries (told b s es) }
+        → AllLicensed b.image.entries (happenings_of b s es) }
 {}

@@ -111,8 +111,8 @@ made_14 = made 14 memory_root 0x800000D0 16 shared_rights 0x800000D0 0
 abbrev pub made_18 : Cap
 made_18 = made 18 memory_root 0x800000E0 32 STACK_RIGHTS 0x80000100 0
 
-abbrev pub held : Cap → Granule
-held c = record { cap = c; mark = false }
+abbrev pub small_cap : Cap → Granule
+small_cap c = record { cap = c; mark = false }
 
 abbrev pub small : Image
 small = record {
@@ -129,13 +129,13 @@ small = record {
       ∷ Stack 0 ∷ Fixed ∷ Bare ∷ HeapRam ∷ HeapRam ∷ HeapRam ∷ HeapRam ∷ HeapRam ∷ HeapRam ∷ HeapRam
       ∷ HeapRam ∷ [];
   boot =
-      held made_3 ∷ held made_4 ∷ held made_5 ∷ held made_6 ∷ held made_7 ∷ held made_8
-      ∷ held made_9 ∷ held (plain 0) ∷ held made_1 ∷ held made_2 ∷ held (plain 0) ∷ held (plain 0)
-      ∷ held (plain 0) ∷ held (plain 0) ∷ held made_13 ∷ held made_14 ∷ held (plain 0)
-      ∷ held (plain 0) ∷ held made_11 ∷ held made_12 ∷ held (plain 0) ∷ held (plain 0)
-      ∷ held (plain 0) ∷ held (plain 0) ∷ held (plain 0) ∷ held (plain 0) ∷ held (plain 0)
-      ∷ held (plain 0) ∷ held (plain 0) ∷ held (plain 0) ∷ held (plain 0) ∷ held (plain 0)
-      ∷ held made_0 ∷ [];
+      small_cap made_3 ∷ small_cap made_4 ∷ small_cap made_5 ∷ small_cap made_6 ∷ small_cap made_7 ∷ small_cap made_8
+      ∷ small_cap made_9 ∷ small_cap (plain 0) ∷ small_cap made_1 ∷ small_cap made_2 ∷ small_cap (plain 0) ∷ small_cap (plain 0)
+      ∷ small_cap (plain 0) ∷ small_cap (plain 0) ∷ small_cap made_13 ∷ small_cap made_14 ∷ small_cap (plain 0)
+      ∷ small_cap (plain 0) ∷ small_cap made_11 ∷ small_cap made_12 ∷ small_cap (plain 0) ∷ small_cap (plain 0)
+      ∷ small_cap (plain 0) ∷ small_cap (plain 0) ∷ small_cap (plain 0) ∷ small_cap (plain 0) ∷ small_cap (plain 0)
+      ∷ small_cap (plain 0) ∷ small_cap (plain 0) ∷ small_cap (plain 0) ∷ small_cap (plain 0) ∷ small_cap (plain 0)
+      ∷ small_cap made_0 ∷ [];
   codes = 1 ∷ 11 ∷ [];
   globals = 2 ∷ 12 ∷ [];
   handlers = [];

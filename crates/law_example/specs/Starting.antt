@@ -6,7 +6,7 @@ use Rattle.def_words.specs.Derive.{executable_root}
 use Rattle.def_memory.specs.Granules.{plain}
 use Rattle.def_machine.specs.State.{State, Thread, Frame, Serial, interrupts_on, outermost, at_rest}
 use Rattle.def_sched.specs.declared.Status.TheVariants.{Ready}
-use Rattle.law_example.specs.Small.{small, made, held, made_0, made_2, made_18}
+use Rattle.law_example.specs.Small.{small, made, small_cap, made_0, made_2, made_18}
 
 abbrev pub first_pcc : Cap
 first_pcc = made 1 executable_root 0x80000000 64 CODE_RIGHTS 0x80000038 0
@@ -28,5 +28,5 @@ first_thread = record {
 -- RAM is as boot fills it, and zero past that
 abbrev pub starting : State
 starting =
-    at_rest (small.boot ++ replicate 9 (held (plain 0))) (first_thread ∷ [])
+    at_rest (small.boot ++ replicate 9 (small_cap (plain 0))) (first_thread ∷ [])
     (Serial [] ∷ []) (0 ∷ [])

@@ -18,7 +18,8 @@ pub fn choices_of_descriptions()
     ensures postures { map posture_of (codes "enabled" ∷ codes "disabled" ∷ [])
         ≡ Some Enabled ∷ Some Disabled ∷ [] }
     ensures no_other_posture { length POSTURES ≡ 2 }
-    ensures library_postures { map library_posture_of (codes "inherit" ∷ codes "enabled" ∷ codes "disabled" ∷ [])
+    ensures library_postures { map library_posture_of
+        (codes "inherit" ∷ codes "enabled" ∷ codes "disabled" ∷ [])
         ≡ Some Inherit ∷ Some Enabled ∷ Some Disabled ∷ [] }
     ensures no_other_library_posture { length LIBRARY_POSTURES ≡ 3 }
     ensures passes { map passes_of (codes "capabilities" ∷ codes "data" ∷ [])

@@ -10,7 +10,7 @@ use Rattle.serde_json.specs.View.{items_of}
 use Rattle.def_profile.specs.declared.limits.TheConstants.{MOST_BYTES}
 use Rattle.def_description.specs.declared.faults.PartWord.TheVariants as part
 use Rattle.def_description.specs.Members.{list_of}
-use Rattle.def_description.specs.Reading.{rows_of}
+use Rattle.def_description.specs.Reading.{description_of}
 use Rattle.def_description.specs.Tables.{members_of, outer_lists, inner_lists, kind_of}
 use Rattle.def_description.specs.Walk.{Spot, spot, place, each_from, spots_of}
 use Rattle.def_description.specs.Kinds.{has_kinds, has_only}
@@ -20,7 +20,7 @@ use Rattle.def_description.specs.References.{refers_at, rights_fit_at, is_served
 use Rattle.def_description.specs.Addresses.{address_fault}
 use Rattle.def_description.specs.WellFormed.{first_failing, first_fault, fault_of}
 use Rattle.def_gen.specs.Numbers.{count_of, chosen, globals_of, passes_data, is_last}
-use Rattle.def_gen.specs.Description.{compartment_name, firmware_over, list, ram, port, thread, compartments, firmware}
+use Rattle.def_gen.specs.Description.{compartment_name, firmware_over, list, ram, port, thread_json, compartments, firmware}
 use Rattle.law_gen.proofs.Lists.{list_items, both, none_fails, none_or, all_own}
 use Rattle.law_gen.proofs.Named.{names_formed, files_fit}
 use Rattle.law_gen.proofs.Owned.{one, own_kinds, own_only, own_named, own_limits, own_refers, own_rights, own_served, entry_there}
@@ -34,7 +34,7 @@ head_spots d =
 
 abbrev thread_spots : Data → ℕ → List Spot
 thread_spots d count =
-    spot (place part.Thread 0 0) d (thread count (codes "a")) ∷ spot (place part.Thread 1 0) d (thread count (codes "b")) ∷ []
+    spot (place part.Thread 0 0) d (thread_json count (codes "a")) ∷ spot (place part.Thread 1 0) d (thread_json count (codes "b")) ∷ []
 
 walked : (count : ℕ) (cs : List Data) → spots_of (firmware_over count (list cs))
     ≡ head_spots (firmware_over count (list cs)) ++ (each_from part.Compartment (firmware_over count (list cs)) 0 cs ++ thread_spots (firmware_over count (list cs)) count)
@@ -162,7 +162,7 @@ twice count passes globals fits =
     ∙ owners_twice d (is_last count) passes globals 0 count (record no_names { devices = codes "uart0" ∷ [] }) (thread_spots d count) (omega arith) refl
     (λ now e. threads_twice d count now (e ∙ ap (λ n. map compartment_name (range_with_len 0 n)) (omega arith)))
 
-addresses : (count : ℕ) (owners : Data) → address_fault (rows_of (firmware_over count owners)) ≡ None
+addresses : (count : ℕ) (owners : Data) → address_fault (description_of (firmware_over count owners)) ≡ None
 unfolding kind_of
 addresses count owners = refl
 
@@ -170,7 +170,7 @@ addresses count owners = refl
 
 none : (d : Data) → first_failing has_kinds (spots_of d) ≡ None → first_failing has_only (spots_of d) ≡ None → first_failing is_well_named (spots_of d) ≡ None
     → first_twice no_names (spots_of d) ≡ None → first_failing keeps_limits (spots_of d) ≡ None → first_failing (refers_at d) (spots_of d) ≡ None
-    → first_failing rights_fit_at (spots_of d) ≡ None → first_failing is_served_at (spots_of d) ≡ None → address_fault (rows_of d) ≡ None
+    → first_failing rights_fit_at (spots_of d) ≡ None → first_failing is_served_at (spots_of d) ≡ None → address_fault (description_of d) ≡ None
     → fault_of d ≡ None
 unfolding first_fault
 none d h2 h3 h4 h5 h6 h7 h8 h9 h10 =

@@ -8,7 +8,7 @@ use Rattle.def_description.specs.declared.faults.PartWord.TheVariants as part
 use Rattle.def_description.specs.Tables.{inner_lists}
 use Rattle.def_description.specs.Names.{Spaces, name_of, space_of, joined, first_twice}
 use Rattle.def_description.specs.Walk.{Spot, spot, place, inside, each_from}
-use Rattle.def_gen.specs.Description.{compartment_with, compartment_name, thread}
+use Rattle.def_gen.specs.Description.{compartment_with, compartment_name, thread_json}
 use Rattle.law_gen.proofs.Lists.{own_spots}
 use Rattle.law_gen.proofs.Named.{new_name, not_first, not_second, not_after, added}
 use Rattle.law_gen.proofs.Owned.{one}
@@ -79,12 +79,12 @@ owners_twice d last passes globals a (suc m) seen more le e k =
     (λ now f. k now (f ∙ ap (λ n. map compartment_name (range_with_len 0 n)) same))
 
 pub threads_twice : (d : Data) (count : ℕ) (now : Spaces) → now.owners ≡ map compartment_name (range_with_len 0 count)
-    → first_twice now (spot (place part.Thread 0 0) d (thread count (codes "a")) ∷ spot (place part.Thread 1 0) d (thread count (codes "b")) ∷ []) ≡ None
+    → first_twice now (spot (place part.Thread 0 0) d (thread_json count (codes "a")) ∷ spot (place part.Thread 1 0) d (thread_json count (codes "b")) ∷ []) ≡ None
 threads_twice d count now e =
     let first : among (codes "a") now.owners ≡ false = ap (among (codes "a")) e ∙ not_first 0 count in
     let second : among (codes "b") (now.owners ++ codes "a" ∷ []) ≡ false =
     not_after (codes "b") (codes "a") now.owners (ap (among (codes "b")) e ∙ not_second 0 count) refl in
-    let last : List Spot = spot (place part.Thread 1 0) d (thread count (codes "b")) ∷ [] in
-    passes_on now (spot (place part.Thread 0 0) d (thread count (codes "a"))) last first
+    let last : List Spot = spot (place part.Thread 1 0) d (thread_json count (codes "b")) ∷ [] in
+    passes_on now (spot (place part.Thread 0 0) d (thread_json count (codes "a"))) last first
     ∙ ap (λ (o : List (List ℕ)). first_twice (record now { owners = o }) last) (added now.owners (codes "a") first)
-    ∙ passes_on (record now { owners = now.owners ++ codes "a" ∷ [] }) (spot (place part.Thread 1 0) d (thread count (codes "b"))) [] second
+    ∙ passes_on (record now { owners = now.owners ++ codes "a" ∷ [] }) (spot (place part.Thread 1 0) d (thread_json count (codes "b"))) [] second

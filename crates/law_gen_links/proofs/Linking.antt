@@ -11,9 +11,9 @@ use Rattle.serde_json.specs.Data.{Data}
 use Rattle.def_layout.specs.Placement.{placed, last_end, needed}
 use Rattle.def_image.specs.Parts.{PartsRow}
 use Rattle.def_description.specs.Rows.{CompartmentRow, DescRow}
-use Rattle.def_description.specs.Reading.{cut, compartment_of, rows_of}
+use Rattle.def_description.specs.Reading.{cut, compartment_of, description_of}
 use Rattle.def_link.specs.Owners.{Unit as OwnerUnit, Built, numbered, compartment_unit, units_of, with_front, all_built}
-use Rattle.def_link.specs.Linked.{BuiltCompartment, compartments_with, compartment_sizes, sizes_of, parts_of, laid_with, linked_with, linked}
+use Rattle.def_link.specs.Linked.{BuiltCompartment, compartments_with, compartment_sizes, sizes_of, parts_of, built_parts, linked_with, linked}
 use Rattle.def_gen.specs.declared.TheConstants.{RAM_BASE, RAM_SIZE}
 use Rattle.def_gen.specs.Numbers.{count_of, chosen, globals_of, passes_data, is_last}
 use Rattle.def_gen.specs.Description.{firmware_over, list, compartments, firmware}
@@ -114,7 +114,7 @@ abbrev owners_of : Plan → List Data
 owners_of p = map (one p.last p.passes p.globals) (range_with_len 0 p.count)
 
 abbrev rows_in : Plan → DescRow
-rows_in p = rows_of (firmware_over p.count (list (owners_of p)))
+rows_in p = description_of (firmware_over p.count (list (owners_of p)))
 
 abbrev sources_of : Plan → List (List ℕ)
 sources_of p = map (source_at p) (range_with_len 0 p.count)
@@ -179,14 +179,14 @@ parts p =
     let sizes = sizes_of (rows_in p) (all_with p) [] in
     parts_of (rows_in p) (all_with p) [] (placed RAM_BASE sizes) (last_end RAM_BASE sizes)
 
-laid_in : (p : Plan) → IsSmall p → laid_with (rows_in p) (all_with p) [] ≡ Ok (parts p)
+laid_in : (p : Plan) → IsSmall p → built_parts (rows_in p) (all_with p) [] ≡ Ok (parts p)
 laid_in p small = rw (room p small) refl
 
 links_in : (p : Plan) → IsSmall p → linked (rows_in p) (sources_of p) ≡ Ok (parts p)
 unfolding linked
 links_in p small =
     ap (linked_with (rows_in p)) (all_are_built p small)
-    ∙ ap (λ (cs : List BuiltCompartment). laid_with (rows_in p) cs []) (all_taken p)
+    ∙ ap (λ (cs : List BuiltCompartment). built_parts (rows_in p) cs []) (all_taken p)
     ∙ laid_in p small
 
 -- ---- of a number
@@ -215,12 +215,12 @@ abbrev pub parts_of_seed : ℕ → PartsRow
 parts_of_seed seed = parts (plan seed)
 
 -- the owners are the compartments, each with its file
-pub seed_units : (seed : ℕ) → units_of (rows_of (firmware seed)) ≡ numbered compartment_unit 0 (map (row_at (plan seed)) (range_with_len 0 (count_of seed)))
+pub seed_units : (seed : ℕ) → units_of (description_of (firmware seed)) ≡ numbered compartment_unit 0 (map (row_at (plan seed)) (range_with_len 0 (count_of seed)))
 unfolding firmware compartments
 seed_units seed =
     append-nil (numbered compartment_unit 0 (rows_in (plan seed)).compartments)
     ∙ ap (λ (rs : List CompartmentRow). numbered compartment_unit 0 rs) (same_rows (plan seed))
 
-pub generated_links : (seed : ℕ) → linked (rows_of (firmware seed)) (sources seed) ≡ Ok (parts_of_seed seed)
+pub generated_links : (seed : ℕ) → linked (description_of (firmware seed)) (sources seed) ≡ Ok (parts_of_seed seed)
 unfolding firmware compartments sources
 generated_links seed = links_in (plan seed) (small seed)

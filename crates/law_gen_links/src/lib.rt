@@ -4,7 +4,7 @@
 
 ghost use Rattle.std.specs.Prelude.{◌≡◌, ◌<◌, ◌^◌, ℕ, List, length};
 ghost use Rattle.std.specs.List.{AllByRecursion};
-ghost use Rattle.def_description.specs.Reading.{rows_of};
+ghost use Rattle.def_description.specs.Reading.{description_of};
 ghost use Rattle.def_gen.specs.Description.{firmware};
 ghost use Rattle.def_gen.specs.Numbers.{count_of};
 ghost use Rattle.def_gen.specs.Sources.{sources};
@@ -15,7 +15,7 @@ ghost use Rattle.law_link.specs.Links.{Links};
 /// (`links`); there is a source for each compartment (`each`), of bytes that 32 bits count (`short`).
 pub fn generated_links()
     ensures links { (seed : ℕ)
-        → (p : PartsRow) × Links (rows_of (firmware seed)) (sources seed) p }
+        → (p : PartsRow) × Links (description_of (firmware seed)) (sources seed) p }
     ensures each { (seed : ℕ) → length (sources seed) ≡ count_of seed }
     ensures short { (seed : ℕ)
         → AllByRecursion (λ (t : List ℕ). length t < 2 ^ 32) (sources seed) }

@@ -10,7 +10,7 @@ use Rattle.def_words.specs.declared.Cap.{Cap}
 use Rattle.def_words.specs.Permissions.{bit, execute, sealing, unsealing}
 use Rattle.def_words.specs.Seals.{cap_seal}
 use Rattle.def_memory.specs.Granules.{plain}
-use Rattle.def_reach.specs.Roots.{Root, Origin, Listing, gate_for, is_root, is_code, is_stack, is_disabled}
+use Rattle.def_reach.specs.Roots.{Root, Origin, Listing, gate_for, is_root, is_code, is_stack, turns_interrupts_off}
 use Rattle.def_reach.specs.Sharing.{Reaches}
 use Rattle.def_machine.specs.Image.{root, made_cap}
 use Rattle.def_confined.specs.Partitioned.{AwayFromHeap}
@@ -126,11 +126,11 @@ module _ (p : PartsRow) (s : Sound p) where
   forwards n (inr (inr e)) = let f = sealed_as n 3 e (omega arith) in f.made.says.forwards (inr (inr f.is))
 
   -- a library's export with interrupts off
-  off_named : (n : ℕ) → (root (image_of p) n).origin ≡ Listing kind.Library → is_disabled (gate_for (gates_of p) (root (image_of p) n).of).posture ≡ true → (root (image_of p) (root (image_of p) n).of).disabled ≡ true
+  off_named : (n : ℕ) → (root (image_of p) n).origin ≡ Listing kind.Library → turns_interrupts_off (gate_for (gates_of p) (root (image_of p) n).of).posture ≡ true → (root (image_of p) (root (image_of p) n).of).disabled ≡ true
   unfolding image_of
   off_named n is off =
       let found = (named p s n).library is in
-      ap (λ (z : Root). z.disabled) found.row.root_is ∙ sym (ap (λ (g : Gate). is_disabled g.posture) found.row.gate_is) ∙ off
+      ap (λ (z : Root). z.disabled) found.row.root_is ∙ sym (ap (λ (g : Gate). turns_interrupts_off g.posture) found.row.gate_is) ∙ off
 
   pub disables : (n : ℕ) → cap_seal (made_cap (image_of p) n) ≡ SENTRY_DISABLE
       → ((root (image_of p) (root (image_of p) n).of).disabled ≡ true) × ((d : ℕ) → Reaches (image_of p).entries (root (image_of p) n).owner d → Reaches (image_of p).entries (root (image_of p) (root (image_of p) n).of).owner d)

@@ -30,7 +30,7 @@ use Rattle.def_profile.specs.declared.rights.TheConstants.{CODE_RIGHTS}
 use Rattle.def_words.specs.declared.Cap.{Cap}
 use Rattle.def_words.specs.Capability.{with_address}
 use Rattle.def_words.specs.Derive.{derive, executable_root}
-use Rattle.def_boot.specs.Made.{from_entry, made_for}
+use Rattle.def_boot.specs.Made.{from_entry, boot_cap_of}
 use Rattle.law_words.proofs.Rights.{executable_is_root}
 use Rattle.law_grants.proofs.Entering.{made_again}
 use Rattle.law_grants.proofs.Making.{code_made, inside_made}
@@ -127,7 +127,7 @@ module _ (p : PartsRow) (s : Sound p) where
       let base = ap (λ (z : Root). z.base) own in
       let top = ap (λ (z : Root). z.top) own in
       let made : made_cap (image_of p) (code_entry (image_of p) b) ≡ derive executable_root c.code.base c.code.length CODE_RIGHTS c.code.base 0 (from_entry (code_number p b)) =
-      ap (λ k. made_for p k) (code_entry_is p b (slice_get_within p.compartments b c h.there)) ∙ h.code.made_is in
+      ap (λ k. boot_cap_of p k) (code_entry_is p b (slice_get_within p.compartments b c h.there)) ∙ h.code.made_is in
       let B : ℕ → Type 0 = λ k. (with_address (made_cap (image_of p) (code_entry (image_of p) k)) (gate_code (image_of p) n)).tag ≡ true in
       let begins : B b = subst (λ a. (with_address (made_cap (image_of p) (code_entry (image_of p) b)) a).tag ≡ true) (sym code) (subst (λ (d : Cap). (with_address d (text_base c.code + x.row.offset)).tag ≡ true) (sym made) (code_begins b c (text_base c.code + x.row.offset) h.there low high)) in
       let inside : I b = (subst (λ a. a ≤ gate_code (image_of p) n) (sym base) (subst (λ a. c.code.base ≤ a) (sym code) low), subst (λ a. gate_code (image_of p) n < a) (sym top) (subst (λ a. a < c.code.base + c.code.length) (sym code) high)) in

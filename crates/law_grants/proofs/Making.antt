@@ -36,7 +36,7 @@ use Rattle.def_image.specs.Rights.{fits_kind, rights_of}
 use Rattle.def_image.specs.Sound.{Sound, Names}
 use Rattle.def_boot.specs.Entries.{native_address, slot_row}
 use Rattle.def_boot.specs.Gates.{gates_of}
-use Rattle.def_boot.specs.Made.{from_entry, made_by, return_sentry, sentry_type}
+use Rattle.def_boot.specs.Made.{from_entry, entry_cap, return_sentry, sentry_type}
 use Rattle.law_listed.proofs.Standing.{library_of}
 use Rattle.law_grants.specs.Fits.{Lies, MadeAs, address_for, type_for}
 use Rattle.law_grants.proofs.Lying.{own_there, library_there, shared_there, sealed_there, stack_there}
@@ -103,7 +103,7 @@ sentry_made = make executable_root RETURN_ENTRY NATIVE_LENGTH SERVICE_RIGHTS RET
 
 -- what boot makes for entry n is just what this row says
 abbrev pub RowMade : PartsRow → ℕ → Entry → Type 0
-RowMade p n e = MadeAs n e.base (e.base + e.length) e.rights (address_for p e e.kind) (type_for p e e.kind) (made_by p n e e.kind)
+RowMade p n e = MadeAs n e.base (e.base + e.length) e.rights (address_for p e e.kind) (type_for p e e.kind) (entry_cap p n e e.kind)
 
 pub service_rights : (x : ℕ) → fits_kind slot.Service x ≡ true → RunRights x
 service_rights x fits = subst (λ y. RunRights y) (sym (eqb-true x SERVICE_RIGHTS fits)) service_set

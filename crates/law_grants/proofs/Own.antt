@@ -20,7 +20,7 @@ use Rattle.def_image.specs.Members.{number_in, text_base, code_number, globals_n
 use Rattle.def_image.specs.Sound.{Sound}
 use Rattle.def_boot.specs.Entries.{code_row, globals_row, stack_row}
 use Rattle.def_boot.specs.Gates.{gates_of, entries_of}
-use Rattle.def_boot.specs.Made.{made_caps}
+use Rattle.def_boot.specs.Made.{caps_at_boot}
 use Rattle.def_boot.specs.Boot.{image_of, numbered_from}
 use Rattle.law_listed.specs.Rows.{HasRow, EntryIs, is_nothing, is_trusted, is_code, is_globals, is_slot, is_export, is_library, is_library_slot, is_library_export, is_stack as of_stack, slot_row_at, slot_number, library_slot_number}
 use Rattle.law_listed.proofs.Listing.{entry_of}
@@ -220,5 +220,5 @@ module _ (p : PartsRow) (s : Sound p) where
   gates_small n = gate_small n (entry_of p n)
 
   pub sentry : (made_cap (image_of p) 0).tag ≡ true → cap_seal (made_cap (image_of p) 0) ≡ RETURN_ENABLE
-  unfolding image_of made_caps
+  unfolding image_of caps_at_boot
   sentry tagged = sentry_made.made.kind_is

@@ -10,20 +10,20 @@ use Rattle.def_memory.specs.Granules.{plain}
 use Rattle.def_facts.specs.Facts.{MadeSettled}
 use Rattle.def_image.specs.Parts.{PartsRow}
 use Rattle.def_boot.specs.Boot.{image_of}
-use Rattle.def_boot.specs.Entries.{rows_of}
-use Rattle.def_boot.specs.Made.{made_by, made_code, made_from, made_caps, made_for, return_sentry}
+use Rattle.def_boot.specs.Entries.{entry_rows}
+use Rattle.def_boot.specs.Made.{entry_cap, code_cap, entry_caps, caps_at_boot, boot_cap_of, return_sentry}
 use Rattle.law_words.proofs.Away.{derives_settle}
 
 plain_settled : (n : ℕ) → IsSettled (plain n)
 plain_settled n e = refl
 
-code_settled : (n : ℕ) (r : Entry) (o : Owner) → IsSettled (made_code n r o)
+code_settled : (n : ℕ) (r : Entry) (o : Owner) → IsSettled (code_cap n r o)
 code_settled n r Trusted = plain_settled 0
 code_settled n r (Compartment b) = derives_settle _ _ _ _ _ _ _
 code_settled n r (Library l) = plain_settled 0
 code_settled n r (Thread t) = plain_settled 0
 
-by_settled : (p : PartsRow) (n : ℕ) (r : Entry) (k : Kind) → IsSettled (made_by p n r k)
+by_settled : (p : PartsRow) (n : ℕ) (r : Entry) (k : Kind) → IsSettled (entry_cap p n r k)
 by_settled p n r kind.Code = code_settled n r r.owner
 by_settled p n r kind.Globals = derives_settle _ _ _ _ _ _ _
 by_settled p n r kind.Stack = derives_settle _ _ _ _ _ _ _
@@ -37,7 +37,7 @@ by_settled p n r kind.Quota = derives_settle _ _ _ _ _ _ _
 by_settled p n r kind.Key = derives_settle _ _ _ _ _ _ _
 by_settled p n r kind.Export = plain_settled 0
 
-from_settled : (p : PartsRow) (n : ℕ) (rs : List Entry) (k : ℕ) → IsSettled (slice_index_or (made_from p n rs) k (plain 0))
+from_settled : (p : PartsRow) (n : ℕ) (rs : List Entry) (k : ℕ) → IsSettled (slice_index_or (entry_caps p n rs) k (plain 0))
 from_settled p n [] k = plain_settled 0
 from_settled p n (r ∷ rs) zero = by_settled p n r r.kind
 from_settled p n (r ∷ rs) (suc k) = from_settled p (n + 1) rs k
@@ -45,10 +45,10 @@ from_settled p n (r ∷ rs) (suc k) = from_settled p (n + 1) rs k
 pub sentry_settled : IsSettled return_sentry
 sentry_settled = derives_settle _ _ _ _ _ _ _
 
-pub made_settled : (p : PartsRow) (n : ℕ) → IsSettled (made_for p n)
-unfolding made_caps
+pub made_settled : (p : PartsRow) (n : ℕ) → IsSettled (boot_cap_of p n)
+unfolding caps_at_boot
 made_settled p zero = sentry_settled
-made_settled p (suc n) = from_settled p 1 (rows_of p) n
+made_settled p (suc n) = from_settled p 1 (entry_rows p) n
 
 pub settled : (p : PartsRow) → MadeSettled (image_of p)
 unfolding image_of

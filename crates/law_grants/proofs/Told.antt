@@ -17,7 +17,7 @@ use Rattle.def_profile.specs.declared.seals.TheConstants.{FIRST_KEY_TYPE, RETURN
 use Rattle.def_words.specs.declared.Cap.{Cap}
 use Rattle.def_words.specs.Permissions.{bit, execute}
 use Rattle.def_memory.specs.Granules.{plain}
-use Rattle.def_reach.specs.Roots.{Origin, Unknown, TrustedPart, Listing, Root, root_of, gate_for, listed_root, no_gate, trusted_root, is_root, is_native, is_disabled}
+use Rattle.def_reach.specs.Roots.{Origin, Unknown, TrustedPart, Listing, Root, root_of, gate_for, listed_root, no_gate, trusted_root, is_root, is_native, turns_interrupts_off}
 use Rattle.def_confined.specs.Capabilities.{is_home}
 use Rattle.def_image.specs.declared.ImportRow.{ImportRow}
 use Rattle.def_image.specs.declared.SlotKind.{SlotKind}
@@ -28,7 +28,7 @@ use Rattle.def_image.specs.Rights.{fits_kind, rights_of, is_library as is_librar
 use Rattle.def_image.specs.Sound.{Sound, Names, IsAway}
 use Rattle.def_boot.specs.Entries.{native_address, slot_row}
 use Rattle.def_boot.specs.Gates.{gate, gates_of, entries_of}
-use Rattle.def_boot.specs.Made.{made_for, made_by, return_sentry, sentry_type}
+use Rattle.def_boot.specs.Made.{boot_cap_of, entry_cap, return_sentry, sentry_type}
 use Rattle.law_listed.specs.Rows.{HasRow, EntryIs, is_nothing, is_trusted, is_code, is_globals, is_slot, is_export, is_library, is_library_slot, is_library_export, is_stack}
 use Rattle.law_listed.proofs.Listing.{entry_of}
 use Rattle.law_grants.specs.Fits.{Lies, MadeAs, type_for, address_for}
@@ -46,7 +46,7 @@ pub record TypeSays (p : PartsRow) (r : Root) (k : ℕ) : Type 0 where
   pub quotas : k ≡ QUOTA_TYPE → r.origin ≡ Listing kind.Quota
   pub no_token : k ≡ TOKEN_TYPE → ⊥
   pub forwards : (k ≡ SENTRY_INHERIT) ⊎ (k ≡ SENTRY_DISABLE) ⊎ (k ≡ SENTRY_ENABLE) → (r.origin ≡ Listing kind.Library) ⊎ (r.origin ≡ Listing kind.Service)
-  pub disables : k ≡ SENTRY_DISABLE → (r.origin ≡ Listing kind.Library) × (is_disabled (gate_for (gates_of p) r.of).posture ≡ true)
+  pub disables : k ≡ SENTRY_DISABLE → (r.origin ≡ Listing kind.Library) × (turns_interrupts_off (gate_for (gates_of p) r.of).posture ≡ true)
 
 -- unsealed, or of a key's type
 says_little : (p : PartsRow) (r : Root) (k : ℕ) → (k ≡ 0) ⊎ (FIRST_KEY_TYPE ≤ k) → TypeSays p r k
@@ -67,7 +67,7 @@ says_little p r k few = record {
 
 -- the sentry of a native routine or of a library
 says_forward : (p : PartsRow) (r : Root) (k : ℕ) → (r.origin ≡ Listing kind.Library) ⊎ (r.origin ≡ Listing kind.Service) → k ≤ 3
-    → (k ≡ 2 → (r.origin ≡ Listing kind.Library) × (is_disabled (gate_for (gates_of p) r.of).posture ≡ true)) → TypeSays p r k
+    → (k ≡ 2 → (r.origin ≡ Listing kind.Library) × (turns_interrupts_off (gate_for (gates_of p) r.of).posture ≡ true)) → TypeSays p r k
 says_forward p r k is few off = record {
   not_off = λ e. omega (arith, e, few);
   returns = λ e. absurd (omega (arith, e, few));
@@ -80,7 +80,7 @@ says_forward p r k is few off = record {
 
 says_library : (p : PartsRow) (r : Root) (m : Mode) → r.origin ≡ Listing kind.Library → (gate_for (gates_of p) r.of).posture ≡ m → TypeSays p r (sentry_type m)
 says_library p r Inherit is at = says_forward p r 1 (inl is) (omega arith) (λ e. absurd (omega (arith, e)))
-says_library p r Disabled is at = says_forward p r 2 (inl is) (omega arith) (λ e. (is, ap is_disabled at))
+says_library p r Disabled is at = says_forward p r 2 (inl is) (omega arith) (λ e. (is, ap turns_interrupts_off at))
 says_library p r Enabled is at = says_forward p r 3 (inl is) (omega arith) (λ e. absurd (omega (arith, e)))
 
 none_forward : (k : ℕ) → 4 ≤ k → (k ≡ SENTRY_INHERIT) ⊎ (k ≡ SENTRY_DISABLE) ⊎ (k ≡ SENTRY_ENABLE) → ⊥
@@ -214,7 +214,7 @@ told_export p n e g is rights low high = record {
 -- what boot made of an entry, with what its type says
 faithful : (p : PartsRow) (n : ℕ) (e : Entry) → RowMade p n e → TypeSays p (listed_root (Some e) no_gate) (type_for p e e.kind) → is_root (Listing e.kind) ≡ true → is_home (Listing e.kind) e.owner ≡ true
     → (is_native (Listing e.kind) ≡ true → (address_for p e e.kind ≡ RETURN_ENTRY) ⊎ Serves (Listing e.kind) (address_for p e e.kind) e.of)
-    → Faithful p n (listed_root (Some e) no_gate) (made_by p n e e.kind)
+    → Faithful p n (listed_root (Some e) no_gate) (entry_cap p n e e.kind)
 faithful p n e made says roots home stands = record { seal = type_for p e e.kind; at = address_for p e e.kind; made = made; says = says; roots = roots; home = home; native = stands }
 
 module _ (p : PartsRow) (s : Sound p) where
@@ -222,7 +222,7 @@ module _ (p : PartsRow) (s : Sound p) where
 
   -- where a slot stands: in RAM below the heap
   pub slot_told : (n : ℕ) (o : Owner) (at : ℕ) (r : ImportRow) (k : SlotKind) → Names p r k → fits_kind k (rights_of r) ≡ true → p.ram ≤ at → at + SLOT_SIZE ≤ p.heap
-      → (is_library_kind k ≡ false → (a : ℕ) × (o ≡ Compartment a)) → Told p n (listed_root (Some (slot_row p o at r k)) no_gate) (made_by p n (slot_row p o at r k) (slot_row p o at r k).kind)
+      → (is_library_kind k ≡ false → (a : ℕ) × (o ≡ Compartment a)) → Told p n (listed_root (Some (slot_row p o at r k)) no_gate) (entry_cap p n (slot_row p o at r k) (slot_row p o at r k).kind)
   slot_told n o at r slot.Service names fits low inside owned =
       told_row p n _ _ (run_fit (Listing kind.Service) (rights_of r) (service_rights (rights_of r) fits) refl refl (λ root. refl))
       (native refl refl (record { number = r.first; few = names; starts = refl; ends = refl }))
@@ -291,11 +291,11 @@ module _ (p : PartsRow) (s : Sound p) where
 
   -- ---- by number
 
-  there : (n : ℕ) (e : Entry) (g : Gate) → HasRow p n e g → Told p n (listed_root (Some e) g) (made_by p n e e.kind) → Told p n (root_of (entries_of p) n) (made_for p n)
-  there n e g h is = subst (λ (c : Cap). Told p n (root_of (entries_of p) n) c) (sym h.made_is) (subst (λ (z : Root). Told p n z (made_by p n e e.kind)) (sym h.root_is) is)
+  there : (n : ℕ) (e : Entry) (g : Gate) → HasRow p n e g → Told p n (listed_root (Some e) g) (entry_cap p n e e.kind) → Told p n (root_of (entries_of p) n) (boot_cap_of p n)
+  there n e g h is = subst (λ (c : Cap). Told p n (root_of (entries_of p) n) c) (sym h.made_is) (subst (λ (z : Root). Told p n z (entry_cap p n e e.kind)) (sym h.root_is) is)
 
-  at : (n m : ℕ) → n ≡ m → Told p m (root_of (entries_of p) m) (made_for p m) → Told p n (root_of (entries_of p) n) (made_for p n)
-  at n m same is = subst (λ k. Told p k (root_of (entries_of p) k) (made_for p k)) (sym same) is
+  at : (n m : ℕ) → n ≡ m → Told p m (root_of (entries_of p) m) (boot_cap_of p m) → Told p n (root_of (entries_of p) n) (boot_cap_of p n)
+  at n m same is = subst (λ k. Told p k (root_of (entries_of p) k) (boot_cap_of p k)) (sym same) is
 
   trusted_told : Told p 0 trusted_root return_sentry
   trusted_told = record {
@@ -307,7 +307,7 @@ module _ (p : PartsRow) (s : Sound p) where
     owned = λ any. neither TrustedPart refl any;
   }
 
-  in_case : (n : ℕ) → EntryIs p n → Told p n (root_of (entries_of p) n) (made_for p n)
+  in_case : (n : ℕ) → EntryIs p n → Told p n (root_of (entries_of p) n) (boot_cap_of p n)
   in_case n (is_nothing root_is gate_is made_is) =
       subst (λ (c : Cap). Told p n (root_of (entries_of p) n) c) (sym made_is) (subst (λ (z : Root). Told p n z (plain 0)) (sym root_is)
       (record { order = omega arith; rights = none_fit; lies = of_nothing refl refl; gates = λ no. no_way no; made = inl (record { plain_is = refl; other = refl; bare = λ root. no_way root }); owned = λ any. neither Unknown refl any }))
@@ -346,5 +346,5 @@ module _ (p : PartsRow) (s : Sound p) where
       at n _ number (there _ _ _ h.row (told_row p _ _ _ stack_fit (in_ram refl lies.low lies.high)
       (inr (faithful p _ _ (stack_made p s _ t x h.there) (says_little p _ 0 (inl refl)) refl refl (λ no. no_way no))) (λ any. neither (Listing kind.Stack) refl any)))
 
-  pub told : (n : ℕ) → Told p n (root_of (entries_of p) n) (made_for p n)
+  pub told : (n : ℕ) → Told p n (root_of (entries_of p) n) (boot_cap_of p n)
   told n = in_case n (entry_of p n)

@@ -14,7 +14,7 @@ use Rattle.def_image.specs.Parts.{GateRow, CodeRow, CompartmentRow, PartsRow}
 use Rattle.def_image.specs.Members.{sealed, gate_address, gate_number, library_gate_number}
 use Rattle.def_boot.specs.Entries.{export_row, library_export_row}
 use Rattle.def_boot.specs.Gates.{gate, gates_of}
-use Rattle.def_boot.specs.Made.{from_entry, made_for, sentry_type}
+use Rattle.def_boot.specs.Made.{from_entry, boot_cap_of, sentry_type}
 use Rattle.law_listed.specs.Rows.{HasRow}
 
 -- a range in RAM below the heap, at multiples of 16, with bounds that a word can spell
@@ -52,7 +52,7 @@ type_for p r _ = 0
 abbrev pub MadeFor : PartsRow → ℕ → Entry → Type 0
 MadeFor p n r =
     MadeAs n r.base (r.base + r.length) r.rights (address_for p r r.kind) (type_for p r r.kind)
-    (made_for p n)
+    (boot_cap_of p n)
 
 -- ---- what is named
 

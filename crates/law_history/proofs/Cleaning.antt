@@ -45,7 +45,7 @@ step_enters b s d export parts facts k act plain_one = step_case (λ (r : State 
   where
     at : (t : ℕ) → (ready b s).running ≡ Some t → Tells b (ready b s) t (executed b (ready b s) t).0 d → CleanEntry b.image (ready b s) d.thread export (noted (executed b (ready b s) t)).0
     at t runs told =
-        let by : ToldBy b.image (ready b s) t (executed b (ready b s) t).0 d.entry (acts.Call export) = subst (λ (a : Act). ToldBy b.image (ready b s) t (executed b (ready b s) t).0 d.entry a) act told.by in
+        let by : ToldBy b (ready b s) t (executed b (ready b s) t).0 d.entry (acts.Call export) = subst (λ (a : Act). ToldBy b (ready b s) t (executed b (ready b s) t).0 d.entry a) act told.by in
         let clean = enters_clean b.image (ready b s) (executed b (ready b s) t).0 t d.entry export parts facts (ready_keeps b s parts k) runs by plain_one in
         counted_entry b.image (ready b s) d.thread export (executed b (ready b s) t).0 (with_deed (executed b (ready b s) t).0.counts (executed b (ready b s) t).1)
         (subst (λ u. CleanEntry b.image (ready b s) u export (executed b (ready b s) t).0) (sym told.thread) clean)
@@ -81,7 +81,7 @@ step_trap P b s d cause code register act told counted h = step_case (λ (r : St
   where
     at : (t : ℕ) → Tells b (ready b s) t (executed b (ready b s) t).0 d → P (noted (executed b (ready b s) t)).0
     at t tells =
-        let by : (executed b (ready b s) t).0 ≡ trap_taken b.image (ready b s) t (record { cause = cause; code = code; register = register }) (thread (ready b s) t).frames = subst (λ (a : Act). ToldBy b.image (ready b s) t (executed b (ready b s) t).0 d.entry a) act tells.by in
+        let by : (executed b (ready b s) t).0 ≡ trap_taken b.image (ready b s) t (record { cause = cause; code = code; register = register }) (thread (ready b s) t).frames = subst (λ (a : Act). ToldBy b (ready b s) t (executed b (ready b s) t).0 d.entry a) act tells.by in
         let here : P (trap_taken b.image (ready b s) t (record { cause = cause; code = code; register = register }) (thread (ready b s) t).frames) = subst (λ u. P (trap_taken b.image (ready b s) u (record { cause = cause; code = code; register = register }) (thread (ready b s) u).frames)) tells.thread h in
         counted (executed b (ready b s) t).0 (with_deed (executed b (ready b s) t).0.counts (executed b (ready b s) t).1) (subst (λ (z : State). P z) (sym by) here)
 

@@ -11,7 +11,7 @@ use Rattle.def_machine.specs.State.{State, Thread, Frame, Object, thread, nobody
 use Rattle.def_machine.specs.Frames.{returned, ended_with, unwound}
 use Rattle.def_machine.specs.Threads.{jumped, with_statuses}
 use Rattle.def_machine.specs.Heap.{with_object, quarantined}
-use Rattle.def_step.specs.Instructions.{Done, put_done, executed}
+use Rattle.def_step.specs.Instructions.{Effect, put_done, executed}
 use Rattle.def_machine.specs.Board.{Board}
 use Rattle.def_step.specs.Quotas.{let_go}
 use Rattle.def_step.specs.Tokens.{with_row}
@@ -80,7 +80,7 @@ returned_ends : (b : Board) (s : State) (t : ℕ) → ((f : Frame) (fs : List Fr
 returned_ends b s t unmarked f g gs ended (inl plain_one) = subst (λ (fs : List Frame). CleanReturn b.image s t f (returned b.image s t fs)) (sym ended.before) (back_clean b.image s t f g gs ended.before plain_one)
 returned_ends b s t unmarked f g gs ended (inr marked) = absurd (let clash : true ≡ false = sym marked ∙ unmarked f (g ∷ gs) ended.before in cc)
 
-done_ends : (b : Board) (s : State) (t : ℕ) (r : Result Done Trap) → IfDone (EndsClean b s t) s t r
+done_ends : (b : Board) (s : State) (t : ℕ) (r : Result Effect Trap) → IfDone (EndsClean b s t) s t r
 done_ends b s t (Err why) = tt
 done_ends b s t (Ok d) = deep_ends b s t (put_done s t d) (set_deep s t (jumped (thread s t) d.pcc d.posture d.to d.value) (omega arith))
 

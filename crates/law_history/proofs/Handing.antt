@@ -35,7 +35,7 @@ module _ (P : State → Type 0) (Q : State → Option (ℕ × Act) → Type 0) (
     where
       at : (t : ℕ) → Tells b (ready b s) t (executed b (ready b s) t).0 d → P (noted (executed b (ready b s) t)).0
       at t told =
-          let by : ToldBy b.image (ready b s) t (executed b (ready b s) t).0 d.entry (acts.Free number base long live) = subst (λ (a : Act). ToldBy b.image (ready b s) t (executed b (ready b s) t).0 d.entry a) act told.by in
+          let by : ToldBy b (ready b s) t (executed b (ready b s) t).0 d.entry (acts.Free number base long live) = subst (λ (a : Act). ToldBy b (ready b s) t (executed b (ready b s) t).0 d.entry a) act told.by in
           so (executed b (ready b s) t).0 (with_deed (executed b (ready b s) t).0.counts (executed b (ready b s) t).1)
           (elim by [
             | inl plain ↦ left_by Q (free b.image (ready b s) t) (executed b (ready b s) t).0 (Some (d.entry, acts.Free number base long live)) plain (h t).0
@@ -50,12 +50,12 @@ module _ (P : State → Type 0) (Q : State → Option (ℕ × Act) → Type 0) (
     where
       at : (t : ℕ) → Tells b (ready b s) t (executed b (ready b s) t).0 d → P (noted (executed b (ready b s) t)).0
       at t told =
-          let by : ToldBy b.image (ready b s) t (executed b (ready b s) t).0 d.entry (acts.Allocate number base long live) = subst (λ (a : Act). ToldBy b.image (ready b s) t (executed b (ready b s) t).0 d.entry a) act told.by in
+          let by : ToldBy b (ready b s) t (executed b (ready b s) t).0 d.entry (acts.Allocate number base long live) = subst (λ (a : Act). ToldBy b (ready b s) t (executed b (ready b s) t).0 d.entry a) act told.by in
           so (executed b (ready b s) t).0 (with_deed (executed b (ready b s) t).0.counts (executed b (ready b s) t).1)
           (elim by [
-            | inl plain ↦ left_by Q (allocate b.image (ready b s) t) (executed b (ready b s) t).0 (Some (d.entry, acts.Allocate number base long live)) plain (h t).0
+            | inl plain ↦ left_by Q (allocate b.image (ready b s) t) (executed b (ready b s) t).0 (Some (d.entry, acts.Allocate number base long live)) plain.1 (h t).0
             | inr sealed ↦ elim sealed [
-              | inl key ↦ left_by Q (token_key b.image (ready b s) t) (executed b (ready b s) t).0 (Some (d.entry, acts.Allocate number base long live)) key (h t).1.0
-              | inr token ↦ left_by Q (token_new b.image (ready b s) t) (executed b (ready b s) t).0 (Some (d.entry, acts.Allocate number base long live)) token (h t).1.1
+              | inl key ↦ left_by Q (token_key b.image (ready b s) t) (executed b (ready b s) t).0 (Some (d.entry, acts.Allocate number base long live)) key.1 (h t).1.0
+              | inr token ↦ left_by Q (token_new b.image (ready b s) t) (executed b (ready b s) t).0 (Some (d.entry, acts.Allocate number base long live)) token.1 (h t).1.1
             ]
           ])

@@ -9,5 +9,4 @@ pub mod Reaching
 pub mod Within
 pub mod Safety
 pub mod Reusing
-pub mod Shutting
 pub mod Running

@@ -148,7 +148,7 @@ waits_whole b s es n base long d number from size live x waits is act meets = el
   | inl there ↦
       let keeps = run_keeps b s es x.parts x.facts x.wired x.keeps in
       let blank = run_blank b s es x.parts x.facts x.wired x.shut x.keeps x.blank in
-      let out : HandsOut b.image (ready b (run b s es)) number from size (AsHanded (ready b (run b s es)) d.thread (executed b (ready b (run b s es)) d.thread).0) = step_allocates b (run b s es) d number from size live x.parts x.facts keeps blank act is in
+      let out : HandsOut b.image (ready b (run b s es)) number from size (AsHanded b (ready b (run b s es)) d.thread (stepped b (run b s es)).0) = step_allocates b (run b s es) d number from size live x.parts x.facts keeps blank act is in
       let same : Same (run b s es) (ready b (run b s es)) = ready_same b (run b s es) in
       let here : Any (IsRow (chunk_at n base long)) (ready b (run b s es)).objects = subst (Any (IsRow (chunk_at n base long))) (sym same.objects) there in
       let starts = out.told.1 in

@@ -26,9 +26,8 @@ use Rattle.def_events.specs.Upheld.{Upholds}
 use Rattle.def_machine.specs.Rows.{RowsFit}
 use Rattle.def_tokens.specs.Tokened.{Tokened}
 use Rattle.law_tokens.proofs.Events.{event_fit}
-use Rattle.law_tokens.proofs.Lasting.{key_lasts}
-use Rattle.law_history.proofs.Shutting.{leaves_shut}
-use Rattle.law_tokens.proofs.Openings.{opens_tokens}
+use Rattle.law_tokens.proofs.Lasting.{key_lasts, stays_shut}
+use Rattle.law_tokens.proofs.Openings.{finds_sealed, opens_tokens}
 use Rattle.law_tokens.proofs.Whole.{event_tokened, ready_tokened}
 use Rattle.law_marks.proofs.Marking.{marks_go, marked_by, enters_unmarked}
 use Rattle.def_safety.specs.Accesses.{UsesReach}
@@ -63,8 +62,9 @@ module _ (b : Board) (parts : Partitioned b.image) (facts : Facts b.image) (wire
   keeps_tokens z e k rows held = record {
     rows = event_fit b z e parts k rows;
     tokened = event_tokened b z e parts facts wired k rows held;
-    opens = λ t. opens_tokens b (ready b z) t (ready_keeps b z parts k).confined (ready_tokened b z held);
-    shut = leaves_shut b z e parts facts k rows;
+    found = finds_sealed b.image (ready b z) (ready_keeps b z parts k).confined (ready_tokened b z held);
+    opens = opens_tokens b z parts k held;
+    shut = stays_shut b z e parts facts k rows;
     keys = λ n is. key_lasts b z (e ∷ []) n parts facts wired k rows held is;
   }
 

@@ -1,5 +1,5 @@
 -- *Temporal safety*, of one event.
-use Rattle.std.proofs.Common.{ℕ, ◌≡◌, ◌+◌, ◌<◌, ◌&&◌, true, inl, inr, nat_le, List, Option, Some, sym, subst, arith}
+use Rattle.std.proofs.Common.{ℕ, ◌≡◌, ◌+◌, ◌<◌, ◌&&◌, true, inl, inr, nat_le, List, Option, Some, sym, ap, ◌∙◌, subst, arith}
 use Rattle.std.proofs.lemmas.Bool.{leb-true, and_parts}
 use Rattle.law_lists.proofs.Tests.{chosen}
 use Rattle.ct_entry.specs.declared.acts.Act.{Act}
@@ -9,7 +9,7 @@ use Rattle.def_words.specs.declared.Cap.{Cap}
 use Rattle.def_words.specs.Authority.{cap_address, cap_base, cap_top}
 use Rattle.def_words.specs.Capability.{is_range_inside}
 use Rattle.def_machine.specs.Image.{Image}
-use Rattle.def_machine.specs.State.{State, Object, register, thread}
+use Rattle.def_machine.specs.State.{State, Counts, Object, register, thread}
 use Rattle.def_confined.specs.Keeps.{Keeps}
 use Rattle.def_confined.specs.Partitioned.{Partitioned}
 use Rattle.def_facts.specs.Facts.{Facts}
@@ -19,7 +19,7 @@ use Rattle.def_step.specs.declared.Event.{Event}
 use Rattle.def_step.specs.declared.Event.TheVariants.{Step, Tick, Sweep, Input}
 use Rattle.def_step.specs.Accesses.{access_of, access_checks, load_checks, store_checks}
 use Rattle.def_step.specs.Checks.{Check}
-use Rattle.def_step.specs.Events.{stepped}
+use Rattle.def_step.specs.Events.{noted, stepped, with_act, with_deed}
 use Rattle.def_step.specs.Instructions.{executed}
 use Rattle.def_machine.specs.Board.{Board}
 use Rattle.def_step.specs.Operands.{operands_of}
@@ -69,23 +69,28 @@ uses_live b s parts k = record {
 handed_as : {P R : Object → Type 0} (i : Image) (s : State) (number base long : ℕ) → ((r : Object) → P r → R r) → HandsOut i s number base long P → HandsOut i s number base long R
 handed_as i s number base long wider out = record { object = out.object; told = out.told; fresh = out.fresh; after_is = wider out.object out.after_is }
 
-pub step_allocates : (b : Board) (s : State) (d : Deed) (number base long live : ℕ) → Partitioned b.image → Facts b.image → Keeps b.image s → Blank b.image s → d.act ≡ acts.Allocate number base long live → (stepped b s).1 ≡ Some d
-    → HandsOut b.image (ready b s) number base long (AsHanded (ready b s) d.thread (executed b (ready b s) d.thread).0)
-step_allocates b s d number base long live parts facts k blank act = step_case (λ (r : State × Option Deed). r.1 ≡ Some d → HandsOut b.image (ready b s) number base long (AsHanded (ready b s) d.thread (executed b (ready b s) d.thread).0)) b s
+pub step_allocates : (b : Board) (s : State) (d : Deed) (number base bytes charged : ℕ) → Partitioned b.image → Facts b.image → Keeps b.image s → Blank b.image s → d.act ≡ acts.Allocate number base bytes charged → (stepped b s).1 ≡ Some d
+    → HandsOut b.image (ready b s) number base bytes (AsHanded b (ready b s) d.thread (stepped b s).0)
+step_allocates b s d number base bytes charged parts facts k blank act = step_case (λ (r : State × Option Deed). r.1 ≡ Some d → HandsOut b.image (ready b s) number base bytes (AsHanded b (ready b s) d.thread r.0)) b s
     (λ idle e. none_told d e)
-    (λ t runs e. at t (executed_tells b (ready b s) t d e))
+    (λ t runs e. subst (λ (z : State). HandsOut b.image (ready b s) number base bytes (AsHanded b (ready b s) d.thread z)) (sym (uncounted t e)) (at t runs (executed_tells b (ready b s) t d e)))
   where
-    at : (t : ℕ) → Tells b (ready b s) t (executed b (ready b s) t).0 d → HandsOut b.image (ready b s) number base long (AsHanded (ready b s) d.thread (executed b (ready b s) d.thread).0)
-    at t told =
-        let by : ToldBy b.image (ready b s) t (executed b (ready b s) t).0 d.entry (acts.Allocate number base long live) = subst (λ (a : Act). ToldBy b.image (ready b s) t (executed b (ready b s) t).0 d.entry a) act told.by in
+    -- an allocation is no deed that is counted
+    uncounted : (t : ℕ) → (executed b (ready b s) t).1 ≡ Some d → (noted (executed b (ready b s) t)).0 ≡ (executed b (ready b s) t).0
+    uncounted t e = ap (λ (c : Counts). record (executed b (ready b s) t).0 { counts = c })
+        (ap (with_deed (executed b (ready b s) t).0.counts) e ∙ ap (with_act (executed b (ready b s) t).0.counts) act)
+
+    at : (t : ℕ) → (ready b s).running ≡ Some t → Tells b (ready b s) t (executed b (ready b s) t).0 d → HandsOut b.image (ready b s) number base bytes (AsHanded b (ready b s) d.thread (executed b (ready b s) t).0)
+    at t runs told =
+        let by : ToldBy b (ready b s) t (executed b (ready b s) t).0 d.entry (acts.Allocate number base bytes charged) = subst (λ (a : Act). ToldBy b (ready b s) t (executed b (ready b s) t).0 d.entry a) act told.by in
         let keeps = ready_keeps b s parts k in
         let zero = ready_blank b s blank in
-        subst (λ u. HandsOut b.image (ready b s) number base long (AsHanded (ready b s) u (executed b (ready b s) u).0)) (sym told.thread)
+        subst (λ u. HandsOut b.image (ready b s) number base bytes (AsHanded b (ready b s) u (executed b (ready b s) t).0)) (sym told.thread)
         (elim by [
-          | inl plain ↦ handed_as b.image (ready b s) number base long (λ r is. inl is) (hands_fresh b.image (ready b s) (executed b (ready b s) t).0 t d.entry number base long live parts facts.away keeps zero plain)
+          | inl plain ↦ handed_as b.image (ready b s) number base bytes (λ r is. inl (plain.0 runs, is)) (hands_fresh b.image (ready b s) (executed b (ready b s) t).0 t d.entry number base bytes charged parts facts.away keeps zero plain.1)
           | inr sealed ↦ elim sealed [
-            | inl key ↦ handed_as b.image (ready b s) number base long (λ r is. inr (inl is)) (key_fresh b.image (ready b s) (executed b (ready b s) t).0 t d.entry number base long live parts facts.away keeps zero key)
-            | inr token ↦ handed_as b.image (ready b s) number base long (λ r is. inr (inr is)) (token_fresh b.image (ready b s) (executed b (ready b s) t).0 t d.entry number base long live parts facts.away keeps zero token)
+            | inl key ↦ handed_as b.image (ready b s) number base bytes (λ r is. inr (inl (key.0 runs, is))) (key_fresh b.image (ready b s) (executed b (ready b s) t).0 t d.entry number base bytes charged parts facts.away keeps zero key.1)
+            | inr token ↦ handed_as b.image (ready b s) number base bytes (λ r is. inr (inr (token.0 runs, is))) (token_fresh b.image (ready b s) (executed b (ready b s) t).0 t d.entry number base bytes charged parts facts.away keeps zero token.1)
           ]
         ])
 

@@ -33,7 +33,7 @@ use Rattle.def_step.specs.Accesses.{Accessed, access_of, access_checks, access_r
 use Rattle.def_step.specs.Checks.{Check, first_failed}
 use Rattle.def_step.specs.Events.{stepped}
 use Rattle.def_step.specs.Handlers.{return_taken}
-use Rattle.def_step.specs.Instructions.{Done, after_fetch, around, accesses, carried_out, deed, deed_told, ends, executed, fetch_checks, flows, goes_on, named_by, next_at, put_done, served, space_of, trapped}
+use Rattle.def_step.specs.Instructions.{Effect, after_fetch, around, accesses, carried_out, deed, deed_told, instruction_end, executed, fetch_checks, flows, goes_on, named_by, next_at, put_done, served, space_of, trapped}
 use Rattle.def_step.specs.Jumps.{Flowed, branched, flow_result, is_taken, passed_over, target_at}
 use Rattle.def_step.specs.Native.{native}
 use Rattle.def_step.specs.Operands.{class_of, operands_of}
@@ -254,7 +254,7 @@ jump_traps k x y pcc posture named why e = absurd (let clash : passed_over pcc p
 flows_traps : (b : Board) (s : State) (t to : ℕ) (r : Result Flowed Trap) (why : Trap) → flows (around b s t) to r ≡ Err why → r ≡ Err why
 flows_traps b s t to (Ok f) why e = absurd (let clash : error_ok (flows (around b s t) to (Ok f)) ≡ error_ok (Err why) = ap error_ok e in let plain : true ≡ false = clash in cc)
   where
-    error_ok : Result Done Trap → Bool
+    error_ok : Result Effect Trap → Bool
     error_ok (Ok d) = true
     error_ok (Err w) = false
 flows_traps b s t to (Err w) why e = ap (λ (z : Trap). Err z) (ap (error_of why) e)
@@ -262,7 +262,7 @@ flows_traps b s t to (Err w) why e = ap (λ (z : Trap). Err z) (ap (error_of why
 accesses_traps : (b : Board) (s : State) (t to : ℕ) (r : Result Accessed Trap) (why : Trap) → accesses (around b s t) to r ≡ Err why → r ≡ Err why
 accesses_traps b s t to (Ok m) why e = absurd (let clash : error_ok (accesses (around b s t) to (Ok m)) ≡ error_ok (Err why) = ap error_ok e in let plain : true ≡ false = clash in cc)
   where
-    error_ok : Result Done Trap → Bool
+    error_ok : Result Effect Trap → Bool
     error_ok (Ok d) = true
     error_ok (Err w) = false
 accesses_traps b s t to (Err w) why e = ap (λ (z : Trap). Err z) (ap (error_of why) e)
@@ -316,7 +316,7 @@ access_other (acts.Allocate number base long live) h = absurd h
 access_other (acts.Free number base long live) h = absurd h
 access_other (acts.Trap cause code register) h = absurd h
 
-ends_named : (P : Trap → Type 0) (b : Board) (s : State) (t : ℕ) (x : Cap) (r : Result Done Trap) → IfDone r → ((why : Trap) → r ≡ Err why → P why) → TellsNamed P (ends b s t x r)
+ends_named : (P : Trap → Type 0) (b : Board) (s : State) (t : ℕ) (x : Cap) (r : Result Effect Trap) → IfDone r → ((why : Trap) → r ≡ Err why → P why) → TellsNamed P (instruction_end b s t x r)
 ends_named P b s t x (Err why) acts_of h = trap_named P b s t why (h why refl)
 ends_named P b s t x (Ok d) acts_of h = by d.act acts_of
   where

@@ -11,7 +11,7 @@ use Rattle.def_image.specs.Limits.{limit_checks}
 use Rattle.def_image.specs.Lying.{region_checks}
 use Rattle.def_image.specs.Indexes.{index_checks}
 use Rattle.def_image.specs.Rights.{right_checks}
-use Rattle.def_image.specs.Accepted.{is_begun, Spells, IsImage, IsCut, BreaksLimit, Stands, BreaksRegion, BreaksIndex, BreaksRight}
+use Rattle.def_image.specs.Accepted.{is_begun, Spells, IsImage, IsCut, BreaksLimit, SpellsParts, BreaksRegion, BreaksIndex, BreaksRight}
 use Rattle.law_lists.proofs.Tests.{le_tells}
 use Rattle.law_image.specs.Answers.{ImagesHaveNoFault, OneFault}
 use Rattle.law_image.proofs.Rows.{number_back}
@@ -46,21 +46,21 @@ same : (k j : ℕ) (o : Option ℕ) → o ≡ placed k → o ≡ placed j → k 
 same k j o e f = let g : placed k ≡ placed j = sym e ∙ f in cc
 
 -- the parts of one spelling are one
-one_parts : (bytes : List ℕ) (p q : PartsRow) → Stands bytes p → Stands bytes q → p ≡ q
+one_parts : (bytes : List ℕ) (p q : PartsRow) → SpellsParts bytes p → SpellsParts bytes q → p ≡ q
 one_parts bytes p q hp hq = one_reading p q hp.0 hq.0 (sym hp.1 ∙ hq.1)
 
-parts_spell : (bytes : List ℕ) (p : PartsRow) → Stands bytes p → Spells (raw_of p) bytes
+parts_spell : (bytes : List ℕ) (p : PartsRow) → SpellsParts bytes p → Spells (raw_of p) bytes
 unfolding image_bytes
 parts_spell bytes p h = (h.0.shaped, h.1)
 
 -- fields that break a limit are not those of parts that stand
-limit_apart : (bytes : List ℕ) (k : ℕ) (p : PartsRow) → BreaksLimit bytes k → Stands bytes p → ⊥
+limit_apart : (bytes : List ℕ) (k : ℕ) (p : PartsRow) → BreaksLimit bytes k → SpellsParts bytes p → ⊥
 limit_apart bytes k p b h =
     let is : b.0 ≡ raw_of p = one_cut bytes b.0 (raw_of p) b.1 (parts_spell bytes p h) in
     apart k (first (limit_checks (raw_of p))) (subst (λ (r : RawImage). first (limit_checks r) ≡ placed k) is b.2) h.2
 
 -- of parts q that stand, where p are these
-moved : (bytes : List ℕ) (p q : PartsRow) (f : PartsRow → Option ℕ) (o : Option ℕ) → Stands bytes p → Stands bytes q → f p ≡ o → f q ≡ o
+moved : (bytes : List ℕ) (p q : PartsRow) (f : PartsRow → Option ℕ) (o : Option ℕ) → SpellsParts bytes p → SpellsParts bytes q → f p ≡ o → f q ≡ o
 moved bytes p q f o hp hq e = subst (λ (x : PartsRow). f x ≡ o) (one_parts bytes p q hp hq) e
 
 abbrev regions : PartsRow → Option ℕ
@@ -77,16 +77,16 @@ rights p = first (right_checks p)
 cut_limit : (bytes : List ℕ) (k j : ℕ) → IsCut bytes k → BreaksLimit bytes j → ⊥
 cut_limit bytes k j a b = a.1 b.0 b.1
 
-cut_stands : (bytes : List ℕ) (k : ℕ) (p : PartsRow) → IsCut bytes k → Stands bytes p → ⊥
+cut_stands : (bytes : List ℕ) (k : ℕ) (p : PartsRow) → IsCut bytes k → SpellsParts bytes p → ⊥
 cut_stands bytes k p a h = a.1 (raw_of p) (parts_spell bytes p h)
 
-region_later : (bytes : List ℕ) (k : ℕ) (p : PartsRow) → BreaksRegion bytes k → Stands bytes p → regions p ≡ None → ⊥
+region_later : (bytes : List ℕ) (k : ℕ) (p : PartsRow) → BreaksRegion bytes k → SpellsParts bytes p → regions p ≡ None → ⊥
 region_later bytes k p b h e = apart k (regions p) (moved bytes b.0 p regions (placed k) b.1 h b.2) e
 
-index_later : (bytes : List ℕ) (k : ℕ) (p : PartsRow) → BreaksIndex bytes k → Stands bytes p → indexes p ≡ None → ⊥
+index_later : (bytes : List ℕ) (k : ℕ) (p : PartsRow) → BreaksIndex bytes k → SpellsParts bytes p → indexes p ≡ None → ⊥
 index_later bytes k p b h e = apart k (indexes p) (moved bytes b.0 p indexes (placed k) b.1 h b.3) e
 
-right_later : (bytes : List ℕ) (k : ℕ) (p : PartsRow) → BreaksRight bytes k → Stands bytes p → rights p ≡ None → ⊥
+right_later : (bytes : List ℕ) (k : ℕ) (p : PartsRow) → BreaksRight bytes k → SpellsParts bytes p → rights p ≡ None → ⊥
 right_later bytes k p b h e = apart k (rights p) (moved bytes b.0 p rights (placed k) b.1 h b.4) e
 
 -- ---- and each at one place
@@ -150,12 +150,12 @@ module _ (bytes : List ℕ) where
   Rights = Kind 6 (BreaksRight bytes)
 
   -- what later kinds say of the parts
-  parted : (n k : ℕ) → Either Regions (Either Indexes Rights) n k → (p : PartsRow) × Stands bytes p
+  parted : (n k : ℕ) → Either Regions (Either Indexes Rights) n k → (p : PartsRow) × SpellsParts bytes p
   parted n k (inl a) = (a.1.0, a.1.1)
   parted n k (inr (inl a)) = (a.1.0, a.1.1)
   parted n k (inr (inr a)) = (a.1.0, a.1.1)
 
-  laid : (n k : ℕ) → Either Indexes Rights n k → (p : PartsRow) × Stands bytes p × (regions p ≡ None)
+  laid : (n k : ℕ) → Either Indexes Rights n k → (p : PartsRow) × SpellsParts bytes p × (regions p ≡ None)
   laid n k (inl a) = (a.1.0, a.1.1, a.1.2)
   laid n k (inr a) = (a.1.0, a.1.1, a.1.2)
 
@@ -203,7 +203,7 @@ image_begins bytes p h = ap is_begun h.1 ∙ begun (raw_of p) h.0.spellable.shap
 
 pub no_fault : ImagesHaveNoFault
 no_fault bytes p n k h a =
-    let stands : Stands bytes p = (h.0.spellable, h.1, h.0.limits) in
+    let stands : SpellsParts bytes p = (h.0.spellable, h.1, h.0.limits) in
     elim a [
       | inl x ↦ unbegun (is_begun bytes) x.1 (image_begins bytes p h)
       | inr y ↦ elim y.1 [

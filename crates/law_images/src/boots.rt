@@ -8,7 +8,7 @@ ghost use Rattle.def_machine.specs.State.{thread, register};
 ghost use Rattle.def_machine.specs.Image.{Stack, HeapRam};
 ghost use Rattle.def_image.specs.Members.{handler_number};
 ghost use Rattle.def_boot.specs.Gates.{entries_of};
-ghost use Rattle.def_boot.specs.Made.{made_for};
+ghost use Rattle.def_boot.specs.Made.{boot_cap_of};
 ghost use Rattle.def_boot.specs.Contents.{boot_cap, part};
 ghost use Rattle.def_boot.specs.Boot.{boot_state};
 ghost use Rattle.law_images.specs.Tiny.{tiny, of_entry};
@@ -37,18 +37,18 @@ pub fn tiny_boots()
 
 /// What boot makes of a slot of each kind, and of the thread, which enters a disabled export.
 pub fn whole_boots()
-    ensures device { cap_seal (made_for whole 4) ≡ 0 }
+    ensures device { cap_seal (boot_cap_of whole 4) ≡ 0 }
     ensures device_base { (root_of (entries_of whole) 4).base ≡ 0 }
     ensures shared { (root_of (entries_of whole) 5).top ≡ 0xffa02000 }
-    ensures sealed { cap_seal (made_for whole 6) ≡ 15 }
-    ensures call { cap_seal (made_for whole 7) ≡ 9 }
+    ensures sealed { cap_seal (boot_cap_of whole 6) ≡ 15 }
+    ensures call { cap_seal (boot_cap_of whole 7) ≡ 9 }
     ensures call_of { (root_of (entries_of whole) 7).of ≡ 13 }
-    ensures library { cap_seal (made_for whole 8) ≡ 3 }
+    ensures library { cap_seal (boot_cap_of whole 8) ≡ 3 }
     ensures library_of { (root_of (entries_of whole) 8).of ≡ 16 }
-    ensures quota { cap_seal (made_for whole 9) ≡ 10 }
+    ensures quota { cap_seal (boot_cap_of whole 9) ≡ 10 }
     ensures key { (root_of (entries_of whole) 10).base ≡ 13 }
-    ensures key_seal { cap_seal (made_for whole 10) ≡ 0 }
-    ensures own_library { made_for whole 14 ≡ plain 0 }
+    ensures key_seal { cap_seal (boot_cap_of whole 10) ≡ 0 }
+    ensures own_library { boot_cap_of whole 14 ≡ plain 0 }
     ensures other_library { (root_of (entries_of whole) 15).of ≡ 18 }
     ensures sealed_bytes { boot_cap whole 0xffa02000 ≡ plain 0x0000000506070809 }
     ensures initial_bytes { boot_cap whole 0xff801000 ≡ plain 0x0000000504030201 }

@@ -24,14 +24,14 @@ abbrev pub span_of : State → ℕ → Frame → Owned
 span_of s t f = record { thread = t; actor = f.actor; export = (thread s t).posture.source }
 
 -- register n of thread t, whose top frame is f, is tagged
-pub record Holds (s : State) (t n : ℕ) (f : Frame) (fs : List Frame) : Type 0 where
+pub record HoldsTagged (s : State) (t n : ℕ) (f : Frame) (fs : List Frame) : Type 0 where
   pub frames : (thread s t).frames ≡ f ∷ fs
   pub tagged : (register (thread s t) n).tag ≡ true
 
 -- and authorises an access of a device, with this right
 pub record Accesses (i : Image) (s : State) (t n right address width : ℕ) (f : Frame)
     (fs : List Frame) : Type 0 where
-  pub holds : Holds s t n f fs
+  pub holds : HoldsTagged s t n f fs
   pub device : (root i (register (thread s t) n).shadow.root).origin ≡ Listing Device
   pub may : has (register (thread s t) n) right ≡ true
   pub low : cap_base (register (thread s t) n) ≤ address
@@ -39,5 +39,5 @@ pub record Accesses (i : Image) (s : State) (t n right address width : ℕ) (f :
 
 -- and is of a quota
 pub record Charges (i : Image) (s : State) (t n : ℕ) (f : Frame) (fs : List Frame) : Type 0 where
-  pub holds : Holds s t n f fs
+  pub holds : HoldsTagged s t n f fs
   pub quota : (root i (register (thread s t) n).shadow.root).origin ≡ Listing Quota

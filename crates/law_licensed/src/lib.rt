@@ -13,7 +13,7 @@ ghost use Rattle.def_machine.specs.State.{State, Frame, register, thread};
 ghost use Rattle.def_machine.specs.Objects.{charges};
 ghost use Rattle.def_confined.specs.Confined.{Confined, IsPcc};
 ghost use Rattle.def_confined.specs.Licensed.{Licensed, OffLicensed};
-ghost use Rattle.law_licensed.specs.Uses.{GatesOfExports, Holds, Accesses, Charges, deed_by, span_of};
+ghost use Rattle.law_licensed.specs.Uses.{GatesOfExports, HoldsTagged, Accesses, Charges, deed_by, span_of};
 ghost use Rattle.def_safety.specs.Accesses.{IsUse};
 
 /// What a tagged register of the running thread, or a thread's tagged program counter, may be used for.
@@ -31,7 +31,7 @@ pub fn uses_reach()
 /// those of the state after the deed.
 pub fn deeds_licensed()
     ensures call { (i : Image) (s : State) (t n : ℕ) (f : Frame) (fs : List Frame)
-        → Confined i s → Holds s t n f fs → cap_seal (register (thread s t) n) ≡ EXPORT_TYPE
+        → Confined i s → HoldsTagged s t n f fs → cap_seal (register (thread s t) n) ≡ EXPORT_TYPE
         → Licensed i.entries (deed_by s t n f
         (Call (root i (register (thread s t) n).shadow.root).of)) }
     ensures load { (i : Image) (s : State) (t n address width value : ℕ)

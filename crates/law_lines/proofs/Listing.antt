@@ -6,7 +6,7 @@ use Rattle.std.proofs.lemmas.List.Elements.{Contains-append_left, Contains-appen
 use Rattle.law_lists.proofs.Alls.{all_joined, all_so}
 use Rattle.ct_entry.specs.Listed.{Listed}
 use Rattle.def_lines.specs.Edges.{are_joined, edge_of, edges_from, edges}
-use Rattle.law_lines.specs.Listing.{Precedes, IsAscending}
+use Rattle.def_lines.specs.Listing.{Precedes, IsAscending}
 
 takes : {A : Type 0} (P : A → Type 0) (xs : List A) (x : A) (k : ℕ) → k < length xs → slice_index_or xs k x ≡ x → AllByRecursion P xs → P x
 takes P [] x k lt is h = absurd (omega (arith, lt))

@@ -1,4 +1,3 @@
 pub mod Written
 pub mod Sharing
-pub mod Listing
 pub mod Parts

@@ -2,7 +2,7 @@
 use Rattle.std.specs.Prelude.{ℕ, List, [], unwrap_or, option_map, slice_get}
 use Rattle.serde_json.specs.Written.{compact_text}
 use Rattle.def_image.specs.Parts.{PartsRow}
-use Rattle.def_boot.specs.Entries.{rows_of}
+use Rattle.def_boot.specs.Entries.{entry_rows}
 use Rattle.def_lines.specs.Labels.{labels_of}
 use Rattle.def_lines.specs.Lines.{numbered}
 use Rattle.def_lines.specs.Report.{data_over}
@@ -10,7 +10,7 @@ use Rattle.def_lines.specs.Report.{data_over}
 -- entry number k + 1
 unfoldable pub entry_text : PartsRow → ℕ → List ℕ
 entry_text p k =
-    unwrap_or (option_map compact_text (slice_get (numbered 1 (rows_of p) (labels_of p)) k)) []
+    unwrap_or (option_map compact_text (slice_get (numbered 1 (entry_rows p) (labels_of p)) k)) []
 
 -- the report as if there were no entries, and so no edges
 unfoldable pub frame_text : PartsRow → List ℕ

@@ -15,7 +15,7 @@ ghost use Rattle.law_images.specs.Board.{board};
 ghost use Rattle.law_images.specs.Whole.{whole};
 ghost use Rattle.law_lines.specs.Written.{board_call, board_data_export, board_frame, board_library, board_library_export, board_quota, board_service, board_stack, board_switch, tiny_line, whole_frame, whole_handler, whole_key, whole_sealed, whole_shared};
 ghost use Rattle.law_lines.specs.Parts.{entry_text, frame_text};
-ghost use Rattle.law_lines.specs.Listing.{IsAscending};
+ghost use Rattle.def_lines.specs.Listing.{IsAscending};
 ghost use Rattle.law_lines.specs.Sharing.{sharing, with_c, without_c};
 
 /// The report's test of two compartments is true exactly where an edge of the sharing graph joins

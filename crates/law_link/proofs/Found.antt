@@ -9,7 +9,7 @@ use Rattle.def_description.specs.Rows.{ExportRow, CompartmentRow, LexportRow, Li
 use Rattle.def_description.specs.References.{export_name}
 use Rattle.def_description.specs.Named.{export_names, library_export_names}
 use Rattle.def_description.specs.Lawful.{Has, IsCall, IsLent}
-use Rattle.def_link.specs.Slots.{index_of, Exported, exported, Exporter, full_names, export_from, compartment_exporters, library_exporters, called, lent}
+use Rattle.def_link.specs.Slots.{index_of, Exported, exported, Exporter, full_names, export_from, compartment_exporters, library_exporters, compartment_export_named, library_export_named}
 
 pub has_mapped : {A B : Type 0} (f : A → B) (xs : List A) (x : A) → Has xs x → Has (map f xs) (f x)
 has_mapped f xs x h = (h.0, slice_get-map f xs h.0 ∙ ap (option_map f) h.1)
@@ -81,7 +81,7 @@ exporter_of c = record { name = c.name; exports = export_names c }
 unfoldable pub library_exporter_of : LibraryRow → Exporter
 library_exporter_of l = record { name = l.name; exports = library_export_names l }
 
-pub call_found : (d : DescRow) (text : List ℕ) → IsCall d text → IsFound 0 (compartment_exporters d) (called d text)
+pub call_found : (d : DescRow) (text : List ℕ) → IsCall d text → IsFound 0 (compartment_exporters d) (compartment_export_named d text)
 unfolding exporter_of
 call_found d text h =
     let owner = exporter_of h.owner in
@@ -90,7 +90,7 @@ call_found d text h =
     let full = has_mapped (export_name h.owner.name) (export_names h.owner) h.gate.name gate in
     find_export text 0 (compartment_exporters d) there.0 owner there.1 (subst (Has (full_names owner)) (sym h.spelled) full)
 
-pub lent_found : (d : DescRow) (text : List ℕ) → IsLent d text → IsFound 0 (library_exporters d) (lent d text)
+pub lent_found : (d : DescRow) (text : List ℕ) → IsLent d text → IsFound 0 (library_exporters d) (library_export_named d text)
 unfolding library_exporter_of
 lent_found d text h =
     let owner = library_exporter_of h.owner in

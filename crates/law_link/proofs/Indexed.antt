@@ -22,7 +22,7 @@ use Rattle.def_description.specs.Rows.{Target, SharedRow, SealedRow, ImportRow, 
 use Rattle.def_description.specs.Named.{device_names, shared_names, sealed_names, export_names, library_export_names}
 use Rattle.def_description.specs.Lawful.{IsCall, IsLent, Resolves, IsLawful, IsLawfulImport, IsLawfulCompartment, IsLawfulLibrary, IsLawfulThread}
 use Rattle.def_link.specs.Owners.{numbered}
-use Rattle.def_link.specs.Slots.{index_of, slot, switch_row, claimed, target_row, form_row, import_slot, quota_slot, key_slot, compartment_slots, library_slots, Exporter, called, lent, export_gate, lexport_gate}
+use Rattle.def_link.specs.Slots.{index_of, slot, switch_row, claimed, target_row, form_row, import_slot, quota_slot, key_slot, compartment_slots, library_slots, Exporter, compartment_export_named, library_export_named, export_gate, lexport_gate}
 use Rattle.def_link.specs.Linked.{sizes_of, BuiltCompartment, BuiltLibrary, compartment_parts, compartment_entries, library_parts, library_entries, shared_parts, sealed_parts, thread_parts, parts_of}
 use Rattle.law_link.specs.Links.{Links}
 use Rattle.law_link.proofs.Walks.{joined_none, next_none, one_none, walk_all, walk_holding, walk_joined}
@@ -73,8 +73,8 @@ pub record Targets (d : DescRow) (p : PartsRow) : Type 0 where
   pub devices : length p.devices ≡ length d.devices
   pub shared : length p.shared ≡ length d.shared
   pub sealed : length p.sealed ≡ length d.sealed
-  pub called : (text : List ℕ) → IsCall d text → nat_lt (called d text).export (exports_of (code_in p.compartments (called d text).owner)) ≡ true
-  pub lent : (text : List ℕ) → IsLent d text → nat_lt (lent d text).export (exports_of (slice_get p.libraries (lent d text).owner)) ≡ true
+  pub called : (text : List ℕ) → IsCall d text → nat_lt (compartment_export_named d text).export (exports_of (code_in p.compartments (compartment_export_named d text).owner)) ≡ true
+  pub lent : (text : List ℕ) → IsLent d text → nat_lt (library_export_named d text).export (exports_of (slice_get p.libraries (library_export_named d text).owner)) ≡ true
 
 below : (e n : ℕ) (k : ℕ) → e < n → k ≡ n → nat_lt e k ≡ true
 below e n k lt is = lt-ltb e k (rw is lt)
@@ -92,8 +92,8 @@ targets d p s =
           let f = call_found d text h in
           let at : slice_get (map exporter_of (map (λ (c : BuiltCompartment). c.row) s.cs)) f.index ≡ Some f.owner = subst (λ l. slice_get (map exporter_of l) f.index ≡ Some f.owner) (sym s.rows) f.at in
           let count = exports_there d 1 regions s.cs f.index f.owner at in
-          let owner : (called d text).owner ≡ f.index = (let c = f.counted in omega (arith, c)) in
-          below (called d text).export (length f.owner.exports) (exports_of (code_in (compartment_parts d 1 regions s.cs) (called d text).owner)) f.inside
+          let owner : (compartment_export_named d text).owner ≡ f.index = (let c = f.counted in omega (arith, c)) in
+          below (compartment_export_named d text).export (length f.owner.exports) (exports_of (code_in (compartment_parts d 1 regions s.cs) (compartment_export_named d text).owner)) f.inside
           (ap (λ i. exports_of (code_in (compartment_parts d 1 regions s.cs) i)) owner ∙ count);
       lent = λ text h.
           let f = lent_found d text h in
@@ -101,8 +101,8 @@ targets d p s =
           let tail = drop (3 * length s.cs) regions in
           let at : slice_get (map library_exporter_of (map (λ (c : BuiltLibrary). c.row) s.ls)) f.index ≡ Some f.owner = subst (λ l. slice_get (map library_exporter_of l) f.index ≡ Some f.owner) (sym s.library_rows) f.at in
           let count = lent_there d entry tail s.ls f.index f.owner at in
-          let owner : (lent d text).owner ≡ f.index = (let c = f.counted in omega (arith, c)) in
-          below (lent d text).export (length f.owner.exports) (exports_of (slice_get (library_parts d entry tail s.ls) (lent d text).owner)) f.inside
+          let owner : (library_export_named d text).owner ≡ f.index = (let c = f.counted in omega (arith, c)) in
+          below (library_export_named d text).export (length f.owner.exports) (exports_of (slice_get (library_parts d entry tail s.ls) (library_export_named d text).owner)) f.inside
           (ap (λ i. exports_of (slice_get (library_parts d entry tail s.ls) i)) owner ∙ count);
     })
 

@@ -12,7 +12,7 @@ use Rattle.def_description.specs.Lawful.{IsLawfulCompartment, IsLawfulLibrary}
 use Rattle.def_link.specs.declared.LinkFault.{LinkFault}
 use Rattle.def_link.specs.declared.LinkFault.TheVariants as fault
 use Rattle.def_link.specs.Owners.{Unit as OwnerUnit, Built, compartment_unit, library_unit, numbered, units_of, unit_built, with_front, source_for, rest_of, all_built}
-use Rattle.def_link.specs.Linked.{BuiltCompartment, BuiltLibrary, compartments_with, libraries_with, sizes_of, compartment_part, compartment_parts, compartment_entries, library_part, library_parts, library_entries, parts_of, laid_with, linked_with, linked}
+use Rattle.def_link.specs.Linked.{BuiltCompartment, BuiltLibrary, compartments_with, libraries_with, sizes_of, compartment_part, compartment_parts, compartment_entries, library_part, library_parts, library_entries, parts_of, built_parts, linked_with, linked}
 
 -- ---- owners one after another
 
@@ -87,22 +87,22 @@ pub record Parts (d : DescRow) (p : PartsRow) : Type 0 where
 
 parts_laid : (d : DescRow) (p : PartsRow) (cs : List BuiltCompartment) (ls : List BuiltLibrary)
     → map (λ (x : BuiltCompartment). x.row) cs ≡ d.compartments → map (λ (x : BuiltLibrary). x.row) ls ≡ d.libraries
-    → AllByRecursion CompartmentBuilt cs → AllByRecursion LibraryBuilt ls → laid_with d cs ls ≡ Ok p → Parts d p
+    → AllByRecursion CompartmentBuilt cs → AllByRecursion LibraryBuilt ls → built_parts d cs ls ≡ Ok p → Parts d p
 parts_laid d p cs ls rows library_rows built library_built e = elim (lt_tells d.ram.size (needed d.ram.base (sizes_of d cs ls))) [
-  | inl h ↦ absurd (let none : laid_with d cs ls ≡ Err (fault.NoRoom (needed d.ram.base (sizes_of d cs ls)) d.ram.size) = by_case h.0 in let no : Err (fault.NoRoom (needed d.ram.base (sizes_of d cs ls)) d.ram.size) ≡ Ok p = sym none ∙ e in cc)
+  | inl h ↦ absurd (let none : built_parts d cs ls ≡ Err (fault.NoRoom (needed d.ram.base (sizes_of d cs ls)) d.ram.size) = by_case h.0 in let no : Err (fault.NoRoom (needed d.ram.base (sizes_of d cs ls)) d.ram.size) ≡ Ok p = sym none ∙ e in cc)
   | inr h ↦ (
       let all = parts_of d cs ls (placed d.ram.base (sizes_of d cs ls)) (last_end d.ram.base (sizes_of d cs ls)) in
-      let some : laid_with d cs ls ≡ Ok all = by_case' h.0 in
+      let some : built_parts d cs ls ≡ Ok all = by_case' h.0 in
       let both : Ok all ≡ Ok p = sym some ∙ e in
       let same : all ≡ p = cc in
       record { cs = cs; ls = ls; rows = rows; library_rows = library_rows; built = built; library_built = library_built; room = h.1; parts = sym same }
       )
 ]
   where
-    by_case : nat_lt d.ram.size (needed d.ram.base (sizes_of d cs ls)) ≡ true → laid_with d cs ls ≡ Err (fault.NoRoom (needed d.ram.base (sizes_of d cs ls)) d.ram.size)
+    by_case : nat_lt d.ram.size (needed d.ram.base (sizes_of d cs ls)) ≡ true → built_parts d cs ls ≡ Err (fault.NoRoom (needed d.ram.base (sizes_of d cs ls)) d.ram.size)
     by_case t = ap (λ b. cond b (Err (fault.NoRoom (needed d.ram.base (sizes_of d cs ls)) d.ram.size)) (Ok (parts_of d cs ls (placed d.ram.base (sizes_of d cs ls)) (last_end d.ram.base (sizes_of d cs ls))))) t
 
-    by_case' : nat_lt d.ram.size (needed d.ram.base (sizes_of d cs ls)) ≡ false → laid_with d cs ls ≡ Ok (parts_of d cs ls (placed d.ram.base (sizes_of d cs ls)) (last_end d.ram.base (sizes_of d cs ls)))
+    by_case' : nat_lt d.ram.size (needed d.ram.base (sizes_of d cs ls)) ≡ false → built_parts d cs ls ≡ Ok (parts_of d cs ls (placed d.ram.base (sizes_of d cs ls)) (last_end d.ram.base (sizes_of d cs ls)))
     by_case' t = ap (λ b. cond b (Err (fault.NoRoom (needed d.ram.base (sizes_of d cs ls)) d.ram.size)) (Ok (parts_of d cs ls (placed d.ram.base (sizes_of d cs ls)) (last_end d.ram.base (sizes_of d cs ls))))) t
 
 pub parts : (d : DescRow) (sources : List (List ℕ)) (p : PartsRow) → linked d sources ≡ Ok p → Parts d p

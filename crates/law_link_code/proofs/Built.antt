@@ -14,7 +14,7 @@ use Rattle.def_link.specs.Linked.{BuiltCompartment, BuiltLibrary, compartments_w
 use Rattle.law_link.specs.Links.{Links}
 use Rattle.law_link.proofs.Indexed.{numbered_length}
 use Rattle.law_link.proofs.Walks.{still_there}
-use Rattle.law_link_code.specs.Code.{source_in, CompartmentCode, LibraryCode}
+use Rattle.def_link_parts.specs.Code.{source_in, CompartmentCode, LibraryCode}
 
 -- ---- lists by index
 

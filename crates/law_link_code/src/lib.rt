@@ -6,7 +6,7 @@ ghost use Rattle.std.specs.Prelude.{◌≡◌, List, ℕ, Some, slice_get};
 ghost use Rattle.def_description.specs.Rows.{CompartmentRow, LibraryRow, DescRow};
 ghost use Rattle.def_image.specs.Parts.{CodeRow as CodePart, CompartmentRow as CompartmentPart, PartsRow};
 ghost use Rattle.law_link.specs.Links.{Links};
-ghost use Rattle.law_link_code.specs.Code.{CompartmentCode, LibraryCode};
+ghost use Rattle.def_link_parts.specs.Code.{CompartmentCode, LibraryCode};
 
 /// Compartment i and library i of what is linked have the text, the initial bytes and the places of
 /// exports that their row and their own source are built to.

@@ -25,7 +25,7 @@ use Rattle.def_description.specs.References.{rights_fit}
 use Rattle.def_description.specs.Rows.{Target, SharedRow, SealedRow, ImportRow, QuotaRow, ExportRow, CompartmentRow, LimportRow, LexportRow, LibraryRow, DescRow}
 use Rattle.def_description.specs.Named.{device_names, shared_names, sealed_names, slot_names, export_names, library_slot_names, library_export_names}
 use Rattle.def_description.specs.Lawful.{IsCall, IsLent, Resolves, IsLawful, IsLawfulImport, IsLawfulCompartment, IsLawfulLibrary}
-use Rattle.def_link.specs.Slots.{Exporter, granted, claimed, slot, switch_row, target_row, form_row, import_slot, quota_slot, key_slot, compartment_slots, library_slots, compartment_exporters, library_exporters, called, lent}
+use Rattle.def_link.specs.Slots.{Exporter, granted, claimed, slot, switch_row, target_row, form_row, import_slot, quota_slot, key_slot, compartment_slots, library_slots, compartment_exporters, library_exporters, compartment_export_named, library_export_named}
 use Rattle.law_link.proofs.Granted.{one_of}
 use Rattle.law_link.proofs.Found.{exporter_of, library_exporter_of, index_less, call_found, lent_found}
 use Rattle.law_link_limits.proofs.Fields.{inside, New, all_new}
@@ -37,7 +37,7 @@ pub record Small (owner export : ℕ) : Type 0 where
   pub owner_small : owner ≤ 64
   pub export_small : export ≤ 64
 
-pub call_small : (d : DescRow) (text : List ℕ) → IsLawful d → IsCall d text → Small (called d text).owner (called d text).export
+pub call_small : (d : DescRow) (text : List ℕ) → IsLawful d → IsCall d text → Small (compartment_export_named d text).owner (compartment_export_named d text).export
 unfolding exporter_of
 call_small d text law h =
     let f = call_found d text h in
@@ -51,7 +51,7 @@ call_small d text law h =
     let lt = f.inside in
     record { owner_small = omega (arith, at, count, few, counted); export_small = omega (arith, lt, most) }
 
-lent_small : (d : DescRow) (text : List ℕ) → IsLawful d → IsLent d text → Small (lent d text).owner (lent d text).export
+lent_small : (d : DescRow) (text : List ℕ) → IsLawful d → IsLent d text → Small (library_export_named d text).owner (library_export_named d text).export
 unfolding library_exporter_of
 lent_small d text law h =
     let f = lent_found d text h in

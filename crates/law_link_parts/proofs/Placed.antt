@@ -15,7 +15,7 @@ use Rattle.law_link.proofs.Linkeds.{parts}
 use Rattle.law_link.proofs.Indexed.{numbered_length}
 use Rattle.law_link_regions.proofs.Placings.{table_is, areas}
 use Rattle.law_link_regions.proofs.Lying.{shared_sizes, sealed_sizes, stack_sizes, trusted_size, Ends, ends}
-use Rattle.law_link_parts.specs.Places.{own_places, code_place, shared_place, sealed_place, stack_place, places, code_size, own_sizes, sizes}
+use Rattle.def_link_parts.specs.Places.{own_places, code_place, shared_place, sealed_place, stack_place, places, code_size, own_sizes, sizes}
 
 -- ---- each list
 

@@ -9,7 +9,7 @@ ghost use Rattle.def_image.specs.Parts.{CodeRow as CodePart, CompartmentRow as C
 ghost use Rattle.def_layout.specs.Placement.{placed, last_end};
 ghost use Rattle.def_link.specs.Slots.{compartment_slots, library_slots};
 ghost use Rattle.law_link.specs.Links.{Links};
-ghost use Rattle.law_link_parts.specs.Places.{places, sizes};
+ghost use Rattle.def_link_parts.specs.Places.{places, sizes};
 
 /// The regions of what is linked are the placement of their sizes from RAM's base on: code, export
 /// table and globals of each compartment, the code of each library, shared objects, sealed ones,

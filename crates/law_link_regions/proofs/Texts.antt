@@ -8,7 +8,7 @@ use Rattle.law_lists.proofs.Alls.{all_joined}
 use Rattle.law_lists.proofs.Tests.{lt_tells, both_left, both_right}
 use Rattle.def_instr.specs.declared.Instr.{Instr}
 use Rattle.def_instr.specs.declared.Instr.TheVariants as instr
-use Rattle.def_instr.specs.Table.{word_of}
+use Rattle.def_instr.specs.Table.{encoded}
 use Rattle.ct_source.proofs.ProgramsOf.{program_lawful}
 use Rattle.def_source.specs.declared.parts.Section.{Section}
 use Rattle.def_source.specs.declared.parts.Section.TheVariants as section
@@ -39,7 +39,7 @@ word_is_bytes w = (omega arith, (omega arith, (omega arith, (omega arith, tt))))
 instructions_bytes : (is : List Instr) → Bytes (instruction_bytes is)
 unfolding Bytes
 instructions_bytes [] = tt
-instructions_bytes (i ∷ is) = all_joined (λ b. b < 256) (word_bytes (word_of i)) (instruction_bytes is) (word_is_bytes (word_of i)) (instructions_bytes is)
+instructions_bytes (i ∷ is) = all_joined (λ b. b < 256) (word_bytes (encoded i)) (instruction_bytes is) (word_is_bytes (encoded i)) (instructions_bytes is)
 
 statement_bytes : (labels : Labels) (slots : List Name) (at : ℕ) (q : Part Name) → Bytes (bytes_at labels slots at q)
 unfolding Bytes

@@ -3,7 +3,7 @@ use Rattle.std.specs.Prelude.{ℕ, List, [], ◌∷◌, ◌++◌, codes, map, le
 use Rattle.serde_json.specs.Data.{Data, string}
 use Rattle.def_image.specs.Parts.{CodeRow, CompartmentRow, PartsRow}
 use Rattle.def_description.specs.Rows.{DescRow}
-use Rattle.def_description.specs.Reading.{rows_of}
+use Rattle.def_description.specs.Reading.{description_of}
 use Rattle.def_link.specs.declared.LinkFault.{LinkFault}
 use Rattle.law_description.specs.Samples.{empty, all, num, with, altered, app, export, ram, tiny_of, file, hex, export_of, board}
 
@@ -22,17 +22,17 @@ abbrev pub tiny_app : Data
 tiny_app = altered app (codes "code") five_words
 
 abbrev pub tiny_rows : DescRow
-tiny_rows = rows_of (tiny_of tiny_app)
+tiny_rows = description_of (tiny_of tiny_app)
 
 -- with so many bytes of RAM
 abbrev pub tiny_in : ℕ → DescRow
 tiny_in size =
-    rows_of (altered (tiny_of tiny_app) (codes "ram") (altered ram (codes "size") (num size)))
+    description_of (altered (tiny_of tiny_app) (codes "ram") (altered ram (codes "size") (num size)))
 
 -- with an export at an offset, or with code in a file and an export at a label
 abbrev pub tiny_at : ℕ → DescRow
 tiny_at offset =
-    rows_of
+    description_of
     (tiny_of
     (altered tiny_app (codes "exports") (all (altered export (codes "at") (num offset) ∷ []))))
 
@@ -42,16 +42,16 @@ from_file =
     (all (export_of (codes "main") ∷ []))
 
 abbrev pub filed : DescRow
-filed = rows_of (tiny_of from_file)
+filed = description_of (tiny_of from_file)
 
 -- with code in a file and so many bytes of RAM
 abbrev pub filed_in : ℕ → DescRow
 filed_in size =
-    rows_of (altered (tiny_of from_file) (codes "ram") (altered ram (codes "size") (num size)))
+    description_of (altered (tiny_of from_file) (codes "ram") (altered ram (codes "size") (num size)))
 
 -- and a library beside it
 abbrev pub lent : DescRow
-lent = rows_of (with (tiny_of from_file) (codes "libraries") (all (hex ∷ [])))
+lent = description_of (with (tiny_of from_file) (codes "libraries") (all (hex ∷ [])))
 
 -- ---- sources
 
@@ -91,7 +91,7 @@ bytes_alone = line (codes ".data") ++ line (codes ".word 1")
 -- ---- the sample with two compartments, a library and two threads
 
 abbrev pub board_rows : DescRow
-board_rows = rows_of board
+board_rows = description_of board
 
 abbrev pub board_app_source : List ℕ
 board_app_source =

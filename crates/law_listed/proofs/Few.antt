@@ -7,7 +7,7 @@ use Rattle.def_profile.specs.declared.layout.TheConstants.{TABLE_HEAD}
 use Rattle.def_profile.specs.declared.limits.TheConstants.{MOST_COMPARTMENTS, MOST_EXPORTS, MOST_LIBRARIES, MOST_SLOTS, MOST_THREADS_2}
 use Rattle.def_image.specs.Parts.{GateRow, CodeRow, CompartmentRow, ThreadRow, PartsRow}
 use Rattle.def_image.specs.Sound.{Sound}
-use Rattle.def_boot.specs.Entries.{slot_rows, export_rows, library_export_row, compartment_rows, library_rows, stack_row, rows_from, rows_of}
+use Rattle.def_boot.specs.Entries.{slot_rows, export_rows, library_export_row, compartment_rows, library_rows, stack_row, rows_from, entry_rows}
 use Rattle.law_listed.proofs.Standing.{slots_count, exports_count}
 
 -- an owner's code has few slots and exports
@@ -54,8 +54,8 @@ total_few xs ys zs k m n one two three few some others =
 
 -- how many entries an image has whose owners have few
 pub few_rows : (p : PartsRow) → ((k : ℕ) (c : CompartmentRow) → slice_get p.compartments k ≡ Some c → HasFew c.code) → ((k : ℕ) (c : CodeRow) → slice_get p.libraries k ≡ Some c → HasFew c)
-    → length p.compartments ≤ MOST_COMPARTMENTS → length p.libraries ≤ MOST_LIBRARIES → length p.threads ≤ MOST_THREADS_2 → length (rows_of p) ≤ 32766
-unfolding rows_of
+    → length p.compartments ≤ MOST_COMPARTMENTS → length p.libraries ≤ MOST_LIBRARIES → length p.threads ≤ MOST_THREADS_2 → length (entry_rows p) ≤ 32766
+unfolding entry_rows
 few_rows p own lent few some threads = total_few
     (rows_from (compartment_rows p) 0 p.compartments)
     (rows_from (library_rows p) 0 p.libraries)
@@ -66,7 +66,7 @@ few_rows p own lent few some threads = total_few
     (stacks_from 0 p.threads) few some threads
 
 -- a sound image has few
-pub few_entries : (p : PartsRow) → Sound p → length (rows_of p) ≤ 32766
+pub few_entries : (p : PartsRow) → Sound p → length (entry_rows p) ≤ 32766
 few_entries p s = few_rows p
     (λ k c is. let f = s.compartment k c is in (f.slots.1, f.code.exports))
     (λ k c is. let f = s.library k c is in let few = f.slots in (omega (arith, few), f.code.exports))

@@ -7,9 +7,9 @@ use Rattle.def_reach.specs.Roots.{root_of, gate_for, listed_root}
 use Rattle.def_image.specs.Parts.{CodeRow, CompartmentRow, ThreadRow, PartsRow}
 use Rattle.def_image.specs.Sizes.{sum_of}
 use Rattle.def_image.specs.Members.{compartment_entries, library_entries, first_library, first_stack, code_number, library_number}
-use Rattle.def_boot.specs.Entries.{stack_row, rows_from, rows_of}
+use Rattle.def_boot.specs.Entries.{stack_row, rows_from, entry_rows}
 use Rattle.def_boot.specs.Gates.{gates_of, entries_of}
-use Rattle.def_boot.specs.Made.{made_caps}
+use Rattle.def_boot.specs.Made.{caps_at_boot}
 use Rattle.law_listed.specs.Rows.{EntryIs, is_nothing, is_trusted, is_code, is_globals, is_slot, is_export, is_library, is_library_slot, is_library_export, is_stack}
 use Rattle.law_listed.proofs.Gates.{stack_gate, zero_gate}
 use Rattle.law_listed.proofs.Blocks.{present, place_in, rows_count}
@@ -47,10 +47,10 @@ shared_is p n l c (suc i) is lt at = elim (lt_tells i (length c.slots)) [
       is_library_export l c k found.0 (library_of p l c is) found.1 (omega (arith, at, number, from))
 ]
 
-nothing_is : (p : PartsRow) (m : ℕ) → first_stack p ≤ suc m → slice_get (rows_of p) m ≡ None → EntryIs p (suc m)
-unfolding root_of entries_of made_caps
+nothing_is : (p : PartsRow) (m : ℕ) → first_stack p ≤ suc m → slice_get (entry_rows p) m ≡ None → EntryIs p (suc m)
+unfolding root_of entries_of caps_at_boot
 nothing_is p m past none =
-    is_nothing (ap (λ o. listed_root o (gate_for (gates_of p) (suc m))) none) (stack_gate p (suc m) past) (made_past p 1 (rows_of p) m (plain 0) none)
+    is_nothing (ap (λ o. listed_root o (gate_for (gates_of p) (suc m))) none) (stack_gate p (suc m) past) (made_past p 1 (entry_rows p) m (plain 0) none)
 
 stack_is : (p : PartsRow) (m q : ℕ) → 1 + m ≡ first_stack p + q → EntryIs p (suc m)
 stack_is p m q at = elim (place_in (λ (x : ThreadRow). 1) (first_stack p) p.threads q) [
@@ -66,7 +66,7 @@ stack_is p m q at = elim (place_in (λ (x : ThreadRow). 1) (first_stack p) p.thr
 ]
 
 pub entry_of : (p : PartsRow) (n : ℕ) → EntryIs p n
-unfolding root_of made_caps
+unfolding root_of caps_at_boot
 entry_of p zero = is_trusted refl refl (zero_gate p) refl
 entry_of p (suc m) = elim (place_in compartment_entries 1 p.compartments m) [
   | inl found ↦

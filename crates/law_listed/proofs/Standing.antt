@@ -16,9 +16,9 @@ use Rattle.def_image.specs.declared.SlotKind.TheVariants as slot
 use Rattle.def_image.specs.Parts.{SlotRow, GateRow, CodeRow, CompartmentRow, ThreadRow, PartsRow}
 use Rattle.def_image.specs.Sizes.{sum_of}
 use Rattle.def_image.specs.Members.{no_code, no_compartment, compartment, library, compartment_entries, library_entries, first_library, first_stack, code_number, globals_number, library_number, stack_number, gate_address, gate_number, library_gate_number}
-use Rattle.def_boot.specs.Entries.{slot_row, slot_rows, code_row, globals_row, export_row, export_rows, compartment_rows, library_export_row, library_rows, stack_row, rows_from, rows_of}
+use Rattle.def_boot.specs.Entries.{slot_row, slot_rows, code_row, globals_row, export_row, export_rows, compartment_rows, library_export_row, library_rows, stack_row, rows_from, entry_rows}
 use Rattle.def_boot.specs.Gates.{gate, gates_of, entries_of}
-use Rattle.def_boot.specs.Made.{made_by, made_from, made_caps}
+use Rattle.def_boot.specs.Made.{entry_cap, entry_caps, caps_at_boot}
 use Rattle.law_listed.specs.Rows.{HasRow, HasCompartment, HasLibrary, HasStack, slot_row_at, slot_number, library_slot_number}
 use Rattle.law_listed.proofs.Blocks.{before, further, number_low, number_next, block_there, blocks_past, IsCounted}
 use Rattle.law_listed.proofs.Gates.{own_none, own_gate, shared_none, shared_gate, stack_gate}
@@ -127,8 +127,8 @@ three_lists p =
     ++ (rows_from (library_rows p) 0 p.libraries
     ++ (rows_from (λ t x. stack_row t x ∷ []) 0 p.threads ++ []))
 
-pub rows_are : (p : PartsRow) → rows_of p ≡ three_lists p
-unfolding rows_of
+pub rows_are : (p : PartsRow) → entry_rows p ≡ three_lists p
+unfolding entry_rows
 rows_are p =
     let stacks = rows_from (λ t x. stack_row t x ∷ []) 0 p.threads in
     append_assoc (rows_from (compartment_rows p) 0 p.compartments) (rows_from (library_rows p) 0 p.libraries) stacks
@@ -136,7 +136,7 @@ rows_are p =
     (sym (append-nil stacks))
 
 own_row : (p : PartsRow) (b : ℕ) (c : CompartmentRow) (j m : ℕ) → slice_get p.compartments b ≡ Some c → j < compartment_entries c → 1 + m ≡ code_number p b + j
-    → slice_get (rows_of p) m ≡ slice_get (compartment_rows p b c) j
+    → slice_get (entry_rows p) m ≡ slice_get (compartment_rows p b c) j
 own_row p b c j m is lt at =
     let index : 0 + b ≡ b = omega arith in
     ap (λ rows. slice_get rows m) (rows_are p)
@@ -145,14 +145,14 @@ own_row p b c j m is lt at =
     ∙ ap (λ i. slice_get (compartment_rows p i c) j) index
 
 after_own : (p : PartsRow) (m q : ℕ) → m ≡ sum_of compartment_entries p.compartments + q
-    → slice_get (rows_of p) m ≡ slice_get (rows_from (library_rows p) 0 p.libraries ++ (rows_from (λ t x. stack_row t x ∷ []) 0 p.threads ++ [])) q
+    → slice_get (entry_rows p) m ≡ slice_get (rows_from (library_rows p) 0 p.libraries ++ (rows_from (λ t x. stack_row t x ∷ []) 0 p.threads ++ [])) q
 after_own p m q at =
     ap (λ rows. slice_get rows m) (rows_are p)
     ∙ blocks_past (compartment_rows p) compartment_entries (own_count p) 0 p.compartments
     (rows_from (library_rows p) 0 p.libraries ++ (rows_from (λ t x. stack_row t x ∷ []) 0 p.threads ++ [])) m q at
 
 library_row : (p : PartsRow) (l : ℕ) (c : CodeRow) (j m : ℕ) → slice_get p.libraries l ≡ Some c → j < library_entries c → 1 + m ≡ library_number p l + j
-    → slice_get (rows_of p) m ≡ slice_get (library_rows p l c) j
+    → slice_get (entry_rows p) m ≡ slice_get (library_rows p l c) j
 library_row p l c j m is lt at =
     let index : 0 + l ≡ l = omega arith in
     let low = number_low library_entries (first_library p) p.libraries l c is in
@@ -163,7 +163,7 @@ library_row p l c j m is lt at =
     (rows_from (λ t x. stack_row t x ∷ []) 0 p.threads ++ []) l c j (m - own) is lt (omega (arith, at, low))
     ∙ ap (λ i. slice_get (library_rows p i c) j) index
 
-pub after_libraries : (p : PartsRow) (m q : ℕ) → 1 + m ≡ first_stack p + q → slice_get (rows_of p) m ≡ slice_get (rows_from (λ t x. stack_row t x ∷ []) 0 p.threads ++ []) q
+pub after_libraries : (p : PartsRow) (m q : ℕ) → 1 + m ≡ first_stack p + q → slice_get (entry_rows p) m ≡ slice_get (rows_from (λ t x. stack_row t x ∷ []) 0 p.threads ++ []) q
 after_libraries p m q at =
     let own = sum_of compartment_entries p.compartments in
     let shared = sum_of library_entries p.libraries in
@@ -171,7 +171,7 @@ after_libraries p m q at =
     after_own p m (shared + q) place
     ∙ blocks_past (library_rows p) library_entries (library_count_is p) 0 p.libraries (rows_from (λ t x. stack_row t x ∷ []) 0 p.threads ++ []) (shared + q) q refl
 
-thread_row : (p : PartsRow) (t : ℕ) (x : ThreadRow) (m : ℕ) → slice_get p.threads t ≡ Some x → 1 + m ≡ stack_number p t → slice_get (rows_of p) m ≡ Some (stack_row t x)
+thread_row : (p : PartsRow) (t : ℕ) (x : ThreadRow) (m : ℕ) → slice_get p.threads t ≡ Some x → 1 + m ≡ stack_number p t → slice_get (entry_rows p) m ≡ Some (stack_row t x)
 thread_row p t x m is at =
     let index : 0 + t ≡ t = omega arith in
     let low = number_low (λ (y : ThreadRow). 1) (first_stack p) p.threads t x is in
@@ -182,23 +182,23 @@ thread_row p t x m is at =
 
 -- ---- what boot makes
 
-pub made_there : (p : PartsRow) (n : ℕ) (rows : List Entry) (m : ℕ) (r : Entry) (d : Cap) → slice_get rows m ≡ Some r → slice_index_or (made_from p n rows) m d ≡ made_by p (n + m) r r.kind
+pub made_there : (p : PartsRow) (n : ℕ) (rows : List Entry) (m : ℕ) (r : Entry) (d : Cap) → slice_get rows m ≡ Some r → slice_index_or (entry_caps p n rows) m d ≡ entry_cap p (n + m) r r.kind
 made_there p n [] m r d is = cc
 made_there p n (x ∷ xs) zero r d is =
     let same : x ≡ r = cc in
     let sum : n ≡ n + 0 = omega arith in
-    ap (λ (y : Entry). made_by p n y y.kind) same ∙ ap (λ k. made_by p k r r.kind) sum
+    ap (λ (y : Entry). entry_cap p n y y.kind) same ∙ ap (λ k. entry_cap p k r r.kind) sum
 made_there p n (x ∷ xs) (suc m) r d is =
     let next : n + 1 + m ≡ n + suc m = omega arith in
-    made_there p (n + 1) xs m r d is ∙ ap (λ k. made_by p k r r.kind) next
+    made_there p (n + 1) xs m r d is ∙ ap (λ k. entry_cap p k r r.kind) next
 
-pub made_past : (p : PartsRow) (n : ℕ) (rows : List Entry) (m : ℕ) (d : Cap) → slice_get rows m ≡ None → slice_index_or (made_from p n rows) m d ≡ d
+pub made_past : (p : PartsRow) (n : ℕ) (rows : List Entry) (m : ℕ) (d : Cap) → slice_get rows m ≡ None → slice_index_or (entry_caps p n rows) m d ≡ d
 made_past p n [] m d is = refl
 made_past p n (x ∷ xs) zero d is = cc
 made_past p n (x ∷ xs) (suc m) d is = made_past p (n + 1) xs m d is
 
-has_row : (p : PartsRow) (n m : ℕ) (r : Entry) (g : Gate) → n ≡ suc m → slice_get (rows_of p) m ≡ Some r → gate_for (gates_of p) n ≡ g → HasRow p n r g
-unfolding root_of entries_of made_caps
+has_row : (p : PartsRow) (n m : ℕ) (r : Entry) (g : Gate) → n ≡ suc m → slice_get (entry_rows p) m ≡ Some r → gate_for (gates_of p) n ≡ g → HasRow p n r g
+unfolding root_of entries_of caps_at_boot
 has_row p n m r g number there found =
     let sum : 1 + m ≡ suc m = omega arith in
     let P : ℕ → Type 0 = λ k. gate_for (gates_of p) k ≡ g → HasRow p k r g in
@@ -206,7 +206,7 @@ has_row p n m r g number there found =
       counted = omega arith;
       root_is = ap (λ o. listed_root o (gate_for (gates_of p) (suc m))) there ∙ ap (λ h. listed_root (Some r) h) is;
       gate_is = is;
-      made_is = made_there p 1 (rows_of p) m r (plain 0) there ∙ ap (λ k. made_by p k r r.kind) sum;
+      made_is = made_there p 1 (entry_rows p) m r (plain 0) there ∙ ap (λ k. entry_cap p k r r.kind) sum;
     }) found
 
 -- ---- each owner has its rows

@@ -14,14 +14,14 @@ use Rattle.def_image.specs.Parts.{SlotRow, GateRow, CodeRow, CompartmentRow, Thr
 use Rattle.def_image.specs.Members.{gate_address, code_number, globals_number, library_number, stack_number, gate_number, library_gate_number}
 use Rattle.def_boot.specs.Entries.{slot_row, code_row, globals_row, export_row, library_export_row, stack_row}
 use Rattle.def_boot.specs.Gates.{gate, gates_of, entries_of}
-use Rattle.def_boot.specs.Made.{made_for, made_by, return_sentry}
+use Rattle.def_boot.specs.Made.{boot_cap_of, entry_cap, return_sentry}
 
 -- entry n has this row and this gate, and boot made what the row says
 pub record HasRow (p : PartsRow) (n : ℕ) (r : Entry) (g : Gate) : Type 0 where
   pub counted : 1 ≤ n
   pub root_is : root_of (entries_of p) n ≡ listed_root (Some r) g
   pub gate_is : gate_for (gates_of p) n ≡ g
-  pub made_is : made_for p n ≡ made_by p n r r.kind
+  pub made_is : boot_cap_of p n ≡ entry_cap p n r r.kind
 
 -- ---- slots
 
@@ -68,9 +68,9 @@ pub record HasStack (p : PartsRow) (t : ℕ) (x : ThreadRow) : Type 0 where
 
 pub data EntryIs (p : PartsRow) (n : ℕ) : Type 0 where
   is_nothing : root_of (entries_of p) n ≡ no_root → gate_for (gates_of p) n ≡ no_gate
-      → made_for p n ≡ plain 0 → EntryIs p n
+      → boot_cap_of p n ≡ plain 0 → EntryIs p n
   is_trusted : n ≡ 0 → root_of (entries_of p) n ≡ trusted_root → gate_for (gates_of p) n ≡ no_gate
-      → made_for p n ≡ return_sentry → EntryIs p n
+      → boot_cap_of p n ≡ return_sentry → EntryIs p n
   is_code : (b : ℕ) (c : CompartmentRow) → HasCompartment p b c → n ≡ code_number p b → EntryIs p n
   is_globals : (b : ℕ) (c : CompartmentRow) → HasCompartment p b c → n ≡ globals_number p b
       → EntryIs p n

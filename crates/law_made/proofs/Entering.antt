@@ -9,7 +9,7 @@ use Rattle.ct_entry.specs.Listed.{Listed}
 use Rattle.def_reach.specs.Roots.{TrustedPart, Listing, root_of, gate_for, is_root, is_code, is_native}
 use Rattle.def_machine.specs.Image.{Image, root, made_cap, code_entry, globals_entry}
 use Rattle.def_machine.specs.State.{State, Frame, thread, register}
-use Rattle.def_machine.specs.Frames.{given}
+use Rattle.def_machine.specs.Frames.{callee_start}
 use Rattle.def_confined.specs.Places.{Placed, InFrames, OwnStack}
 use Rattle.def_confined.specs.Confined.{Confined, FramesHold, IsPcc}
 use Rattle.def_confined.specs.Partitioned.{Partitioned, BootMade}
@@ -17,7 +17,7 @@ use Rattle.def_confined.specs.Made.{IsOwn, IsReturnSentry, IsDerived}
 use Rattle.def_confined.specs.Changes.{Enters}
 use Rattle.law_registers.proofs.Derives.{derived_rooted}
 use Rattle.law_made.proofs.Results.{address_derived, address_runs}
-use Rattle.law_made.specs.Calling.{PassesChecks}
+use Rattle.def_derived.specs.Calling.{PassesChecks}
 use Rattle.law_made.proofs.Makes.{stack_made}
 
 trusted_is : (e : Listed) → (root_of e 0).origin ≡ TrustedPart
@@ -63,7 +63,7 @@ pcc_made i callee export p owner tagged =
     )
 
 pub given_enters : (i : Image) (s : State) (t : ℕ) (g : Frame) (gs : List Frame) (callee export high : ℕ) → Partitioned i → Confined i s → PassesChecks i s t g gs callee export high
-    → Enters i s t g gs callee export high (given i (thread s t) t callee export high)
+    → Enters i s t g gs callee export high (callee_start i (thread s t) t callee export high)
 given_enters i s t g gs callee export high p h x =
     let below : FramesHold i s.objects t (g ∷ gs) = subst (λ (fs : List Frame). FramesHold i s.objects t fs) x.call.caller (h.frames t) in
     let stack : Placed i s.objects (λ d. d ≡ g.actor) (OwnStack i t (g ∷ gs)) (register (thread s t) 2) =

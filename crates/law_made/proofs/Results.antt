@@ -17,7 +17,7 @@ use Rattle.def_confined.specs.Capabilities.{Rooted}
 use Rattle.def_confined.specs.Partitioned.{Partitioned}
 use Rattle.def_words.specs.Narrows.{SameSeal}
 use Rattle.def_confined.specs.Made.{Loose, Derived, Links}
-use Rattle.law_made.specs.Results.{Keyed, ResultOf}
+use Rattle.def_derived.specs.Results.{Keyed, ResultOf}
 use Rattle.law_registers.proofs.Keying.{key_above}
 
 pub address_result : (c : Cap) (a : ℕ) → a < 2 ^ 32 → ResultOf c (with_address c a)

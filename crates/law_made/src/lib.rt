@@ -15,7 +15,7 @@ ghost use Rattle.ct_entry.specs.declared.rows.Kind.TheVariants.{Stack, Quota};
 ghost use Rattle.def_reach.specs.Roots.{Listing};
 ghost use Rattle.def_machine.specs.Image.{Image, root, stack_entry, stack_base, stack_top};
 ghost use Rattle.def_machine.specs.State.{State, Frame, Object, thread};
-ghost use Rattle.def_machine.specs.Frames.{given};
+ghost use Rattle.def_machine.specs.Frames.{callee_start};
 ghost use Rattle.def_machine.specs.Objects.{charges};
 ghost use Rattle.def_machine.specs.Heap.{object_cap, Fits, length_for, charge_for, new_object};
 ghost use Rattle.def_confined.specs.Capabilities.{Rooted};
@@ -23,8 +23,8 @@ ghost use Rattle.def_confined.specs.Confined.{Confined, ObjectFits};
 ghost use Rattle.def_confined.specs.Partitioned.{Partitioned};
 ghost use Rattle.def_confined.specs.Made.{Derived, Opens, Links, IsStackUpTo, IsObjectCap};
 ghost use Rattle.def_confined.specs.Changes.{Enters, NewObject};
-ghost use Rattle.law_made.specs.Calling.{PassesChecks, stack_up_to};
-ghost use Rattle.law_made.specs.Results.{ResultOf};
+ghost use Rattle.def_derived.specs.Calling.{PassesChecks, stack_up_to};
+ghost use Rattle.def_derived.specs.Results.{ResultOf};
 
 /// A result of an operation is within its first operand, and sealed as it or by a key: the address and its raise,
 /// bounds, exact bounds, a mask, the tag cleared, a seal and an unseal by a key with a root, and a load's
@@ -70,7 +70,7 @@ pub fn calls_made()
     ensures enters { (i : Image) (s : State) (t : ℕ) (g : Frame) (gs : List Frame)
         (callee export high : ℕ)
         → Partitioned i → Confined i s → PassesChecks i s t g gs callee export high
-        → Enters i s t g gs callee export high (given i (thread s t) t callee export high) }
+        → Enters i s t g gs callee export high (callee_start i (thread s t) t callee export high) }
 {}
 
 /// A place that was found, with room in the quota, gives an object that may be put beside the others; and the

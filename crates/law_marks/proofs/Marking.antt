@@ -28,7 +28,7 @@ use Rattle.def_step.specs.declared.Event.TheVariants.{Step, Tick, Sweep, Input}
 use Rattle.def_step.specs.declared.Next.{Next}
 use Rattle.def_step.specs.Checks.{first_failed}
 use Rattle.def_step.specs.Handlers.{has_room, is_handled, handled, handler_entered, handler_value, return_taken}
-use Rattle.def_step.specs.Instructions.{Done, deed, deed_told, space_of, put_done, ends, operand, trapped, goes_on, after_fetch, executed, fetch_checks, next_at, served}
+use Rattle.def_step.specs.Instructions.{Effect, deed, deed_told, space_of, put_done, instruction_end, operand, trapped, goes_on, after_fetch, executed, fetch_checks, next_at, served}
 use Rattle.def_step.specs.Native.{native}
 use Rattle.def_step.specs.Operands.{operands_of}
 use Rattle.def_step.specs.Quotas.{let_go}
@@ -139,7 +139,7 @@ moves_go i s t = record {
   opens = λ key r is u. kept_go s t _ refl u;
 }
 
-done_go : (s : State) (t : ℕ) (r : Result Done Trap) → IfDone (Go s) s t r
+done_go : (s : State) (t : ℕ) (r : Result Effect Trap) → IfDone (Go s) s t r
 done_go s t (Err why) = tt
 done_go s t (Ok d) = λ u. kept_go s t _ refl u
 
@@ -204,7 +204,7 @@ trapped_goes b s t why = trap_case (λ z. AllGo b s (z, Some (deed s t 0 (acts.T
 
 -- ---- what a step carries out
 
-ends_goes : (b : Board) (s : State) (t : ℕ) (x : Cap) (r : Result Done Trap) → AllGo b s (ends b s t x r)
+ends_goes : (b : Board) (s : State) (t : ℕ) (x : Cap) (r : Result Effect Trap) → AllGo b s (instruction_end b s t x r)
 ends_goes b s t x (Err why) = trapped_goes b s t why
 ends_goes b s t x (Ok d) = unmarked_goes b s (put_done s t d) (option_map (deed s t x.shadow.root) d.act) (done_go s t (Ok d))
 

@@ -31,7 +31,7 @@ use Rattle.law_sweeps.proofs.Moves.{ram_same, moved_beside}
 use Rattle.law_moves.proofs.Threads.{written_length}
 use Rattle.law_licensed.proofs.Checks.{MayTell, AllTell, AllPass, by_checks, all_pass, register_tells}
 use Rattle.law_memory.proofs.Authorities.{headed}
-use Rattle.law_natives.specs.Stands.{Stands}
+use Rattle.law_natives.specs.Stands.{RoutineKeeps}
 use Rattle.law_natives.proofs.Switching.{four_or_five}
 use Rattle.law_routines.proofs.Leaving.{option_tells}
 
@@ -56,7 +56,7 @@ failed_tells cs why tells = by_checks (λ (o : Option Trap). o ≡ Some why → 
     (λ passes e. absurd (let clash : None ≡ Some why = e in cc))
 
 -- what comes after checks stands where what comes does where they passed
-pub checked_stands : (i : Image) (s : State) (t : ℕ) (cs : List Check) (ran : Ran) → AllTell cs → (first_failed cs ≡ None → Stands i s t ran) → Stands i s t (checked cs ran)
+pub checked_stands : (i : Image) (s : State) (t : ℕ) (cs : List Check) (ran : Ran) → AllTell cs → (first_failed cs ≡ None → RoutineKeeps i s t ran) → RoutineKeeps i s t (checked cs ran)
 checked_stands i s t cs ran tells h = elim (option_tells (first_failed cs)) [
   | inl none ↦ rw none (h none)
   | inr failed ↦ rw failed.1 (failed_tells cs failed.0 tells failed.1)

@@ -27,7 +27,7 @@ use Rattle.def_machine.specs.Image.{Image, root, made_cap, code_entry, globals_e
 use Rattle.def_confined.specs.Partitioned.{Partitioned}
 use Rattle.def_facts.specs.Facts.{Facts, StackFits, gate_code}
 use Rattle.def_step.specs.Switch.{room_exponent, room_of, new_top}
-use Rattle.law_made.specs.Calling.{stack_up_to}
+use Rattle.def_derived.specs.Calling.{stack_up_to}
 use Rattle.law_routines.proofs.Places.{least, never}
 
 -- ---- the room of a callee's stack

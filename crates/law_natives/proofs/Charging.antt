@@ -33,7 +33,7 @@ use Rattle.law_made.proofs.Found.{place_found}
 use Rattle.law_moves.proofs.Objects.{object_beside}
 use Rattle.law_routines.proofs.Places as places
 use Rattle.law_routines.proofs.Objects.{made_says}
-use Rattle.law_natives.specs.Stands.{Stands}
+use Rattle.law_natives.specs.Stands.{RoutineKeeps}
 use Rattle.law_natives.proofs.Answering.{Returning, return_says, return_tells, checked_stands, answers_keeps}
 use Rattle.law_natives.proofs.Handing.{long_enough}
 
@@ -48,11 +48,11 @@ quota_is i s t facts k tagged sealed =
     let here : Rooted i (register (thread s t) 10) = in_rooted i s.objects t (thread s t).frames (register (thread s t) 10) (k.confined.registers t 10) tagged in
     facts.quotas (quota_in s t) (sym (here.boot (inr (inr (inr (inr sealed))))).seal ∙ sealed)
 
-pub quota_stands : (i : Image) (s : State) (t : ℕ) (ran : Ran) → Partitioned i → Facts i → Keeps i s → s.running ≡ Some t → (Charging i s t → Stands i s t ran) → Stands i s t (by_quota s t ran)
+pub quota_stands : (i : Image) (s : State) (t : ℕ) (ran : Ran) → Partitioned i → Facts i → Keeps i s → s.running ≡ Some t → (Charging i s t → RoutineKeeps i s t ran) → RoutineKeeps i s t (by_quota s t ran)
 quota_stands i s t ran parts facts k runs h = checked_stands i s t (return_checks (register (thread s t) 1)) (if is_quota_cap (register (thread s t) 10) then ran else tells s t (code 1)) (return_tells (register (thread s t) 1)) (λ none.
     let says = return_says (register (thread s t) 1) none in
     let returning : Returning i s t = record { parts = parts; keeps = k; runs = runs; tagged = says.tagged; sealed = says.sealed } in
-    chosen (Stands i s t) (is_quota_cap (register (thread s t) 10)) ran (tells s t (code 1))
+    chosen (RoutineKeeps i s t) (is_quota_cap (register (thread s t) 10)) ran (tells s t (code 1))
     (λ is.
     let both = and_parts (register (thread s t) 10).tag (cap_seal (register (thread s t) 10) == 10) is in
     h (record { returning = returning; tagged = both.0; quota = quota_is i s t facts k both.0 (eqb-true (cap_seal (register (thread s t) 10)) 10 both.1) }))
@@ -90,7 +90,7 @@ made_keeps i s t size o c is =
     (object_puts i s t (new_object s (quota_in s t) size m.base) (object_cap (new_object s (quota_in s t) size m.base)) parts k.confined new c.tagged refl c.quota
     (λ there. object_made i (s.next + 1) (new_object s (quota_in s t) size m.base) parts c.quota new.fits some there)))
 
-pub allocated_stands : (i : Image) (s : State) (t size : ℕ) (a : Allocation) → Charging i s t → allocation i s (quota_in s t) size ≡ a → Stands i s t (allocated s t a)
+pub allocated_stands : (i : Image) (s : State) (t size : ℕ) (a : Allocation) → Charging i s t → allocation i s (quota_in s t) size ≡ a → RoutineKeeps i s t (allocated s t a)
 allocated_stands i s t size (Refused n) c is = (answers_keeps i s t (code n) c.returning (untagged_puts i s t (code n) refl), tt)
 allocated_stands i s t size (Made o) c is =
     let after = made_keeps i s t size o c is in
@@ -100,14 +100,14 @@ allocated_stands i s t size (Made o) c is =
           (λ f fs frames. allocate_licensed i s (answers (with_object s o) t (object_cap o)) t 10 o.number o.base o.length f fs c.returning.keeps.confined after.confined frames c.tagged c.quota),
     )
 
-pub allocate_stands : (i : Image) (s : State) (t : ℕ) → Partitioned i → Facts i → Keeps i s → s.running ≡ Some t → Stands i s t (allocate i s t)
+pub allocate_stands : (i : Image) (s : State) (t : ℕ) → Partitioned i → Facts i → Keeps i s → s.running ≡ Some t → RoutineKeeps i s t (allocate i s t)
 allocate_stands i s t parts facts k runs =
     quota_stands i s t (allocated s t (allocation i s (quota_in s t) (cap_address (register (thread s t) 11)))) parts facts k runs
     (λ c. allocated_stands i s t (cap_address (register (thread s t) 11)) (allocation i s (quota_in s t) (cap_address (register (thread s t) 11))) c refl)
 
 -- ---- what remains
 
-pub remaining_stands : (i : Image) (s : State) (t : ℕ) → Partitioned i → Facts i → Keeps i s → s.running ≡ Some t → Stands i s t (remaining i s t)
+pub remaining_stands : (i : Image) (s : State) (t : ℕ) → Partitioned i → Facts i → Keeps i s → s.running ≡ Some t → RoutineKeeps i s t (remaining i s t)
 remaining_stands i s t parts facts k runs =
     quota_stands i s t (tells s t (integer ((root i (quota_in s t)).limit - charges (quota_in s t) s.objects))) parts facts k runs
     (λ c. (answers_keeps i s t (integer ((root i (quota_in s t)).limit - charges (quota_in s t) s.objects)) c.returning (untagged_puts i s t (integer ((root i (quota_in s t)).limit - charges (quota_in s t) s.objects)) refl), tt))

@@ -29,7 +29,7 @@ use Rattle.law_memory.proofs.Filtering.{filter_is_heaps}
 use Rattle.law_memory.specs.Filters.{heap_filtered}
 use Rattle.law_moves.proofs.Objects.{free_keeps}
 use Rattle.law_routines.proofs.Objects.{Found, whole_found}
-use Rattle.law_natives.specs.Stands.{Stands}
+use Rattle.law_natives.specs.Stands.{RoutineKeeps}
 use Rattle.law_natives.proofs.Cleans.{framed_there}
 use Rattle.ct_entry.specs.declared.acts.Act.TheVariants as acts
 use Rattle.def_facts.specs.Facts.{Facts}
@@ -108,7 +108,7 @@ gone_keeps i s t o by c f =
     })
     (untagged_puts i (let_go i s t o) t (integer 0) refl)
 
-pub given_stands : (i : Image) (s : State) (t : ℕ) (o : Object) (by : Cap) → Charging i s t → Found (quota_in s t) by s.objects o → Stands i s t (gives_back i s t o)
+pub given_stands : (i : Image) (s : State) (t : ℕ) (o : Object) (by : Cap) → Charging i s t → Found (quota_in s t) by s.objects o → RoutineKeeps i s t (gives_back i s t o)
 given_stands i s t o by c f =
     let after = gone_keeps i s t o by c f in (
       after,
@@ -116,10 +116,10 @@ given_stands i s t o by c f =
           (λ f fs frames. free_licensed i s (answers (let_go i s t o) t (integer 0)) t 10 o.number o.base o.length f fs c.returning.keeps.confined after.confined frames c.tagged c.quota),
     )
 
-pub freed_stands : (i : Image) (s : State) (t : ℕ) (o : Option Object) → Charging i s t → whole_of s.objects (quota_in s t) (register (thread s t) 11) ≡ o → Stands i s t (freed_as i s t o)
+pub freed_stands : (i : Image) (s : State) (t : ℕ) (o : Option Object) → Charging i s t → whole_of s.objects (quota_in s t) (register (thread s t) 11) ≡ o → RoutineKeeps i s t (freed_as i s t o)
 freed_stands i s t None c is = (answers_keeps i s t (code 6) c.returning (untagged_puts i s t (code 6) refl), tt)
 freed_stands i s t (Some o) c is = given_stands i s t o (register (thread s t) 11) c (whole_found s.objects (quota_in s t) (register (thread s t) 11) o is)
 
-pub free_stands : (i : Image) (s : State) (t : ℕ) → Partitioned i → Facts i → Keeps i s → s.running ≡ Some t → Stands i s t (free i s t)
+pub free_stands : (i : Image) (s : State) (t : ℕ) → Partitioned i → Facts i → Keeps i s → s.running ≡ Some t → RoutineKeeps i s t (free i s t)
 free_stands i s t parts facts k runs = quota_stands i s t (freed_as i s t (whole_of s.objects (quota_in s t) (register (thread s t) 11))) parts facts k runs
     (λ c. freed_stands i s t (whole_of s.objects (quota_in s t) (register (thread s t) 11)) c refl)

@@ -1,13 +1,14 @@
 -- An allocation that tells its deed: the object that it made, that it is fresh, and how it is handed out.
-use Rattle.std.proofs.Common.{ℕ, ◌≡◌, ◌+◌, ◌/◌, ◌*◌, ◌≤◌, ◌<◌, ◌⊎◌, ◌&&◌, ◌||◌, Bool, true, false, inl, inr, nat_le, nat_lt, List, [], ◌∷◌, Option, Some, None, refl, sym, ap, subst, arith}
-use Rattle.law_lists.proofs.Tests.{le_tells, lt_tells}
+use Rattle.std.proofs.Common.{ℕ, ◌≡◌, ◌+◌, ◌-◌, ◌/◌, ◌*◌, ◌≤◌, ◌<◌, ◌⊎◌, ◌&&◌, ◌||◌, Bool, true, false, inl, inr, nat_le, nat_lt, List, [], ◌∷◌, Option, Some, None, refl, sym, ap, subst, arith}
+use Rattle.law_lists.proofs.Tests.{chosen, le_tells, lt_tells}
 use Rattle.ct_entry.specs.declared.acts.Act.{Act}
 use Rattle.ct_entry.specs.declared.acts.Act.TheVariants.{Allocate}
+use Rattle.def_words.specs.Authority.{cap_address}
 use Rattle.def_words.specs.Capability.{integer}
 use Rattle.def_words.specs.LeastBounds.{exponent_for}
 use Rattle.law_words.proofs.Leasts.{ceil_above}
 use Rattle.def_machine.specs.Image.{Image, address_of}
-use Rattle.def_machine.specs.State.{State, Object}
+use Rattle.def_machine.specs.State.{State, Object, register, thread}
 use Rattle.def_machine.specs.Objects.{Each}
 use Rattle.def_machine.specs.Heap.{IsPlaceFor, length_for, place_of, new_object, object_cap, with_object}
 use Rattle.def_confined.specs.Changes.{NewObject}
@@ -15,15 +16,16 @@ use Rattle.def_confined.specs.Confined.{Apart}
 use Rattle.def_confined.specs.Keeps.{Keeps}
 use Rattle.def_confined.specs.Partitioned.{Partitioned}
 use Rattle.def_hidden.specs.Hidden.{Blank, is_live_at}
-use Rattle.def_step.specs.Routines.{Ran, Leaves, answers}
-use Rattle.def_step.specs.Quotas.{Made, allocation, quota_in, allocate}
-use Rattle.def_step.specs.Tokens.{with_row, sealed_token, token_key, token_new}
+use Rattle.def_step.specs.Routines.{Ran, Leaves, answers, code, tells}
+use Rattle.def_step.specs.Quotas.{Allocation, Refused, Made, allocation, is_quota_cap, quota_in, allocate}
+use Rattle.def_step.specs.Switch.{return_checks}
+use Rattle.def_step.specs.Tokens.{by_key, key_of, made_token, with_row, sealed_token, token_key, token_new}
 use Rattle.law_made.proofs.Found.{place_found}
 use Rattle.law_routines.proofs.Places as places
 use Rattle.def_facts.specs.Facts.{RootsAway}
 use Rattle.law_fresh.proofs.Covering.{granule_misses, register_misses, pcc_misses, frames_miss}
 use Rattle.law_routines.specs.Leaving.{Left}
-use Rattle.law_routines.proofs.Leaving.{allocate_left, token_key_left, token_new_left}
+use Rattle.law_routines.proofs.Leaving.{allocate_told, allocate_left, checked_left, token_key_left}
 use Rattle.law_routines.proofs.Objects.{Makes, made_says}
 use Rattle.law_natives.proofs.Hiding.{heap_zero}
 use Rattle.def_safety.specs.Fresh.{IsFresh, HandsOut, AsMade, AsKey, AsToken}
@@ -111,6 +113,23 @@ made_hands i s after t size r count How parts away k blank is how entry number b
       after_is = how;
     }
 
+-- ---- a token, with the key that was found
+
+module _ (Q : State → Option (ℕ × Act) → Type 0) (i : Image) (s : State) (t : ℕ)
+    (answer : (n : ℕ) → Q (answers s t (integer n)) None)
+    (seals : (size : ℕ) (key r : Object) → allocation i s (quota_in s t) size ≡ Made r → key_of s (register (thread s t) 12) ≡ Some key → Q (answers (with_object (with_row s r (Some key.number)) r) t (sealed_token r)) (Some (allocate_told (with_row s r (Some key.number)) r))) where
+  token_made : (size : ℕ) (key : Object) (a : Allocation) → allocation i s (quota_in s t) size ≡ a → key_of s (register (thread s t) 12) ≡ Some key → Left Q (made_token s t (Some key.number) a)
+  token_made size key (Refused n) is found = answer (4294967296 - n)
+  token_made size key (Made r) is found = seals size key r is found
+
+  token_keyed : (o : Option Object) → key_of s (register (thread s t) 12) ≡ o → Left Q (by_key s t o (λ key. made_token s t (Some key) (allocation i s (quota_in s t) (cap_address (register (thread s t) 11)))))
+  token_keyed None found = answer (4294967296 - 7)
+  token_keyed (Some key) found = token_made (cap_address (register (thread s t) 11)) key (allocation i s (quota_in s t) (cap_address (register (thread s t) 11))) refl found
+
+  token_left : Left Q (token_new i s t)
+  token_left = checked_left Q (return_checks (register (thread s t) 1)) _
+      (chosen (Left Q) (is_quota_cap (register (thread s t) 10)) _ (tells s t (code 1)) (λ is. token_keyed (key_of s (register (thread s t) 12)) refl) (λ not. answer (4294967296 - 1)))
+
 -- ---- the event
 
 left_by : (Q : State → Option (ℕ × Act) → Type 0) (r : Ran) (z : State) (told : Option (ℕ × Act)) → r ≡ Leaves z told → Left Q r → Q z told
@@ -131,6 +150,6 @@ module _ (i : Image) (s after : State) (t entry number base long live : ℕ) (pa
       (λ r made. made_hands i s (answers (with_object (with_row s r None) r) t (sealed_token r)) t 8 r _ (AsKey s t) parts away k blank made refl))
 
   pub token_fresh : token_new i s t ≡ Leaves after (Some (entry, Allocate number base long live)) → HandsOut i s number base long (AsToken s t after)
-  token_fresh is = by_left (token_new i s t) (AsToken s t) is (token_new_left (Hands i s (AsToken s t)) i s t
+  token_fresh is = by_left (token_new i s t) (AsToken s t) is (token_left (Hands i s (AsToken s t)) i s t
       (λ n. none_hands i s (AsToken s t) (answers s t (integer n)))
-      (λ size key r made named. made_hands i s (answers (with_object (with_row s r (Some key)) r) t (sealed_token r)) t size r _ (AsToken s t) parts away k blank made (key, (named, refl))))
+      (λ size key r made found. made_hands i s (answers (with_object (with_row s r (Some key.number)) r) t (sealed_token r)) t size r _ (AsToken s t) parts away k blank made (key, (found, refl))))

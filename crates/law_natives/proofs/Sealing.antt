@@ -33,7 +33,7 @@ use Rattle.law_moves.proofs.Objects.{object_beside}
 use Rattle.law_routines.proofs.Places as places
 use Rattle.law_routines.proofs.Objects.{made_says}
 use Rattle.law_routines.proofs.Tokens.{token_says, token_found}
-use Rattle.law_natives.specs.Stands.{Stands}
+use Rattle.law_natives.specs.Stands.{RoutineKeeps}
 use Rattle.law_natives.proofs.Answering.{Returning, return_says, return_tells, checked_stands, answers_keeps}
 use Rattle.law_natives.proofs.Charging.{Charging, quota_stands, quota_licensed}
 use Rattle.law_natives.proofs.Freeing.{tokens_keeps, given_stands}
@@ -98,7 +98,7 @@ sealed_keeps i s t size key o c is =
     let P : Object → Type 0 = λ z. Keeps i (answers (with_object (with_row s z key) z) t (sealed_token z)) in
     subst P (sym m.is) (sealed_new i s t size m.base key c new some)
 
-made_stands : (i : Image) (s : State) (t size : ℕ) (key : Option ℕ) (a : Allocation) → Charging i s t → allocation i s (quota_in s t) size ≡ a → Stands i s t (made_token s t key a)
+made_stands : (i : Image) (s : State) (t size : ℕ) (key : Option ℕ) (a : Allocation) → Charging i s t → allocation i s (quota_in s t) size ≡ a → RoutineKeeps i s t (made_token s t key a)
 made_stands i s t size key (Refused n) c is = (answers_keeps i s t (code n) c.returning (untagged_puts i s t (code n) refl), tt)
 made_stands i s t size key (Made o) c is =
     let after = sealed_keeps i s t size key o c is in
@@ -109,15 +109,15 @@ made_stands i s t size key (Made o) c is =
     )
 
 -- what comes by a key stands where what comes does
-key_stands : (i : Image) (s : State) (t : ℕ) (o : Option Object) (ran : ℕ → Ran) → Returning i s t → ((key : ℕ) → Stands i s t (ran key)) → Stands i s t (by_key s t o ran)
+key_stands : (i : Image) (s : State) (t : ℕ) (o : Option Object) (ran : ℕ → Ran) → Returning i s t → ((key : ℕ) → RoutineKeeps i s t (ran key)) → RoutineKeeps i s t (by_key s t o ran)
 key_stands i s t None ran r h = (answers_keeps i s t (code 7) r (untagged_puts i s t (code 7) refl), tt)
 key_stands i s t (Some k) ran r h = h k.number
 
-pub token_key_stands : (i : Image) (s : State) (t : ℕ) → Partitioned i → Facts i → Keeps i s → s.running ≡ Some t → Stands i s t (token_key i s t)
+pub token_key_stands : (i : Image) (s : State) (t : ℕ) → Partitioned i → Facts i → Keeps i s → s.running ≡ Some t → RoutineKeeps i s t (token_key i s t)
 token_key_stands i s t parts facts k runs = quota_stands i s t (made_token s t None (allocation i s (quota_in s t) 8)) parts facts k runs
     (λ c. made_stands i s t 8 None (allocation i s (quota_in s t) 8) c refl)
 
-pub token_new_stands : (i : Image) (s : State) (t : ℕ) → Partitioned i → Facts i → Keeps i s → s.running ≡ Some t → Stands i s t (token_new i s t)
+pub token_new_stands : (i : Image) (s : State) (t : ℕ) → Partitioned i → Facts i → Keeps i s → s.running ≡ Some t → RoutineKeeps i s t (token_new i s t)
 token_new_stands i s t parts facts k runs =
     let size : ℕ = cap_address (register (thread s t) 11) in
     quota_stands i s t (by_key s t (key_of s (register (thread s t) 12)) (λ key. made_token s t (Some key) (allocation i s (quota_in s t) size))) parts facts k runs
@@ -126,7 +126,7 @@ token_new_stands i s t parts facts k runs =
 
 -- ---- a token is opened
 
-opened_stands : (i : Image) (s : State) (t key : ℕ) (o : Option Object) → Returning i s t → token_of s key (register (thread s t) 11) ≡ o → Stands i s t (opens s t (register (thread s t) 11) o)
+opened_stands : (i : Image) (s : State) (t key : ℕ) (o : Option Object) → Returning i s t → token_of s key (register (thread s t) 11) ≡ o → RoutineKeeps i s t (opens s t (register (thread s t) 11) o)
 opened_stands i s t key None r is = (answers_keeps i s t (code 8) r (untagged_puts i s t (code 8) refl), tt)
 opened_stands i s t key (Some o) r is =
     let token = token_says s key (register (thread s t) 11) o is in (
@@ -136,7 +136,7 @@ opened_stands i s t key (Some o) r is =
       tt,
     )
 
-pub token_open_stands : (i : Image) (s : State) (t : ℕ) → Partitioned i → Keeps i s → s.running ≡ Some t → Stands i s t (token_open s t)
+pub token_open_stands : (i : Image) (s : State) (t : ℕ) → Partitioned i → Keeps i s → s.running ≡ Some t → RoutineKeeps i s t (token_open s t)
 token_open_stands i s t parts k runs =
     let ran : ℕ → Ran = λ key. opens s t (register (thread s t) 11) (token_of s key (register (thread s t) 11)) in
     checked_stands i s t (return_checks (register (thread s t) 1)) (by_key s t (key_of s (register (thread s t) 10)) ran) (return_tells (register (thread s t) 1)) (λ none.
@@ -146,13 +146,13 @@ token_open_stands i s t parts k runs =
 
 -- ---- a token is freed
 
-gone_stands : (i : Image) (s : State) (t key : ℕ) (o : Option Object) → Charging i s t → token_of s key (register (thread s t) 12) ≡ o → Stands i s t (frees_token i s t (quota_in s t) o)
+gone_stands : (i : Image) (s : State) (t key : ℕ) (o : Option Object) → Charging i s t → token_of s key (register (thread s t) 12) ≡ o → RoutineKeeps i s t (frees_token i s t (quota_in s t) o)
 gone_stands i s t key None c is = (answers_keeps i s t (code 8) c.returning (untagged_puts i s t (code 8) refl), tt)
-gone_stands i s t key (Some r) c is = chosen (Stands i s t) (r.quota == quota_in s t) (gives_back i s t r) (tells s t (code 6))
+gone_stands i s t key (Some r) c is = chosen (RoutineKeeps i s t) (r.quota == quota_in s t) (gives_back i s t r) (tells s t (code 6))
     (λ same. given_stands i s t r (register (thread s t) 12) c (token_found s key (register (thread s t) 12) r (quota_in s t) is (eqb-true r.quota (quota_in s t) same)))
     (λ other. (answers_keeps i s t (code 6) c.returning (untagged_puts i s t (code 6) refl), tt))
 
-pub token_free_stands : (i : Image) (s : State) (t : ℕ) → Partitioned i → Facts i → Keeps i s → s.running ≡ Some t → Stands i s t (token_free i s t)
+pub token_free_stands : (i : Image) (s : State) (t : ℕ) → Partitioned i → Facts i → Keeps i s → s.running ≡ Some t → RoutineKeeps i s t (token_free i s t)
 token_free_stands i s t parts facts k runs =
     let ran : ℕ → Ran = λ key. frees_token i s t (quota_in s t) (token_of s key (register (thread s t) 12)) in
     quota_stands i s t (by_key s t (key_of s (register (thread s t) 11)) ran) parts facts k runs

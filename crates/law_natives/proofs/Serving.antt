@@ -17,7 +17,7 @@ use Rattle.def_sched.specs.declared.Status.TheVariants.{Ready, Sleeping, Ended}
 use Rattle.def_sched.specs.Statuses.{asleep}
 use Rattle.def_machine.specs.Image.{Image, root, stack_entry, stack_base, frames_most}
 use Rattle.def_machine.specs.State.{State, Thread, Frame, thread, register}
-use Rattle.def_machine.specs.Frames.{given}
+use Rattle.def_machine.specs.Frames.{callee_start}
 use Rattle.def_confined.specs.Keeps.{Keeps}
 use Rattle.def_confined.specs.Partitioned.{Partitioned}
 use Rattle.def_facts.specs.Facts.{Facts}
@@ -34,7 +34,7 @@ use Rattle.law_registers.proofs.Moves.{untagged_puts}
 use Rattle.law_made.proofs.Entering.{given_enters}
 use Rattle.law_moves.proofs.Threads.{push_keeps}
 use Rattle.def_safety.specs.Clean.{high_of}
-use Rattle.law_natives.specs.Stands.{Stands}
+use Rattle.law_natives.specs.Stands.{RoutineKeeps}
 use Rattle.law_natives.proofs.Switching.{callee_of, checks_say, caller_of}
 use Rattle.law_natives.proofs.Answering.{Returning, return_says, return_tells, failed_tells, checked_stands, answers_keeps, stops_keeps}
 
@@ -88,10 +88,10 @@ switch_tells base top caller = (
   ),
 )
 
-pub switch_stands : (i : Image) (s : State) (t : ℕ) → Partitioned i → Facts i → Keeps i s → s.running ≡ Some t → Stands i s t (switch i s t)
+pub switch_stands : (i : Image) (s : State) (t : ℕ) → Partitioned i → Facts i → Keeps i s → s.running ≡ Some t → RoutineKeeps i s t (switch i s t)
 switch_stands i s t parts facts k runs = by_failed (first_failed (switch_checks (stack_base i t) (frame_top (thread s t).frames) (thread s t))) refl
   where
-    answer : first_failed (switch_checks (stack_base i t) (frame_top (thread s t).frames) (thread s t)) ≡ None → (n : ℕ) → Stands i s t (tells s t (code n))
+    answer : first_failed (switch_checks (stack_base i t) (frame_top (thread s t).frames) (thread s t)) ≡ None → (n : ℕ) → RoutineKeeps i s t (tells s t (code n))
     answer none n =
         let says = checks_say i s t none in
         (answers_keeps i s t (code n) (record { parts = parts; keeps = k; runs = runs; tagged = says.return_tagged; sealed = says.return_sealed }) (untagged_puts i s t (code n) refl), tt)
@@ -101,7 +101,7 @@ switch_stands i s t parts facts k runs = by_failed (first_failed (switch_checks 
         let P : List Frame → Type 0 = λ gs. Licensed i.entries (record { thread = t; actor = actor_of gs; entry = (register (thread s t) 6).shadow.root; act = acts.Call (called i.entries (thread s t)) }) in
         subst P (sym frames) (call_licensed i s t 6 f fs k.confined frames tagged sealed)
 
-    entering : first_failed (switch_checks (stack_base i t) (frame_top (thread s t).frames) (thread s t)) ≡ None → (length (thread s t).frames ≡ frames_most i t → ⊥) → Stands i s t (switched_to i s t (Enters (called i.entries (thread s t)) (high_of i s t)))
+    entering : first_failed (switch_checks (stack_base i t) (frame_top (thread s t).frames) (thread s t)) ≡ None → (length (thread s t).frames ≡ frames_most i t → ⊥) → RoutineKeeps i s t (switched_to i s t (Enters (called i.entries (thread s t)) (high_of i s t)))
     entering none room =
         let says = checks_say i s t none in
         let caller = caller_of i s t facts k.confined says in
@@ -110,7 +110,7 @@ switch_stands i s t parts facts k runs = by_failed (first_failed (switch_checks 
         let within = room_within (cap_address (register (thread s t) 2) - stack_base i t) in
         let under : high_of i s t ≤ caller.frame.top = (let top = caller.top in let low = says.stack_low in let high = says.stack_high in omega (arith, within, top, low, high)) in (
           push_keeps i s t caller.frame caller.below (callee_of i (called i.entries (thread s t))) (called i.entries (thread s t)) (high_of i s t)
-              (given i (thread s t) t (callee_of i (called i.entries (thread s t))) (called i.entries (thread s t)) (high_of i s t)) parts k
+              (callee_start i (thread s t) t (callee_of i (called i.entries (thread s t))) (called i.entries (thread s t)) (high_of i s t)) parts k
               (record {
                 enters = given_enters i s t caller.frame caller.below (callee_of i (called i.entries (thread s t))) (called i.entries (thread s t)) (high_of i s t) parts k.confined
                     (record {
@@ -135,11 +135,11 @@ switch_stands i s t parts facts k runs = by_failed (first_failed (switch_checks 
           licensed caller.frame caller.below caller.frames says.gate_tagged says.gate_sealed,
         )
 
-    by_failed : (o : Option Trap) → first_failed (switch_checks (stack_base i t) (frame_top (thread s t).frames) (thread s t)) ≡ o → Stands i s t (switched_to i s t (past_checks i.entries (stack_base i t) (frames_most i t) (thread s t) o))
+    by_failed : (o : Option Trap) → first_failed (switch_checks (stack_base i t) (frame_top (thread s t).frames) (thread s t)) ≡ o → RoutineKeeps i s t (switched_to i s t (past_checks i.entries (stack_base i t) (frames_most i t) (thread s t) o))
     by_failed (Some why) none = failed_tells (switch_checks (stack_base i t) (frame_top (thread s t).frames) (thread s t)) why (switch_tells (stack_base i t) (frame_top (thread s t).frames) (thread s t)) none
-    by_failed None none = chosen (λ (z : Switched). Stands i s t (switched_to i s t z)) (length (thread s t).frames == frames_most i t) TooDeep (with_room i.entries (stack_base i t) (high_of i s t) (called i.entries (thread s t)))
+    by_failed None none = chosen (λ (z : Switched). RoutineKeeps i s t (switched_to i s t z)) (length (thread s t).frames == frames_most i t) TooDeep (with_room i.entries (stack_base i t) (high_of i s t) (called i.entries (thread s t)))
         (λ is. answer none 12)
-        (λ not. chosen (λ (z : Switched). Stands i s t (switched_to i s t z)) (nat_lt (high_of i s t - stack_base i t) (gate_for i.entries.gates (called i.entries (thread s t))).stack) NoStack (Enters (called i.entries (thread s t)) (high_of i s t))
+        (λ not. chosen (λ (z : Switched). RoutineKeeps i s t (switched_to i s t z)) (nat_lt (high_of i s t - stack_base i t) (gate_for i.entries.gates (called i.entries (thread s t))).stack) NoStack (Enters (called i.entries (thread s t)) (high_of i s t))
         (λ is. answer none 11)
         (λ fits. entering none (eqb-false (length (thread s t).frames) (frames_most i t) not)))
 
@@ -148,7 +148,7 @@ switch_stands i s t parts facts k runs = by_failed (first_failed (switch_checks 
 asleep_goes_on : (n : ℕ) → asleep n ≡ Ended → ⊥
 asleep_goes_on n = chosen (λ (z : Status). z ≡ Ended → ⊥) (n == 0) Ready (Sleeping n) (λ is e. (let clash : Ready ≡ Ended = e in cc)) (λ not e. (let clash : Sleeping n ≡ Ended = e in cc))
 
-pub rests_stands : (i : Image) (s : State) (t : ℕ) → Partitioned i → Keeps i s → s.running ≡ Some t → Stands i s t (yield s t) × Stands i s t (sleep s t)
+pub rests_stands : (i : Image) (s : State) (t : ℕ) → Partitioned i → Keeps i s → s.running ≡ Some t → RoutineKeeps i s t (yield s t) × RoutineKeeps i s t (sleep s t)
 rests_stands i s t parts k runs = (
   checked_stands i s t (return_checks (register (thread s t) 1)) (stops s t (asleep 0)) (return_tells (register (thread s t) 1)) (λ none. (stops_keeps i s t (integer 0) (asleep 0) (returning none) (untagged_puts i s t (integer 0) refl) (asleep_goes_on 0), tt)),
   checked_stands i s t (return_checks (register (thread s t) 1)) (stops s t (asleep (cap_address (register (thread s t) 10)))) (return_tells (register (thread s t) 1)) (λ none. (stops_keeps i s t (integer 0) (asleep (cap_address (register (thread s t) 10))) (returning none) (untagged_puts i s t (integer 0) refl) (asleep_goes_on (cap_address (register (thread s t) 10))), tt)),

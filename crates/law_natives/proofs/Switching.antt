@@ -15,7 +15,7 @@ use Rattle.def_words.specs.Seals.{cap_seal}
 use Rattle.def_reach.specs.Roots.{Listing, compartment_of, gate_for}
 use Rattle.def_machine.specs.Image.{Image, root, stack_base, frames_most}
 use Rattle.def_machine.specs.State.{State, Frame, thread, register}
-use Rattle.def_machine.specs.Frames.{switched, given, entered}
+use Rattle.def_machine.specs.Frames.{switched, callee_start, entered}
 use Rattle.def_confined.specs.Capabilities.{IsReturnType, Rooted}
 use Rattle.def_confined.specs.Confined.{Confined, FramesHold}
 use Rattle.def_facts.specs.Facts.{Facts}
@@ -31,7 +31,7 @@ abbrev pub callee_of : Image → ℕ → ℕ
 callee_of i export = compartment_of (root i export).owner
 
 abbrev pub entered_state : Image → State → ℕ → ℕ → State
-entered_state i s t export = switched i s t (high_of i s t) (entered i (thread s t) (callee_of i export) export (high_of i s t) (given i (thread s t) t (callee_of i export) export (high_of i s t))) s.running
+entered_state i s t export = switched i s t (high_of i s t) (entered i (thread s t) (callee_of i export) export (high_of i s t) (callee_start i (thread s t) t (callee_of i export) export (high_of i s t))) s.running
 
 -- the switch told a call
 pub record Told (i : Image) (s : State) (t entry export : ℕ) (after : State) : Type 0 where
@@ -74,7 +74,7 @@ switch_told i s after t entry export e = by_failed (first_failed (switch_checks 
         let deeds : Some ((register (thread s t) 6).shadow.root, Call x) ≡ Some (entry, Call export) = ap told_by same in
         let exports : x ≡ export = ap (export_told 0) deeds in
         let entries : (register (thread s t) 6).shadow.root ≡ entry = ap (entry_told 0) deeds in
-        let P : ℕ → Type 0 = λ h. after ≡ switched i s t h (entered i (thread s t) (callee_of i x) x h (given i (thread s t) t (callee_of i x) x h)) s.running in
+        let P : ℕ → Type 0 = λ h. after ≡ switched i s t h (entered i (thread s t) (callee_of i x) x h (callee_start i (thread s t) t (callee_of i x) x h)) s.running in
         let Q : ℕ → Type 0 = λ z. after ≡ entered_state i s t z in
         record {
           passes = none;

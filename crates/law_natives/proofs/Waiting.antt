@@ -25,7 +25,7 @@ use Rattle.def_step.specs.Routines.{Leaves, answered, answers, tells, code, chec
 use Rattle.law_registers.proofs.Moves.{untagged_puts}
 use Rattle.law_sweeps.proofs.Ticks.{restatused_keeps}
 use Rattle.law_licensed.proofs.Checks.{AllTell, register_tells, plain_tells}
-use Rattle.law_natives.specs.Stands.{Stands}
+use Rattle.law_natives.specs.Stands.{RoutineKeeps}
 use Rattle.law_natives.proofs.Answering.{Returning, return_says, return_tells, checked_stands, answers_keeps, stops_keeps}
 
 word_tells : (i : Image) (s : State) (c : Cap) → AllTell (word_checks i s c)
@@ -48,12 +48,12 @@ word_tells i s c = (
 awaiting_goes_on : (address held wanted : ℕ) → awaiting address held wanted ≡ Ended → ⊥
 awaiting_goes_on address held wanted = chosen (λ (z : Status). z ≡ Ended → ⊥) (held == wanted) (Waiting address) Ready (λ is e. (let clash : Waiting address ≡ Ended = e in cc)) (λ not e. (let clash : Ready ≡ Ended = e in cc))
 
-waits_stands : (i : Image) (s : State) (t address held wanted : ℕ) → Returning i s t → Stands i s t (waits s t address held wanted)
-waits_stands i s t address held wanted r = chosen (Stands i s t) (held == wanted) (stops s t (awaiting address held wanted)) (tells s t (code 21))
+waits_stands : (i : Image) (s : State) (t address held wanted : ℕ) → Returning i s t → RoutineKeeps i s t (waits s t address held wanted)
+waits_stands i s t address held wanted r = chosen (RoutineKeeps i s t) (held == wanted) (stops s t (awaiting address held wanted)) (tells s t (code 21))
     (λ is. (stops_keeps i s t (integer 0) (awaiting address held wanted) r (untagged_puts i s t (integer 0) refl) (awaiting_goes_on address held wanted), tt))
     (λ not. (answers_keeps i s t (code 21) r (untagged_puts i s t (code 21) refl), tt))
 
-pub wait_stands : (i : Image) (s : State) (t : ℕ) → Partitioned i → Keeps i s → s.running ≡ Some t → Stands i s t (wait i s t)
+pub wait_stands : (i : Image) (s : State) (t : ℕ) → Partitioned i → Keeps i s → s.running ≡ Some t → RoutineKeeps i s t (wait i s t)
 wait_stands i s t parts k runs =
     checked_stands i s t (return_checks (register (thread s t) 1)) (checked (word_checks i s (register (thread s t) 10)) (waits s t (cap_address (register (thread s t) 10)) (loaded s.granules (cap_address (register (thread s t) 10) - i.ram) 4) (cap_address (register (thread s t) 11))))
     (return_tells (register (thread s t) 1))
@@ -139,7 +139,7 @@ answers_statuses s t v = record {
   each = λ u. after_set_at (λ n (th : Thread). th.status ≡ status_of (statuses_of s.threads) n) s.threads t u (answered (thread s t) v) nobody (sym (status_at s.threads t)) (sym (status_at s.threads u));
 }
 
-pub wake_stands : (i : Image) (s : State) (t : ℕ) → Partitioned i → Keeps i s → s.running ≡ Some t → Stands i s t (wake i s t)
+pub wake_stands : (i : Image) (s : State) (t : ℕ) → Partitioned i → Keeps i s → s.running ≡ Some t → RoutineKeeps i s t (wake i s t)
 wake_stands i s t parts k runs =
     checked_stands i s t (return_checks (register (thread s t) 1)) (checked (word_checks i s (register (thread s t) 10)) (Leaves (wakes s t (cap_address (register (thread s t) 10)) (cap_address (register (thread s t) 11))) None))
     (return_tells (register (thread s t) 1))

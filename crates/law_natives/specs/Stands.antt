@@ -14,6 +14,6 @@ TellsLicensed i s t None = Unit {0}
 TellsLicensed i s t (Some told) = Licensed i.entries (deed_told s t told)
 
 -- its trap may be told; where it leaves a state, all that events keep holds of it, and what it did is licensed
-abbrev pub Stands : Image → State → ℕ → Ran → Type 0
-Stands i s t (Traps why) = IsTrap why.cause why.code why.register
-Stands i s t (Leaves after told) = Keeps i after × TellsLicensed i s t told
+abbrev pub RoutineKeeps : Image → State → ℕ → Ran → Type 0
+RoutineKeeps i s t (Traps why) = IsTrap why.cause why.code why.register
+RoutineKeeps i s t (Leaves after told) = Keeps i after × TellsLicensed i s t told

@@ -18,36 +18,36 @@ ghost use Rattle.def_step.specs.Tokens.{token_key, token_new, token_open, token_
 ghost use Rattle.def_facts.specs.Facts.{Facts, RootsAway};
 ghost use Rattle.def_safety.specs.Clean.{CleanEntry, CleanReturn};
 ghost use Rattle.def_safety.specs.Fresh.{HandsOut, AsMade, AsKey, AsToken};
-ghost use Rattle.law_natives.specs.Stands.{Stands};
+ghost use Rattle.law_natives.specs.Stands.{RoutineKeeps};
 
 /// What each routine comes to stands: a trap is one that may be told; what it leaves is confined, with all
 /// that stands beside; and what it did, a call, an allocation or a free, is licensed as a deed of its caller's.
 pub fn routines_stand()
     ensures switch { (i : Image) (s : State) (t : ℕ)
-        → Partitioned i → Facts i → Keeps i s → s.running ≡ Some t → Stands i s t (switch i s t) }
+        → Partitioned i → Facts i → Keeps i s → s.running ≡ Some t → RoutineKeeps i s t (switch i s t) }
     ensures back { (i : Image) (s : State) (t : ℕ)
         → Partitioned i → Keeps i s → s.running ≡ Some t
-        → Stands i s t (Leaves (returned i s t (thread s t).frames) None) }
+        → RoutineKeeps i s t (Leaves (returned i s t (thread s t).frames) None) }
     ensures rests { (i : Image) (s : State) (t : ℕ)
         → Partitioned i → Keeps i s → s.running ≡ Some t
-        → Stands i s t (yield s t) × Stands i s t (sleep s t) }
+        → RoutineKeeps i s t (yield s t) × RoutineKeeps i s t (sleep s t) }
     ensures waits { (i : Image) (s : State) (t : ℕ)
-        → Partitioned i → Keeps i s → s.running ≡ Some t → Stands i s t (wait i s t) }
+        → Partitioned i → Keeps i s → s.running ≡ Some t → RoutineKeeps i s t (wait i s t) }
     ensures wakes { (i : Image) (s : State) (t : ℕ)
-        → Partitioned i → Keeps i s → s.running ≡ Some t → Stands i s t (wake i s t) }
+        → Partitioned i → Keeps i s → s.running ≡ Some t → RoutineKeeps i s t (wake i s t) }
     ensures allocate { (i : Image) (s : State) (t : ℕ)
-        → Partitioned i → Facts i → Keeps i s → s.running ≡ Some t → Stands i s t (allocate i s t) }
+        → Partitioned i → Facts i → Keeps i s → s.running ≡ Some t → RoutineKeeps i s t (allocate i s t) }
     ensures free { (i : Image) (s : State) (t : ℕ)
-        → Partitioned i → Facts i → Keeps i s → s.running ≡ Some t → Stands i s t (free i s t) }
+        → Partitioned i → Facts i → Keeps i s → s.running ≡ Some t → RoutineKeeps i s t (free i s t) }
     ensures remaining { (i : Image) (s : State) (t : ℕ)
-        → Partitioned i → Facts i → Keeps i s → s.running ≡ Some t → Stands i s t (remaining i s t) }
+        → Partitioned i → Facts i → Keeps i s → s.running ≡ Some t → RoutineKeeps i s t (remaining i s t) }
     ensures seals { (i : Image) (s : State) (t : ℕ)
         → Partitioned i → Facts i → Keeps i s → s.running ≡ Some t
-        → Stands i s t (token_key i s t) × Stands i s t (token_new i s t) }
+        → RoutineKeeps i s t (token_key i s t) × RoutineKeeps i s t (token_new i s t) }
     ensures opens { (i : Image) (s : State) (t : ℕ)
-        → Partitioned i → Keeps i s → s.running ≡ Some t → Stands i s t (token_open s t) }
+        → Partitioned i → Keeps i s → s.running ≡ Some t → RoutineKeeps i s t (token_open s t) }
     ensures token_free { (i : Image) (s : State) (t : ℕ)
-        → Partitioned i → Facts i → Keeps i s → s.running ≡ Some t → Stands i s t (token_free i s t) }
+        → Partitioned i → Facts i → Keeps i s → s.running ≡ Some t → RoutineKeeps i s t (token_free i s t) }
 {}
 
 /// A call through an export that passes plain values enters its callee clean.

@@ -15,7 +15,7 @@ use Rattle.ct_entry.specs.declared.rows.Kind.{Kind}
 use Rattle.ct_entry.specs.declared.rows.Kind.TheVariants as kinds
 use Rattle.ct_entry.specs.Kinds.{is_call, is_shared, is_library_slot}
 use Rattle.def_reach.specs.Roots.{TrustedPart, Listing, root_of, gate_for, is_owned}
-use Rattle.def_reach.specs.Sharing.{Edge, Leads, Imports, Reaches}
+use Rattle.def_reach.specs.Sharing.{Edge, IsEdgeList, Imports, Reaches}
 use Rattle.def_machine.specs.Image.{region, root, booted}
 use Rattle.def_machine.specs.State.{thread}
 use Rattle.def_machine.specs.Frames.{returned}
@@ -55,7 +55,7 @@ no_edge a b (inl c) = no_import kinds.Call c.import refl c.kind_is
 no_edge a b (inr (inl c)) = no_import kinds.Call c.import refl c.kind_is
 no_edge a b (inr (inr (object, x, y))) = no_import kinds.Shared x.import refl x.kind_is
 
-alone : (a : ℕ) (xs : List ℕ) (b : ℕ) → Leads two.entries a xs b → a ≡ b
+alone : (a : ℕ) (xs : List ℕ) (b : ℕ) → IsEdgeList two.entries a xs b → a ≡ b
 alone a [] b h = h
 alone a (x ∷ xs) b h = absurd (no_edge a x h.0)
 

@@ -22,13 +22,13 @@ use Rattle.def_machine.specs.Objects.{Each, has_quarantined, painted}
 use Rattle.def_machine.specs.Memory.{filtered, is_marked_in}
 use Rattle.def_machine.specs.Registers.{written}
 use Rattle.def_machine.specs.Threads.{picked, timed, with_status, statuses_of, with_statuses, jumped}
-use Rattle.def_machine.specs.Frames.{Given, argument, passed, entered_by, answer, left_by, switched}
+use Rattle.def_machine.specs.Frames.{Given, argument, cap_passed, entered_by, answer, left_by, switched}
 use Rattle.def_machine.specs.Heap.{sliced, sweep_over, ram_size, ended_sweep, sweep_on, sweep_began, with_slice, slice_end, quarantined}
 use Rattle.def_machine.specs.Slices.{kept_frames, kept_thread, marks_cleared, is_number}
 use Rattle.def_reach.specs.Roots.{root_of, gate_for}
 use Rattle.def_step.specs.declared.TheConstants.{TRAP_RECORD}
 use Rattle.def_step.specs.Handlers.{record_end, record_words, words_written, handled, handler_entered}
-use Rattle.def_step.specs.Instructions.{Done, put_done}
+use Rattle.def_step.specs.Instructions.{Effect, put_done}
 use Rattle.def_step.specs.Quotas.{let_go}
 use Rattle.def_step.specs.Routines.{answered, answers, wakes}
 use Rattle.law_heap.proofs.Frees.{freed_cap}
@@ -143,7 +143,7 @@ module _ (S C : Cap → Type 0) (w : Widens S C) where
 
   -- what passes to a callee, and what an ending frame hands back
   argument_has : (i : Image) (s : State) (t export n : ℕ) → Everywhere S s → C (argument i (thread s t) export n)
-  argument_has i s t export n h = chosen C (nat_lt n (gate_for i.entries.gates export).args) (passed i export (register (thread s t) (10 + n))) (plain 0)
+  argument_has i s t export n h = chosen C (nat_lt n (gate_for i.entries.gates export).args) (cap_passed i export (register (thread s t) (10 + n))) (plain 0)
       (λ is. chosen C (root_of i.entries export).passes (register (thread s t) (10 + n)) (untagged (register (thread s t) (10 + n))) (λ is. w.stays _ ((h.threads t).registers (10 + n))) (λ not. w.none _ refl))
       (λ not. zero_has)
 
@@ -224,7 +224,7 @@ module _ (i : Image) (S C : Cap → Type 0) (x : Passes i S C) where
 
   -- ---- an instruction
 
-  pub put_has : (s : State) (t : ℕ) (d : Done) → Everywhere S s → C d.value → C d.pcc → ((k : ℕ) → C (granule_at d.granules k).cap) → Everywhere C (put_done s t d)
+  pub put_has : (s : State) (t : ℕ) (d : Effect) → Everywhere S s → C d.value → C d.pcc → ((k : ℕ) → C (granule_at d.granules k).cap) → Everywhere C (put_done s t d)
   put_has s t d h value pcc granules = record {
     granules = granules;
     threads = set_has S C x.widens s t (jumped (thread s t) d.pcc d.posture d.to d.value) h (record {

@@ -16,7 +16,7 @@ use Rattle.def_reach.specs.Roots.{gate_for}
 use Rattle.def_machine.specs.Board.{Board}
 use Rattle.def_machine.specs.Image.{Image, root, made_cap, code_entry, globals_entry, handler_entry, stack_base, stack_entry, stack_top}
 use Rattle.def_machine.specs.State.{State, Frame, Object, Counts, thread, register, granule}
-use Rattle.def_machine.specs.Frames.{given, returned, ended_with}
+use Rattle.def_machine.specs.Frames.{callee_start, returned, ended_with}
 use Rattle.def_machine.specs.Heap.{with_object, object_cap}
 use Rattle.def_machine.specs.Threads.{timed, statuses_of}
 use Rattle.def_confined.specs.Confined.{Confined}
@@ -31,7 +31,7 @@ use Rattle.def_step.specs.Accesses.{Accessed}
 use Rattle.def_step.specs.Checks.{first_failed}
 use Rattle.def_step.specs.Events.{preempted_from, preempted, picked_as, picked_from, scheduled, continued, one_more_step, stepped, interrupted, ticked}
 use Rattle.def_step.specs.Handlers.{is_handled, handler_entered}
-use Rattle.def_step.specs.Instructions.{Done, carried_out, named_by, gives, flows, accesses, around, space_of, put_done, operand, executed}
+use Rattle.def_step.specs.Instructions.{Effect, carried_out, named_by, gives, flows, accesses, around, space_of, put_done, operand, executed}
 use Rattle.def_step.specs.Jumps.{Flowed}
 use Rattle.def_step.specs.Operands.{operands_of, class_of}
 use Rattle.def_step.specs.Quotas.{Made, allocation, is_quota_cap, quota_in, whole_of, let_go}
@@ -39,6 +39,7 @@ use Rattle.def_step.specs.Routines.{answers}
 use Rattle.def_step.specs.Switch.{switch_checks, called, room_exponent, room_of, frame_top}
 use Rattle.def_step.specs.Tokens.{with_row, sealed_token, opened_token, key_of, token_of}
 use Rattle.def_tokens.specs.Everywhere.{ThreadHas, Everywhere}
+use Rattle.def_tokens.specs.Opening.{MayOpen}
 use Rattle.law_handlers.proofs.Entered.{says}
 use Rattle.law_jumps.proofs.Moves.{in_rooted}
 use Rattle.law_made.proofs.Entering.{back_made, globals_made, pcc_made}
@@ -58,27 +59,28 @@ pub record Regular (C : Cap → Type 0) (s z : State) : Type 0 where
   pub tokens : z.tokens ≡ s.tokens
   pub has : Everywhere C z
 
--- what a step does to objects and rows: an object is handed out, or given back, as it is or as a token; a token is opened
-pub record Specials (Q : State → Type 0) (i : Image) (s : State) (t : ℕ) : Type 0 where
-  pub hands : is_quota_cap (register (thread s t) 10) ≡ true → (size : ℕ) (r : Object) → allocation i s (quota_in s t) size ≡ Made r → Q (answers (with_object s r) t (object_cap r))
-  pub frees : (r : Object) → whole_of s.objects (quota_in s t) (register (thread s t) 11) ≡ Some r → Q (answers (let_go i s t r) t (integer 0))
-  pub gives : (key : ℕ) (r : Object) → token_of s key (register (thread s t) 12) ≡ Some r → Q (answers (let_go i s t r) t (integer 0))
-  pub seals : is_quota_cap (register (thread s t) 10) ≡ true → (size : ℕ) (key : Option ℕ) (r : Object) → allocation i s (quota_in s t) size ≡ Made r → IsKeyOf s key → Q (answers (with_object (with_row s r key) r) t (sealed_token r))
-  pub opens : (k r : Object) → key_of s (register (thread s t) 10) ≡ Some k → token_of s k.number (register (thread s t) 11) ≡ Some r → Q (answers s t (opened_token (register (thread s t) 11)))
+-- what a step does to objects and rows: an object is handed out, or given back, as it is or as a token; token_open opens
+-- a token
+pub record Specials (Q : State → Type 0) (b : Board) (s : State) (t : ℕ) : Type 0 where
+  pub hands : is_quota_cap (register (thread s t) 10) ≡ true → (size : ℕ) (r : Object) → allocation b.image s (quota_in s t) size ≡ Made r → Q (answers (with_object s r) t (object_cap r))
+  pub frees : (r : Object) → whole_of s.objects (quota_in s t) (register (thread s t) 11) ≡ Some r → Q (answers (let_go b.image s t r) t (integer 0))
+  pub gives : (key : ℕ) (r : Object) → token_of s key (register (thread s t) 12) ≡ Some r → Q (answers (let_go b.image s t r) t (integer 0))
+  pub seals : is_quota_cap (register (thread s t) 10) ≡ true → (size : ℕ) (key : Option ℕ) (r : Object) → allocation b.image s (quota_in s t) size ≡ Made r → IsKeyOf s key → Q (answers (with_object (with_row s r key) r) t (sealed_token r))
+  pub opens : (s.running ≡ Some t → MayOpen b s t) → (k r : Object) → key_of s (register (thread s t) 10) ≡ Some k → token_of s k.number (register (thread s t) 11) ≡ Some r → Q (answers s t (opened_token (register (thread s t) 11)))
 
 -- ---- what an instruction does
 
-pub record DoneHas (C : Cap → Type 0) (d : Done) : Type 0 where
+pub record DoneHas (C : Cap → Type 0) (d : Effect) : Type 0 where
   pub value : C d.value
   pub pcc : C d.pcc
   pub granules : (k : ℕ) → C (granule_at d.granules k).cap
 
-abbrev pub DoneIf : (Cap → Type 0) → Result Done Trap → Type 0
+abbrev pub DoneIf : (Cap → Type 0) → Result Effect Trap → Type 0
 DoneIf C (Err w) = Unit {0}
 DoneIf C (Ok d) = DoneHas C d
 
 module _ (b : Board) (S C : Cap → Type 0) (x : Passes b.image S C) (s : State) (t : ℕ) (parts : Partitioned b.image) (facts : Facts b.image) (held : Confined b.image s) (h : Everywhere S s) where
-  done_regular : (r : Result Done Trap) → DoneIf C r → IfDone (Regular C s) s t r
+  done_regular : (r : Result Effect Trap) → DoneIf C r → IfDone (Regular C s) s t r
   done_regular (Err why) done = tt
   done_regular (Ok d) done = record { objects = refl; tokens = refl; has = put_has b.image S C x s t d h done.value done.pcc done.granules }
 
@@ -152,7 +154,7 @@ module _ (b : Board) (S C : Cap → Type 0) (x : Passes b.image S C) (s : State)
         objects = refl;
         tokens = refl;
         has = enters_has b.image S C x s t (callee_of b.image (called b.image.entries (thread s t))) (called b.image.entries (thread s t)) (high_of b.image s t)
-            (given b.image (thread s t) t (callee_of b.image (called b.image.entries (thread s t))) (called b.image.entries (thread s t)) (high_of b.image s t))
+            (callee_start b.image (thread s t) t (callee_of b.image (called b.image.entries (thread s t))) (called b.image.entries (thread s t)) (high_of b.image s t))
             (x.own (callee_of b.image (called b.image.entries (thread s t))) _ (λ tagged. (pcc_made b.image (callee_of b.image (called b.image.entries (thread s t))) (called b.image.entries (thread s t)) parts owner tagged).0))
             (x.back _ (back_made b.image parts))
             (x.stack t (high_of b.image s t) _ (stack_made b.image t (high_of b.image s t) (register (thread s t) 2).shadow parts caller.holds.0.stack (placed.own (placed.rooted.local passed.stack_local)).0 (omega arith) (omega (arith, room, top, stack_low, stack_high, frame_high))))
@@ -162,7 +164,7 @@ module _ (b : Board) (S C : Cap → Type 0) (x : Passes b.image S C) (s : State)
 
   -- ---- what a thread carries on with
 
-  pub executed_has : (Q : State → Type 0) → ((z : State) → Regular C s z → Q z) → Specials Q b.image s t → Q (executed b s t).0
+  pub executed_has : (Q : State → Type 0) → ((z : State) → Regular C s z → Q z) → Specials Q b s t → Q (executed b s t).0
   executed_has Q regular special = executed_goes Q b s t (record {
     handles = λ why f fs frames is. regular _ (handler_regular why f fs frames is);
     ends = λ value. regular _ (ended_regular value (thread s t).frames refl);
@@ -177,11 +179,11 @@ module _ (b : Board) (S C : Cap → Type 0) (x : Passes b.image S C) (s : State)
       frees = special.frees;
       gives = special.gives;
       seals = special.seals;
-      opens = special.opens;
+      opens = λ at returns k r key token. special.opens (λ runs. record { routine = at runs; returns = returns }) k r key token;
     };
   })
     where
-      done_q : (r : Result Done Trap) → IfDone (Regular C s) s t r → IfDone Q s t r
+      done_q : (r : Result Effect Trap) → IfDone (Regular C s) s t r → IfDone Q s t r
       done_q (Err why) d = tt
       done_q (Ok d) r = regular (put_done s t d) r
 

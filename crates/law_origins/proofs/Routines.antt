@@ -1,11 +1,12 @@
 -- What holds of each move of a state by which a step of a thread leaves it, with what its routine found, holds of what the
 -- step leaves.
-use Rattle.std.proofs.Common.{ℕ, ◌≡◌, ◌-◌, ◌==◌, ◌≤◌, nat_lt, true, List, ◌∷◌, length, Option, Some, None, Ok, Err, Result, refl, if◌then◌else◌}
+use Rattle.std.proofs.Common.{ℕ, ◌≡◌, ◌-◌, ◌==◌, ◌≤◌, inl, inr, nat_lt, true, List, ◌∷◌, length, Option, Some, None, Ok, Err, Result, refl, ap, ◌∙◌, if◌then◌else◌}
 use Rattle.std.proofs.lemmas.Bool.{eqb-true}
 use Rattle.law_lists.proofs.Tests.{chosen}
 use Rattle.def_profile.specs.declared.answers.TheConstants.{UNWOUND}
-use Rattle.def_profile.specs.declared.native.TheConstants.{RETURN}
+use Rattle.def_profile.specs.declared.native.TheConstants.{RETURN, TOKEN_OPEN}
 use Rattle.def_profile.specs.declared.traps.TheConstants.{ILLEGAL_INSTRUCTION}
+use Rattle.ct_entry.specs.declared.acts.Act.{Act}
 use Rattle.def_words.specs.declared.Trap.{Trap}
 use Rattle.def_words.specs.Authority.{cap_address}
 use Rattle.def_words.specs.Capability.{integer}
@@ -19,25 +20,29 @@ use Rattle.def_machine.specs.State.{State, Frame, Object, thread, register}
 use Rattle.def_machine.specs.Frames.{ended_with, returned}
 use Rattle.def_machine.specs.Heap.{with_object, object_cap}
 use Rattle.def_safety.specs.Clean.{high_of}
+use Rattle.def_safety.specs.Routine.{RunsRoutine}
 use Rattle.def_step.specs.declared.Next.{Next}
+use Rattle.def_step.specs.declared.Next.TheVariants.{Native}
 use Rattle.def_step.specs.declared.TheConstants.{LAST_ROUTINE}
-use Rattle.def_step.specs.Checks.{first_failed}
+use Rattle.def_step.specs.Checks.{Check, first_failed}
 use Rattle.def_step.specs.Handlers.{is_handled, handler_entered, handler_value}
-use Rattle.def_step.specs.Instructions.{Done, space_of, ends, operand, trapped, goes_on, after_fetch, executed, fetch_checks, next_at, served}
+use Rattle.def_step.specs.Instructions.{Effect, space_of, instruction_end, operand, trapped, goes_on, after_fetch, executed, fetch_checks, next_at, served}
 use Rattle.def_step.specs.Native.{native}
 use Rattle.def_step.specs.Operands.{operands_of}
 use Rattle.def_step.specs.Quotas.{Allocation, Refused, Made, allocation, is_quota_cap, quota_in, by_quota, allocated, allocate, freed_as, free, whole_of, let_go, gives_back}
-use Rattle.def_step.specs.Routines.{Ran, Traps, Leaves, answers, tells, code, switched_to, switch, wakes}
+use Rattle.def_step.specs.Routines.{Ran, Traps, Leaves, answers, tells, code, checked, switched_to, switch, wakes}
 use Rattle.def_step.specs.Switch.{Switched, TooDeep, NoStack, Enters, return_checks, switch_checks, called, with_room, past_checks, frame_top}
 use Rattle.def_step.specs.Tokens.{with_row, sealed_token, opened_token, key_of, token_of, made_token, by_key, opens, frees_token, token_key, token_new, token_open, token_free}
 use Rattle.law_routines.specs.Leaving.{Left, IfRan}
-use Rattle.law_routines.proofs.Cases.{Routines, by_next, by_routine}
-use Rattle.law_routines.proofs.Leaving.{stopped, entering, IsKeyOf, checked_left, yield_left, sleep_left, wait_left, wake_left, remaining_left}
+use Rattle.law_routines.proofs.Cases.{by_next}
+use Rattle.law_origins.proofs.Numbered.{by_number}
+use Rattle.law_routines.proofs.Leaving.{stopped, entering, IsKeyOf, option_tells, checked_left, yield_left, sleep_left, wait_left, wake_left, remaining_left}
 use Rattle.law_routines.proofs.Tokens.{key_says}
 use Rattle.law_routines.proofs.Stepping.{IfDone, carried, trap_case, return_case}
 
--- as law_routines has them, but a call with its checks that passed, a free with what was found, and a token with its key
-pub record Deals (Q : State → Type 0) (i : Image) (s : State) (t : ℕ) : Type 0 where
+-- as law_routines has them, but a call with its checks that passed, a free with what was found, and a token that is opened
+-- with its key, where the routine is token_open, by At, and its checks passed
+pub record Deals (At : Type 0) (Q : State → Type 0) (i : Image) (s : State) (t : ℕ) : Type 0 where
   pub tells : (n : ℕ) → Q (answers s t (integer n))
   pub enters : first_failed (switch_checks (stack_base i t) (frame_top (thread s t).frames) (thread s t)) ≡ None → Q (entering i s t (called i.entries (thread s t)) (high_of i s t))
   pub stops : (status : Status) → Q (stopped s t status)
@@ -46,9 +51,16 @@ pub record Deals (Q : State → Type 0) (i : Image) (s : State) (t : ℕ) : Type
   pub frees : (r : Object) → whole_of s.objects (quota_in s t) (register (thread s t) 11) ≡ Some r → Q (answers (let_go i s t r) t (integer 0))
   pub gives : (key : ℕ) (r : Object) → token_of s key (register (thread s t) 12) ≡ Some r → Q (answers (let_go i s t r) t (integer 0))
   pub seals : is_quota_cap (register (thread s t) 10) ≡ true → (size : ℕ) (key : Option ℕ) (r : Object) → allocation i s (quota_in s t) size ≡ Made r → IsKeyOf s key → Q (answers (with_object (with_row s r key) r) t (sealed_token r))
-  pub opens : (k r : Object) → key_of s (register (thread s t) 10) ≡ Some k → token_of s k.number (register (thread s t) 11) ≡ Some r → Q (answers s t (opened_token (register (thread s t) 11)))
+  pub opens : At → first_failed (return_checks (register (thread s t) 1)) ≡ None → (k r : Object) → key_of s (register (thread s t) 10) ≡ Some k → token_of s k.number (register (thread s t) 11) ≡ Some r → Q (answers s t (opened_token (register (thread s t) 11)))
 
-module _ (Q : State → Type 0) (i : Image) (s : State) (t : ℕ) (d : Deals Q i s t) where
+-- what comes after checks that passed
+passed_left : (Q : State → Option (ℕ × Act) → Type 0) (cs : List Check) (r : Ran) → (first_failed cs ≡ None → Left Q r) → Left Q (checked cs r)
+passed_left Q cs r h = elim (option_tells (first_failed cs)) [
+  | inl none ↦ rw none (h none)
+  | inr failed ↦ rw failed.1 tt
+]
+
+module _ (At : Type 0) (Q : State → Type 0) (i : Image) (s : State) (t : ℕ) (d : Deals At Q i s t) where
   -- at the switch
   switched_left : Left (λ z told. Q z) (switch i s t)
   switched_left = by_failed (first_failed (switch_checks (stack_base i t) (frame_top (thread s t).frames) (thread s t))) refl
@@ -94,13 +106,13 @@ module _ (Q : State → Type 0) (i : Image) (s : State) (t : ℕ) (d : Deals Q i
   token_left = charged_left _ (λ quota. keyed_left (key_of s (register (thread s t) 12)) _
       (λ k is. sealed_left quota (cap_address (register (thread s t) 11)) (Some k.number) (key_says s (register (thread s t) 12) k is) (allocation i s (quota_in s t) (cap_address (register (thread s t) 11))) refl))
 
-  opened_left : Left (λ z told. Q z) (token_open s t)
-  opened_left = checked_left (λ z told. Q z) (return_checks (register (thread s t) 1)) _ (keyed_left (key_of s (register (thread s t) 10)) _
-      (λ k is. by_found k is (token_of s k.number (register (thread s t) 11)) refl))
+  opened_left : At → Left (λ z told. Q z) (token_open s t)
+  opened_left at = passed_left (λ z told. Q z) (return_checks (register (thread s t) 1)) _ (λ returns. keyed_left (key_of s (register (thread s t) 10)) _
+      (λ k is. by_found returns k is (token_of s k.number (register (thread s t) 11)) refl))
     where
-      by_found : (k : Object) → key_of s (register (thread s t) 10) ≡ Some k → (o : Option Object) → token_of s k.number (register (thread s t) 11) ≡ o → Left (λ z told. Q z) (opens s t (register (thread s t) 11) o)
-      by_found k key None is = d.tells (4294967296 - 8)
-      by_found k key (Some r) is = d.opens k r key is
+      by_found : first_failed (return_checks (register (thread s t) 1)) ≡ None → (k : Object) → key_of s (register (thread s t) 10) ≡ Some k → (o : Option Object) → token_of s k.number (register (thread s t) 11) ≡ o → Left (λ z told. Q z) (opens s t (register (thread s t) 11) o)
+      by_found returns k key None is = d.tells (4294967296 - 8)
+      by_found returns k key (Some r) is = d.opens at returns k r key is
 
   given_left : Left (λ z told. Q z) (token_free i s t)
   given_left = charged_left _ (λ quota. keyed_left (key_of s (register (thread s t) 11)) _
@@ -112,27 +124,21 @@ module _ (Q : State → Type 0) (i : Image) (s : State) (t : ℕ) (d : Deals Q i
           (λ same. d.gives key r is)
           (λ other. d.tells (4294967296 - 6))
 
-  each_dealt : Routines (Left (λ z told. Q z)) i s t
-  each_dealt = record {
-    switch = switched_left;
-    yield = yield_left (λ z told. Q z) i s t d.stops;
-    sleep = sleep_left (λ z told. Q z) i s t d.stops;
-    wait = wait_left (λ z told. Q z) i s t d.tells d.stops;
-    wake = wake_left (λ z told. Q z) i s t d.wakes;
-    allocate = allocated_left;
-    free = freed_left;
-    remaining = remaining_left (λ z told. Q z) i s t d.tells;
-    token_key = key_left;
-    token_new = token_left;
-    token_open = opened_left;
-    token_free = given_left;
-  }
-
-  pub routines_dealt : (n : ℕ) → n ≤ LAST_ROUTINE → (n ≡ RETURN → ⊥) → IfRan (Left (λ z told. Q z)) (native i s t n)
-  routines_dealt n few other =
-      let each = each_dealt in
-      by_routine (IfRan (Left (λ z told. Q z))) i s t n few other
-      (record { switch = each.switch; yield = each.yield; sleep = each.sleep; wait = each.wait; wake = each.wake; allocate = each.allocate; free = each.free; remaining = each.remaining; token_key = each.token_key; token_new = each.token_new; token_open = each.token_open; token_free = each.token_free })
+  pub routines_dealt : (n : ℕ) → n ≤ LAST_ROUTINE → (n ≡ RETURN → ⊥) → (n ≡ TOKEN_OPEN → At) → IfRan (Left (λ z told. Q z)) (native i s t n)
+  routines_dealt n few other = by_number (λ m o. (m ≡ TOKEN_OPEN → At) → IfRan (Left (λ z told. Q z)) o) i s t n few other (record {
+    switch = λ at. switched_left;
+    yield = λ at. yield_left (λ z told. Q z) i s t d.stops;
+    sleep = λ at. sleep_left (λ z told. Q z) i s t d.stops;
+    wait = λ at. wait_left (λ z told. Q z) i s t d.tells d.stops;
+    wake = λ at. wake_left (λ z told. Q z) i s t d.wakes;
+    allocate = λ at. allocated_left;
+    free = λ at. freed_left;
+    remaining = λ at. remaining_left (λ z told. Q z) i s t d.tells;
+    token_key = λ at. key_left;
+    token_new = λ at. token_left;
+    token_open = λ at. opened_left (at refl);
+    token_free = λ at. given_left;
+  })
 
 -- ---- a step
 
@@ -142,13 +148,13 @@ pub record Goes (Q : State → Type 0) (b : Board) (s : State) (t : ℕ) : Type 
   pub ends : (value : ℕ) → Q (ended_with b.image s t value (thread s t).frames)
   pub back : Q (returned b.image s t (thread s t).frames)
   pub done : (k : Instr) → IfDone Q s t (carried b s t k)
-  pub deals : Deals Q b.image s t
+  pub deals : Deals (s.running ≡ Some t → RunsRoutine b s t TOKEN_OPEN) Q b.image s t
 
 module _ (Q : State → Type 0) (b : Board) (s : State) (t : ℕ) (m : Goes Q b s t) where
   trapped_goes : (why : Trap) → Q (trapped b s t why).0
   trapped_goes why = trap_case Q b.image s t why (thread s t).frames (λ f fs frames is. m.handles why f fs frames is) (m.ends UNWOUND)
 
-  result_goes : (k : Instr) (r : Result Done Trap) → IfDone Q s t r → Q (ends b s t (operand s t (operands_of k).first) r).0
+  result_goes : (k : Instr) (r : Result Effect Trap) → IfDone Q s t r → Q (instruction_end b s t (operand s t (operands_of k).first) r).0
   result_goes k (Err why) h = trapped_goes why
   result_goes k (Ok d) h = h
 
@@ -157,17 +163,19 @@ module _ (Q : State → Type 0) (b : Board) (s : State) (t : ℕ) (m : Goes Q b 
   served_goes (Some (Traps why)) h = trapped_goes why
   served_goes (Some (Leaves after told)) h = h
 
-  next_goes : Q (goes_on b s t (next_at (space_of b s) (cap_address (thread s t).pcc))).0
-  next_goes = by_next (λ (n : Next). Q (goes_on b s t n).0) (space_of b s) (cap_address (thread s t).pcc)
-      (return_case Q b.image s t (thread s t).frames (λ f fs frames is. m.ends (handler_value (thread s t))) (λ plain_one. m.back))
-      (λ k away read. result_goes k (carried b s t k) (m.done k))
-      (λ n few other. served_goes (native b.image s t n) (routines_dealt Q b.image s t m.deals n few other))
-      (trapped_goes (plain_trap ILLEGAL_INSTRUCTION))
+  next_goes : first_failed (fetch_checks (thread s t).pcc) ≡ None → Q (goes_on b s t (next_at (space_of b s) (cap_address (thread s t).pcc))).0
+  next_goes fetched = by_next (λ (n : Next). next_at (space_of b s) (cap_address (thread s t).pcc) ≡ n → Q (goes_on b s t n).0) (space_of b s) (cap_address (thread s t).pcc)
+      (λ at. return_case Q b.image s t (thread s t).frames (λ f fs frames is. m.ends (handler_value (thread s t))) (λ plain_one. m.back))
+      (λ k away read at. result_goes k (carried b s t k) (m.done k))
+      (λ n few other at. served_goes (native b.image s t n) (routines_dealt (s.running ≡ Some t → RunsRoutine b s t TOKEN_OPEN) Q b.image s t m.deals n few other
+      (λ is runs. record { runs = runs; fetched = fetched; routine = at ∙ ap (λ k. Native k) is })))
+      (λ at. trapped_goes (plain_trap ILLEGAL_INSTRUCTION))
+      refl
 
   pub executed_goes : Q (executed b s t).0
   unfolding executed
-  executed_goes = by (first_failed (fetch_checks (thread s t).pcc))
+  executed_goes = by (first_failed (fetch_checks (thread s t).pcc)) refl
     where
-      by : (o : Option Trap) → Q (after_fetch b s t o).0
-      by (Some why) = trapped_goes why
-      by None = next_goes
+      by : (o : Option Trap) → first_failed (fetch_checks (thread s t).pcc) ≡ o → Q (after_fetch b s t o).0
+      by (Some why) e = trapped_goes why
+      by None e = next_goes e

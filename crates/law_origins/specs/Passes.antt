@@ -6,7 +6,7 @@ use Rattle.def_words.specs.Narrows.{IsOpened}
 use Rattle.def_machine.specs.Image.{Image}
 use Rattle.def_confined.specs.Confined.{IsPcc}
 use Rattle.def_confined.specs.Made.{IsOwn, IsReturnSentry, IsStackUpTo, Links}
-use Rattle.law_made.specs.Results.{ResultOf}
+use Rattle.def_derived.specs.Results.{ResultOf}
 
 -- what holds before holds after, and after also of what is untagged
 pub record Widens (S C : Cap → Type 0) : Type 0 where

@@ -6,10 +6,10 @@ use Rattle.ct_entry.specs.declared.rows.Owner.TheVariants.{Trusted, Compartment}
 use Rattle.ct_entry.specs.Listed.{Listed}
 use Rattle.ct_graph.specs.Cells.{cell, far, IsDistance}
 use Rattle.ct_graph.specs.Links.{links_of}
-use Rattle.ct_graph.specs.Nodes.{is_node, nodes_of, node, matrix_of, stands_among, Stands, IsGraph, IsNear, IsRoute, NotNear}
+use Rattle.ct_graph.specs.Nodes.{is_node, nodes_of, node, matrix_of, stands_among, IsNode, IsGraph, IsNear, IsRoute, NotNear}
 use Rattle.ct_graph.proofs.Orders.{stands_at}
 use Rattle.ct_graph.proofs.Graphs.{nodes_fit, distances_to, not_reached, route_path, others_reach_none}
-use Rattle.law_paths.specs.There.{Leads, LeadsOrNot}
+use Rattle.def_paths.specs.There.{Leads, LeadsOrNot}
 use Rattle.law_paths.proofs.Falling.{Everywhere, everywhere, Way, walk}
 
 -- ---- the graph
@@ -44,7 +44,7 @@ near_or_not ns all o target = elim (cases_Bool (stands_among ns o)) [
   ]
 ]
   where
-    at : (i : ℕ) × Stands ns o i → (k : ℕ) × Stands ns target k → Near ns all o target ⊎ NotNear ns all o target
+    at : (i : ℕ) × IsNode ns o i → (k : ℕ) × IsNode ns target k → Near ns all o target ⊎ NotNear ns all o target
     at x y = elim (cases_lt (far (length ns) (slice_index_or all y.0 []) x.0) (length ns)) [
       | inl known ↦ inl (record { i = x.0; k = y.0; near = record { start = x.1; end = y.1; known = known } })
       | inr never ↦ inr (inr (inr (record { i = x.0; k = y.0; start = x.1; end = y.1; never = never })))

@@ -11,7 +11,7 @@ use Rattle.def_image.specs.Accepted.{IsFaultless}
 use Rattle.def_image.specs.Parts.{PartsRow}
 use Rattle.def_policy.specs.declared.Subject.{Subject}
 use Rattle.def_policy.specs.declared.Subject.TheVariants as subject
-use Rattle.def_policy.specs.Breaking.{Holds, IsApart, Keeps, breaking, breaking_from}
+use Rattle.def_policy.specs.Breaking.{PolicyHolds, IsApart, Keeps, breaking, breaking_from}
 use Rattle.def_policy.specs.Denials.{AllDenied, Denies, Reaching, entry_line, entry_lines, path_line}
 use Rattle.def_policy.specs.Names.{name_of}
 use Rattle.def_policy.specs.Rules.{ended}
@@ -20,10 +20,10 @@ use Rattle.ct_entries.proofs.Few.{few_rows}
 use Rattle.ct_entries.proofs.Standing.{stands}
 use Rattle.ct_policy.specs.Kept.{IsUntrusted, KeepsUntrusted}
 use Rattle.law_image.proofs.Sounds.{sound}
-use Rattle.law_paths.specs.There.{LeadsOrNot}
+use Rattle.def_paths.specs.There.{LeadsOrNot}
 use Rattle.law_paths.proofs.Once.{same_path}
 use Rattle.law_paths.proofs.There.{there}
-use Rattle.law_policy.specs.Denied.{HasDenials}
+use Rattle.def_policy.specs.Denied.{HasDenials}
 
 -- ---- no two texts
 
@@ -145,14 +145,14 @@ module _ (p : PartsRow) (r : Ruling) where
   none_by line (subject.Apart o b) text is k (inr found) =
       absurd (let apart : Reached (entries_of p) o b → ⊥ = subst (λ s. IsApart (entries_of p) s) is k.apart in apart found.1.0)
 
-pub holds_where : (p : PartsRow) (line : ℕ) (rulings : List Ruling) (text : List ℕ) → AllDenied p line rulings text → text ≡ [] → Holds (entries_of p) rulings
+pub holds_where : (p : PartsRow) (line : ℕ) (rulings : List Ruling) (text : List ℕ) → AllDenied p line rulings text → text ≡ [] → PolicyHolds (entries_of p) rulings
 holds_where p line [] text denied none k d inside = absurd (omega (arith, inside))
 holds_where p line (r ∷ rs) text denied none zero d inside =
     keeps_by p r line r.subject denied.first refl denied.is_first (both_empty denied.first denied.rest (sym denied.text_is ∙ none)).0
 holds_where p line (r ∷ rs) text denied none (suc k) d inside =
     holds_where p (line + 1) rs denied.rest denied.is_rest (both_empty denied.first denied.rest (sym denied.text_is ∙ none)).1 k d (omega (arith, inside))
 
-pub none_where : (p : PartsRow) (line : ℕ) (rulings : List Ruling) (text : List ℕ) → AllDenied p line rulings text → Holds (entries_of p) rulings → text ≡ []
+pub none_where : (p : PartsRow) (line : ℕ) (rulings : List Ruling) (text : List ℕ) → AllDenied p line rulings text → PolicyHolds (entries_of p) rulings → text ≡ []
 none_where p line [] text denied holds = denied
 none_where p line (r ∷ rs) text denied holds =
     denied.text_is

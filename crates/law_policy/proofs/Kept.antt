@@ -9,13 +9,13 @@ use Rattle.ct_entry.specs.declared.rows.Kind.TheVariants as kind
 use Rattle.ct_entry.specs.declared.rows.Owner.{Owner}
 use Rattle.ct_entry.specs.Kinds.{is_quota}
 use Rattle.ct_entry.specs.Listed.{Listed}
-use Rattle.def_reach.specs.Roots.{gate_for, is_disabled}
+use Rattle.def_reach.specs.Roots.{gate_for, turns_interrupts_off}
 use Rattle.def_graph.specs.Reach.{same_owner}
 use Rattle.def_policy.specs.declared.Subject.{Subject}
 use Rattle.def_policy.specs.declared.Subject.TheVariants.{Call, Data, Device, Disabled, Quota, Service, Shared, Total}
 use Rattle.def_policy.specs.Breaking.{Keeps, breaking, breaking_from, breaks, counted, is_listed}
 use Rattle.def_policy.specs.Rulings.{Ruling}
-use Rattle.law_policy.specs.Denied.{AreDisabledListed, AreListed, PassesData, limits_counted}
+use Rattle.def_policy.specs.Denied.{AreDisabledListed, AreListed, PassesData, limits_counted}
 
 -- ---- one entry
 
@@ -93,7 +93,7 @@ module _ (e : Listed) (r : Ruling) (n : ℕ) where
 
 -- ---- rules on exports
 
-disabled_kept : (e : Listed) (r : Ruling) (number : ℕ) (x : Entry) → r.subject ≡ Disabled → Unbroken e r number x → x.kind ≡ kind.Export → is_disabled (gate_for e.gates number).posture ≡ true
+disabled_kept : (e : Listed) (r : Ruling) (number : ℕ) (x : Entry) → r.subject ≡ Disabled → Unbroken e r number x → x.kind ≡ kind.Export → turns_interrupts_off (gate_for e.gates number).posture ≡ true
     → is_listed r.owners x.owner ≡ true
 disabled_kept e r number x is u kind_is off =
     let no_break = u.is in

@@ -14,7 +14,7 @@ use Rattle.ct_policy.proofs.Accounts.{ended_long, fault_is, goes_on, no_words_th
 use Rattle.ct_policy.proofs.Firsts.{endless, first_is, no_front, other_end, place_of}
 use Rattle.ct_policy.proofs.Lines as lined
 use Rattle.ct_policy.proofs.Lines.{Within, line_is, no_end_left, no_word}
-use Rattle.law_policy.specs.Denied.{IsTold}
+use Rattle.def_policy.specs.Denied.{IsTold}
 
 -- ---- the first word
 

@@ -10,12 +10,12 @@ ghost use Rattle.ct_entry.specs.Listed.{Listed};
 ghost use Rattle.def_boot.specs.Gates.{entries_of};
 ghost use Rattle.def_image.specs.Accepted.{IsFaultless};
 ghost use Rattle.def_image.specs.Parts.{PartsRow};
-ghost use Rattle.def_policy.specs.Breaking.{Holds, Keeps};
+ghost use Rattle.def_policy.specs.Breaking.{PolicyHolds, Keeps};
 ghost use Rattle.def_policy.specs.Denials.{AllDenied};
 ghost use Rattle.def_policy.specs.Rulings.{Ruling};
 ghost use Rattle.def_policy.specs.Texts.{IsFault, Reads};
 ghost use Rattle.def_policy.specs.declared.Subject.TheVariants.{Call, Data, Device, Disabled, Quota, Service, Shared, Total};
-ghost use Rattle.law_policy.specs.Denied.{AreDisabledListed, AreListed, HasDenials, IsTold, PassesData, limits_counted};
+ghost use Rattle.def_policy.specs.Denied.{AreDisabledListed, AreListed, HasDenials, IsTold, PassesData, limits_counted};
 
 /// Any text is a policy of an image, or has a fault; never both. It says the same rules each time, and
 /// has one fault.
@@ -37,7 +37,7 @@ pub fn denials_are_exact()
     ensures one { (p : PartsRow) (rulings : List Ruling) (a b : List ℕ)
         → AllDenied p 1 rulings a → AllDenied p 1 rulings b → a ≡ b }
     ensures empty { (p : PartsRow) (rulings : List Ruling) (text : List ℕ)
-        → AllDenied p 1 rulings text → (text ≡ [] ↔ Holds (entries_of p) rulings) }
+        → AllDenied p 1 rulings text → (text ≡ [] ↔ PolicyHolds (entries_of p) rulings) }
 {}
 
 /// Where a rule holds of entries: each import that a rule on a device, on a shared object, on a service or

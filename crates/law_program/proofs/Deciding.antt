@@ -97,7 +97,7 @@ module _ (e : CallRecord) (c : Command) (form : form_of e.words ≡ Some c) wher
       meets e c t.reads comes.files (subst (λ k. WereDue e k t.reads) same t.read.due) comes.told (Ends s text) turn
       (subst (λ k. Follows k (contents t.reads) (Ends s text)) same t.due) comes.follows
 
-  asked : (text : List ℕ) (l : LargeCause e text) (turn : Turn) → ComesTo e c turn → Meeting e (Asks l.name) turn
+  pub asked : (text : List ℕ) (l : LargeCause e text) (turn : Turn) → ComesTo e c turn → Meeting e (Asks l.name) turn
   asked text l turn comes =
       let same : l.command ≡ c = same_command e l.command c l.form form in
       meets e c l.reads comes.files (subst (λ k. WereDue e k l.reads) same l.last.due) comes.told (Asks l.name) turn
@@ -133,7 +133,7 @@ module _ (e : CallRecord) (c : Command) (form : form_of e.words ≡ Some c) wher
   no_turn : (s : Status) (text name : List ℕ) → ((bytes : List ℕ) → IsFile (e.folder.file name) bytes → ⊥) → TurnCause e s text → ComesTo e c (Asks name) → ⊥
   no_turn s text name none t comes = not_given s text name none (turns s text (Asks name) t comes)
 
-  large_is_none : (name all : List ℕ) → e.folder.file name ≡ File all → most < length all → (bytes : List ℕ) → IsFile (e.folder.file name) bytes → ⊥
+  pub large_is_none : (name all : List ℕ) → e.folder.file name ≡ File all → most < length all → (bytes : List ℕ) → IsFile (e.folder.file name) bytes → ⊥
   large_is_none name all is long bytes file =
       let same : all ≡ bytes = told_is (e.folder.file name) all bytes is file.holds in
       absurd (omega (arith, ap length same, file.size, long))

@@ -17,7 +17,7 @@ use Rattle.def_program.specs.Licences.{LinksTo, NumberStandsFor}
 use Rattle.def_program.specs.Lines.{script_line, policy_line, allow_line}
 use Rattle.def_program.specs.Runs.{run_text}
 use Rattle.def_program.specs.Paths.{owner_named, compartment_named}
-use Rattle.def_description.specs.Reading.{rows_of}
+use Rattle.def_description.specs.Reading.{description_of}
 use Rattle.def_gen.specs.Description.{firmware}
 use Rattle.def_gen.specs.Sources as generated
 use Rattle.law_gen_links.proofs.Linking as links
@@ -392,7 +392,7 @@ planned_files e c p none g = planned_by e c (reads_image c) g.bytes g.sources p 
 -- of a generated firmware no file is due
 number_parts : (number : ℕ) (p : PartsRow) (files : List (List ℕ)) (turn : Turn) → NumberStandsFor number p → Follows (Demo number) files turn → OfParts (Demo number) p files turn
 number_parts number p files turn is h =
-    subst (λ r. OfLinked (Demo number) (rows_of (firmware number)) r files turn) is h
+    subst (λ r. OfLinked (Demo number) (description_of (firmware number)) r files turn) is h
 
 planned_number : (e : CallRecord) (number : ℕ) (p : PartsRow) → NumberStandsFor number p → Planned e (Demo number) p
 planned_number e number p is = record {

@@ -11,7 +11,7 @@ use Rattle.def_script.specs.Script.{Due}
 use Rattle.def_program.specs.Commands.{Command, Audit, Image, Run, RunImage, Why, Upgrade, Check, Demo, generated_by, reads_image}
 use Rattle.def_program.specs.Lines.{description_line, image_line, script_line, policy_line}
 use Rattle.def_program.specs.Paths.{IsWhyLine, path_line, owner_named, compartment_named}
-use Rattle.def_description.specs.Reading.{rows_of}
+use Rattle.def_description.specs.Reading.{description_of}
 use Rattle.def_gen.specs.Description.{firmware}
 use Rattle.def_gen.specs.Sources as texts_of
 use Rattle.def_program.specs.Turns.{Turn, Ends, NamesFound, OfText, verdict, OfPolicy, OfScript, OfRun, OfParts, OfLinked, OfSources, OfRows, OfDescription, OfImage, OfFirst, FollowsBy, OfFiles, Follows, source_names}
@@ -124,7 +124,7 @@ of_files c (bytes ∷ files) s t a b = of_first (reads_image c) c bytes files s 
 by_either : (c : Command) (o : Option ℕ) (files : List (List ℕ)) (s t : Turn) → FollowsBy c o files s → FollowsBy c o files t → s ≡ t
 by_either c None files s t a b = of_files c files s t a b
 by_either c (Some number) files s t a b =
-    of_linked c (rows_of (firmware number)) (linked (rows_of (firmware number)) (texts_of.sources number)) files s t a b
+    of_linked c (description_of (firmware number)) (linked (description_of (firmware number)) (texts_of.sources number)) files s t a b
 
 pub once : (c : Command) (files : List (List ℕ)) (s t : Turn) → Follows c files s → Follows c files t → s ≡ t
 once c files s t a b = by_either c (generated_by c) files s t a b

@@ -10,7 +10,7 @@ use Rattle.def_program.specs.declared.Status.TheVariants as status
 use Rattle.def_program.specs.Commands.{RunImage, Upgrade}
 use Rattle.def_program.specs.Lines.{image_line}
 use Rattle.def_program.specs.Runs.{events_until, run_lines, run_text}
-use Rattle.def_step.specs.Events.{told}
+use Rattle.def_step.specs.Events.{happenings_of}
 use Rattle.def_script.specs.Script.{Due}
 use Rattle.def_program.specs.Turns.{Turn, Ends, OfRun, OfImage, Follows}
 use Rattle.def_lines.specs.Report.{report_line}
@@ -44,9 +44,9 @@ machine_alike p =
     ∙ ap (λ s. machine (board_of p) s) (alike p).state
 
 pub happenings_alike : (p : PartsRow) (script : List Due) (limit : ℕ)
-    → told (board_of (upgraded p)) (boot_state (upgraded p)) (events_until (booted_machine (upgraded p)) script (upgraded p).quantum limit)
-    ≡ told (board_of p) (boot_state p) (events_until (booted_machine p) script p.quantum limit)
-happenings_alike p script limit = ap (λ (m : MachineRow). told m.board m.state (events_until m script p.quantum limit)) (machine_alike p)
+    → happenings_of (board_of (upgraded p)) (boot_state (upgraded p)) (events_until (booted_machine (upgraded p)) script (upgraded p).quantum limit)
+    ≡ happenings_of (board_of p) (boot_state p) (events_until (booted_machine p) script p.quantum limit)
+happenings_alike p script limit = ap (λ (m : MachineRow). happenings_of m.board m.state (events_until m script p.quantum limit)) (machine_alike p)
 
 text_alike : (p : PartsRow) (dues : List Due) (limit : ℕ) → run_text (upgraded p) dues limit ≡ run_text p dues limit
 unfolding run_text
@@ -71,10 +71,17 @@ of_parts other bytes more p limit script turn i (inr a) =
     let same : a.0 ≡ p = one_reading a.0 p a.1.0.0.spellable i.0.spellable (sym a.1.0.1 ∙ i.1) in
     subst (λ q. OfRun q limit script more turn) same a.1.1
 
+-- what was written is an image, of which is due what is due of the old one
+pub runs_as : (name other bytes written : List ℕ) (more : List (List ℕ)) (limit : ℕ) (script : Option (List ℕ)) (turn : Turn)
+    → Follows (Upgrade name) (bytes ∷ []) (Ends status.Done written)
+    → Follows (RunImage other limit script) (bytes ∷ more) turn
+    → (p : PartsRow) × (IsImage written p × OfRun p limit script more turn)
+runs_as name other bytes written more limit script turn first second =
+    let x : IsWritten bytes written = written_so name bytes written first in
+    (upgraded x.parts, ((stays x.parts x.image.0, x.spelled), run_alike x.parts limit script more turn (of_parts other bytes more x.parts limit script turn x.image second)))
+
 pub runs_on : (name other file bytes written : List ℕ) (more : List (List ℕ)) (limit : ℕ) (script : Option (List ℕ)) (turn : Turn)
     → Follows (Upgrade name) (bytes ∷ []) (Ends status.Done written)
     → Follows (RunImage other limit script) (bytes ∷ more) turn
     → Follows (RunImage file limit script) (written ∷ more) turn
-runs_on name other file bytes written more limit script turn first second =
-    let x : IsWritten bytes written = written_so name bytes written first in
-    inr (upgraded x.parts, ((stays x.parts x.image.0, x.spelled), run_alike x.parts limit script more turn (of_parts other bytes more x.parts limit script turn x.image second)))
+runs_on name other file bytes written more limit script turn first second = inr (runs_as name other bytes written more limit script turn first second)

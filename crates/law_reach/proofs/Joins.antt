@@ -3,7 +3,7 @@ use Rattle.std.proofs.Common.{◌≡◌, ℕ, List, [], ◌∷◌, ◌++◌, ref
 use Rattle.ct_entry.specs.declared.rows.Owner.{Owner}
 use Rattle.ct_entry.specs.declared.rows.Owner.TheVariants.{Trusted, Compartment, Library, Thread}
 use Rattle.ct_entry.specs.Listed.{Listed}
-use Rattle.def_reach.specs.Sharing.{Edge, Leads, Joined, Imports, IsLibrary, Reaches}
+use Rattle.def_reach.specs.Sharing.{Edge, IsEdgeList, Joined, Imports, IsLibrary, Reaches}
 use Rattle.law_reach.specs.Laws.{IsReflexive, IsSymmetric, IsTransitive, ReachesComponents}
 
 pub edge_back : (e : Listed) (a b : ℕ) → Edge e a b → Edge e b a
@@ -11,8 +11,8 @@ edge_back e a b (inl c) = inr (inl c)
 edge_back e a b (inr (inl c)) = inl c
 edge_back e a b (inr (inr (object, x, y))) = inr (inr (object, y, x))
 
-leads_on : (e : Listed) (a : ℕ) (xs : List ℕ) (b : ℕ) (ys : List ℕ) (c : ℕ) → Leads e a xs b → Leads e b ys c → Leads e a (xs ++ ys) c
-leads_on e a [] b ys c x y = subst (λ n. Leads e n ys c) (sym x) y
+leads_on : (e : Listed) (a : ℕ) (xs : List ℕ) (b : ℕ) (ys : List ℕ) (c : ℕ) → IsEdgeList e a xs b → IsEdgeList e b ys c → IsEdgeList e a (xs ++ ys) c
+leads_on e a [] b ys c x y = subst (λ n. IsEdgeList e n ys c) (sym x) y
 leads_on e a (x ∷ xs) b ys c h y = (h.0, leads_on e x xs b ys c h.1 y)
 
 pub joined_refl : (e : Listed) (a : ℕ) → Joined e a a
@@ -27,7 +27,7 @@ joined_edge e a b h = record { members = b ∷ []; leads = (h, refl) }
 pub joined_trans : (e : Listed) (a b c : ℕ) → Joined e a b → Joined e b c → Joined e a c
 joined_trans e a b c x y = record { members = x.members ++ y.members; leads = leads_on e a x.members b y.members c x.leads y.leads }
 
-leads_back : (e : Listed) (a : ℕ) (xs : List ℕ) (b : ℕ) → Leads e a xs b → Joined e b a
+leads_back : (e : Listed) (a : ℕ) (xs : List ℕ) (b : ℕ) → IsEdgeList e a xs b → Joined e b a
 leads_back e a [] b h = joined_is e b a (sym h)
 leads_back e a (x ∷ xs) b h = joined_trans e b x a (leads_back e x xs b h.1) (joined_edge e x a (edge_back e a x h.0))
 

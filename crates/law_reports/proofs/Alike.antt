@@ -7,7 +7,7 @@ use Rattle.def_image.specs.declared.SlotKind.{SlotKind}
 use Rattle.def_image.specs.declared.SlotKind.TheVariants as slot
 use Rattle.def_image.specs.Parts.{SlotRow, CodeRow, CompartmentRow, ThreadRow, PartsRow, upgraded}
 use Rattle.def_boot.specs.Gates.{entries_of}
-use Rattle.def_lines.specs.Labels.{Label, owned, of_name, seal_of, slot_label, export_label, slots_and_exports, compartment_labels, library_labels, labels_of}
+use Rattle.def_lines.specs.Labels.{Label, owner_label, of_name, seal_of, slot_label, export_label, slots_and_exports, compartment_labels, library_labels, labels_of}
 use Rattle.def_lines.specs.Lines.{numbered}
 use Rattle.def_lines.specs.Report.{object_of, list, compartment_data, device_data, edges_data, heap_data, library_data, thread_data, data_over, report_data, report_line}
 use Rattle.serde_json.specs.Data.{Data}
@@ -51,8 +51,8 @@ seal_alike p r slot.Key = refl
 slot_alike : (p : PartsRow) (owner : List ℕ) (s : SlotRow)
     → slot_label (upgraded p) owner s ≡ slot_label p owner s
 slot_alike p owner s =
-    ap (λ (o : List ℕ). record (owned owner) { name = s.name; of = o; seal = seal_of (upgraded p) s.row s.row.kind }) (of_alike p s.row s.row.kind)
-    ∙ ap (λ (k : ℕ). record (owned owner) { name = s.name; of = of_name p s.row s.row.kind; seal = k }) (seal_alike p s.row s.row.kind)
+    ap (λ (o : List ℕ). record (owner_label owner) { name = s.name; of = o; seal = seal_of (upgraded p) s.row s.row.kind }) (of_alike p s.row s.row.kind)
+    ∙ ap (λ (k : ℕ). record (owner_label owner) { name = s.name; of = of_name p s.row s.row.kind; seal = k }) (seal_alike p s.row s.row.kind)
 
 both_alike : (p : PartsRow) (c : CodeRow) → slots_and_exports (upgraded p) c ≡ slots_and_exports p c
 both_alike p c =
@@ -62,15 +62,15 @@ both_alike p c =
 compartment_alike : (p : PartsRow) (c : CompartmentRow)
     → compartment_labels (upgraded p) c ≡ compartment_labels p c
 compartment_alike p c =
-    ap (λ (l : List Label). owned c.code.name ∷ owned c.code.name ∷ l) (both_alike p c.code)
+    ap (λ (l : List Label). owner_label c.code.name ∷ owner_label c.code.name ∷ l) (both_alike p c.code)
 
 library_alike : (p : PartsRow) (c : CodeRow) → library_labels (upgraded p) c ≡ library_labels p c
-library_alike p c = ap (λ (l : List Label). owned c.name ∷ l) (both_alike p c)
+library_alike p c = ap (λ (l : List Label). owner_label c.name ∷ l) (both_alike p c)
 
 labels_alike : (p : PartsRow) → labels_of (upgraded p) ≡ labels_of p
 unfolding labels_of
 labels_alike p =
-    let stacks = map (λ (t : ThreadRow). owned t.name) p.threads in
+    let stacks = map (λ (t : ThreadRow). owner_label t.name) p.threads in
     ap (λ (l : List Label). l ++ flat_map (library_labels (upgraded p)) p.libraries ++ stacks)
     (flattened (compartment_labels (upgraded p)) (compartment_labels p) (compartment_alike p) p.compartments)
     ∙ ap (λ (l : List Label). flat_map (compartment_labels p) p.compartments ++ l ++ stacks)

@@ -7,8 +7,8 @@ use Rattle.ct_entry.specs.declared.rows.Owner.{Owner}
 use Rattle.ct_entry.specs.declared.rows.Owner.TheVariants.{Compartment, Library}
 use Rattle.def_profile.specs.declared.layout.TheConstants.{SLOT_SIZE, TABLE_HEAD, TABLE_ROW}
 use Rattle.def_image.specs.Parts.{SlotRow, GateRow, CodeRow, CompartmentRow, ThreadRow, PartsRow}
-use Rattle.def_boot.specs.Entries.{slot_rows, export_rows, library_export_row, compartment_rows, library_rows, stack_row, rows_from, rows_of}
-use Rattle.def_lines.specs.Labels.{Label, owned, slot_label, export_label, slots_and_exports, compartment_labels, library_labels, labels_of}
+use Rattle.def_boot.specs.Entries.{slot_rows, export_rows, library_export_row, compartment_rows, library_rows, stack_row, rows_from, entry_rows}
+use Rattle.def_lines.specs.Labels.{Label, owner_label, slot_label, export_label, slots_and_exports, compartment_labels, library_labels, labels_of}
 
 slots_count : (p : PartsRow) (o : Owner) (at : ℕ) (ss : List SlotRow) → length (slot_rows p o at ss) ≡ length ss
 slots_count p o at [] = refl
@@ -52,7 +52,7 @@ members_fit labels rows fits i (x ∷ xs) =
     let right = length-append (rows i x) (rows_from rows (i + 1) xs) in
     omega (arith, here, rest, left, right)
 
-stacks_fit : (i : ℕ) (ts : List ThreadRow) → length (map (λ (t : ThreadRow). owned t.name) ts) ≡ length (rows_from (λ t x. stack_row t x ∷ []) i ts)
+stacks_fit : (i : ℕ) (ts : List ThreadRow) → length (map (λ (t : ThreadRow). owner_label t.name) ts) ≡ length (rows_from (λ t x. stack_row t x ∷ []) i ts)
 stacks_fit i [] = refl
 stacks_fit i (t ∷ ts) = ap suc (stacks_fit (i + 1) ts)
 
@@ -64,10 +64,10 @@ all_fit ks ls ms xs ys zs k l m =
     let four = length-append xs ys in
     omega (arith, one, two, three, four, k, l, m)
 
-pub labels_fit : (p : PartsRow) → length (labels_of p) ≡ length (rows_of p)
-unfolding labels_of rows_of
+pub labels_fit : (p : PartsRow) → length (labels_of p) ≡ length (entry_rows p)
+unfolding labels_of entry_rows
 labels_fit p = all_fit
-    (flat_map (compartment_labels p) p.compartments) (flat_map (library_labels p) p.libraries) (map (λ (t : ThreadRow). owned t.name) p.threads)
+    (flat_map (compartment_labels p) p.compartments) (flat_map (library_labels p) p.libraries) (map (λ (t : ThreadRow). owner_label t.name) p.threads)
     (rows_from (compartment_rows p) 0 p.compartments) (rows_from (library_rows p) 0 p.libraries) (rows_from (λ t x. stack_row t x ∷ []) 0 p.threads)
     (members_fit (compartment_labels p) (compartment_rows p) (compartment_fits p) 0 p.compartments)
     (members_fit (library_labels p) (library_rows p) (library_fits p) 0 p.libraries)

@@ -3,7 +3,7 @@
 #![tactic(auto)]
 
 ghost use Rattle.std.specs.Prelude.{◌≡◌, length};
-ghost use Rattle.def_boot.specs.Entries.{rows_of};
+ghost use Rattle.def_boot.specs.Entries.{entry_rows};
 ghost use Rattle.def_image.specs.Parts.{PartsRow, upgraded};
 ghost use Rattle.def_lines.specs.Labels.{labels_of};
 ghost use Rattle.def_lines.specs.Report.{report_line};
@@ -16,5 +16,5 @@ pub fn upgrade_reports_alike()
 /// An image has as many labels as entries, so that the report, which numbers entry and label together,
 /// has a line for each entry.
 pub fn labels_fit_rows()
-    ensures { (p : PartsRow) → length (labels_of p) ≡ length (rows_of p) }
+    ensures { (p : PartsRow) → length (labels_of p) ≡ length (entry_rows p) }
 {}

@@ -18,7 +18,7 @@ use Rattle.def_step.specs.declared.Event.{Event}
 use Rattle.def_step.specs.declared.Event.TheVariants.{Step, Tick, Sweep, Input}
 use Rattle.def_step.specs.Events.{preempted_from, preempted, picked_as, picked_from, scheduled, continued, one_more_step, stepped, interrupted, ticked, happens, run}
 use Rattle.def_step.specs.Handlers.{handler_entered}
-use Rattle.def_step.specs.Instructions.{Done, put_done, executed}
+use Rattle.def_step.specs.Instructions.{Effect, put_done, executed}
 use Rattle.def_step.specs.Quotas.{quota_in, let_go}
 use Rattle.def_step.specs.Routines.{answers}
 use Rattle.def_machine.specs.Board.{Board}
@@ -85,7 +85,7 @@ module _ (n : ℕ) where
     opens = λ key r is. record { given = h.given; gone = h.gone };
   }
 
-  done_none : (s : State) (t : ℕ) (r : Result Done Trap) → NoneLive n s → IfDone (NoneLive n) s t r
+  done_none : (s : State) (t : ℕ) (r : Result Effect Trap) → NoneLive n s → IfDone (NoneLive n) s t r
   done_none s t (Err why) h = tt
   done_none s t (Ok d) h = record { given = h.given; gone = h.gone }
 

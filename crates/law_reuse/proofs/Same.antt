@@ -21,7 +21,7 @@ use Rattle.law_routines.proofs.Leaving.{Moves}
 use Rattle.law_routines.proofs.Stepping.{Steps, IfDone, carried, executed_left}
 use Rattle.def_step.specs.Handlers.{handler_entered}
 use Rattle.def_safety.specs.Reuse.{IsRow, Waits, IsPainted}
-use Rattle.def_step.specs.Instructions.{Done, put_done, executed}
+use Rattle.def_step.specs.Instructions.{Effect, put_done, executed}
 use Rattle.def_machine.specs.Board.{Board}
 use Rattle.def_step.specs.Events.{preempted_from, preempted, picked_as, picked_from, scheduled, continued, one_more_step, stepped, interrupted, ticked}
 
@@ -112,7 +112,7 @@ moves_stay i s t = record {
   opens = λ key r is. same_stays s _ (record { objects = refl; front = refl });
 }
 
-done_stays : (s : State) (t : ℕ) (r : Result Done Trap) → IfDone (Stays s) s t r
+done_stays : (s : State) (t : ℕ) (r : Result Effect Trap) → IfDone (Stays s) s t r
 done_stays s t (Err why) = tt
 done_stays s t (Ok d) = same_stays s (put_done s t d) (record { objects = refl; front = refl })
 

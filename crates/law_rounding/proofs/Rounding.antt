@@ -10,7 +10,7 @@ use Rattle.law_words.proofs.Leasts.{exponent_is, ceil_le, ceil_above, floor_unde
 use Rattle.law_words.proofs.Exacts.{no_larger, exact_flag}
 use Rattle.law_layout.proofs.Multiples.{whole_of, coarser, ceil_whole}
 use Rattle.law_layout.proofs.Placing.{exact_units}
-use Rattle.law_rounding.specs.Exactness.{IsExactEverywhere}
+use Rattle.def_rounding.specs.Exactness.{IsExactEverywhere}
 
 nothing_below : (e : ℕ) → floor_units 0 e ≡ 0
 nothing_below e = let low = floor_under 0 e in let some : 0 < 2 ^ e = pow_pos e in no_product (floor_units 0 e) (2 ^ e) low some

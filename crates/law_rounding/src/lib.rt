@@ -3,7 +3,7 @@
 
 ghost use Rattle.std.specs.Prelude.{ℕ, ◌≤◌, ◌^◌};
 ghost use Rattle.def_words.specs.LeastBounds.{round_length_of};
-ghost use Rattle.law_rounding.specs.Exactness.{IsExactEverywhere};
+ghost use Rattle.def_rounding.specs.Exactness.{IsExactEverywhere};
 
 /// The rounded length is the least at or above a length that a word spells exactly at each multiple
 /// of its own alignment inside the 2^32 addresses.

@@ -17,7 +17,7 @@ use Rattle.def_sched.specs.Statuses.{asleep, awaiting}
 use Rattle.def_reach.specs.Roots.{compartment_of, gate_for}
 use Rattle.def_machine.specs.Image.{Image, root, stack_base, frames_most}
 use Rattle.def_machine.specs.State.{State, Object, thread, register}
-use Rattle.def_machine.specs.Frames.{switched, given, entered}
+use Rattle.def_machine.specs.Frames.{switched, callee_start, entered}
 use Rattle.def_machine.specs.Heap.{with_object, object_cap}
 use Rattle.def_machine.specs.Objects.{charges}
 use Rattle.def_machine.specs.Registers.{with_thread}
@@ -41,7 +41,7 @@ stopped s t status = record (with_thread s t (with_status (answered (thread s t)
 -- the callee begins
 abbrev pub entering : Image → State → ℕ → ℕ → ℕ → State
 entering i s t export high = switched i s t high
-    (entered i (thread s t) (compartment_of (root i export).owner) export high (given i (thread s t) t (compartment_of (root i export).owner) export high))
+    (entered i (thread s t) (compartment_of (root i export).owner) export high (callee_start i (thread s t) t (compartment_of (root i export).owner) export high))
     s.running
 
 -- the deeds of a call, of an object that is handed out and of one that is given back, as they are told

@@ -14,7 +14,7 @@ use Rattle.def_machine.specs.Frames.{ended_with, returned, unwound}
 use Rattle.def_step.specs.declared.Next.{Next}
 use Rattle.def_step.specs.Checks.{first_failed}
 use Rattle.def_step.specs.Handlers.{is_handled, handler_entered, handler_value, return_taken, trap_taken}
-use Rattle.def_step.specs.Instructions.{Done, carried_out, named_by, around, space_of, put_done, ends, operand, trapped, goes_on, after_fetch, executed, fetch_checks, next_at, served}
+use Rattle.def_step.specs.Instructions.{Effect, carried_out, named_by, around, space_of, put_done, instruction_end, operand, trapped, goes_on, after_fetch, executed, fetch_checks, next_at, served}
 use Rattle.def_machine.specs.Board.{Board}
 use Rattle.def_step.specs.Native.{native}
 use Rattle.def_step.specs.Operands.{operands_of, class_of}
@@ -43,11 +43,11 @@ return_case P i s t (f ∷ gs) handles back = chosen P f.handling (ended_with i 
 -- ---- a step
 
 -- what an instruction that passes its checks does
-abbrev pub IfDone : (State → Type 0) → State → ℕ → Result Done Trap → Type 0
+abbrev pub IfDone : (State → Type 0) → State → ℕ → Result Effect Trap → Type 0
 IfDone P s t (Err why) = Unit {0}
 IfDone P s t (Ok d) = P (put_done s t d)
 
-abbrev pub carried : Board → State → ℕ → Instr → Result Done Trap
+abbrev pub carried : Board → State → ℕ → Instr → Result Effect Trap
 carried b s t k =
     carried_out (class_of k) k (operands_of k).to (operand s t (operands_of k).first) (operand s t (operands_of k).second)
     (named_by b.image (operand s t (operands_of k).first)) (around b s t)
@@ -64,7 +64,7 @@ module _ (P : State → Type 0) (b : Board) (s : State) (t : ℕ) (m : Steps P b
   pub trapped_left : (why : Trap) → P (trapped b s t why).0
   trapped_left why = trap_case P b.image s t why (thread s t).frames (λ f fs frames is. m.handles why f fs frames is) (m.ends UNWOUND)
 
-  result_left : (x : Cap) (r : Result Done Trap) → IfDone P s t r → P (ends b s t x r).0
+  result_left : (x : Cap) (r : Result Effect Trap) → IfDone P s t r → P (instruction_end b s t x r).0
   result_left x (Err why) h = trapped_left why
   result_left x (Ok d) h = h
 

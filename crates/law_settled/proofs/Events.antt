@@ -20,7 +20,7 @@ use Rattle.def_machine.specs.Objects.{Each, has_quarantined, painted}
 use Rattle.def_machine.specs.Memory.{filtered}
 use Rattle.def_machine.specs.Registers.{written}
 use Rattle.def_machine.specs.Threads.{picked, timed, with_status, statuses_of, with_statuses, jumped}
-use Rattle.def_machine.specs.Frames.{answer, argument, passed, given, entered, left_by, returned, ended_with, switched}
+use Rattle.def_machine.specs.Frames.{answer, argument, cap_passed, callee_start, entered, left_by, returned, ended_with, switched}
 use Rattle.def_machine.specs.Heap.{sliced, sweep_over, ram_size, ended_sweep, sweep_on, sweep_began, with_slice, slice_end, with_object, object_cap, quarantined}
 use Rattle.def_machine.specs.Slices.{kept_frames, kept_thread, marks_cleared, is_number}
 use Rattle.def_reach.specs.Roots.{root_of, gate_for, compartment_of}
@@ -41,7 +41,7 @@ use Rattle.def_step.specs.Handlers.{record_end, record_words, words_written, han
 use Rattle.def_step.specs.Accesses.{Accessed}
 use Rattle.def_step.specs.Jumps.{Flowed}
 use Rattle.def_step.specs.Operands.{operands_of, class_of}
-use Rattle.def_step.specs.Instructions.{Done, carried_out, named_by, gives, flows, accesses, around, space_of, put_done, operand, executed}
+use Rattle.def_step.specs.Instructions.{Effect, carried_out, named_by, gives, flows, accesses, around, space_of, put_done, operand, executed}
 use Rattle.def_machine.specs.Board.{Board}
 use Rattle.def_step.specs.Events.{preempted_from, preempted, picked_as, picked_from, scheduled, continued, one_more_step, stepped, interrupted, happens, run}
 use Rattle.law_words.proofs.Making.{settled}
@@ -127,12 +127,12 @@ handler_settled i s t why f fs made frames h =
 
 -- ---- an instruction
 
-pub record DoneSettled (d : Done) : Type 0 where
+pub record DoneSettled (d : Effect) : Type 0 where
   pub value : IsSettled d.value
   pub pcc : IsSettled d.pcc
   pub granules : (k : ℕ) → IsSettled (granule_at d.granules k).cap
 
-abbrev pub IfDone : Result Done Trap → Type 0
+abbrev pub IfDone : Result Effect Trap → Type 0
 IfDone (Err w) = Unit {0}
 IfDone (Ok d) = DoneSettled d
 
@@ -140,7 +140,7 @@ written_settled : (rs : List Cap) (to : ℕ) (c : Cap) (n : ℕ) → ((m : ℕ) 
 written_settled rs zero c n h settled = h n
 written_settled rs (suc to) c n h settled = after_set IsSettled rs (suc to) n c (plain 0) settled (h n)
 
-put_settled : (s : State) (t : ℕ) (d : Done) → Settled s → DoneSettled d → Settled (put_done s t d)
+put_settled : (s : State) (t : ℕ) (d : Effect) → Settled s → DoneSettled d → Settled (put_done s t d)
 put_settled s t d h done = record {
   granules = done.granules;
   threads = set_settled s t (jumped (thread s t) d.pcc d.posture d.to d.value) h (record {
@@ -150,7 +150,7 @@ put_settled s t d h done = record {
   });
 }
 
-done_settled : (s : State) (t : ℕ) (r : Result Done Trap) → Settled s → IfDone r → steps.IfDone Settled s t r
+done_settled : (s : State) (t : ℕ) (r : Result Effect Trap) → Settled s → IfDone r → steps.IfDone Settled s t r
 done_settled s t (Err why) h done = tt
 done_settled s t (Ok d) h done = put_settled s t d h done
 
@@ -211,7 +211,7 @@ wakes_settled s t address most h =
 
 -- what passes to a callee
 passed_settled : (i : Image) (s : State) (t export n : ℕ) → Settled s → IsSettled (argument i (thread s t) export n)
-passed_settled i s t export n h = chosen IsSettled (nat_lt n (gate_for i.entries.gates export).args) (passed i export (register (thread s t) (10 + n))) (plain 0)
+passed_settled i s t export n h = chosen IsSettled (nat_lt n (gate_for i.entries.gates export).args) (cap_passed i export (register (thread s t) (10 + n))) (plain 0)
     (λ is. chosen IsSettled (root_of i.entries export).passes (register (thread s t) (10 + n)) (untagged (register (thread s t) (10 + n))) (λ is. (h.threads t).registers (10 + n)) (λ not e. refl))
     (λ not. plain_settled 0)
 
@@ -221,7 +221,7 @@ enters_settled i s t export high made h =
     let zero_ : IsSettled (plain 0) = plain_settled 0 in
     record {
       granules = zeroed_settled i s t high h;
-      threads = set_settled s t (entered i (thread s t) (compartment_of (root i export).owner) export high (given i (thread s t) t (compartment_of (root i export).owner) export high)) h (record {
+      threads = set_settled s t (entered i (thread s t) (compartment_of (root i export).owner) export high (callee_start i (thread s t) t (compartment_of (root i export).owner) export high)) h (record {
         pcc = address_settles (made_cap i (code_entry i (compartment_of (root i export).owner))) (gate_for i.entries.gates export).code;
         registers = sixteen IsSettled _ _ _ _ _ _ _ _ _ _ _ _ _ _ _ _ zero_ (made 0) (derives_settle _ _ _ _ _ _ _) (made (globals_entry i (compartment_of (root i export).owner))) zero_ zero_ zero_ zero_ zero_ zero_ (passed_settled i s t export 0 h) (passed_settled i s t export 1 h) (passed_settled i s t export 2 h)
             (passed_settled i s t export 3 h) (passed_settled i s t export 4 h) (passed_settled i s t export 5 h) zero_;

@@ -10,7 +10,7 @@ use Rattle.def_step.specs.declared.Class.{Class}
 use Rattle.def_step.specs.Accesses.{Space}
 use Rattle.def_step.specs.Checks.{first_failed}
 use Rattle.def_step.specs.Devices.{Bank}
-use Rattle.def_step.specs.Instructions.{Around, Done, carried_out, fetch_checks, next_at}
+use Rattle.def_step.specs.Instructions.{Context, Effect, carried_out, fetch_checks, next_at}
 use Rattle.def_shadows.specs.Alike.{Alike, GranulesAlike, AllAlike, SpacesAlike, AroundsAlike, DonesAlike, ResultsAlike, PosturesAlike}
 use Rattle.law_shadows.proofs.Strips.{stripped, calm, bare, all_bare, bare_space, bare_around, bare_done, bare_result, carried_bare, fetch_bare, next_bare}
 
@@ -36,7 +36,7 @@ same_space p q a =
     ap₂ (λ (r : ℕ) (gs : List Granule). record { ram = r; granules = gs; bank = p.bank; time = p.time }) a.ram_is (same_all p.granules q.granules a.granules)
     ∙ ap₂ (λ (b : Bank) (t : ℕ). record { ram = q.ram; granules = all_bare q.granules; bank = b; time = t }) a.bank_is a.time_is
 
-same_around : (a b : Around) → AroundsAlike a b → bare_around a ≡ bare_around b
+same_around : (a b : Context) → AroundsAlike a b → bare_around a ≡ bare_around b
 same_around a b h =
     ap₂ (λ (c : Cap) (q : Posture). record { pcc = c; posture = q; space = bare_space a.space }) (same_cap a.pcc b.pcc h.pcc) (same_posture a.posture b.posture h.posture)
     ∙ ap (λ (p : Space). record { pcc = stripped b.pcc; posture = calm b.posture; space = p }) (same_space a.space b.space h.space)
@@ -55,18 +55,18 @@ alike_all (g ∷ gs) (h ∷ hs) e =
 alike_all [] (h ∷ hs) e = absurd (cc)
 alike_all (g ∷ gs) [] e = absurd (cc)
 
-alike_done : (d e : Done) → bare_done d ≡ bare_done e → DonesAlike d e
+alike_done : (d e : Effect) → bare_done d ≡ bare_done e → DonesAlike d e
 alike_done d e same = record {
-  to_is = ap (λ (z : Done). z.to) same;
-  value = alike_cap d.value e.value (ap (λ (z : Done). z.value) same);
-  pcc = alike_cap d.pcc e.pcc (ap (λ (z : Done). z.pcc) same);
-  posture = ap (λ (z : Done). z.posture.off) same;
-  granules = alike_all d.granules e.granules (ap (λ (z : Done). z.granules) same);
-  bank_is = ap (λ (z : Done). z.bank) same;
-  act_is = ap (λ (z : Done). z.act) same;
+  to_is = ap (λ (z : Effect). z.to) same;
+  value = alike_cap d.value e.value (ap (λ (z : Effect). z.value) same);
+  pcc = alike_cap d.pcc e.pcc (ap (λ (z : Effect). z.pcc) same);
+  posture = ap (λ (z : Effect). z.posture.off) same;
+  granules = alike_all d.granules e.granules (ap (λ (z : Effect). z.granules) same);
+  bank_is = ap (λ (z : Effect). z.bank) same;
+  act_is = ap (λ (z : Effect). z.act) same;
 }
 
-alike_result : (r s : Result Done Trap) → bare_result bare_done r ≡ bare_result bare_done s → ResultsAlike r s
+alike_result : (r s : Result Effect Trap) → bare_result bare_done r ≡ bare_result bare_done s → ResultsAlike r s
 alike_result (Ok d) (Ok e) same = let dones : bare_done d ≡ bare_done e = cc in alike_done d e dones
 alike_result (Err why) (Err other) same = let traps : why ≡ other = cc in traps
 alike_result (Ok d) (Err other) same = absurd (cc)
@@ -80,9 +80,9 @@ checks_unread pcc other h = fetch_bare pcc ∙ ap (λ (c : Cap). first_failed (f
 pub fetch_unread : (p q : Space) (at : ℕ) → SpacesAlike p q → next_at p at ≡ next_at q at
 fetch_unread p q at h = next_bare p at ∙ ap (λ (r : Space). next_at r at) (same_space p q h) ∙ sym (next_bare q at)
 
-pub instruction_unread : (k : Class) (i : Instr) (to named other : ℕ) (x y z w : Cap) (a b : Around) → Alike x z → Alike y w → AroundsAlike a b → ResultsAlike (carried_out k i to x y named a) (carried_out k i to z w other b)
+pub instruction_unread : (k : Class) (i : Instr) (to named other : ℕ) (x y z w : Cap) (a b : Context) → Alike x z → Alike y w → AroundsAlike a b → ResultsAlike (carried_out k i to x y named a) (carried_out k i to z w other b)
 instruction_unread k i to named other x y z w a b first second around = alike_result (carried_out k i to x y named a) (carried_out k i to z w other b)
     (carried_bare k i to x y named a
     ∙ (ap₂ (λ (c : Cap) (d : Cap). bare_result bare_done (carried_out k i to c d 0 (bare_around a))) (same_cap x z first) (same_cap y w second)
-    ∙ ap (λ (e : Around). bare_result bare_done (carried_out k i to (stripped z) (stripped w) 0 e)) (same_around a b around))
+    ∙ ap (λ (e : Context). bare_result bare_done (carried_out k i to (stripped z) (stripped w) 0 e)) (same_around a b around))
     ∙ sym (carried_bare k i to z w other b))

@@ -24,7 +24,7 @@ use Rattle.ct_entry.specs.declared.acts.Act.TheVariants.{Load, Store}
 use Rattle.def_step.specs.Devices.{bank_value, bank_read, bank_written}
 use Rattle.def_step.specs.Accesses.{Space, Accessed, accessed, in_ram, on_device, deed_at, stored_value, ram_value, ram_stored, is_ram, access_of, access_checks, access_address, access_result, unless, widened}
 use Rattle.def_step.specs.Checks.{first_failed}
-use Rattle.def_step.specs.Instructions.{Around, Done, gives, carried_out, flows, accesses, fetch_checks, fetched, next_at, next_native, next_word, native_number, is_native_entry}
+use Rattle.def_step.specs.Instructions.{Context, Effect, gives, carried_out, flows, accesses, fetch_checks, fetched, next_at, next_native, next_word, native_number, is_native_entry}
 use Rattle.def_step.specs.declared.Next.TheVariants.{Returning}
 use Rattle.def_instr.specs.Reading.{instruction_in}
 use Rattle.def_instr.specs.Results.{integer_result}
@@ -49,10 +49,10 @@ all_bare (g ∷ gs) = bare g ∷ all_bare gs
 abbrev pub bare_space : Space → Space
 bare_space p = record { ram = p.ram; granules = all_bare p.granules; bank = p.bank; time = p.time }
 
-abbrev pub bare_around : Around → Around
+abbrev pub bare_around : Context → Context
 bare_around a = record { pcc = stripped a.pcc; posture = calm a.posture; space = bare_space a.space }
 
-abbrev pub bare_done : Done → Done
+abbrev pub bare_done : Effect → Effect
 bare_done d = record { to = d.to; value = stripped d.value; pcc = stripped d.pcc; posture = calm d.posture; granules = all_bare d.granules; bank = d.bank; act = d.act }
 
 abbrev pub bare_accessed : Accessed → Accessed
@@ -285,10 +285,10 @@ value_or : (o : Option Cap) → stripped (unwrap_or o (plain 0)) ≡ unwrap_or (
 value_or None = refl
 value_or (Some c) = refl
 
-abbrev done_by_flow : Around → ℕ → Flowed → Done
+abbrev done_by_flow : Context → ℕ → Flowed → Effect
 done_by_flow a to f = record { to = to; value = unwrap_or f.link (plain 0); pcc = f.pcc; posture = f.posture; granules = all_bare a.space.granules; bank = a.space.bank; act = None }
 
-flows_bare : (a : Around) (to : ℕ) (r s : Result Flowed Trap) → bare_result bare_flowed r ≡ bare_result bare_flowed s → bare_result bare_done (flows a to r) ≡ bare_result bare_done (flows (bare_around a) to s)
+flows_bare : (a : Context) (to : ℕ) (r s : Result Flowed Trap) → bare_result bare_flowed r ≡ bare_result bare_flowed s → bare_result bare_done (flows a to r) ≡ bare_result bare_done (flows (bare_around a) to s)
 flows_bare a to (Ok f) (Ok g) same =
     let flowed : bare_flowed f ≡ bare_flowed g = cc in
     ap (λ (c : Cap). Ok (record { to = to; value = c; pcc = stripped f.pcc; posture = calm f.posture; granules = all_bare a.space.granules; bank = a.space.bank; act = None })) (value_or f.link)
@@ -298,7 +298,7 @@ flows_bare a to (Err why) (Err other) same = let trap : why ≡ other = cc in ap
 flows_bare a to (Ok f) (Err other) same = absurd (cc)
 flows_bare a to (Err why) (Ok g) same = absurd (cc)
 
-accesses_bare : (a : Around) (to : ℕ) (r s : Result Accessed Trap) → bare_result bare_accessed r ≡ bare_result bare_accessed s → bare_result bare_done (accesses a to r) ≡ bare_result bare_done (accesses (bare_around a) to s)
+accesses_bare : (a : Context) (to : ℕ) (r s : Result Accessed Trap) → bare_result bare_accessed r ≡ bare_result bare_accessed s → bare_result bare_done (accesses a to r) ≡ bare_result bare_done (accesses (bare_around a) to s)
 accesses_bare a to (Ok m) (Ok n) same =
     let accessed_so : bare_accessed m ≡ bare_accessed n = cc in
     ap₂ (λ (c : Cap) (d : Cap). Ok (record { to = to; value = c; pcc = d; posture = calm a.posture; granules = all_bare m.granules; bank = m.bank; act = m.act })) (value_or m.value) (raised_bare a.pcc 4)
@@ -308,12 +308,12 @@ accesses_bare a to (Err why) (Err other) same = let trap : why ≡ other = cc in
 accesses_bare a to (Ok m) (Err other) same = absurd (cc)
 accesses_bare a to (Err why) (Ok n) same = absurd (cc)
 
-gives_bare : (a : Around) (to : ℕ) (c d : Cap) → stripped c ≡ stripped d → bare_result bare_done (Ok (gives a to c)) ≡ bare_result bare_done (Ok (gives (bare_around a) to d))
+gives_bare : (a : Context) (to : ℕ) (c d : Cap) → stripped c ≡ stripped d → bare_result bare_done (Ok (gives a to c)) ≡ bare_result bare_done (Ok (gives (bare_around a) to d))
 gives_bare a to c d same =
     ap₂ (λ (v : Cap) (p : Cap). Ok (record { to = to; value = v; pcc = p; posture = calm a.posture; granules = all_bare a.space.granules; bank = a.space.bank; act = None })) same (raised_bare a.pcc 4)
     ∙ ap (λ (gs : List Granule). Ok (record { to = to; value = stripped d; pcc = stripped (raised (stripped a.pcc) 4); posture = calm a.posture; granules = gs; bank = a.space.bank; act = None })) (sym (bare_twice a.space.granules))
 
-pub carried_bare : (k : Class) (i : Instr) (to : ℕ) (x y : Cap) (named : ℕ) (a : Around)
+pub carried_bare : (k : Class) (i : Instr) (to : ℕ) (x y : Cap) (named : ℕ) (a : Context)
     → bare_result bare_done (carried_out k i to x y named a) ≡ bare_result bare_done (carried_out k i to (stripped x) (stripped y) 0 (bare_around a))
 carried_bare class.Integer i to x y named a = gives_bare a to (integer (integer_result i (cap_address x) (cap_address y))) (integer (integer_result i (cap_address x) (cap_address y))) refl
 carried_bare class.Capability i to x y named a = gives_bare a to (capability_result i x y a.pcc) (capability_result i (stripped x) (stripped y) (stripped a.pcc)) (capability_bare i x y a.pcc)

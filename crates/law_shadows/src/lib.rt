@@ -8,7 +8,7 @@ ghost use Rattle.def_instr.specs.declared.Instr.{Instr};
 ghost use Rattle.def_shadows.specs.Alike.{Alike, AroundsAlike, ResultsAlike, SpacesAlike};
 ghost use Rattle.def_step.specs.Accesses.{Space};
 ghost use Rattle.def_step.specs.Checks.{first_failed};
-ghost use Rattle.def_step.specs.Instructions.{Around, carried_out, fetch_checks, next_at};
+ghost use Rattle.def_step.specs.Instructions.{Context, carried_out, fetch_checks, next_at};
 ghost use Rattle.def_step.specs.declared.Class.{Class};
 ghost use Rattle.def_words.specs.declared.Cap.{Cap};
 
@@ -23,7 +23,7 @@ pub fn shadows_unread()
         → first_failed (fetch_checks pcc) ≡ first_failed (fetch_checks other) }
     ensures fetch { (p q : Space) (at : ℕ) → SpacesAlike p q → next_at p at ≡ next_at q at }
     ensures instruction { (k : Class) (i : Instr) (to named other : ℕ) (x y z w : Cap)
-        (a b : Around)
+        (a b : Context)
         → Alike x z → Alike y w → AroundsAlike a b
         → ResultsAlike (carried_out k i to x y named a) (carried_out k i to z w other b) }
 {}

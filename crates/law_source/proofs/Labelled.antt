@@ -6,7 +6,7 @@ use Rattle.def_source.specs.Source.{Name, Statements}
 use Rattle.def_object.specs.declared.Place.{Place}
 use Rattle.def_object.specs.declared.Label.{Label}
 use Rattle.def_object.specs.Object.{is_label, label_from, label_in, advanced, offset, start}
-use Rattle.law_source.specs.Sums.{section_at, total, AreSizes, IsPlaced}
+use Rattle.def_assembly.specs.Sums.{section_at, total, AreSizes, IsPlaced}
 use Rattle.law_source.proofs.Lengths.{Before, before_first, before_sized, offset_is, Rests, rest_first, rest_next, rests_all}
 
 -- no statement before statement k is a label of that name

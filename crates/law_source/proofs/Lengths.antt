@@ -10,7 +10,7 @@ use Rattle.def_source.specs.declared.parts.Statement.{Statement}
 use Rattle.def_source.specs.Source.{Name, Statements, section_after}
 use Rattle.def_object.specs.declared.Place.{Place}
 use Rattle.def_object.specs.Object.{Labels, size_at, offset, advanced, start, label_in, number_word, is_short, upper_part, rest_part, padding, same_section, instruction_bytes, bytes_at, section_bytes, bytes_from, text_of, initial_of}
-use Rattle.law_source.specs.Sums.{section_past, section_at, total, AreSizes}
+use Rattle.def_assembly.specs.Sums.{section_past, section_at, total, AreSizes}
 
 -- ---- one statement
 

@@ -12,8 +12,8 @@ use Rattle.def_confined.specs.Settled.{ThreadSettled, Settled}
 use Rattle.def_image.specs.Parts.{CodeRow, ThreadRow, PartsRow}
 use Rattle.def_image.specs.Members.{compartment, library, sealed, code_number, globals_number, library_number, stack_number}
 use Rattle.def_image.specs.Regions.{Holder, CodeOf, TableOf, GlobalsOf, SharedOf, SealedOf, StackOf, TrustedPart, RegionRow}
-use Rattle.def_boot.specs.Made.{made_for, return_sentry}
-use Rattle.def_boot.specs.Contents.{word_of, gate_word, code_content, owned_content, table_content, content, content_at, region_at, boot_cap, granules_from, granules_in, boot_granules}
+use Rattle.def_boot.specs.Made.{boot_cap_of, return_sentry}
+use Rattle.def_boot.specs.Contents.{word_from_bytes, gate_word, code_content, owned_content, table_content, content, content_at, region_at, boot_cap, granules_from, granules_in, boot_granules}
 use Rattle.def_boot.specs.Boot.{first_thread, first_threads, entry_address, boot_state}
 use Rattle.law_words.proofs.Away.{address_settles}
 use Rattle.law_grants.proofs.Settling.{made_settled, sentry_settled}
@@ -23,8 +23,8 @@ use Rattle.law_settled.proofs.Events.{nobody_settled, sixteen}
 -- ---- what stands in RAM
 
 code_content_settled : (p : PartsRow) (first : ℕ) (c : CodeRow) (k : ℕ) → IsSettled (code_content p first c k)
-code_content_settled p first c k = chosen IsSettled (nat_lt k (SLOT_SIZE * length c.slots)) (made_for p (first + k / SLOT_SIZE)) (plain (word_of c.text (k - SLOT_SIZE * length c.slots)))
-    (λ slot. made_settled p (first + k / SLOT_SIZE)) (λ text. plain_settled (word_of c.text (k - SLOT_SIZE * length c.slots)))
+code_content_settled p first c k = chosen IsSettled (nat_lt k (SLOT_SIZE * length c.slots)) (boot_cap_of p (first + k / SLOT_SIZE)) (plain (word_from_bytes c.text (k - SLOT_SIZE * length c.slots)))
+    (λ slot. made_settled p (first + k / SLOT_SIZE)) (λ text. plain_settled (word_from_bytes c.text (k - SLOT_SIZE * length c.slots)))
 
 owned_settled : (p : PartsRow) (o : Owner) (k : ℕ) → IsSettled (owned_content p o k)
 owned_settled p Trusted k = plain_settled 0
@@ -36,17 +36,17 @@ table_settled : (p : PartsRow) (b k : ℕ) → IsSettled (table_content p b k)
 table_settled p b k =
     let word : ℕ = gate_word (slice_get (compartment p b).code.exports ((k - TABLE_HEAD) / TABLE_ROW)) ((k - TABLE_HEAD) % TABLE_ROW) in
     let row : Cap = plain word in
-    chosen IsSettled (k == 0) (made_for p (code_number p b)) (if k == GRANULE then made_for p (globals_number p b) else row)
+    chosen IsSettled (k == 0) (boot_cap_of p (code_number p b)) (if k == GRANULE then boot_cap_of p (globals_number p b) else row)
     (λ code. made_settled p (code_number p b))
-    (λ other. chosen IsSettled (k == GRANULE) (made_for p (globals_number p b)) row
+    (λ other. chosen IsSettled (k == GRANULE) (boot_cap_of p (globals_number p b)) row
     (λ globals. made_settled p (globals_number p b)) (λ none. plain_settled word))
 
 content_settled : (p : PartsRow) (h : Holder) (k : ℕ) → IsSettled (content p h k)
 content_settled p (CodeOf o) k = owned_settled p o k
 content_settled p (TableOf b) k = table_settled p b k
-content_settled p (GlobalsOf b) k = plain_settled (word_of (compartment p b).initial k)
+content_settled p (GlobalsOf b) k = plain_settled (word_from_bytes (compartment p b).initial k)
 content_settled p (SharedOf n) k = plain_settled 0
-content_settled p (SealedOf n) k = plain_settled (word_of (sealed p n).bytes k)
+content_settled p (SealedOf n) k = plain_settled (word_from_bytes (sealed p n).bytes k)
 content_settled p (StackOf t) k = plain_settled 0
 content_settled p TrustedPart k = chosen IsSettled (k == 0) return_sentry (plain 0) (λ is. sentry_settled) (λ not. plain_settled 0)
 
@@ -69,7 +69,7 @@ first_settled : (p : PartsRow) (n : ℕ) (t : ThreadRow) → ThreadSettled (firs
 first_settled p n t =
     let none : IsSettled (plain 0) = plain_settled 0 in
     record {
-      pcc = address_settles (made_for p (code_number p t.compartment)) (entry_address p t);
+      pcc = address_settles (boot_cap_of p (code_number p t.compartment)) (entry_address p t);
       registers = sixteen IsSettled _ _ _ _ _ _ _ _ _ _ _ _ _ _ _ _ none sentry_settled (made_settled p (stack_number p n)) (made_settled p (globals_number p t.compartment)) none none none none none none none none none none none none none;
       frames = (record { c1 = none; c2 = none; c3 = none; c8 = none; c9 = none }, tt);
     }

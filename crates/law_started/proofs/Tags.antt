@@ -18,7 +18,7 @@ use Rattle.def_image.specs.Regions as regions
 use Rattle.def_image.specs.Sound.{Sound}
 use Rattle.def_boot.specs.Entries.{slot_row}
 use Rattle.def_boot.specs.Gates.{entries_of}
-use Rattle.def_boot.specs.Made.{made_for, return_sentry}
+use Rattle.def_boot.specs.Made.{boot_cap_of, return_sentry}
 use Rattle.def_boot.specs.Contents.{content, content_at, boot_cap, part, part_at, part_of, region_at}
 use Rattle.def_boot.specs.Boot.{image_of}
 use Rattle.law_listed.specs.Rows.{EntryIs, is_nothing, is_trusted, is_code, is_globals, is_slot, is_export, is_library, is_library_slot, is_library_export, is_stack}
@@ -82,14 +82,14 @@ by_slot p o at r slot.Quota d is = free (Listing kind.Quota) d refl
 by_slot p o at r slot.Key d is = free (Listing kind.Key) d refl
 
 abbrev SealedAt : PartsRow → ℕ → Type 0
-SealedAt p n = Sealed (root_of (entries_of p) n).origin (made_for p n)
+SealedAt p n = Sealed (root_of (entries_of p) n).origin (boot_cap_of p n)
 
 module _ (p : PartsRow) (s : Sound p) where
   at : (n m : ℕ) → n ≡ m → SealedAt p m → SealedAt p n
   at n m same is = subst (λ k. SealedAt p k) (sym same) is
 
-  there : (n : ℕ) (r : Root) → root_of (entries_of p) n ≡ r → Sealed r.origin (made_for p n) → SealedAt p n
-  there n r same is = subst (λ (z : Root). Sealed z.origin (made_for p n)) (sym same) is
+  there : (n : ℕ) (r : Root) → root_of (entries_of p) n ≡ r → Sealed r.origin (boot_cap_of p n) → SealedAt p n
+  there n r same is = subst (λ (z : Root). Sealed z.origin (boot_cap_of p n)) (sym same) is
 
   in_case : (n : ℕ) → EntryIs p n → SealedAt p n
   in_case n (is_nothing root_is gate_is made_is) = there n _ root_is (free Unknown _ refl)

@@ -20,8 +20,8 @@ use Rattle.def_image.specs.Parts.{CompartmentRow, ThreadRow, PartsRow}
 use Rattle.def_image.specs.Members.{compartment, no_compartment, text_base, code_number, globals_number, stack_number}
 use Rattle.def_image.specs.Sound.{Sound, ThreadFits}
 use Rattle.def_boot.specs.Gates.{gates_of, entries_of}
-use Rattle.def_boot.specs.Made.{made_caps, return_sentry}
-use Rattle.def_boot.specs.Boot.{image_of, boot_state, entered, entry_number, entry_address, offset_of, disables, first_frame, first_pcc, first_registers, first_thread, first_threads}
+use Rattle.def_boot.specs.Made.{caps_at_boot, return_sentry}
+use Rattle.def_boot.specs.Boot.{image_of, boot_state, entered, entry_number, entry_address, offset_of, gate_is_disabled, first_frame, first_pcc, first_registers, first_thread, first_threads}
 use Rattle.law_places.proofs.Puts.{plain_kept}
 use Rattle.law_places.proofs.Places.{all_of}
 use Rattle.law_reach.proofs.Joins.{reaches_own, joined_is}
@@ -57,7 +57,7 @@ module _ (p : PartsRow) (s : Sound p) where
   trusted_origin = refl
 
   sentry_is : made_cap (image_of p) 0 ≡ return_sentry
-  unfolding image_of made_caps
+  unfolding image_of caps_at_boot
   sentry_is = refl
 
   module _ (t : ℕ) (x : ThreadRow) (there : slice_get p.threads t ≡ Some x) where
@@ -238,18 +238,18 @@ module _ (p : PartsRow) (s : Sound p) where
     abbrev Fits : Posture → Type 0
     Fits q = q.off ≡ true → ((root (image_of p) q.source).disabled ≡ true) × Reaches (image_of p).entries (root (image_of p) q.source).owner x.compartment
 
-    entry_off : disables (entered p x) ≡ true → (root (image_of p) (entry_number p x)).disabled ≡ true
+    entry_off : gate_is_disabled (entered p x) ≡ true → (root (image_of p) (entry_number p x)).disabled ≡ true
     unfolding image_of
-    entry_off e = ap (λ (z : Root). z.disabled) (own_has.export x.export fits.enters.1 fits.enters.3).root_is ∙ sym (ap disables entered_is) ∙ e
+    entry_off e = ap (λ (z : Root). z.disabled) (own_has.export x.export fits.enters.1 fits.enters.3).root_is ∙ sym (ap gate_is_disabled entered_is) ∙ e
 
     entry_owner : (root (image_of p) (entry_number p x)).owner ≡ Compartment x.compartment
     unfolding image_of
     entry_owner = ap (λ (z : Root). z.owner) (own_has.export x.export fits.enters.1 fits.enters.3).root_is
 
     pub posture_fits : PostureFits (image_of p) (first_thread p t x) frames
-    posture_fits = by (disables (entered p x)) refl
+    posture_fits = by (gate_is_disabled (entered p x)) refl
       where
-        by : (b : Bool) → disables (entered p x) ≡ b → Fits (cond b (record { off = true; source = entry_number p x }) interrupts_on)
+        by : (b : Bool) → gate_is_disabled (entered p x) ≡ b → Fits (cond b (record { off = true; source = entry_number p x }) interrupts_on)
         by true e = λ off. (entry_off e, subst (λ o. Reaches (image_of p).entries o x.compartment) (sym entry_owner) (reaches_own (image_of p).entries x.compartment x.compartment (joined_is (image_of p).entries x.compartment x.compartment refl)))
         by false e = λ off. no_way off
 

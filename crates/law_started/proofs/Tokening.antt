@@ -13,8 +13,8 @@ use Rattle.def_image.specs.Parts.{CodeRow, ThreadRow, PartsRow}
 use Rattle.def_image.specs.Sound.{Sound}
 use Rattle.def_image.specs.Members.{compartment, library, sealed, code_number, globals_number, library_number, stack_number}
 use Rattle.def_image.specs.Regions.{Holder, CodeOf, TableOf, GlobalsOf, SharedOf, SealedOf, StackOf, TrustedPart, RegionRow}
-use Rattle.def_boot.specs.Made.{made_caps, made_for, return_sentry}
-use Rattle.def_boot.specs.Contents.{word_of, gate_word, code_content, owned_content, table_content, content, content_at, region_at, boot_cap, granules_from, granules_in, boot_granules}
+use Rattle.def_boot.specs.Made.{caps_at_boot, boot_cap_of, return_sentry}
+use Rattle.def_boot.specs.Contents.{word_from_bytes, gate_word, code_content, owned_content, table_content, content, content_at, region_at, boot_cap, granules_from, granules_in, boot_granules}
 use Rattle.def_boot.specs.Boot.{first_thread, first_threads, boot_state, image_of}
 use Rattle.law_grants.proofs.Clauses.{no_token}
 use Rattle.law_settled.proofs.Events.{sixteen}
@@ -23,16 +23,16 @@ use Rattle.law_started.proofs.Whole.{confined}
 -- what holds of plain values and of each entry's capability
 pub record Begins (P : Cap → Type 0) (p : PartsRow) : Type 0 where
   pub none : (n : ℕ) → P (plain n)
-  pub made : (n : ℕ) → P (made_for p n)
+  pub made : (n : ℕ) → P (boot_cap_of p n)
 
 module _ (P : Cap → Type 0) (p : PartsRow) (b : Begins P p) where
   sentry_has : P return_sentry
-  unfolding made_caps
+  unfolding caps_at_boot
   sentry_has = b.made 0
 
   code_content_has : (first : ℕ) (c : CodeRow) (k : ℕ) → P (code_content p first c k)
-  code_content_has first c k = chosen P (nat_lt k (SLOT_SIZE * length c.slots)) (made_for p (first + k / SLOT_SIZE)) (plain (word_of c.text (k - SLOT_SIZE * length c.slots)))
-      (λ slot. b.made (first + k / SLOT_SIZE)) (λ text. b.none (word_of c.text (k - SLOT_SIZE * length c.slots)))
+  code_content_has first c k = chosen P (nat_lt k (SLOT_SIZE * length c.slots)) (boot_cap_of p (first + k / SLOT_SIZE)) (plain (word_from_bytes c.text (k - SLOT_SIZE * length c.slots)))
+      (λ slot. b.made (first + k / SLOT_SIZE)) (λ text. b.none (word_from_bytes c.text (k - SLOT_SIZE * length c.slots)))
 
   owned_has : (o : Owner) (k : ℕ) → P (owned_content p o k)
   owned_has Trusted k = b.none 0
@@ -44,16 +44,16 @@ module _ (P : Cap → Type 0) (p : PartsRow) (b : Begins P p) where
   table_has c k =
       let word : ℕ = gate_word (slice_get (compartment p c).code.exports ((k - TABLE_HEAD) / TABLE_ROW)) ((k - TABLE_HEAD) % TABLE_ROW) in
       let row : Cap = plain word in
-      chosen P (k == 0) (made_for p (code_number p c)) (if k == GRANULE then made_for p (globals_number p c) else row)
+      chosen P (k == 0) (boot_cap_of p (code_number p c)) (if k == GRANULE then boot_cap_of p (globals_number p c) else row)
       (λ code. b.made (code_number p c))
-      (λ other. chosen P (k == GRANULE) (made_for p (globals_number p c)) row (λ globals. b.made (globals_number p c)) (λ none. b.none word))
+      (λ other. chosen P (k == GRANULE) (boot_cap_of p (globals_number p c)) row (λ globals. b.made (globals_number p c)) (λ none. b.none word))
 
   content_has : (h : Holder) (k : ℕ) → P (content p h k)
   content_has (CodeOf o) k = owned_has o k
   content_has (TableOf c) k = table_has c k
-  content_has (GlobalsOf c) k = b.none (word_of (compartment p c).initial k)
+  content_has (GlobalsOf c) k = b.none (word_from_bytes (compartment p c).initial k)
   content_has (SharedOf n) k = b.none 0
-  content_has (SealedOf n) k = b.none (word_of (sealed p n).bytes k)
+  content_has (SealedOf n) k = b.none (word_from_bytes (sealed p n).bytes k)
   content_has (StackOf t) k = b.none 0
   content_has TrustedPart k = chosen P (k == 0) return_sentry (plain 0) (λ is. sentry_has) (λ not. b.none 0)
 

@@ -16,7 +16,7 @@ use Rattle.def_facts.specs.Facts.{Facts}
 use Rattle.def_board.specs.Wired.{Wired}
 use Rattle.def_step.specs.declared.Event.{Event}
 use Rattle.def_step.specs.declared.Event.TheVariants.{Step, Tick, Sweep, Input}
-use Rattle.def_step.specs.Instructions.{Done, executed}
+use Rattle.def_step.specs.Instructions.{Effect, executed}
 use Rattle.def_machine.specs.Board.{Board}
 use Rattle.def_step.specs.Events.{preempted_from, preempted, picked_as, picked_from, scheduled, continued, one_more_step, stepped, interrupted, happens, run}
 use Rattle.def_step.specs.Quotas.{quota_in}
@@ -44,7 +44,7 @@ ended_fit i s t value [] h = h
 ended_fit i s t value (f ∷ []) h = h
 ended_fit i s t value (f ∷ g ∷ gs) h = h
 
-done_fit : (s : State) (t : ℕ) (r : Result Done Trap) → Fit s → IfDone Fit s t r
+done_fit : (s : State) (t : ℕ) (r : Result Effect Trap) → Fit s → IfDone Fit s t r
 done_fit s t (Err why) h = tt
 done_fit s t (Ok d) h = h
 

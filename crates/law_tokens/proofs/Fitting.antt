@@ -93,5 +93,5 @@ executed_fit b s t parts facts held h =
       frees = λ r is. gone_fit b.image s t r h;
       gives = λ key r is. gone_fit b.image s t r h;
       seals = λ quota size key r is named. sealed_fit b.image s t key r (fresh b.image s t size r parts facts held quota is) h;
-      opens = λ k r key is. opened_fit b.image s t h;
+      opens = λ may k r key is. opened_fit b.image s t h;
     })

@@ -21,7 +21,8 @@ use Rattle.def_step.specs.Quotas.{let_go}
 use Rattle.def_step.specs.Routines.{answers}
 use Rattle.def_step.specs.Tokens.{key_of, opened_token, sealed_token, token_of, with_row}
 use Rattle.def_tokens.specs.Everywhere.{Everywhere}
-use Rattle.def_tokens.specs.Opening.{Opened, StaysShut}
+use Rattle.def_safety.specs.Each.{ready}
+use Rattle.def_tokens.specs.Opening.{MayOpen, OpensObject, StaysShut}
 use Rattle.def_tokens.specs.Tokened.{IsKeyRow, ShutTo, TokenFits, Tokened}
 use Rattle.law_events.proofs.Events.{ready_keeps, event_keeps}
 use Rattle.law_origins.proofs.Changes.{answers_has, let_go_has}
@@ -29,6 +30,7 @@ use Rattle.law_origins.proofs.Events.{again, executed_has, ready_regular, ticked
 use Rattle.law_tokens.proofs.Events.{event_fit, ready_fit}
 use Rattle.law_tokens.proofs.Keying.{among_row, left_row}
 use Rattle.law_tokens.proofs.Made.{Fresh, fresh, sealed_type}
+use Rattle.law_tokens.proofs.Openings.{leaves_opened, step_tells_none}
 use Rattle.law_tokens.proofs.Naming.{freed_no_key, given_no_key, nothing_held, nothing_passes}
 use Rattle.law_tokens.proofs.Passing.{fits_pass, shut_passes}
 use Rattle.law_tokens.proofs.Shutting.{Standing, opened_object}
@@ -37,18 +39,18 @@ use Rattle.law_tokens.proofs.Whole.{event_tokened, ready_tokened}
 
 -- ---- an object that is shut
 
--- the token of this object was opened, and this is left
-pub record Opens (s : State) (t n : ℕ) (z : State) : Type 0 where
+-- token_open opens the token of this object
+pub record Opens (b : Board) (s : State) (t n : ℕ) : Type 0 where
+  pub may : MayOpen b s t
   pub key : Object
   pub token : Object
   pub key_found : key_of s (register (thread s t) 10) ≡ Some key
   pub token_found : token_of s key.number (register (thread s t) 11) ≡ Some token
   pub number : token.number ≡ n
-  pub after : z ≡ answers s t (opened_token (register (thread s t) 11))
 
 module _ (b : Board) (s : State) (t : ℕ) (g : Standing b s t) (n : ℕ) (below : n < s.next) (h : Everywhere (ShutTo b.image n) s) where
   abbrev Stays : State → Type 0
-  Stays z = Opens s t n z ⊎ Everywhere (ShutTo b.image n) z
+  Stays z = Opens b s t n ⊎ Everywhere (ShutTo b.image n) z
 
   handed_stays : (r : Object) → Fresh b.image s r → Stays (answers (with_object s r) t (object_cap r))
   handed_stays r f = inr (answers_has b.image (ShutTo b.image n) (ShutTo b.image n) (shut_passes b.image n) (with_object s r) t (object_cap r) (record { granules = h.granules; threads = h.threads })
@@ -63,9 +65,9 @@ module _ (b : Board) (s : State) (t : ℕ) (g : Standing b s t) (n : ℕ) (below
       (let_go_has (ShutTo b.image n) (ShutTo b.image n) (shut_passes b.image n).widens b.image s t r h)
       (λ tagged. absurd (let clash : false ≡ true = tagged in cc)))
 
-  opened_stays : (k r : Object) → key_of s (register (thread s t) 10) ≡ Some k → token_of s k.number (register (thread s t) 11) ≡ Some r → Stays (answers s t (opened_token (register (thread s t) 11)))
-  opened_stays k r key token = elim (eq_tells r.number n) [
-    | inl same ↦ inl (record { key = k; token = r; key_found = key; token_found = token; number = same.1; after = refl })
+  opened_stays : MayOpen b s t → (k r : Object) → key_of s (register (thread s t) 10) ≡ Some k → token_of s k.number (register (thread s t) 11) ≡ Some r → Stays (answers s t (opened_token (register (thread s t) 11)))
+  opened_stays may k r key token = elim (eq_tells r.number n) [
+    | inl same ↦ inl (record { may = may; key = k; token = r; key_found = key; token_found = token; number = same.1 })
     | inr other ↦ inr (answers_has b.image (ShutTo b.image n) (ShutTo b.image n) (shut_passes b.image n) s t (opened_token (register (thread s t) 11)) h
         (λ tagged heap some source. absurd (other.1 (opened_object b s t g n k.number r token heap some source))))
   ]
@@ -76,15 +78,24 @@ module _ (b : Board) (s : State) (t : ℕ) (g : Standing b s t) (n : ℕ) (below
     frees = λ r is. gone_stays r;
     gives = λ key r is. gone_stays r;
     seals = λ quota size key r is named. sealed_stays key r (fresh b.image s t size r g.parts g.facts g.held quota is);
-    opens = opened_stays;
+    opens = λ may k r key token. opened_stays (may g.runs) k r key token;
   })
 
-continued_stays : (b : Board) (s : State) (o : Option ℕ) → s.running ≡ o → Partitioned b.image → Facts b.image → Keeps b.image s → RowsFit s.objects s.tokens → (n : ℕ) → n < s.next → Everywhere (ShutTo b.image n) s
-    → Opened b s n ⊎ Everywhere (ShutTo b.image n) (continued b s o).0
+continued_stays : (b : Board) (s : State) (o : Option ℕ) → (ready b s).running ≡ o → Partitioned b.image → Facts b.image → Keeps b.image (ready b s) → RowsFit (ready b s).objects (ready b s).tokens → (n : ℕ) → n < (ready b s).next → Everywhere (ShutTo b.image n) (ready b s)
+    → OpensObject b s n ⊎ Everywhere (ShutTo b.image n) (continued b (ready b s) o).0
 continued_stays b s None runs parts facts k rows n below h = inr h
 continued_stays b s (Some t) runs parts facts k rows n below h =
-    elim (executed_stays b s t (record { parts = parts; facts = facts; held = k.confined; runs = runs; rows = rows }) n below h) [
-      | inl o ↦ inl (record { thread_is = t; runs = runs; key = o.key; token = o.token; key_found = o.key_found; token_found = o.token_found; number = o.number; after = o.after })
+    elim (executed_stays b (ready b s) t (record { parts = parts; facts = facts; held = k.confined; runs = runs; rows = rows }) n below h) [
+      | inl o ↦ inl (record {
+        thread_is = t;
+        may = o.may;
+        key = o.key;
+        token = o.token;
+        key_found = o.key_found;
+        token_found = o.token_found;
+        number = o.number;
+        after = step_tells_none b s t _ runs (leaves_opened b (ready b s) t o.key o.token o.may o.key_found o.token_found);
+      })
       | inr shut ↦ inr (record { granules = shut.granules; threads = shut.threads })
     ]
 
@@ -105,9 +116,11 @@ same_next b s = at_pick (preempted (one_more_step s)) (preempted (one_more_step 
     at_stop z (Some t) = chosen (λ (y : State). y.next ≡ z.next) (z.pending && not (thread z t).posture.off) (record z { running = None; pending = false }) z (λ is. refl) (λ not. refl)
 
 pub stays_shut : (b : Board) (s : State) (e : Event) → Partitioned b.image → Facts b.image → Keeps b.image s → RowsFit s.objects s.tokens → StaysShut b s e
-stays_shut b s Step parts facts k rows n below h =
-    continued_stays b (scheduled b (preempted (one_more_step s))) (scheduled b (preempted (one_more_step s))).running refl parts facts (ready_keeps b s parts k) (ready_fit b s rows) n (rw (same_next b s) below)
-    (ready_regular (ShutTo b.image n) (shut_passes b.image n).widens b s h).has
+stays_shut b s Step parts facts k rows n below h = elim (continued_stays b s (ready b s).running refl parts facts (ready_keeps b s parts k) (ready_fit b s rows) n (rw (same_next b s) below)
+    (ready_regular (ShutTo b.image n) (shut_passes b.image n).widens b s h).has) [
+      | inl o ↦ inl (refl, o)
+      | inr shut ↦ inr shut
+    ]
 stays_shut b s Tick parts facts k rows n below h = inr (ticked_regular (ShutTo b.image n) (shut_passes b.image n).widens s h).has
 stays_shut b s (Input m byte) parts facts k rows n below h = inr (again (ShutTo b.image n) (ShutTo b.image n) (shut_passes b.image n).widens s (received s m byte) refl refl refl refl h).has
 stays_shut b s Sweep parts facts k rows n below h = inr (swept_has (ShutTo b.image n) (shut_passes b.image n).widens b.image (record s { counts = record s.counts { sweeps = s.counts.sweeps + 1 } }) (record { granules = h.granules; threads = h.threads }))
@@ -125,7 +138,7 @@ executed_lasts b s t n g h key =
       frees = λ r is. left_row (IsKeyRow n) r.number s.tokens (λ k own same. freed_no_key b s t g h.some h.keys r is (subst (λ m. Any (IsKeyRow m) s.tokens) (sym own.0 ∙ same) key)) key;
       gives = λ key_of_it r is. left_row (IsKeyRow n) r.number s.tokens (λ k own same. given_no_key b s t g h.some key_of_it r is (subst (λ m. Any (IsKeyRow m) s.tokens) (sym own.0 ∙ same) key)) key;
       seals = λ quota size named r is known. among_row (IsKeyRow n) (record { number = r.number; key = named }) s.tokens (inr key);
-      opens = λ k r is token. key;
+      opens = λ may k r is token. key;
     })
 
 continued_lasts : (b : Board) (s : State) (o : Option ℕ) (n : ℕ) → s.running ≡ o → Partitioned b.image → Facts b.image → Keeps b.image s → RowsFit s.objects s.tokens → Tokened b.image s → HasKey n s → HasKey n (continued b s o).0

@@ -157,5 +157,5 @@ module _ (b : Board) (s : State) (t : ℕ) (g : Standing b s t) (some : Each (λ
         frees = λ r is. gone_named r.number s.objects s.tokens (freed_no_key shut r is) h;
         gives = λ key r is. gone_named r.number s.objects s.tokens (given_no_key key r is) h;
         seals = λ quota size key r is named. sealed_named s r key (fresh b.image s t size r g.parts g.facts g.held quota is).some named h;
-        opens = λ k r key is. h;
+        opens = λ may k r key is. h;
       })

@@ -14,7 +14,7 @@ use Rattle.def_confined.specs.Capabilities.{heap_cap}
 use Rattle.def_confined.specs.Confined.{IsPcc}
 use Rattle.def_confined.specs.Made.{IsOwn, Links}
 use Rattle.def_tokens.specs.Tokened.{IsWhole, TokenFits, ShutTo, KeysShut}
-use Rattle.law_made.specs.Results.{Keyed, IsResult}
+use Rattle.def_derived.specs.Results.{Keyed, IsResult}
 use Rattle.law_origins.specs.Passes.{Passes}
 use Rattle.law_places.proofs.Rows.{any_map}
 use Rattle.law_registers.proofs.Derives.{of_heap, code_no_heap}

@@ -129,5 +129,5 @@ module _ (b : Board) (s : State) (t : ℕ) (g : Standing b s t) where
         frees = λ r is. gone_shut r h;
         gives = λ key r is. gone_shut r h;
         seals = λ quota size key r is named. sealed_shut key r (fresh b.image s t size r g.parts g.facts g.held quota is) h;
-        opens = λ k r key is. opened_shut k.number r is h;
+        opens = λ may k r key is. opened_shut k.number r is h;
       })

@@ -14,7 +14,7 @@ ghost use Rattle.def_step.specs.Events.{happens, one_more_step, preempted, run, 
 ghost use Rattle.def_machine.specs.Board.{Board};
 ghost use Rattle.def_machine.specs.Objects.{Any};
 ghost use Rattle.def_machine.specs.Rows.{RowsFit};
-ghost use Rattle.def_tokens.specs.Opening.{OpensTokens, StaysShut};
+ghost use Rattle.def_tokens.specs.Opening.{FindsSealed, OpensTokens, StaysShut};
 ghost use Rattle.def_tokens.specs.Tokened.{IsKeyRow, Tokened};
 
 /// Every event, lawful or not, leaves each row of a live object, and no two of one.
@@ -53,16 +53,18 @@ pub fn steps_tokened()
         → Tokened b.image s → Tokened b.image (scheduled b (preempted (one_more_step s))) }
 {}
 
-/// token_open answers the token without its seal exactly where c10 is a live key and c11 a live token of it: each is of the
-/// whole object that its source names, the rows of the two match, and root, source, bounds, address and rights stay. Else
-/// it answers -7 or -8.
+/// Routines find a key or a token in a register exactly where it is one: sealed so, of the whole of a live object, which its
+/// source names, with a row that says so. A step that carries out token_open, whose caller may return, leaves in c10 the
+/// token without its seal exactly where c10 is a key and c11 a token of it: root, source, bounds, address and rights stay.
+/// Else it answers -7 or -8.
 pub fn tokens_opened()
-    ensures { (b : Board) (s : State) (t : ℕ)
-        → Keeps b.image s → Tokened b.image s → OpensTokens b s t }
+    ensures found { (b : Board) (s : State) → Keeps b.image s → Tokened b.image s → FindsSealed s }
+    ensures opens { (b : Board) (s : State)
+        → Partitioned b.image → Keeps b.image s → Tokened b.image s → OpensTokens b s }
 {}
 
 /// Of an object of which nobody holds anything but what is sealed as a token nobody comes to hold anything else, by any
-/// event but the step in which token_open opens it.
+/// event but the step that carries out token_open, and finds that object's token and its key.
 pub fn tokens_stay_shut()
     ensures { (b : Board) (s : State) (e : Event)
         → Partitioned b.image → Facts b.image → Keeps b.image s → RowsFit s.objects s.tokens

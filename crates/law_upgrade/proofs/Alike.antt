@@ -22,10 +22,10 @@ use Rattle.def_image.specs.declared.SlotKind.TheVariants as slot
 use Rattle.def_image.specs.Parts.{SlotRow, CodeRow, CompartmentRow, ThreadRow, PartsRow, upgraded}
 use Rattle.def_image.specs.Regions.{Holder, CodeOf, TableOf, GlobalsOf, SharedOf, SealedOf, StackOf, TrustedPart, RegionRow, trusted_region, later_regions, regions_of}
 use Rattle.def_image.specs.Members.{compartment, library, code_number, globals_number, library_number, stack_number}
-use Rattle.def_boot.specs.Entries.{slot_row, slot_rows, export_rows, code_row, globals_row, compartment_rows, library_rows, stack_row, rows_from, rows_of, library_export_row}
+use Rattle.def_boot.specs.Entries.{slot_row, slot_rows, export_rows, code_row, globals_row, compartment_rows, library_rows, stack_row, rows_from, entry_rows, library_export_row}
 use Rattle.def_boot.specs.Gates.{gates_of, entries_of}
-use Rattle.def_boot.specs.Made.{made_by, made_from, made_caps, made_for, return_sentry}
-use Rattle.def_boot.specs.Contents.{word_of, gate_word, covers, owned_content, content, region_in, region_at, content_at, boot_cap, granules_from, granules_in, boot_granules, part_at, part, parts_from, is_heap}
+use Rattle.def_boot.specs.Made.{entry_cap, entry_caps, caps_at_boot, boot_cap_of, return_sentry}
+use Rattle.def_boot.specs.Contents.{word_from_bytes, gate_word, covers, owned_content, content, region_in, region_at, content_at, boot_cap, granules_from, granules_in, boot_granules, part_at, part, parts_from, is_heap}
 use Rattle.def_boot.specs.Boot.{image_of, board_of, bases_of, first_thread, first_threads, first_frame, first_posture, entry_address, boot_state}
 use Rattle.law_upgrade.specs.Upgrade.{BootsAlike}
 use Rattle.law_upgrade.proofs.Regions.{unplaced, Alike, later_alike}
@@ -60,8 +60,8 @@ library_alike : (p : PartsRow) (l : ℕ) (c : CodeRow) → library_rows (upgrade
 library_alike p l c =
     ap (λ (s : List Entry). (code_row (Library l) c ∷ s) ++ map (λ x. library_export_row l c) c.exports) (slots_alike p (Library l) c.base c.slots)
 
-rows_alike : (p : PartsRow) → rows_of (upgraded p) ≡ rows_of p
-unfolding rows_of
+rows_alike : (p : PartsRow) → entry_rows (upgraded p) ≡ entry_rows p
+unfolding entry_rows
 rows_alike p =
     let stacks = rows_from (λ t x. stack_row t x ∷ []) 0 p.threads in
     ap (λ (l : List Entry). l ++ rows_from (library_rows (upgraded p)) 0 p.libraries ++ stacks) (rows_same (compartment_rows (upgraded p)) (compartment_rows p) (compartment_alike p) 0 p.compartments)
@@ -79,7 +79,7 @@ entries_alike p =
 
 -- ---- what boot makes
 
-made_alike : (p : PartsRow) (n : ℕ) (r : Entry) (k : Kind) → made_by (upgraded p) n r k ≡ made_by p n r k
+made_alike : (p : PartsRow) (n : ℕ) (r : Entry) (k : Kind) → entry_cap (upgraded p) n r k ≡ entry_cap p n r k
 unfolding gates_of
 made_alike p n r kind.Code = refl
 made_alike p n r kind.Globals = refl
@@ -94,16 +94,16 @@ made_alike p n r kind.Quota = refl
 made_alike p n r kind.Key = refl
 made_alike p n r kind.Export = refl
 
-list_alike : (p : PartsRow) (n : ℕ) (rs : List Entry) → made_from (upgraded p) n rs ≡ made_from p n rs
+list_alike : (p : PartsRow) (n : ℕ) (rs : List Entry) → entry_caps (upgraded p) n rs ≡ entry_caps p n rs
 list_alike p n [] = refl
 list_alike p n (r ∷ rs) =
-    ap (λ (c : Cap). c ∷ made_from (upgraded p) (n + 1) rs) (made_alike p n r r.kind) ∙ ap (λ (l : List Cap). made_by p n r r.kind ∷ l) (list_alike p (n + 1) rs)
+    ap (λ (c : Cap). c ∷ entry_caps (upgraded p) (n + 1) rs) (made_alike p n r r.kind) ∙ ap (λ (l : List Cap). entry_cap p n r r.kind ∷ l) (list_alike p (n + 1) rs)
 
-caps_alike : (p : PartsRow) → made_caps (upgraded p) ≡ made_caps p
-unfolding made_caps
-caps_alike p = ap (λ (l : List Cap). return_sentry ∷ l) (list_alike p 1 (rows_of (upgraded p)) ∙ ap (made_from p 1) (rows_alike p))
+caps_alike : (p : PartsRow) → caps_at_boot (upgraded p) ≡ caps_at_boot p
+unfolding caps_at_boot
+caps_alike p = ap (λ (l : List Cap). return_sentry ∷ l) (list_alike p 1 (entry_rows (upgraded p)) ∙ ap (entry_caps p 1) (rows_alike p))
 
-for_alike : (p : PartsRow) (n : ℕ) → made_for (upgraded p) n ≡ made_for p n
+for_alike : (p : PartsRow) (n : ℕ) → boot_cap_of (upgraded p) n ≡ boot_cap_of p n
 for_alike p n = ap (λ (l : List Cap). slice_index_or l n (plain 0)) (caps_alike p)
 
 -- ---- what stands in RAM
@@ -111,10 +111,10 @@ for_alike p n = ap (λ (l : List Cap). slice_index_or l n (plain 0)) (caps_alike
 owned_alike : (p : PartsRow) (o : Owner) (k : ℕ) → owned_content (upgraded p) o k ≡ owned_content p o k
 owned_alike p (Compartment b) k =
     let c = (compartment p b).code in
-    ap (λ (x : Cap). if nat_lt k (SLOT_SIZE * length c.slots) then x else plain (word_of c.text (k - SLOT_SIZE * length c.slots))) (for_alike p (code_number p b + 2 + k / SLOT_SIZE))
+    ap (λ (x : Cap). if nat_lt k (SLOT_SIZE * length c.slots) then x else plain (word_from_bytes c.text (k - SLOT_SIZE * length c.slots))) (for_alike p (code_number p b + 2 + k / SLOT_SIZE))
 owned_alike p (Library l) k =
     let c = library p l in
-    ap (λ (x : Cap). if nat_lt k (SLOT_SIZE * length c.slots) then x else plain (word_of c.text (k - SLOT_SIZE * length c.slots))) (for_alike p (library_number p l + 1 + k / SLOT_SIZE))
+    ap (λ (x : Cap). if nat_lt k (SLOT_SIZE * length c.slots) then x else plain (word_from_bytes c.text (k - SLOT_SIZE * length c.slots))) (for_alike p (library_number p l + 1 + k / SLOT_SIZE))
 owned_alike p Trusted k = refl
 owned_alike p (Thread t) k = refl
 
@@ -122,7 +122,7 @@ table_alike : (p : PartsRow) (b k : ℕ) → content (upgraded p) (TableOf b) k 
 table_alike p b k =
     let gates = (compartment p b).code.exports in
     let later = λ (x y : Cap). if k == 0 then x else if k == GRANULE then y else plain (gate_word (slice_get gates ((k - TABLE_HEAD) / TABLE_ROW)) ((k - TABLE_HEAD) % TABLE_ROW)) in
-    ap (λ (x : Cap). later x (made_for (upgraded p) (globals_number p b))) (for_alike p (code_number p b)) ∙ ap (later (made_for p (code_number p b))) (for_alike p (globals_number p b))
+    ap (λ (x : Cap). later x (boot_cap_of (upgraded p) (globals_number p b))) (for_alike p (code_number p b)) ∙ ap (later (boot_cap_of p (code_number p b))) (for_alike p (globals_number p b))
 
 content_alike : (p : PartsRow) (h : Holder) (k : ℕ) → content (upgraded p) h k ≡ content p h k
 content_alike p (CodeOf o) k = owned_alike p o k
@@ -207,7 +207,7 @@ image_alike p =
     let i = image_of (upgraded p) in
     ap (λ (e : Listed). record i { entries = e }) (entries_alike p)
     ∙ ap (λ (m : List Cap). record i { entries = entries_of p; made = m }) (caps_alike p)
-    ∙ ap (λ (r : List Region). record i { entries = entries_of p; made = made_caps p; regions = r }) (parts_alike p p.ram (granules_in p))
+    ∙ ap (λ (r : List Region). record i { entries = entries_of p; made = caps_at_boot p; regions = r }) (parts_alike p p.ram (granules_in p))
     ∙ ap (λ (g : List Granule). record (image_of p) { boot = g }) (memory_alike p)
 
 board_alike : (p : PartsRow) → board_of (upgraded p) ≡ board_of p

@@ -13,7 +13,7 @@ use Rattle.def_description.specs.Members.{list_at}
 use Rattle.def_description.specs.Tables.{members_of}
 use Rattle.def_description.specs.Limits.{number_in}
 use Rattle.def_description.specs.References.{import_of}
-use Rattle.def_description.specs.Reading.{device_of, shared_of, sealed_of, compartment_of, quota_of, export_of, library_of, limport_of, lexport_of, thread_of, rows_of}
+use Rattle.def_description.specs.Reading.{device_of, shared_of, sealed_of, compartment_of, quota_of, export_of, library_of, limport_of, lexport_of, thread_of, description_of}
 use Rattle.def_description.specs.Rows.{QuotaRow, LimportRow, DescRow}
 use Rattle.def_description.specs.WellFormed.{WellFormed, fault_of}
 use Rattle.def_description.specs.Lawful.{IsLawful, IsLawfulDevice, IsLawfulShared, IsLawfulSealed, IsLawfulCompartment, IsLawfulExport, IsLawfulImport, IsLawfulLibrary, IsLawfulThread, IsLent}
@@ -26,7 +26,7 @@ use Rattle.law_wellformed.proofs.Parts.{part_good, firmware_good, ram_good, vers
 
 -- ---- compartments and libraries
 
-compartment_lawful : (d x : Data) → At (Good d) part.Compartment d x → Segment part.Compartment x → IsLawfulCompartment (rows_of d) (compartment_of x)
+compartment_lawful : (d x : Data) → At (Good d) part.Compartment d x → Segment part.Compartment x → IsLawfulCompartment (description_of d) (compartment_of x)
 unfolding members_of
 compartment_lawful d x h s =
     let m = (part_good part.Compartment x true true h.itself.kinds h.itself.limits).each in
@@ -46,8 +46,8 @@ compartment_lawful d x h s =
       quotas = few_rows quota_of (codes "quotas") 16 false (get (codes "quotas") x) m.1.1.1.1.0.kept;
       keys = few_rows number_in (codes "keys") 3 false (get (codes "keys") x) m.1.1.1.1.1.0.kept;
       exports = few_rows export_of (codes "exports") 64 false (get (codes "exports") x) m.1.1.1.1.1.1.0.kept;
-      import = all_mapped (IsLawfulImport (rows_of d)) import_of imports
-          (all_so (In (Good d) part.Import x i) (λ y. IsLawfulImport (rows_of d) (import_of y)) imports (λ y g. import_lawful d x y i g.item g.itself) inner.imports);
+      import = all_mapped (IsLawfulImport (description_of d)) import_of imports
+          (all_so (In (Good d) part.Import x i) (λ y. IsLawfulImport (description_of d) (import_of y)) imports (λ y g. import_lawful d x y i g.item g.itself) inner.imports);
       quota = all_mapped (λ (q : QuotaRow). q.limit ≤ 2147483647) quota_of quotas
           (all_so (In (Good d) part.Quota x i) (λ y. (quota_of y).limit ≤ 2147483647) quotas (λ y g. quota_lawful d x y i g.item g.itself) inner.quotas);
       key = all_mapped (IsWithin 13 15) number_in keys numbers;
@@ -60,7 +60,7 @@ compartment_lawful d x h s =
         let m = (part_good part.Compartment x true true h.itself.kinds h.itself.limits).each in
         given_or (codes "globals") 0 MOST_BYTES 0 (get (codes "globals") x) (omega arith) (omega arith, omega arith) m.1.1.0.there m.1.1.0.kept
 
-library_lawful : (d x : Data) → At (Good d) part.Library d x → Segment part.Library x → IsLawfulLibrary (rows_of d) (library_of x)
+library_lawful : (d x : Data) → At (Good d) part.Library d x → Segment part.Library x → IsLawfulLibrary (description_of d) (library_of x)
 unfolding members_of
 library_lawful d x h s =
     let m = (part_good part.Library x true true h.itself.kinds h.itself.limits).each in
@@ -73,13 +73,13 @@ library_lawful d x h s =
       gates = library_gates_named d x i s inner;
       imports = few_rows limport_of (codes "imports") 128 false (get (codes "imports") x) m.1.1.0.kept;
       exports = few_rows lexport_of (codes "exports") 64 false (get (codes "exports") x) m.1.1.1.0.kept;
-      import = all_mapped (λ (l : LimportRow). IsLent (rows_of d) l.library) limport_of imports
-          (all_so (In (Good d) part.Limport x i) (λ y. IsLent (rows_of d) (limport_of y).library) imports (λ y g. limport_lawful d x y i g.item g.itself) inner.imports);
+      import = all_mapped (λ (l : LimportRow). IsLent (description_of d) l.library) limport_of imports
+          (all_so (In (Good d) part.Limport x i) (λ y. IsLent (description_of d) (limport_of y).library) imports (λ y g. limport_lawful d x y i g.item g.itself) inner.imports);
     }
 
 -- ---- devices
 
-devices_lawful : (d : Data) (xs : List Data) → AllByRecursion (Placed (rows_of d).ram) (map device_of xs) → AllByRecursion (IsLawfulDevice (rows_of d).ram) (map device_of xs)
+devices_lawful : (d : Data) (xs : List Data) → AllByRecursion (Placed (description_of d).ram) (map device_of xs) → AllByRecursion (IsLawfulDevice (description_of d).ram) (map device_of xs)
 devices_lawful d [] h = tt
 devices_lawful d (x ∷ xs) h =
     let p = h.0 in
@@ -87,14 +87,14 @@ devices_lawful d (x ∷ xs) h =
 
 -- ---- the whole
 
-pub value_lawful : (d : Data) → fault_of d ≡ None → IsLawful (rows_of d)
+pub value_lawful : (d : Data) → fault_of d ≡ None → IsLawful (description_of d)
 value_lawful d e =
     let f = faultless d e in
     let w = walked (Good d) d f.each in
     let head = firmware_good d w.firmware in
     let ram = ram_good d w.firmware w.ram in
     let names = outer_names d w f.once in
-    let at = addressed (rows_of d) f.addresses in
+    let at = addressed (description_of d) f.addresses in
     let segments = all_segments d f.once in
     let shared = list_at (codes "shared") d in
     let sealed = list_at (codes "sealed") d in
@@ -117,7 +117,7 @@ value_lawful d e =
       ram = record {
         base = ram.base;
         size = ram.size;
-        sized = subst (λ v. IsWithin 256 (most_ram v) (rows_of d).ram.size) (sym (version_is d w.firmware)) ram.sized;
+        sized = subst (λ v. IsWithin 256 (most_ram v) (description_of d).ram.size) (sym (version_is d w.firmware)) ram.sized;
         end = ram.end;
         native = at.native;
       };
@@ -131,14 +131,14 @@ value_lawful d e =
           (all_so (At (Good d) part.Shared d) (λ x. IsLawfulShared (shared_of x)) shared (λ x g. shared_lawful d x g.index g.itself) w.shared);
       sealed_object = all_mapped IsLawfulSealed sealed_of sealed
           (all_so (At (Good d) part.Sealed d) (λ x. IsLawfulSealed (sealed_of x)) sealed (λ x g. sealed_lawful d x g.index g.itself) w.sealed);
-      compartment = all_mapped (IsLawfulCompartment (rows_of d)) compartment_of compartments
-          (all_so (λ x. At (Good d) part.Compartment d x × Segment part.Compartment x) (λ x. IsLawfulCompartment (rows_of d) (compartment_of x)) compartments
+      compartment = all_mapped (IsLawfulCompartment (description_of d)) compartment_of compartments
+          (all_so (λ x. At (Good d) part.Compartment d x × Segment part.Compartment x) (λ x. IsLawfulCompartment (description_of d) (compartment_of x)) compartments
           (λ x g. compartment_lawful d x g.0 g.1) (all_both (At (Good d) part.Compartment d) (Segment part.Compartment) compartments w.compartments segments.compartments));
-      library = all_mapped (IsLawfulLibrary (rows_of d)) library_of libraries
-          (all_so (λ x. At (Good d) part.Library d x × Segment part.Library x) (λ x. IsLawfulLibrary (rows_of d) (library_of x)) libraries
+      library = all_mapped (IsLawfulLibrary (description_of d)) library_of libraries
+          (all_so (λ x. At (Good d) part.Library d x × Segment part.Library x) (λ x. IsLawfulLibrary (description_of d) (library_of x)) libraries
           (λ x g. library_lawful d x g.0 g.1) (all_both (At (Good d) part.Library d) (Segment part.Library) libraries w.libraries segments.libraries));
-      thread = all_mapped (IsLawfulThread (rows_of d)) thread_of threads
-          (all_so (At (Good d) part.Thread d) (λ x. IsLawfulThread (rows_of d) (thread_of x)) threads (λ x g. thread_lawful d x g.index g.itself) w.threads);
+      thread = all_mapped (IsLawfulThread (description_of d)) thread_of threads
+          (all_so (At (Good d) part.Thread d) (λ x. IsLawfulThread (description_of d) (thread_of x)) threads (λ x g. thread_lawful d x g.index g.itself) w.threads);
     }
 
 pub bytes_lawful : (bytes : List ℕ) (rows : DescRow) → WellFormed bytes rows → IsLawful rows

@@ -14,7 +14,7 @@ use Rattle.def_description.specs.Members.{number_of, list_in}
 use Rattle.def_description.specs.Tables.{row}
 use Rattle.def_description.specs.Kinds.{is_kind_there}
 use Rattle.def_description.specs.Limits.{keeps_there}
-use Rattle.def_description.specs.Reading.{cut, digit_of, word_of, bytes_of}
+use Rattle.def_description.specs.Reading.{cut, digit_of, hexadecimal_word, bytes_of}
 
 -- ---- tests
 
@@ -119,7 +119,7 @@ digit_small b = elim (le_tells 97 b) [
     other e = let is : digit_of b ≡ cond (nat_le 48 b && nat_le b 57) (b - 48) 0 = ap (λ c. cond c (b - 87) (cond (nat_le 48 b && nat_le b 57) (b - 48) 0)) e in
         subst (λ n. n < 16) (sym is) (decimal_small (nat_le 48 b) (nat_le b 57) refl refl)
 
-pub word_small : (t : List ℕ) → word_of t < 2 ^ 32
+pub word_small : (t : List ℕ) → hexadecimal_word t < 2 ^ 32
 word_small (a ∷ b ∷ c ∷ d ∷ e ∷ f ∷ g ∷ h ∷ []) =
     let da = digit_small a in
     let db = digit_small b in

@@ -17,7 +17,7 @@ use Rattle.def_description.specs.Walk.{Spot, items_from, inside, spots_of}
 use Rattle.def_description.specs.Names.{key_name, named, Spaces, no_names, joined, first_twice}
 use Rattle.def_description.specs.Limits.{number_in}
 use Rattle.def_description.specs.References.{import_of}
-use Rattle.def_description.specs.Reading.{device_of, shared_of, sealed_of, compartment_of, quota_of, export_of, library_of, limport_of, lexport_of, thread_of, rows_of}
+use Rattle.def_description.specs.Reading.{device_of, shared_of, sealed_of, compartment_of, quota_of, export_of, library_of, limport_of, lexport_of, thread_of, description_of}
 use Rattle.def_description.specs.Rows.{SharedRow, SealedRow, ImportRow, QuotaRow, ExportRow, CompartmentRow, LimportRow, LexportRow, LibraryRow, ThreadRow}
 use Rattle.def_description.specs.Named.{device_names, shared_names, sealed_names, owner_names, slot_names, export_names, library_slot_names, library_export_names}
 use Rattle.def_description.specs.Lawful.{AreNames}
@@ -128,10 +128,10 @@ formed_of : (P : Data → Type 0) (f : Data → List ℕ) (xs : List Data) → (
 formed_of P f xs so h = all_mapped (λ n. is_name n ≡ true) f xs (all_so P (λ x. is_name (f x) ≡ true) xs so h)
 
 pub record OuterNames (d : Data) : Type 0 where
-  pub devices : AreNames (device_names (rows_of d))
-  pub shared : AreNames (shared_names (rows_of d))
-  pub sealed : AreNames (sealed_names (rows_of d))
-  pub owners : AreNames (owner_names (rows_of d))
+  pub devices : AreNames (device_names (description_of d))
+  pub shared : AreNames (shared_names (description_of d))
+  pub sealed : AreNames (sealed_names (description_of d))
+  pub owners : AreNames (owner_names (description_of d))
 
 outer_fresh : (space : Spaces → List (List ℕ)) (mine : PartWord → Bool) → IsSpace space mine any_part → (d : Data) → mine part.Firmware ≡ false → mine part.Ram ≡ false
     → AllByRecursion (λ (l : Inner). AreOthers mine (inner_lists l.part)) outer_lists → first_twice no_names (spots_of d) ≡ None → Fresh (space no_names) (taken_by mine d outer_lists)

@@ -23,7 +23,7 @@ use Rattle.def_description.specs.Walk.{place, spot, ram_spots}
 use Rattle.def_description.specs.Kinds.{has_member, has_more, is_kind_there, has_one_form, has_its_rights}
 use Rattle.def_description.specs.Limits.{keeps_member, keeps_there, keeps_file, keeps_version, keeps_ram, version_of, number_in, characters}
 use Rattle.def_description.specs.References.{target_of, import_of, rights_fit, target_fits, target_resolves, target_is_served, resolves, is_served}
-use Rattle.def_description.specs.Reading.{cut, code_of, word_of, ram_of, device_of, shared_of, sealed_of, quota_of, export_of, limport_of, thread_of, compartment_of, library_of, rows_of}
+use Rattle.def_description.specs.Reading.{cut, code_of, hexadecimal_word, ram_of, device_of, shared_of, sealed_of, quota_of, export_of, limport_of, thread_of, compartment_of, library_of, description_of}
 use Rattle.def_description.specs.Rows.{Target}
 use Rattle.def_description.specs.Lawful.{IsLawfulCode, IsLawfulShared, IsLawfulSealed, IsLawfulExport, IsLawfulImport, IsLawfulThread, IsLent}
 use Rattle.law_wellformed.proofs.Members.{within_is, read_or, needed, given_or, needed_multiple, cut_small, cut_below, few_rows, word_small, bytes_small, bytes_half}
@@ -92,12 +92,12 @@ code_lawful (Some c) there kept =
     let few = nat_le (length ws) 262144 in
     let file = keeps_file (text_at (codes "file") c) in
     record {
-      words = all_mapped (λ w. w < 2 ^ 32) (λ w. word_of (text_of w)) ws (all_words ws);
-      few = subst (λ n. n ≤ 262144) (sym (length-map ws (λ w. word_of (text_of w)))) (leb-true (length ws) 262144 (both_left few file kept));
+      words = all_mapped (λ w. w < 2 ^ 32) (λ w. hexadecimal_word (text_of w)) ws (all_words ws);
+      few = subst (λ n. n ≤ 262144) (sym (length-map ws (λ w. hexadecimal_word (text_of w)))) (leb-true (length ws) 262144 (both_left few file kept));
       file = λ name is. within_is 1 255 (characters name) (subst (λ z. keeps_file z ≡ true) is (both_right few file kept));
     }
   where
-    all_words : (ws : List Data) → AllByRecursion (λ w. word_of (text_of w) < 2 ^ 32) ws
+    all_words : (ws : List Data) → AllByRecursion (λ w. hexadecimal_word (text_of w) < 2 ^ 32) ws
     all_words [] = tt
     all_words (w ∷ ws) = (word_small (text_of w), all_words ws)
 
@@ -128,7 +128,7 @@ target_good : (d : Data) (o : Option Target) (rights : List ℕ) (t : Target) �
 target_good d o rights t is a b c =
     (subst (λ z. target_resolves d z ≡ true) is a, subst (λ z. target_fits z rights ≡ true) is b, subst (λ z. target_is_served z ≡ true) is c)
 
-pub import_lawful : (d owner x : Data) (i j : ℕ) → Good d (spot (place part.Import i j) owner x) → IsLawfulImport (rows_of d) (import_of x)
+pub import_lawful : (d owner x : Data) (i j : ℕ) → Good d (spot (place part.Import i j) owner x) → IsLawfulImport (description_of d) (import_of x)
 unfolding members_of form_names
 import_lawful d owner x i j g =
     let one = has_one_form x in
@@ -145,10 +145,10 @@ import_lawful d owner x i j g =
       rights = good.1;
     }
 
-pub limport_lawful : (d owner x : Data) (i j : ℕ) → Good d (spot (place part.Limport i j) owner x) → IsLent (rows_of d) (limport_of x).library
+pub limport_lawful : (d owner x : Data) (i j : ℕ) → Good d (spot (place part.Limport i j) owner x) → IsLent (description_of d) (limport_of x).library
 limport_lawful d owner x i j g = lent_there d (text_or (codes "library") x) g.refers
 
-pub thread_lawful : (d x : Data) (i : ℕ) → Good d (spot (place part.Thread i 0) d x) → IsLawfulThread (rows_of d) (thread_of x)
+pub thread_lawful : (d x : Data) (i : ℕ) → Good d (spot (place part.Thread i 0) d x) → IsLawfulThread (description_of d) (thread_of x)
 unfolding members_of
 thread_lawful d x i g =
     let m = (part_good part.Thread x true true g.kinds g.limits).each in
@@ -164,15 +164,15 @@ thread_lawful d x i g =
 -- ---- the firmware and RAM
 
 pub record FirmwareGood (d : Data) : Type 0 where
-  pub version : IsWithin 1 last_version (rows_of d).version
-  pub sweep : IsWithin (least_sweep (rows_of d).version) (most_sweep (rows_of d).version) (rows_of d).sweep
-  pub quantum : IsWithin 1 1000000 (rows_of d).quantum
-  pub devices : length (rows_of d).devices ≤ 16
-  pub shared : length (rows_of d).shared ≤ 64
-  pub sealed : length (rows_of d).sealed ≤ 64
-  pub compartments : length (rows_of d).compartments ≤ 64
-  pub libraries : length (rows_of d).libraries ≤ 32
-  pub threads : length (rows_of d).threads ≤ most_threads (rows_of d).version
+  pub version : IsWithin 1 last_version (description_of d).version
+  pub sweep : IsWithin (least_sweep (description_of d).version) (most_sweep (description_of d).version) (description_of d).sweep
+  pub quantum : IsWithin 1 1000000 (description_of d).quantum
+  pub devices : length (description_of d).devices ≤ 16
+  pub shared : length (description_of d).shared ≤ 64
+  pub sealed : length (description_of d).sealed ≤ 64
+  pub compartments : length (description_of d).compartments ≤ 64
+  pub libraries : length (description_of d).libraries ≤ 32
+  pub threads : length (description_of d).threads ≤ most_threads (description_of d).version
 
 -- the version is read whole, and so is the sweep rate
 uncut : (low high default : ℕ) (o : Option Data) (needed : Bool) (name : List ℕ) → high < 2 ^ 32 → default ≤ high
@@ -191,8 +191,8 @@ firmware_good d g =
     let p = part_good part.Firmware d true (keeps_version (version_of d) d) g.kinds g.limits in
     let m = p.each in
     let version = given_or (codes "version") 1 2 1 (get (codes "version") d) (omega arith) (omega arith, omega arith) m.1.0.there m.1.0.kept in
-    let same : (rows_of d).version ≡ version_of d = uncut 1 2 1 (get (codes "version") d) false (codes "version") (omega arith) (omega arith) m.1.0.there m.1.0.kept in
-    let rate : (rows_of d).sweep ≡ number_or 64 (codes "sweep") d = uncut 1 65536 64 (get (codes "sweep") d) false (codes "sweep") (omega arith) (omega arith) m.1.1.0.there m.1.1.0.kept in
+    let same : (description_of d).version ≡ version_of d = uncut 1 2 1 (get (codes "version") d) false (codes "version") (omega arith) (omega arith) m.1.0.there m.1.0.kept in
+    let rate : (description_of d).sweep ≡ number_or 64 (codes "sweep") d = uncut 1 65536 64 (get (codes "sweep") d) false (codes "sweep") (omega arith) (omega arith) m.1.1.0.there m.1.1.0.kept in
     let a = nat_le (version_of d) last_version in
     let b = is_in_range (least_sweep (version_of d)) (most_sweep (version_of d)) (number_or 64 (codes "sweep") d) in
     let c = nat_le (length (list_at (codes "threads") d)) (most_threads (version_of d)) in
@@ -250,13 +250,13 @@ ram_by d x g =
         by (Some n) t k = let w = (within_is low high n (both_left (is_in_range low high n) (nat_eq (n % 16) 0) k)).1 in cut_small n (omega (arith, w, small))
 
 pub ram_good : (d : Data) → Good d (spot (place part.Firmware 0 0) d d) → AllByRecursion (Good d) (ram_spots d (get (codes "ram") d))
-    → RamGood (version_of d) (rows_of d).ram
+    → RamGood (version_of d) (description_of d).ram
 unfolding members_of
 ram_good d g h =
     let m = (part_good part.Firmware d true (keeps_version (version_of d) d) g.kinds g.limits).each in
     ram_by d (member_at (codes "ram") d) (ram_there d (get (codes "ram") d) m.1.1.1.0.there h)
 
-pub version_is : (d : Data) → Good d (spot (place part.Firmware 0 0) d d) → (rows_of d).version ≡ version_of d
+pub version_is : (d : Data) → Good d (spot (place part.Firmware 0 0) d d) → (description_of d).version ≡ version_of d
 unfolding members_of
 version_is d g =
     let m = (part_good part.Firmware d true (keeps_version (version_of d) d) g.kinds g.limits).each in

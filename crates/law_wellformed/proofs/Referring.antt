@@ -17,7 +17,7 @@ use Rattle.def_description.specs.declared.tables.TheConstants.{SERVICES, POSTURE
 use Rattle.def_description.specs.Members.{text_or, list_at, says}
 use Rattle.def_description.specs.Tables.{row, service_of, posture_of}
 use Rattle.def_description.specs.Kinds.{is_kind_there}
-use Rattle.def_description.specs.Reading.{device_of, shared_of, sealed_of, compartment_of, export_of, library_of, lexport_of, rows_of}
+use Rattle.def_description.specs.Reading.{device_of, shared_of, sealed_of, compartment_of, export_of, library_of, lexport_of, description_of}
 use Rattle.def_description.specs.References.{target, target_or, names_at, export_name, exports_in, exports_at, resolves, is_taken, is_served}
 use Rattle.def_description.specs.Rows.{Target, SharedRow, SealedRow}
 use Rattle.def_description.specs.Named.{device_names, shared_names, sealed_names}
@@ -58,23 +58,23 @@ posture_set name = by (posture_of name) refl
 
 -- ---- references
 
-pub device_there : (d : Data) (name : List ℕ) → among name (names_at (codes "devices") d) ≡ true → Has (device_names (rows_of d)) name
+pub device_there : (d : Data) (name : List ℕ) → among name (names_at (codes "devices") d) ≡ true → Has (device_names (description_of d)) name
 device_there d name e =
     let xs = list_at (codes "devices") d in
     let h = among_maps (text_or (codes "name")) name xs e in
-    subst (Has (device_names (rows_of d))) (sym h.gives) (has_mapped (λ (x : DeviceRow). x.name) (map device_of xs) (device_of h.from) (has_mapped device_of xs h.from h.listed))
+    subst (Has (device_names (description_of d))) (sym h.gives) (has_mapped (λ (x : DeviceRow). x.name) (map device_of xs) (device_of h.from) (has_mapped device_of xs h.from h.listed))
 
-pub shared_there : (d : Data) (name : List ℕ) → among name (names_at (codes "shared") d) ≡ true → Has (shared_names (rows_of d)) name
+pub shared_there : (d : Data) (name : List ℕ) → among name (names_at (codes "shared") d) ≡ true → Has (shared_names (description_of d)) name
 shared_there d name e =
     let xs = list_at (codes "shared") d in
     let h = among_maps (text_or (codes "name")) name xs e in
-    subst (Has (shared_names (rows_of d))) (sym h.gives) (has_mapped (λ (x : SharedRow). x.name) (map shared_of xs) (shared_of h.from) (has_mapped shared_of xs h.from h.listed))
+    subst (Has (shared_names (description_of d))) (sym h.gives) (has_mapped (λ (x : SharedRow). x.name) (map shared_of xs) (shared_of h.from) (has_mapped shared_of xs h.from h.listed))
 
-pub sealed_there : (d : Data) (name : List ℕ) → among name (names_at (codes "sealed") d) ≡ true → Has (sealed_names (rows_of d)) name
+pub sealed_there : (d : Data) (name : List ℕ) → among name (names_at (codes "sealed") d) ≡ true → Has (sealed_names (description_of d)) name
 sealed_there d name e =
     let xs = list_at (codes "sealed") d in
     let h = among_maps (text_or (codes "name")) name xs e in
-    subst (Has (sealed_names (rows_of d))) (sym h.gives) (has_mapped (λ (x : SealedRow). x.name) (map sealed_of xs) (sealed_of h.from) (has_mapped sealed_of xs h.from h.listed))
+    subst (Has (sealed_names (description_of d))) (sym h.gives) (has_mapped (λ (x : SealedRow). x.name) (map sealed_of xs) (sealed_of h.from) (has_mapped sealed_of xs h.from h.listed))
 
 full_name : Data → Data → List ℕ
 full_name owner x = export_name (text_or (codes "name") owner) (text_or (codes "name") x)
@@ -83,7 +83,7 @@ exports_are : (owner : Data) → exports_in owner ≡ map (full_name owner) (lis
 unfolding full_name
 exports_are owner = map_twice (export_name (text_or (codes "name") owner)) (text_or (codes "name")) (list_at (codes "exports") owner)
 
-pub call_there : (d : Data) (name : List ℕ) → among name (exports_at (codes "compartments") d) ≡ true → IsCall (rows_of d) name
+pub call_there : (d : Data) (name : List ℕ) → among name (exports_at (codes "compartments") d) ≡ true → IsCall (description_of d) name
 unfolding full_name
 call_there d name e =
     let cs = list_at (codes "compartments") d in
@@ -98,7 +98,7 @@ call_there d name e =
       spelled = k.gives;
     }
 
-pub lent_there : (d : Data) (name : List ℕ) → among name (exports_at (codes "libraries") d) ≡ true → IsLent (rows_of d) name
+pub lent_there : (d : Data) (name : List ℕ) → among name (exports_at (codes "libraries") d) ≡ true → IsLent (description_of d) name
 unfolding full_name
 lent_there d name e =
     let cs = list_at (codes "libraries") d in
@@ -120,7 +120,7 @@ served_there name e = by (service_of name) refl e
     by None is h = absurd (let no : false ≡ true = h in cc)
     by (Some n) is h = (n, is, (service_least name n is, leb-true n last_service h))
 
-pub resolved : (d : Data) (f : Form) (name : List ℕ) → resolves d f name ≡ true → is_served f name ≡ true → Resolves (rows_of d) f name
+pub resolved : (d : Data) (f : Form) (name : List ℕ) → resolves d f name ≡ true → is_served f name ≡ true → Resolves (description_of d) f name
 resolved d form.Device name e s = device_there d name e
 resolved d form.Shared name e s = shared_there d name e
 resolved d form.Sealed name e s = sealed_there d name e

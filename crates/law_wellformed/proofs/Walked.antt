@@ -16,7 +16,7 @@ use Rattle.def_description.specs.Names.{is_well_named, no_names, first_twice}
 use Rattle.def_description.specs.Limits.{keeps_limits}
 use Rattle.def_description.specs.References.{refers_at, rights_fit_at, is_served_at}
 use Rattle.def_description.specs.Addresses.{address_fault}
-use Rattle.def_description.specs.Reading.{rows_of}
+use Rattle.def_description.specs.Reading.{description_of}
 use Rattle.def_description.specs.WellFormed.{place_of, first_failing, fault, fault_or, first_fault, fault_of}
 use Rattle.law_lists.proofs.Alls.{all_left, all_right}
 
@@ -47,7 +47,7 @@ pub record Good (d : Data) (s : Spot) : Type 0 where
 pub record Faultless (d : Data) : Type 0 where
   pub each : AllByRecursion (Good d) (spots_of d)
   pub once : first_twice no_names (spots_of d) ≡ None
-  pub addresses : address_fault (rows_of d) ≡ None
+  pub addresses : address_fault (description_of d) ≡ None
 
 all_good : (d : Data) (ss : List Spot)
     → AllByRecursion (λ s. has_kinds s ≡ true) ss → AllByRecursion (λ s. is_well_named s ≡ true) ss
@@ -62,7 +62,7 @@ pub faultless : (d : Data) → fault_of d ≡ None → Faultless d
 unfolding first_fault
 faultless d e =
     let ss = spots_of d in
-    let a10 = fault_or 10 (address_fault (rows_of d)) None in
+    let a10 = fault_or 10 (address_fault (description_of d)) None in
     let a9 = fault_or 9 (first_failing is_served_at ss) a10 in
     let a8 = fault_or 8 (first_failing rights_fit_at ss) a9 in
     let a7 = fault_or 7 (first_failing (refers_at d) ss) a8 in
@@ -82,7 +82,7 @@ faultless d e =
       each = all_good d ss (none_fails has_kinds ss h2.0) (none_fails is_well_named ss h4.0) (none_fails keeps_limits ss h6.0)
           (none_fails (refers_at d) ss h7.0) (none_fails rights_fit_at ss h8.0) (none_fails is_served_at ss h9.0);
       once = h5.0;
-      addresses = (neither 10 (address_fault (rows_of d)) None h9.1).0;
+      addresses = (neither 10 (address_fault (description_of d)) None h9.1).0;
     }
 
 -- ---- the parts of the walk

@@ -5,7 +5,7 @@
 ghost use Rattle.std.specs.Prelude.{◌≡◌, List, None, ℕ};
 ghost use Rattle.serde_json.specs.Data.{Data};
 ghost use Rattle.def_description.specs.Lawful.{IsLawful};
-ghost use Rattle.def_description.specs.Reading.{rows_of};
+ghost use Rattle.def_description.specs.Reading.{description_of};
 ghost use Rattle.def_description.specs.Rows.{DescRow};
 ghost use Rattle.def_description.specs.WellFormed.{WellFormed, fault_of};
 
@@ -13,6 +13,6 @@ ghost use Rattle.def_description.specs.WellFormed.{WellFormed, fault_of};
 /// limit, are named by names that stand once, name what is there, with rights that fit, and lie at
 /// addresses that fit.
 pub fn well_formed_is_lawful()
-    ensures value { (d : Data) → fault_of d ≡ None → IsLawful (rows_of d) }
+    ensures value { (d : Data) → fault_of d ≡ None → IsLawful (description_of d) }
     ensures bytes { (bytes : List ℕ) (rows : DescRow) → WellFormed bytes rows → IsLawful rows }
 {}

@@ -25,7 +25,7 @@ use Rattle.ct_heap.specs.declared.rows.Object.{Object as Told}
 use Rattle.ct_heap.specs.declared.rows.HeapRefusal.{HeapRefusal}
 use Rattle.ct_heap.specs.declared.rows.NotWhole.{NotWhole}
 use Rattle.ct_heap.specs.Lookups.{whole_of}
-use Rattle.ct_heap.specs.Effects.{Same, made, Allocates, Refuses, Frees, Paints, NoneStale, Flushes}
+use Rattle.ct_heap.specs.Effects.{Same, made, Allocates, RefusesSize, Frees, Paints, NoneStale, Flushes}
 use Rattle.ct_revoke.specs.Slices.{IsSliced, CleanFrom}
 use Rattle.ct_revoke.proofs.Filters.{untagged_passes, passes_clean}
 use Rattle.run_rows.specs.declared.heap.swept.TheConstants.{RAM}
@@ -108,7 +108,7 @@ same_swept s n hs count heap memory is =
     (subst (λ (gs : List Granule). IsSwept (record s { granules = gs; made = count })) (sym memory) is)
 
 pub after_allocate : (s : SweptRow) (n : HeapRow) (hs : List Granule) (quota size : ℕ) (result : Result Told HeapRefusal) → IsSwept s → Laid n hs
-    → MatchResult result (λ o. Allocates s.heap n s.granules hs quota size o.number o.base o.length o.live) (λ e. Refuses s.heap s.granules quota size e)
+    → MatchResult result (λ o. Allocates s.heap n s.granules hs quota size o.number o.base o.length o.live) (λ e. RefusesSize s.heap s.granules quota size e)
     → OnErr result ((n ≡ s.heap) × (hs ≡ s.granules)) → IsSwept (record s { heap = n; granules = hs; made = s.made + 1 })
 after_allocate s n hs quota size (Ok o) is laid answer refused = allocated s n hs quota size o.number o.base o.length o.live is laid answer
 after_allocate s n hs quota size (Err e) is laid answer refused = same_swept s n hs (s.made + 1) refused.0 refused.1 (asked s is)

@@ -6,7 +6,7 @@ ghost use Rattle.def_memory.specs.Granules.{plain};
 use crate::seen::is;
 use ct_areas::Area;
 use ct_cap::{Live, Posture, Trap};
-use ct_engine::{Called, Engine, Fresh, Heap, Region};
+use ct_engine::{Called, Engine, First, Fresh, Heap, Region};
 use ct_entry::Entries;
 use ct_mem::Plain;
 use def_profile::traps::TAG_CODE;
@@ -30,35 +30,37 @@ fn fresh(number: u32) -> Fresh
       trusted = 2147483376 + 288 * number;
       trusted_length = 288;
     } }
-    ensures zero { slice_index_or result.regs 0 (plain 0) ≡ plain 0 }
+    ensures zero { slice_index_or result.first.regs 0 (plain 0) ≡ plain 0 }
 {
     let none = Live::integer(0);
     Fresh {
-        pcc: Live::integer(0x100),
-        regs: [
-            none,
-            none,
-            Live::integer(number),
-            none,
-            none,
-            none,
-            none,
-            none,
-            none,
-            none,
-            none,
-            none,
-            none,
-            none,
-            none,
-            none,
-        ],
-        posture: Posture {
-            off: false,
-            source: 0,
+        first: First {
+            pcc: Live::integer(0x100),
+            regs: [
+                none,
+                none,
+                Live::integer(number),
+                none,
+                none,
+                none,
+                none,
+                none,
+                none,
+                none,
+                none,
+                none,
+                none,
+                none,
+                none,
+                none,
+            ],
+            posture: Posture {
+                off: false,
+                source: 0,
+            },
+            actor: 1,
+            export: 7,
         },
-        actor: 1,
-        export: 7,
         area: Area {
             ram: 0x8000_0000,
             stack: 0x8000_0300 + 256 * number,
@@ -90,7 +92,7 @@ fn threads_take_turns(rt: HostRuntime) -> Result<(), NoMemory> {
     is(&rt, 1, engine.count() == 2);
     engine.pick(1);
     is(&rt, 2, engine.register(1, 2).cap.word == 2);
-    engine.go(
+    engine.jump_to(
         1,
         Live::integer(0x200),
         Posture {
@@ -125,8 +127,8 @@ fn call_without_a_sentry_traps(rt: HostRuntime) -> Result<(), NoMemory> {
     let mut engine = Engine::start(rt.alloc(), memory, REGION, &threads, heap)?;
     engine.pick(1);
     let posture = engine.posture(1);
-    engine.go(1, Live::integer(0x200), posture, 6, Live::integer(0));
-    engine.go(1, Live::integer(0x200), posture, 1, Live::integer(0));
+    engine.jump_to(1, Live::integer(0x200), posture, 6, Live::integer(0));
+    engine.jump_to(1, Live::integer(0x200), posture, 1, Live::integer(0));
     let trap = Trap::capability(TAG_CODE, 1);
     is(&rt, 1, engine.call(1, &none) == Called::Trapped { trap });
     drop(engine);
@@ -143,7 +145,7 @@ fn last_frame_ends(rt: HostRuntime) -> Result<(), NoMemory> {
     let memory = Plain::new(rt.alloc(), 2048)?;
     let mut engine = Engine::start(rt.alloc(), memory, REGION, &threads, heap)?;
     engine.pick(1);
-    is(&rt, 1, !engine.give_back(1, &none));
+    is(&rt, 1, !engine.return_to_caller(1, &none));
     is(&rt, 2, engine.running() == None);
     drop(engine);
     drop(none);

@@ -11,7 +11,7 @@ use crate::seen::is;
 use ct_cap::{Cap, Live, Shadow, Trap, shrink};
 use ct_entry::Entries;
 use ct_mem::{Memory, Plain};
-use ct_switch::{Area, Called, Thread, call, give_back, resume, save, unwind};
+use ct_switch::{Area, Called, Thread, call, resume, return_to_caller, save, unwind};
 use def_profile::traps::TAG_CODE;
 use def_refusals::NoMemory;
 use std::alloc::{AllocError, Global};
@@ -68,7 +68,7 @@ fn given_back(t: &mut Thread, mem: &mut Plain, e: &Entries) -> Option<bool> {
     if !may_call(t, mem, e) {
         return None;
     }
-    Some(give_back(t, mem, e))
+    Some(return_to_caller(t, mem, e))
 }
 
 /// A capability goes to an offset of RAM.

@@ -51,6 +51,9 @@ fn words_are_kept(rt: HostRuntime) {
     holds(&rt, &decoded, 0x8000_0000, LOAD, Some(load));
     decoded.keep(0x8000_1000, SUM);
     holds(&rt, &decoded, 0x8000_0000, SUM, Some(sum));
+    // and the first one again, which is kept beside the slot
+    decoded.keep(0x8000_0000, LOAD);
+    holds(&rt, &decoded, 0x8000_1000, LOAD, Some(load));
     // no instruction takes the place of one
     decoded.keep(0x8000_0004, 0xFFFF_FFFF);
     holds(&rt, &decoded, 0x8000_0004, 0xFFFF_FFFF, None);

@@ -1,7 +1,7 @@
 use Rattle.std.proofs.Common.{refl}
 use Rattle.std.specs.Fmt.{digits}
 use Rattle.serde_json.proofs.OnLiterals.{serde_json_on_literals}
-use Rattle.def_boot.specs.Entries.{rows_of}
+use Rattle.def_boot.specs.Entries.{entry_rows}
 use Rattle.def_boot.specs.Gates.{gates_of, entries_of}
 use Rattle.def_reach.specs.Roots.{gate_for, root_of}
 use Rattle.def_words.specs.Permissions.{bit, set_where, unpacked}
@@ -12,5 +12,5 @@ use Rattle.def_lines.specs.Report.{data_over, report_data, report_line}
 use Rattle.law_lines.proofs.tiny_reported.Goals as goal
 
 pub returns : goal.returns
-unfolding serde_json_on_literals digits rows_of gates_of entries_of gate_for root_of bit set_where unpacked are_joined edges labels_of service_name rights_text data_over report_data report_line
+unfolding serde_json_on_literals digits entry_rows gates_of entries_of gate_for root_of bit set_where unpacked are_joined edges labels_of service_name rights_text data_over report_data report_line
 returns c = refl

@@ -1,5 +1,5 @@
-use Rattle.law_tokens.proofs.Openings.{opens_tokens}
+use Rattle.law_tokens.proofs.Openings.{finds_sealed, opens_tokens}
 use Rattle.law_tokens.proofs.tokens_opened.Goals as goal
 
 pub returns : goal.returns
-returns c = λ b s t k h. opens_tokens b s t k.confined h
+returns c = record { found = λ b s k h. finds_sealed b.image s k.confined h; opens = opens_tokens }

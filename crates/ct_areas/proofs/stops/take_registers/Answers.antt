@@ -1,5 +1,5 @@
-use Rattle.std.proofs.Common.{◌≡◌, ◌∷◌, ◌/◌, ◌∙◌, ap, refl, arith}
-use Rattle.def_memory.specs.Granules.{plain}
+use Rattle.std.proofs.Common.{◌≡◌, ◌∷◌, ◌+◌, ◌*◌, ◌/◌, ◌∙◌, ap, refl, arith}
+use Rattle.def_memory.specs.Granules.{cap_in, plain}
 use Rattle.def_machine.specs.Memory.{filtered_in}
 use Rattle.ct_areas.proofs.Stopped.{take_step, take_end}
 use Rattle.ct_areas.proofs.stops.take_registers.Goals as goal
@@ -7,9 +7,8 @@ use Rattle.ct_areas.proofs.stops.take_registers.Goals as goal
 pub loop-i-preserved : goal.loop-i-preserved
 loop-i-preserved g c =
     let gs = g.M.Memory.granules c.args.mem.now in
-    take_step (filtered_in c.args.ram gs) gs c.args.registers.now c.loop-i.registers _ c.args.at c.loop-i.i c.load_cap.result c.filter.result
-    c.requires.even c.told-registers c.loop-i-test.true c.loop-i.invariant c.load_cap.ensures
-    (c.filter.ensures ∙ ap (λ x. filtered_in c.args.ram gs x) c.decoded.ensures) refl
+    take_step (filtered_in c.args.ram gs) gs c.args.registers.now c.loop-i.registers _ c.args.at c.loop-i.i (cap_in gs ((c.args.at + 8 * c.loop-i.i) / 8)) c.take.new.register
+    c.requires.even c.told-registers c.loop-i-test.true c.loop-i.invariant refl c.take.ensures refl
 
 pub returns : goal.returns
 returns g c =

@@ -1,6 +1,6 @@
 use Rattle.std.proofs.Common.{◌≡◌, ◌+◌, ◌∙◌, length, ap, sym, subst, arith}
 use Rattle.def_image.specs.Members.{text_base, code_number}
-use Rattle.law_boot_words.specs.Booting.{PutsBytes}
+use Rattle.def_boot_words.specs.Booting.{PutsBytes}
 use Rattle.law_boot_words.proofs.Putting.{puts_text, puts_initial}
 use Rattle.ct_boot.specs.Slots.{SlotsPut}
 use Rattle.ct_boot.proofs.Fits.{own_code_end}

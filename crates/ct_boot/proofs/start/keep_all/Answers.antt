@@ -1,6 +1,6 @@
 use Rattle.std.proofs.Common.{◌≡◌, ◌<◌, ◌≤◌, ◌∙◌, Some, length, map, take, ap, sym, arith}
 use Rattle.std.proofs.lemmas.List.{length-set}
-use Rattle.ct_boot.specs.Starts.{starts_of, told}
+use Rattle.ct_boot.specs.Starts.{starts_of, first_start}
 use Rattle.ct_boot.proofs.Firsts.{fill_next, fill_done, start_at}
 use Rattle.ct_boot.proofs.Ranges.{got_of}
 use Rattle.ct_boot.proofs.start.keep_all.Goals as goal
@@ -13,7 +13,7 @@ loop-index-preserved c =
     let got = got_of c.parts.inside.threads.items c.args.parts.now.threads c.loop-index.index c.index.result.now threads lt c.index.ensures in
     let room = c.requires.room in
     let size = c.loop-index.invariant.1 in (
-      fill_next told c.loop-index.rows (starts_of p) c.loop-index.index c.kept_of.result c.loop-index.invariant.0 (start_at p c.loop-index.index c.index.result.now got ∙ ap (λ f. Some f) (sym c.kept_of.ensures)) (omega (arith, lt, room, size)),
+      fill_next first_start c.loop-index.rows (starts_of p) c.loop-index.index c.kept_of.result c.loop-index.invariant.0 (start_at p c.loop-index.index c.index.result.now got ∙ ap (λ f. Some f) (sym c.kept_of.ensures)) (omega (arith, lt, room, size)),
       length-set c.loop-index.rows c.loop-index.index c.kept_of.result ∙ size,
     )
 
@@ -24,4 +24,4 @@ returns-clause-kept c =
     let past : length c.args.parts.now.threads ≤ c.loop-index.index = omega (arith, c.loop-index-test.false, c.len-index-end.ensures, ap length threads) in
     let most : c.loop-index.index ≤ length c.args.parts.now.threads = omega (arith, c.loop-index.auto.index-end, c.len-index-end.ensures, ap length threads) in
     let end : length c.args.parts.now.threads ≡ c.loop-index.index = omega (arith, past, most) in
-    ap (λ n. map told (take n c.loop-index.rows)) end ∙ fill_done p (map told (take c.loop-index.index c.loop-index.rows)) c.loop-index.index c.loop-index.invariant.0 past
+    ap (λ n. map first_start (take n c.loop-index.rows)) end ∙ fill_done p (map first_start (take c.loop-index.index c.loop-index.rows)) c.loop-index.index c.loop-index.invariant.0 past

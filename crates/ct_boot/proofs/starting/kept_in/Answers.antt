@@ -2,7 +2,7 @@ use Rattle.std.proofs.Common.{◌≡◌, ◌+◌, ◌∙◌, length, ap, arith}
 use Rattle.ct_entry.specs.declared.rows.Owner.TheVariants.{Compartment}
 use Rattle.def_boot.specs.Boot.{entry_number}
 use Rattle.def_boot.specs.Entries.{stack_row}
-use Rattle.def_boot.specs.Made.{made_as}
+use Rattle.def_boot.specs.Made.{entry_cap_as}
 use Rattle.def_image.specs.Members.{code_number, globals_number, text_base}
 use Rattle.def_words.specs.Derive.{memory_root}
 use Rattle.ct_boot.proofs.Fits.{own_export_end, stack_end}
@@ -32,7 +32,7 @@ returns c =
     ∙ entry_is p t own _ _ c.requires.there number code in
     kept_is p c.args.index t _ _ _ _ _ _
     (c.shrink.ensures ∙ c.pcc_of.ensures (Compartment t.compartment) ∙ pcc_is p t own c.args.export.now _ _ c.requires.there c.requires.enters number code)
-    (c.shrink-2.ensures ∙ c.own_stack-stack.ensures c.args.index ∙ ap (λ n. made_as memory_root n (stack_row c.args.index t) (t.stack + t.stack_length) 0) c.stack_number.ensures ∙ stack_is p c.args.index t c.requires.one)
+    (c.shrink-2.ensures ∙ c.own_stack-stack.ensures c.args.index ∙ ap (λ n. entry_cap_as memory_root n (stack_row c.args.index t) (t.stack + t.stack_length) 0) c.stack_number.ensures ∙ stack_is p c.args.index t c.requires.one)
     (c.shrink-3.ensures ∙ c.own_globals.ensures t.compartment ∙ globals_made_are p t.compartment own _ c.requires.there (c.code_number-number.ensures.globals ∙ ap (λ x. globals_number p x.compartment) c.thread.view_is))
     (c.posture_of.ensures ∙ posture_is p t own c.args.export.now _ c.requires.there c.requires.enters entry)
     (ap (λ x. x.compartment) c.thread.view_is)

@@ -1,6 +1,6 @@
 use Rattle.std.proofs.Common.{◌+◌, ◌-◌, sym, subst}
 use Rattle.def_chunks.specs.Gaps.{FreeLinked}
-use Rattle.ct_chunks.proofs.Cuts.{carving, carve_done, carve_apart, carve_keeps}
+use Rattle.ct_chunks.proofs.Cuts.{carving, carve_done, carve_apart, carve_keeps, carve_heads}
 use Rattle.ct_chunks.proofs.carving.carve.Goals as goal
 
 pub cut_back-next-requires-clause-tiled : goal.cut_back-next-requires-clause-tiled
@@ -41,3 +41,6 @@ returns-clause-chunks g c = carve_done c.args.range.now c.take.new.range (g.M.Me
 
 pub returns-clause-keeps : goal.returns-clause-keeps
 returns-clause-keeps g c = carve_keeps c.args.range.now (g.M.Memory.granules c.args.mem.now) (g.M.Memory.granules c.cut_back-next.new.mem) (g.M.Memory.granules c.cut_front-before.new.mem) (g.M.Memory.granules c.take.new.mem) c.args.gap.now c.args.length c.cut_back-next.result c.cut_front-before.result.0 c.cut_front-before.result.1 c.requires.settled c.requires.stands c.requires.fitting c.cut_back-next.ensures c.cut_front-before.ensures c.take.ensures.keeps
+
+pub returns-clause-heads : goal.returns-clause-heads
+returns-clause-heads g c = carve_heads c.args.range.now c.take.new.range (g.M.Memory.granules c.args.mem.now) (g.M.Memory.granules c.cut_back-next.new.mem) (g.M.Memory.granules c.cut_front-before.new.mem) (g.M.Memory.granules c.take.new.mem) c.args.gap.now c.args.length c.args.number c.cut_back-next.result c.cut_front-before.result.0 c.cut_front-before.result.1 c.requires.settled c.requires.stands c.requires.fitting c.cut_back-next.ensures c.cut_front-before.ensures c.take.ensures.chunks c.take.ensures.heads

@@ -39,4 +39,4 @@ pub overflow_sub-result : goal.overflow_sub-result
 overflow_sub-result g c = let k = sized c.args.range.now (g.M.Memory.granules c.args.mem.now) c.args.gap.now.at c.args.gap.now.size c.args.gap.now.next c.requires.tiled c.requires.stands.free_stands in let low = k.low in omega (arith, low)
 
 pub returns : goal.returns
-returns g c = back_some c.args.range.now (g.M.Memory.granules c.args.mem.now) (g.M.Memory.granules c.split.new.mem) c.args.gap.now c.args.back (c.args.gap.now.at + (c.args.gap.now.size - c.args.back) - c.args.range.now.base) c.requires.tiled c.requires.stands c.if-back-eq0.false c.requires.fits c.split.ensures.tiled c.split.ensures.chunks c.split.ensures.keeps refl
+returns g c = back_some c.args.range.now (g.M.Memory.granules c.args.mem.now) (g.M.Memory.granules c.split.new.mem) c.args.gap.now c.args.back (c.args.gap.now.at + (c.args.gap.now.size - c.args.back) - c.args.range.now.base) c.requires.tiled c.requires.stands c.if-back-eq0.false c.requires.fits c.split.ensures.tiled c.split.ensures.chunks c.split.ensures.keeps c.split.ensures.heads refl

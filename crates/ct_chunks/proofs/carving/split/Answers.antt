@@ -1,6 +1,7 @@
 use Rattle.std.proofs.Common.{◌+◌, ◌-◌, ◌*◌, ◌^◌, arith, length}
+use Rattle.def_chunks.specs.Tiles.{chunks}
 use Rattle.law_chunks.proofs.Carves.{split_done}
-use Rattle.ct_chunks.proofs.Cuts.{sized, split_keeps}
+use Rattle.ct_chunks.proofs.Cuts.{sized, split_keeps, split_heads}
 use Rattle.ct_chunks.proofs.carving.split.Goals as goal
 
 pub overflow_add-at : goal.overflow_add-at
@@ -41,3 +42,7 @@ returns-clause-chunks g c = (split_done c.args.range.now (g.M.Memory.granules c.
 
 pub returns-clause-keeps : goal.returns-clause-keeps
 returns-clause-keeps g c = split_keeps c.args.range.now (g.M.Memory.granules c.args.mem.now) (g.M.Memory.granules c.write_head.new.mem) (g.M.Memory.granules c.write_head-2.new.mem) c.args.at c.args.size c.args.first c.args.next (c.args.size - c.args.first + c.args.next * 2 ^ 32) (c.args.first + (c.args.at + c.args.first - c.args.range.now.base) * 2 ^ 32) c.requires.tiled c.requires.stands c.requires.whole c.requires.some c.requires.fits c.write_head.ensures.is c.write_head-2.ensures.is
+
+pub returns-clause-heads : goal.returns-clause-heads
+returns-clause-heads g c = split_heads c.args.range.now (g.M.Memory.granules c.args.mem.now) (g.M.Memory.granules c.write_head.new.mem) (g.M.Memory.granules c.write_head-2.new.mem) (chunks c.args.range.now (g.M.Memory.granules c.write_head-2.new.mem)) c.args.at c.args.size c.args.first c.args.next (c.args.size - c.args.first + c.args.next * 2 ^ 32) (c.args.first + (c.args.at + c.args.first - c.args.range.now.base) * 2 ^ 32) c.requires.tiled c.requires.stands c.requires.whole c.write_head.ensures.is c.write_head-2.ensures.is
+    (split_done c.args.range.now (g.M.Memory.granules c.args.mem.now) (g.M.Memory.granules c.write_head.new.mem) (g.M.Memory.granules c.write_head-2.new.mem) c.args.at c.args.size c.args.first c.args.next c.requires.tiled c.requires.stands c.requires.whole c.requires.some c.requires.fits c.write_head.ensures.is c.write_head-2.ensures.is).chunks_are

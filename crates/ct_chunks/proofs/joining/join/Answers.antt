@@ -33,6 +33,9 @@ returns-clause-chunks g c = (ends c.args.range.now (g.M.Memory.granules c.args.m
 pub returns-clause-keeps : goal.returns-clause-keeps
 returns-clause-keeps g c = (ends c.args.range.now (g.M.Memory.granules c.args.mem.now) c.loop-left.range (g.M.Memory.granules c.loop-left.mem) c.loop-left.last c.loop-left.left c.requires.tiled c.loop-left.invariant c.loop-left-test.false).keeps
 
+pub returns-clause-heads : goal.returns-clause-heads
+returns-clause-heads g c = (ends c.args.range.now (g.M.Memory.granules c.args.mem.now) c.loop-left.range (g.M.Memory.granules c.loop-left.mem) c.loop-left.last c.loop-left.left c.requires.tiled c.loop-left.invariant c.loop-left-test.false).heads
+
 pub returns-clause-range : goal.returns-clause-range
 returns-clause-range g c = (ends c.args.range.now (g.M.Memory.granules c.args.mem.now) c.loop-left.range (g.M.Memory.granules c.loop-left.mem) c.loop-left.last c.loop-left.left c.requires.tiled c.loop-left.invariant c.loop-left-test.false).range
 

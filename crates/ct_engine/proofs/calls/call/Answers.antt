@@ -3,8 +3,8 @@ use Rattle.std.proofs.lemmas.List.{length-set}
 use Rattle.def_words.specs.declared.Cap.{Cap}
 use Rattle.def_step.specs.Switch.{Switched}
 use Rattle.def_machine.specs.State.{register}
-use Rattle.ct_switch.specs.Calls.{told, switch_in}
-use Rattle.ct_engine.specs.Seen.{seen, thread}
+use Rattle.ct_switch.specs.Calls.{call_outcome, switch_in}
+use Rattle.ct_engine.specs.Seen.{engine_view, thread}
 use Rattle.ct_engine.specs.Calls.{after_call}
 use Rattle.ct_engine.proofs.Whole.{running_kept}
 use Rattle.ct_engine.proofs.Stacks.{stacks_turn}
@@ -42,8 +42,8 @@ returns-clause-result g c =
     let rows = c.args.rows.now in
     let r = c.index_mut.result.now in
     c.call_row.ensures.result
-    ∙ ap (λ (x : Cap). told x (switch_in gs c.args.e.now r)) (sym (register_is gs rows c.args.t 6 r c.requires.holds c.requires.runs c.index_mut.ensures.value))
-    ∙ ap (λ (w : Switched). told (register (thread (seen gs rows) c.args.t) 6) w) (switch_is gs rows c.args.t r c.args.e.now c.requires.holds c.requires.runs c.index_mut.ensures.value)
+    ∙ ap (λ (x : Cap). call_outcome x (switch_in gs c.args.e.now r)) (sym (register_is gs rows c.args.t 6 r c.requires.holds c.requires.runs c.index_mut.ensures.value))
+    ∙ ap (λ (w : Switched). call_outcome (register (thread (engine_view gs rows) c.args.t) 6) w) (switch_is gs rows c.args.t r c.args.e.now c.requires.holds c.requires.runs c.index_mut.ensures.value)
 
 pub returns-clause-seen : goal.returns-clause-seen
 returns-clause-seen g c =
@@ -53,4 +53,4 @@ returns-clause-seen g c =
     let e = c.args.e.now in
     call_sees gs (g.M.Memory.granules c.call_row.new.mem) rows c.args.t r c.call_row.new.t e c.requires.holds c.requires.runs c.index_mut.ensures.value c.requires.may
     (switch_in gs e r) refl c.call_row.ensures.touches c.call_row.ensures.area c.call_row.ensures.thread
-    ∙ ap (λ (w : Switched). after_call (seen gs rows) e c.args.t w) (switch_is gs rows c.args.t r e c.requires.holds c.requires.runs c.index_mut.ensures.value)
+    ∙ ap (λ (w : Switched). after_call (engine_view gs rows) e c.args.t w) (switch_is gs rows c.args.t r e c.requires.holds c.requires.runs c.index_mut.ensures.value)

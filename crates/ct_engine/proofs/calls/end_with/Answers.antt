@@ -2,7 +2,7 @@ use Rattle.std.proofs.Common.{ℕ, ◌≡◌, Option, length, refl, sym, ◌∙�
 use Rattle.std.proofs.Math.ListN.{set}
 use Rattle.std.proofs.lemmas.List.{length-set}
 use Rattle.def_memory.specs.Granules.{plain}
-use Rattle.ct_engine.specs.Seen.{seen_of, seen}
+use Rattle.ct_engine.specs.Seen.{seen_of, engine_view}
 use Rattle.ct_engine.specs.Kept.{AreasFrom}
 use Rattle.ct_engine.specs.Calls.{ended_with}
 use Rattle.ct_engine.proofs.Whole.{running_kept}
@@ -50,7 +50,7 @@ returns-clause-seen g c =
     let rows = c.args.rows.now in
     let r = c.index_mut.result.now in
     let q = c.end_row-more.new.t in
-    subst (λ (o : Option ℕ). seen_of hs rows (set rows.list.items c.args.t q) o ≡ ended_with (seen gs rows) c.args.t c.args.value) (sym c.still-rows.ensures)
+    subst (λ (o : Option ℕ). seen_of hs rows (set rows.list.items c.args.t q) o ≡ ended_with (engine_view gs rows) c.args.t c.args.value) (sym c.still-rows.ensures)
     (end_sees gs hs rows c.args.t r q c.end_row-more.result (λ f. plain c.args.value) (λ f. plain 0)
     (λ f. plain c.args.value) (λ f. plain 0)
     c.requires.holds c.requires.runs c.index_mut.ensures.value c.requires.top c.end_row-more.ensures

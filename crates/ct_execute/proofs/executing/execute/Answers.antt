@@ -16,7 +16,7 @@ pub returns-in-Instruction-clause-unfinished : goal.returns-in-Instruction-claus
 returns-in-Instruction-clause-unfinished g c =
     let e = c.args.engine.now in
     decided_unfinished (decide_instruction c.args.entries.now (thread e c.args.t) (space_in e c.args.bus.now c.args.time) c.in-Instruction.instruction)
-    c.args.t c.args.engine.now c.carry_out.new.engine c.args.bus.now c.carry_out.new.bus c.carry_out.result c.carry_out.ensures.is
+    c.args.t c.args.engine.now c.execute_instruction.new.engine c.args.bus.now c.execute_instruction.new.bus c.execute_instruction.result c.execute_instruction.ensures.is
 
 pub returns-in-Instruction-clause-ranged : goal.returns-in-Instruction-clause-ranged
 returns-in-Instruction-clause-ranged g c =
@@ -26,7 +26,7 @@ returns-in-Instruction-clause-ranged g c =
     let x : Cap = register w (operands_of i).first in
     no_routine x.shadow.root
     (carried_out (class_of i) i (operands_of i).to x (register w (operands_of i).second) (named_in c.args.entries.now x) (around_of w (space_in e c.args.bus.now c.args.time)))
-    c.args.t e c.carry_out.new.engine c.args.bus.now c.carry_out.new.bus c.carry_out.result c.carry_out.ensures.is
+    c.args.t e c.execute_instruction.new.engine c.args.bus.now c.execute_instruction.new.bus c.execute_instruction.result c.execute_instruction.ensures.is
 
 pub returns-in-Some : goal.returns-in-Some
 returns-in-Some g c = record {
@@ -82,6 +82,6 @@ pub returns-in-Instruction-clause-is : goal.returns-in-Instruction-clause-is
 returns-in-Instruction-clause-is g c =
     let s = c.args.engine.now in
     let k = c.args.bus.now in
-    subst (λ (d : Decision). Decided d c.args.t s k c.carry_out.new.engine c.carry_out.new.bus c.carry_out.result)
+    subst (λ (d : Decision). Decided d c.args.t s k c.execute_instruction.new.engine c.execute_instruction.new.bus c.execute_instruction.result)
     (fetch_passes c.args.entries.now s c.args.t k c.args.time c.pcc-pcc.result c.address.result (Instruction c.in-Instruction.instruction) c.pcc-pcc.ensures c.in_default.ensures c.address.ensures c.in-Instruction.ensures.is)
-    c.carry_out.ensures.is
+    c.execute_instruction.ensures.is

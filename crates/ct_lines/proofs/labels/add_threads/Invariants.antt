@@ -1,6 +1,6 @@
 use Rattle.std.proofs.Common.{◌≡◌, ◌++◌, drop, map}
 use Rattle.def_image.specs.Parts.{ThreadRow}
-use Rattle.def_lines.specs.Labels.{owned as owned_of}
+use Rattle.def_lines.specs.Labels.{owner_label as owned_of}
 use Rattle.ct_lines.specs.Shown.{shown}
 use Rattle.ct_lines.proofs.labels.add_threads.Given as goal
 

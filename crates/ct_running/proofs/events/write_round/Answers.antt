@@ -1,6 +1,6 @@
 use Rattle.std.proofs.Common.{ap, arith}
 use Rattle.std.proofs.lemmas.Result.{MatchResult-weaker}
-use Rattle.law_counts.specs.Kinds.{Kinds}
+use Rattle.def_counts.specs.Kinds.{Kinds}
 use Rattle.ct_running.proofs.Coming.{both_came, first_failed, second_failed, inputs_kinds}
 use Rattle.ct_running.proofs.events.write_round.Goals as goal
 

@@ -6,7 +6,7 @@ use Rattle.ct_switch.proofs.ends.leave.Goals as goal
 
 pub clear-requires : goal.clear-requires
 clear-requires g c =
-    span_after (g.M.Memory.granules c.args.mem.now) (g.M.Memory.granules c.pop.new.mem) c.args.t.now c.pop.new.t c.requires c.pop.ensures.memory c.pop.ensures.row
+    span_after (g.M.Memory.granules c.args.mem.now) (g.M.Memory.granules c.pop.new.mem) c.args.t.now c.pop.new.t c.requires.ready c.pop.ensures.memory c.pop.ensures.row
 
 pub returns-then-depth-eq0 : goal.returns-then-depth-eq0
 returns-then-depth-eq0 g c =
@@ -14,7 +14,7 @@ returns-then-depth-eq0 g c =
     let ms = g.M.Memory.granules c.pop.new.mem in
     let hs = g.M.Memory.granules c.clear.new.mem in
     let left : Left gs hs c.args.t.now c.end.new.t c.args.first c.args.second false =
-    left_ends gs ms hs c.args.t.now c.pop.new.t c.end.new.t c.args.first c.args.second c.requires c.pop.ensures.memory c.pop.ensures.row
+    left_ends gs ms hs c.args.t.now c.pop.new.t c.end.new.t c.args.first c.args.second c.requires.ready c.pop.ensures.memory c.pop.ensures.row
     c.clear.ensures c.if-depth-eq0.true c.end.ensures in
     record { result = left.result; thread = left.thread; memory = left.memory; row = left.row }
 
@@ -24,8 +24,8 @@ returns g c =
     let ms = g.M.Memory.granules c.pop.new.mem in
     let hs = g.M.Memory.granules c.clear.new.mem in
     let t = c.args.t.now in
-    let kept : c.through-kept.result ≡ filtered_frame gs t.area.ram (inner_frame gs t) = c.through-kept.ensures (inner_frame gs t) c.innermost-saved.ensures in
+    let kept : c.through-kept.result ≡ filtered_frame gs t.area.ram (inner_frame gs t) = c.through-kept.ensures (inner_frame gs t) c.requires.saved in
     let left : Left gs hs t c.restore.new.t c.args.first c.args.second true =
-    left_goes gs ms hs t c.pop.new.t c.restore.new.t c.through-kept.result c.args.first c.args.second c.requires c.pop.ensures.memory c.pop.ensures.row
-    c.clear.ensures c.if-depth-eq0.false c.pop.ensures.frames kept (c.restore.ensures (inner_frame gs t) c.innermost-saved.ensures) in
+    left_goes gs ms hs t c.pop.new.t c.restore.new.t c.through-kept.result c.args.first c.args.second c.requires.ready c.pop.ensures.memory c.pop.ensures.row
+    c.clear.ensures c.if-depth-eq0.false c.pop.ensures.frames kept (c.restore.ensures (inner_frame gs t) c.requires.saved) in
     record { result = left.result; thread = left.thread; memory = left.memory; row = left.row }

@@ -4,7 +4,7 @@ use Rattle.def_chunks.specs.declared.rows.Account.{Account}
 use Rattle.def_chunks.specs.declared.rows.Head.{Head}
 use Rattle.def_chunks.specs.Chunks.{head_at, head_in}
 use Rattle.ct_heap.specs.declared.rows.Found.{Found}
-use Rattle.ct_heap.specs.Told.{told, found}
+use Rattle.ct_heap.specs.Told.{object_row, found}
 use Rattle.ct_heap.proofs.Finds.{known, find_none, other_state, other_end, is_found}
 use Rattle.ct_heap.proofs.heap.Heap.find.Goals as goal
 
@@ -62,5 +62,5 @@ account-requires g c =
 
 pub returns : goal.returns
 returns g c =
-    let made : ℕ → Found = λ n. found (told c.read_head-head.result.rest c.args.base (c.read_head-head.result.size - 8) n) c.in-Some.quota in
+    let made : ℕ → Found = λ n. found (object_row c.read_head-head.result.rest c.args.base (c.read_head-head.result.size - 8) n) c.in-Some.quota in
     ap (λ (a : Account). Some (made a.charged)) c.account.ensures ∙ sym (is_found c.args.self.now (g.M.Memory.granules c.args.mem.now) c.args.base c.args.top c.in-Some.quota c.read_head-head.result c.requires.laid (sym c.in-Some.ensures) (c.read_head-head.ensures ∙ ap (λ (x : HeapRow). head_in (head_at (g.M.Memory.granules c.args.mem.now) x.range.ram (c.args.base - 8))) c.self.view_is) c.if-head-ne-LIVE.false c.if-at-head.false)

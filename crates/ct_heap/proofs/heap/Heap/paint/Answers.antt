@@ -15,10 +15,10 @@ pub paint-requires : goal.paint-requires
 paint-requires g c = record { settled = (subst (λ (x : HeapRow). Laid x (g.M.Memory.granules c.args.mem.now)) (sym c.self.view_is) c.requires.laid).settled }
 
 pub returns-clause-laid : goal.returns-clause-laid
-returns-clause-laid g c = subst (λ (x : HeapRow). Laid x (g.M.Memory.granules c.paint.new.mem)) c.self.view_is (paint_done (let x : HeapRow = record { range = c.self.inside.range; accounts = c.self.inside.accounts.items; next = c.self.inside.next; waiting = c.self.inside.waiting; names = c.self.inside.names.items } in x) (g.M.Memory.granules c.args.mem.now) (g.M.Memory.granules c.paint.new.mem) (subst (λ (x : HeapRow). Laid x (g.M.Memory.granules c.args.mem.now)) (sym c.self.view_is) c.requires.laid) c.paint.ensures.settled c.paint.ensures.chunks c.paint.ensures.keeps).laid
+returns-clause-laid g c = subst (λ (x : HeapRow). Laid x (g.M.Memory.granules c.paint.new.mem)) c.self.view_is (paint_done (let x : HeapRow = record { range = c.self.inside.range; accounts = c.self.inside.accounts.items; next = c.self.inside.next; waiting = c.self.inside.waiting; names = c.self.inside.names.items } in x) (g.M.Memory.granules c.args.mem.now) (g.M.Memory.granules c.paint.new.mem) (subst (λ (x : HeapRow). Laid x (g.M.Memory.granules c.args.mem.now)) (sym c.self.view_is) c.requires.laid) c.paint.ensures.settled c.paint.ensures.chunks c.paint.ensures.keeps c.paint.ensures.heads).laid
 
 pub returns-clause-answer : goal.returns-clause-answer
 returns-clause-answer g c = sym (some_is c.args.self.now (g.M.Memory.granules c.args.mem.now) c.requires.laid (λ z. c.if-self-eq0.false (ap (λ (x : HeapRow). x.waiting) c.self.view_is ∙ z)))
 
 pub returns-clause-paints : goal.returns-clause-paints
-returns-clause-paints g c = subst (λ (x : HeapRow). Paints x (g.M.Memory.granules c.args.mem.now) (g.M.Memory.granules c.paint.new.mem)) c.self.view_is (paint_done (let x : HeapRow = record { range = c.self.inside.range; accounts = c.self.inside.accounts.items; next = c.self.inside.next; waiting = c.self.inside.waiting; names = c.self.inside.names.items } in x) (g.M.Memory.granules c.args.mem.now) (g.M.Memory.granules c.paint.new.mem) (subst (λ (x : HeapRow). Laid x (g.M.Memory.granules c.args.mem.now)) (sym c.self.view_is) c.requires.laid) c.paint.ensures.settled c.paint.ensures.chunks c.paint.ensures.keeps).paints
+returns-clause-paints g c = subst (λ (x : HeapRow). Paints x (g.M.Memory.granules c.args.mem.now) (g.M.Memory.granules c.paint.new.mem)) c.self.view_is (paint_done (let x : HeapRow = record { range = c.self.inside.range; accounts = c.self.inside.accounts.items; next = c.self.inside.next; waiting = c.self.inside.waiting; names = c.self.inside.names.items } in x) (g.M.Memory.granules c.args.mem.now) (g.M.Memory.granules c.paint.new.mem) (subst (λ (x : HeapRow). Laid x (g.M.Memory.granules c.args.mem.now)) (sym c.self.view_is) c.requires.laid) c.paint.ensures.settled c.paint.ensures.chunks c.paint.ensures.keeps c.paint.ensures.heads).paints

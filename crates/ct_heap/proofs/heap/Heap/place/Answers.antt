@@ -77,7 +77,7 @@ overflow_add-self g c =
     omega (arith, few)
 
 pub returns-clause-laid : goal.returns-clause-laid
-returns-clause-laid g c = (placed_ends (let x : HeapRow = record { range = c.self.inside.range; accounts = c.self.inside.accounts.items; next = c.self.inside.next; waiting = c.self.inside.waiting; names = c.self.inside.names.items } in x) (let x : HeapRow = record { range = c.carve.new.range; accounts = c.charge-live.new.accounts.items; next = c.self.inside.next + 1; waiting = c.self.inside.waiting; names = c.name_chunk.new.names.items } in x) (g.M.Memory.granules c.args.mem.now) (g.M.Memory.granules c.carve.new.mem) (g.M.Memory.granules c.zero.new.self) c.args.quota c.args.bytes c.args.gap c.charge-live.result (subst (λ (x : HeapRow). Laid x (g.M.Memory.granules c.args.mem.now)) (sym c.self.view_is) c.requires.laid) (subst (λ (x : HeapRow). c.args.quota < length x.accounts) (sym c.self.view_is) c.requires.quota) (subst (λ (x : HeapRow). x.next ≤ 4000000000) (sym c.self.view_is) c.requires.few) (subst (λ (x : HeapRow). Placing x (g.M.Memory.granules c.args.mem.now) c.args.quota c.args.bytes c.args.gap) (sym c.self.view_is) c.requires.fits) (record { settled = c.carve.ensures.settled; chunks_are = c.carve.ensures.chunks; keeps = c.carve.ensures.keeps; range = c.carve.ensures.range; zeroed = c.zero.ensures; names = c.name_chunk.ensures; accounts = c.charge-live.ensures.accounts; next = refl; waiting = refl }) c.charge-live.ensures.charged).laid
+returns-clause-laid g c = (placed_ends (let x : HeapRow = record { range = c.self.inside.range; accounts = c.self.inside.accounts.items; next = c.self.inside.next; waiting = c.self.inside.waiting; names = c.self.inside.names.items } in x) (let x : HeapRow = record { range = c.carve.new.range; accounts = c.charge-live.new.accounts.items; next = c.self.inside.next + 1; waiting = c.self.inside.waiting; names = c.name_chunk.new.names.items } in x) (g.M.Memory.granules c.args.mem.now) (g.M.Memory.granules c.carve.new.mem) (g.M.Memory.granules c.zero.new.self) c.args.quota c.args.bytes c.args.gap c.charge-live.result (subst (λ (x : HeapRow). Laid x (g.M.Memory.granules c.args.mem.now)) (sym c.self.view_is) c.requires.laid) (subst (λ (x : HeapRow). c.args.quota < length x.accounts) (sym c.self.view_is) c.requires.quota) (subst (λ (x : HeapRow). x.next ≤ 4000000000) (sym c.self.view_is) c.requires.few) (subst (λ (x : HeapRow). Placing x (g.M.Memory.granules c.args.mem.now) c.args.quota c.args.bytes c.args.gap) (sym c.self.view_is) c.requires.fits) (record { settled = c.carve.ensures.settled; chunks_are = c.carve.ensures.chunks; keeps = c.carve.ensures.keeps; heads = c.carve.ensures.heads; range = c.carve.ensures.range; zeroed = c.zero.ensures; names = c.name_chunk.ensures; accounts = c.charge-live.ensures.accounts; next = refl; waiting = refl }) c.charge-live.ensures.charged).laid
 
 pub returns-clause-placed : goal.returns-clause-placed
-returns-clause-placed g c = subst (λ (x : HeapRow). Placed x (let x : HeapRow = record { range = c.carve.new.range; accounts = c.charge-live.new.accounts.items; next = c.self.inside.next + 1; waiting = c.self.inside.waiting; names = c.name_chunk.new.names.items } in x) (g.M.Memory.granules c.args.mem.now) (g.M.Memory.granules c.zero.new.self) c.args.quota c.args.bytes c.args.gap.base c.self.inside.next c.args.gap.base c.args.bytes c.charge-live.result) c.self.view_is (placed_ends (let x : HeapRow = record { range = c.self.inside.range; accounts = c.self.inside.accounts.items; next = c.self.inside.next; waiting = c.self.inside.waiting; names = c.self.inside.names.items } in x) (let x : HeapRow = record { range = c.carve.new.range; accounts = c.charge-live.new.accounts.items; next = c.self.inside.next + 1; waiting = c.self.inside.waiting; names = c.name_chunk.new.names.items } in x) (g.M.Memory.granules c.args.mem.now) (g.M.Memory.granules c.carve.new.mem) (g.M.Memory.granules c.zero.new.self) c.args.quota c.args.bytes c.args.gap c.charge-live.result (subst (λ (x : HeapRow). Laid x (g.M.Memory.granules c.args.mem.now)) (sym c.self.view_is) c.requires.laid) (subst (λ (x : HeapRow). c.args.quota < length x.accounts) (sym c.self.view_is) c.requires.quota) (subst (λ (x : HeapRow). x.next ≤ 4000000000) (sym c.self.view_is) c.requires.few) (subst (λ (x : HeapRow). Placing x (g.M.Memory.granules c.args.mem.now) c.args.quota c.args.bytes c.args.gap) (sym c.self.view_is) c.requires.fits) (record { settled = c.carve.ensures.settled; chunks_are = c.carve.ensures.chunks; keeps = c.carve.ensures.keeps; range = c.carve.ensures.range; zeroed = c.zero.ensures; names = c.name_chunk.ensures; accounts = c.charge-live.ensures.accounts; next = refl; waiting = refl }) c.charge-live.ensures.charged).placed
+returns-clause-placed g c = subst (λ (x : HeapRow). Placed x (let x : HeapRow = record { range = c.carve.new.range; accounts = c.charge-live.new.accounts.items; next = c.self.inside.next + 1; waiting = c.self.inside.waiting; names = c.name_chunk.new.names.items } in x) (g.M.Memory.granules c.args.mem.now) (g.M.Memory.granules c.zero.new.self) c.args.quota c.args.bytes c.args.gap.base c.self.inside.next c.args.gap.base c.args.bytes c.charge-live.result) c.self.view_is (placed_ends (let x : HeapRow = record { range = c.self.inside.range; accounts = c.self.inside.accounts.items; next = c.self.inside.next; waiting = c.self.inside.waiting; names = c.self.inside.names.items } in x) (let x : HeapRow = record { range = c.carve.new.range; accounts = c.charge-live.new.accounts.items; next = c.self.inside.next + 1; waiting = c.self.inside.waiting; names = c.name_chunk.new.names.items } in x) (g.M.Memory.granules c.args.mem.now) (g.M.Memory.granules c.carve.new.mem) (g.M.Memory.granules c.zero.new.self) c.args.quota c.args.bytes c.args.gap c.charge-live.result (subst (λ (x : HeapRow). Laid x (g.M.Memory.granules c.args.mem.now)) (sym c.self.view_is) c.requires.laid) (subst (λ (x : HeapRow). c.args.quota < length x.accounts) (sym c.self.view_is) c.requires.quota) (subst (λ (x : HeapRow). x.next ≤ 4000000000) (sym c.self.view_is) c.requires.few) (subst (λ (x : HeapRow). Placing x (g.M.Memory.granules c.args.mem.now) c.args.quota c.args.bytes c.args.gap) (sym c.self.view_is) c.requires.fits) (record { settled = c.carve.ensures.settled; chunks_are = c.carve.ensures.chunks; keeps = c.carve.ensures.keeps; heads = c.carve.ensures.heads; range = c.carve.ensures.range; zeroed = c.zero.ensures; names = c.name_chunk.ensures; accounts = c.charge-live.ensures.accounts; next = refl; waiting = refl }) c.charge-live.ensures.charged).placed

@@ -39,12 +39,12 @@ invariant_of-self g c =
     (λ m. some_seen i.plan i.threads i.sched i.pending i.bus.states i.time i.counts c.args.t m.runs.some)
     (subst (λ (m : MachineRow). IfUnfinished c.args.ran (MayEnd m c.args.t c.args.actor)) (sym c.self.view_is) c.requires.ends) in
     let kept = left_kept i.plan i.threads i.sched c.entries.result.now c.args.t handler c.args.ran c.self.invariant.0 some in
-    let turn = c.note_end.ensures ∙ ap (λ b. status_after b i.sched c.args.t) c.leave-goes.ensures.result in (
-      subst (λ (x : Seen). IsKept i.plan x c.note_end.new.sched) (sym c.leave-goes.ensures.is)
+    let turn = c.end_unless.ensures ∙ ap (λ b. status_after b i.sched c.args.t) c.leave-goes.ensures.result in (
+      subst (λ (x : Seen). IsKept i.plan x c.end_unless.new.sched) (sym c.leave-goes.ensures.is)
           (subst (λ (x : SchedRow). IsKept i.plan (left_after c.args.ran i.threads c.entries.result.now c.args.t handler) x) (sym turn) kept),
-      subst (λ (x : Seen). IsCounted c.note.new.self i.time x.next) (sym c.leave-goes.ensures.is)
-          (subst (λ n. IsCounted c.note.new.self i.time n) (sym (left_next c.args.ran i.threads c.entries.result.now c.args.t handler))
-          (subst (λ (n : Counts). IsCounted n i.time i.threads.next) (sym c.note.ensures) (deed_counts i.counts c.deed_of-deed.result i.time i.threads.next c.self.invariant.1 room))),
+      subst (λ (x : Seen). IsCounted c.count_deed.new.self i.time x.next) (sym c.leave-goes.ensures.is)
+          (subst (λ n. IsCounted c.count_deed.new.self i.time n) (sym (left_next c.args.ran i.threads c.entries.result.now c.args.t handler))
+          (subst (λ (n : Counts). IsCounted n i.time i.threads.next) (sym c.count_deed.ensures) (deed_counts i.counts c.deed_of-deed.result i.time i.threads.next c.self.invariant.1 room))),
     )
 
 pub returns-clause-is : goal.returns-clause-is
@@ -68,6 +68,6 @@ returns-clause-is g c =
     })
     (subst (λ (m : MachineRow). IfUnfinished c.args.ran (MayEnd m c.args.t c.args.actor)) (sym c.self.view_is) c.requires.ends) in
     finished_so i.plan c.entries.result.now i.threads i.sched i.bus i.pending i.time i.counts c.args.t c.self.invariant.0 c.entries.ensures.is
-    c.leave-goes.new.threads c.note_end.new.sched c.note.new.self c.args.actor handler c.args.ran c.deed_of-deed.result c.requires.done ends
-    c.leave-goes.ensures.is (c.note_end.ensures ∙ ap (λ b. status_after b i.sched c.args.t) c.leave-goes.ensures.result) c.deed_of-deed.ensures c.note.ensures
+    c.leave-goes.new.threads c.end_unless.new.sched c.count_deed.new.self c.args.actor handler c.args.ran c.deed_of-deed.result c.requires.done ends
+    c.leave-goes.ensures.is (c.end_unless.ensures ∙ ap (λ b. status_after b i.sched c.args.t) c.leave-goes.ensures.result) c.deed_of-deed.ensures c.count_deed.ensures
     ∙ ap (λ (m : MachineRow). noted (finished m.board c.args.t c.args.actor m.state c.args.ran)) c.self.view_is

@@ -3,7 +3,7 @@ use Rattle.def_confined.specs.Telling.{AllLicensed}
 use Rattle.def_step.specs.declared.Event.{Event}
 use Rattle.def_machine.specs.Image.{root}
 use Rattle.def_machine.specs.Objects.{charges}
-use Rattle.def_step.specs.Events.{told, run}
+use Rattle.def_step.specs.Events.{happenings_of, run}
 use Rattle.def_machine.specs.Board.{MachineRow}
 use Rattle.law_events.proofs.Running.{told_licensed}
 use Rattle.def_events.specs.Upheld.{Upholds}
@@ -23,7 +23,7 @@ pub returns-clause-licensed : goal.returns-clause-licensed
 returns-clause-licensed g c =
     let m = c.self.inside.engine in
     let h = c.self.invariant in
-    subst (λ (x : MachineRow). (es : List Event) → AllLicensed x.board.image.entries (told x.board x.state es)) c.self.view_is
+    subst (λ (x : MachineRow). (es : List Event) → AllLicensed x.board.image.entries (happenings_of x.board x.state es)) c.self.view_is
     (λ es. told_licensed m.board m.state es h.partitioned h.facts h.wired h.keeps)
 
 pub returns-clause-unused : goal.returns-clause-unused

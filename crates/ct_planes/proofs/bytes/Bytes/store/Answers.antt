@@ -1,7 +1,7 @@
 use Rattle.std.proofs.Common.{ℕ, ◌/◌, ◌%◌, ◌∙◌, List, get_or, ap, arith}
 use Rattle.std.proofs.Math.ListN.{set}
 use Rattle.def_memory.specs.Accesses.{with_part}
-use Rattle.ct_planes.specs.Bytes.{words_in, Holds}
+use Rattle.ct_planes.specs.Bytes.{words_in, HoldsWords}
 use Rattle.ct_planes.proofs.Holding.{closed, closed_words}
 use Rattle.ct_planes.proofs.bytes.Bytes.store.Goals as goal
 
@@ -12,13 +12,13 @@ pub invariant_of-self : goal.invariant_of-self
 invariant_of-self c =
     let v = c.self.inside.bytes in
     let ws = words_in v.items in
-    let h : Holds ws c.deref_mut.result.now = rw c.deref_mut.ensures.value c.self.invariant.1 in
+    let h : HoldsWords ws c.deref_mut.result.now = rw c.deref_mut.ensures.value c.self.invariant.1 in
     closed v (changed ws c.args.at c.args.width c.args.value) c.store_in.new.bytes (c.store_in.ensures.size ∙ c.deref_mut.ensures.len) (omega (arith, v.ok, c.self.invariant.0)) (c.store_in.ensures.holds ws h)
 
 pub returns : goal.returns
 returns c =
     let v = c.self.inside.bytes in
     let ws = words_in v.items in
-    let h : Holds ws c.deref_mut.result.now = rw c.deref_mut.ensures.value c.self.invariant.1 in
+    let h : HoldsWords ws c.deref_mut.result.now = rw c.deref_mut.ensures.value c.self.invariant.1 in
     closed_words v (changed ws c.args.at c.args.width c.args.value) c.store_in.new.bytes (c.store_in.ensures.size ∙ c.deref_mut.ensures.len) (c.store_in.ensures.holds ws h)
     ∙ ap (λ l. changed l c.args.at c.args.width c.args.value) c.self.view_is

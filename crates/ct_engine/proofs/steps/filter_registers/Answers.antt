@@ -1,0 +1,22 @@
+use Rattle.std.proofs.Common.{refl, ap, arith}
+use Rattle.std.proofs.lemmas.List.{length-set}
+use Rattle.ct_areas.specs.declared.thread.Thread as row
+use Rattle.ct_engine.proofs.Stacks.{stacks_turn}
+use Rattle.ct_engine.proofs.Sifting.{filter_areas, filter_seen}
+use Rattle.ct_engine.proofs.steps.filter_registers.Goals as goal
+
+pub returns-clause-holds : goal.returns-clause-holds
+returns-clause-holds g c =
+    let gs = g.M.Memory.granules c.args.mem.now in
+    record {
+      areas = filter_areas gs c.args.rows.now c.args.t c.index_mut.result.now c.filter_row.new.t c.requires.holds c.requires.runs c.index_mut.ensures.value c.filter_row.ensures;
+      runs = λ u e. (let lt = c.requires.holds.runs u e in let size = length-set c.args.rows.now.list.items c.args.t c.filter_row.new.t in omega (arith, lt, size));
+      stacks = stacks_turn gs gs c.args.rows.now c.args.t c.index_mut.result.now c.filter_row.new.t c.requires.holds (c.requires.holds.runs c.args.t c.requires.runs) c.index_mut.ensures.value refl
+          (ap (λ (u : row.Thread). u.area) c.filter_row.ensures);
+      heap = c.requires.holds.heap;
+      room = c.requires.holds.room;
+    }
+
+pub returns-clause-seen : goal.returns-clause-seen
+returns-clause-seen g c =
+    filter_seen (g.M.Memory.granules c.args.mem.now) c.args.rows.now c.args.t c.index_mut.result.now c.filter_row.new.t c.requires.holds c.requires.runs c.index_mut.ensures.value c.filter_row.ensures

@@ -1,0 +1,4 @@
+pub mod Accesses
+pub mod Lines
+pub mod Named
+pub mod Runs

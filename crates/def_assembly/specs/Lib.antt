@@ -1,0 +1,5 @@
+pub mod Sums
+pub mod Decoding
+pub mod Loading
+pub mod Written
+pub mod Faults

@@ -1,2 +1,0 @@
-pub mod Veil
-pub mod Steps

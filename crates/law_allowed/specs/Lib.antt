@@ -1,4 +1,0 @@
-pub mod Named
-pub mod Accesses
-pub mod Runs
-pub mod Lines

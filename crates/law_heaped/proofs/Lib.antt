@@ -1,4 +1,0 @@
-pub mod Shown
-pub mod Slices
-pub mod Objects
-pub mod Areas

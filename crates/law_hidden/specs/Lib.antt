@@ -1,0 +1,4 @@
+pub mod Hiding
+pub mod Steps
+pub mod Heaped
+pub mod Objects
